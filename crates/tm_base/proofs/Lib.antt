@@ -1,0 +1,7 @@
+pub mod Known
+pub mod Pieces
+pub mod Octets
+pub mod Packing
+pub mod InMemory
+pub mod BitsLeft
+pub mod Handing

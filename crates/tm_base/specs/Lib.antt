@@ -1,0 +1,10 @@
+pub mod Outside
+pub mod Written
+pub mod Pieces
+pub mod Takers
+pub mod Bits
+pub mod Marker
+pub mod Count
+pub mod SourceInMemory
+pub mod SinkInMemory
+pub mod SureState

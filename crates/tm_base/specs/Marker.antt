@@ -1,0 +1,6 @@
+-- The attached sync marker (CCSDS 131.0-B, Frame Synchronization), which stands before each codeblock.
+use Rattle.std.specs.Prelude.{ℕ, List, [], ◌∷◌}
+
+-- the four octets of the attached sync marker, in the order sent
+abbrev pub marker : List ℕ
+marker = 0x1A ∷ 0xCF ∷ 0xFC ∷ 0x1D ∷ []

@@ -1,0 +1,24 @@
+-- What is fed in pieces and writes as it goes. It keeps no history: a relation tells for which lists, given so far, it stands.
+use Rattle.std.specs.Prelude.{◌≡◌, ℕ, List, ◌++◌, drop, length, Option}
+use Rattle.tm_base.specs.Written.{Wrote, WroteFront}
+
+-- what stands in `all` behind a front as long as `front`
+abbrev pub beyond : List ℕ → List ℕ → List ℕ
+beyond front all = drop (length front) all
+
+-- what is due once `piece` follows `given`, beyond what was due for `given`
+abbrev pub further : (List ℕ → List ℕ) → List ℕ → List ℕ → List ℕ
+further due given piece = beyond (due given) (due (given ++ piece))
+
+-- what is due for a longer list goes on from what is due for a front of it
+abbrev pub GoesOn : (List ℕ → List ℕ) → Type 0
+GoesOn due = (given piece : List ℕ) → due (given ++ piece) ≡ due given ++ further due given piece
+
+-- fed the piece, a value stands for each list for which it stood followed by the piece, and has written what is due beyond
+pub record Fed {S : Type 0} (stands_for : S → List ℕ → Type 0) (due : List ℕ → List ℕ) (before now : S) (taken taken_now : Option (List ℕ)) (piece : List ℕ) : Type 0 where
+  pub stands : (given : List ℕ) → stands_for before given → stands_for now (given ++ piece)
+  pub written : (given : List ℕ) → stands_for before given → Wrote taken taken_now (further due given piece)
+
+-- fed the piece, a value has written a front of what is due beyond
+pub record FedFront {S : Type 0} (stands_for : S → List ℕ → Type 0) (due : List ℕ → List ℕ) (before : S) (taken taken_now : Option (List ℕ)) (piece : List ℕ) : Type 0 where
+  pub front : (given : List ℕ) → stands_for before given → WroteFront taken taken_now (further due given piece)

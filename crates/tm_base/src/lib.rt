@@ -1,0 +1,21 @@
+//! What stands outside the codec, and what every layer above shares: sources and sinks of octets, which count their
+//! faults, with fakes in memory and adapters to std; the bits of octets; the attached sync marker. It stands on nothing.
+//! The words for what was written, given and handed over are in specs/.
+#![tactic(auto)]
+
+mod attached;
+mod bits;
+mod memory;
+mod outside;
+mod standard;
+mod sure;
+
+pub use attached::{MARKER, marker};
+pub use bits::BitReader;
+pub use memory::{MemSink, MemSource};
+pub use outside::{Failed, NoMemory, Sink, Source, put_all};
+pub use standard::{StdSink, StdSource};
+pub use sure::{SureSink, SureSource};
+
+#[cfg(test)]
+mod tests;
