@@ -1,0 +1,11 @@
+pub mod Below
+pub mod Steps
+pub mod Runs
+pub mod Tests
+pub mod Laws
+pub mod Ring
+pub mod Entries
+pub mod Products
+pub mod PolyLemmas
+pub mod ProductLaw
+pub mod Coefficients

@@ -1,0 +1,9 @@
+-- Logarithms, with a place for 0, which has none.
+use Rattle.std.specs.Prelude.{◌≡◌, ◌≢◌, ◌<◌, ℕ}
+use Rattle.tm_gf256.specs.Field.{power}
+
+-- log is the power of alpha that a is, below 255, or 510 where a is 0
+pub record IsLogarithm (log a : ℕ) : Type 0 where
+  pub of_zero : a ≡ 0 → log ≡ 510
+  pub small : a ≢ 0 → log < 255
+  pub undoes : a ≢ 0 → power 2 log ≡ a
