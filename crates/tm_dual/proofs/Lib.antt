@@ -1,0 +1,5 @@
+pub mod Traces
+pub mod Runs
+pub mod Entries
+pub mod Inverse
+pub mod Words

@@ -1,0 +1,14 @@
+//! The dual basis of CCSDS 131.0-B, Reed-Solomon Coding: how an element of the field is written as
+//! the octet that is sent for it, and read back.
+//!
+//! An octet is turned by one look-up in a table of 256; with `Basis::Poly` it is the number itself.
+#![tactic(auto)]
+
+pub mod basis;
+mod dual;
+
+pub use basis::{Basis, basis_laws};
+pub use dual::{from_dual, to_dual};
+
+#[cfg(test)]
+mod worked_values;
