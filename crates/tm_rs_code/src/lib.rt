@@ -1,0 +1,15 @@
+//! The Reed-Solomon codes over the field of 256 elements (CCSDS 131.0-B, Reed-Solomon Coding): their
+//! parameters, what a codeword is, how far two words are apart, and the laws on which the encoder and
+//! the decoder rest.
+#![tactic(auto)]
+
+mod laws;
+mod params;
+mod words;
+
+pub use laws::{distance_law, systematic_codeword_law};
+pub use params::{BadParams, Params};
+pub use words::{distance, is_codeword, syndromes};
+
+#[cfg(test)]
+mod tests;
