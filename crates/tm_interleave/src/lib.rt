@@ -1,0 +1,48 @@
+//! The columns of a codeblock: at interleaving depth I its octet m belongs to column m mod I, data and check symbols
+//! alike, and each column is one Reed-Solomon codeword. A word is taken out of its column, or put into it.
+//! It stands on nothing.
+#![tactic(auto)]
+
+ghost use Rattle.std.specs.Prelude.{◌≡◌, ◌≢◌, ◌*◌, ◌<◌, ℕ, length};
+ghost use Rattle.tm_interleave.specs.Column.{column};
+
+/// Copies column `i` of `block` to `out`, where `depth` is the interleaving depth (CCSDS 131.0-B, Reed-Solomon Coding,
+/// Symbol Interleaving). `i` is below `depth`, and the block is `depth` times as long as `out`.
+pub fn take_word(block: &[u8], depth: usize, i: usize, out: &mut [u8])
+    requires column { i < depth }
+    requires size { length block.now ≡ depth * length out.old }
+    ensures { out.new ≡ column depth i block.now }
+{
+    for k in 0..out.len() {
+        out[k] = block[k * depth + i];
+    }
+}
+
+/// Replaces column `i` of `block` by `word`, where `depth` is the interleaving depth (CCSDS 131.0-B, Reed-Solomon
+/// Coding, Symbol Interleaving). `i` is below `depth`, and the block is `depth` times as long as `word`.
+pub fn put_word(block: &mut [u8], depth: usize, i: usize, word: &[u8])
+    requires column { i < depth }
+    requires size { length block.old ≡ depth * length word.now }
+    ensures put { column depth i block.new ≡ word.now }
+    ensures others { (j : ℕ) → j < depth → j ≢ i → column depth j block.new ≡ column depth j block.old }
+    ensures length { length block.new ≡ length block.old }
+{
+    for k in 0..word.len() {
+        block[k * depth + i] = word[k];
+    }
+}
+
+#[cfg(test)]
+mod tests {
+    use super::*;
+
+    #[test]
+    fn takes_and_puts_a_column(rt: HostRuntime) {
+        let mut block = [0, 1, 2, 10, 11, 12];
+        let mut word = [0; 2];
+        take_word(&block, 3, 1, &mut word);
+        assert_eq!(rt; word, [1, 11]);
+        put_word(&mut block, 3, 2, &[7, 8]);
+        assert_eq!(rt; block, [0, 1, 7, 10, 11, 8]);
+    }
+}
