@@ -1,0 +1,4 @@
+pub mod Defaults
+pub mod Configuration
+pub mod Accepted
+pub mod Refusal
