@@ -1,0 +1,78 @@
+-- The program's command line, as clap's rule reads it.
+use Rattle.std.specs.Prelude.{◌≡◌, ◌==◌, ◌++◌, List, [], ◌∷◌, Some, true, codes, map, length, if◌then◌else◌}
+use Rattle.std.specs.Str.{bytes_eq}
+use Rattle.clap.specs.Words.{App, Shape, Rule, Text, new_rule}
+use Rattle.clap.specs.Simple.{new_shape}
+use Rattle.clap.specs.Faults.{fault_of}
+use Rattle.tm_words.specs.declared.job.JobKind.{JobKind}
+use Rattle.tm_words.specs.declared.job.JobKind.TheVariants.{Encode}
+use Rattle.clap.specs.declared.builder.action.ArgAction.TheVariants.{Set}
+
+-- the options of every command
+abbrev pub options : List Text
+options =
+    codes "code"
+    ∷ codes "depth"
+    ∷ codes "length"
+    ∷ codes "inner"
+    ∷ codes "invert"
+    ∷ codes "randomize"
+    ∷ codes "basis"
+    ∷ codes "tolerance"
+    ∷ codes "repair"
+    ∷ codes "soft"
+    ∷ codes "start"
+    ∷ codes "skip"
+    ∷ codes "workers"
+    ∷ codes "limit"
+    ∷ codes "fly"
+    ∷ codes "keep"
+    ∷ codes "ahead"
+    ∷ codes "phase"
+    ∷ codes "polarity"
+    ∷ []
+
+-- an option that is not required and has one value, `--name value`
+abbrev pub option_rule : Text → Rule
+option_rule name = record (new_rule name) { long = Some name; action = Some Set }
+
+-- the same with more options
+abbrev pub with_options : List Text → Shape → Shape
+with_options names shape = record shape { rules = shape.rules ++ map option_rule names }
+
+-- a command that has the options of every command and no more
+abbrev pub plain_command : Text → Shape
+plain_command name = with_options options (new_shape name)
+
+-- the names of such commands, and what each asks for
+abbrev pub plain_commands : List (Text × JobKind)
+plain_commands = (codes "encode", Encode) ∷ []
+
+-- the program with its commands: one of them is required, and there is no help or version
+abbrev pub with_commands : List Shape → App
+with_commands commands = record {
+  top = record (new_shape (codes "tmchan")) {
+    is_leaf = length commands == 0;
+    disable_help_flag = true;
+    disable_help_subcommand = true;
+    disable_version_flag = true;
+    subcommand_required = true;
+  };
+  subs = commands;
+}
+
+-- the command line
+abbrev pub command_line : App
+command_line = with_commands (map (λ command. plain_command command.0) plain_commands)
+
+-- what the command of a name asks for; clap's rule takes no name but the commands'
+abbrev pub kind_among : List (Text × JobKind) → Text → JobKind
+kind_among [] name = Encode
+kind_among ((command, kind) ∷ commands) name = if bytes_eq name command then kind else kind_among commands name
+
+abbrev pub kind_of_name : Text → JobKind
+kind_of_name = kind_among plain_commands
+
+-- clap's rule for the command line takes the words, the first of which is the program's name
+abbrev pub AreTaken : List Text → Type 0
+AreTaken words = fault_of command_line words ≡ []

@@ -1,0 +1,121 @@
+// The command line, built for clap.
+ghost use Rattle.std.specs.Prelude.{◌≡◌, [], map, IfOk, false};
+ghost use Rattle.clap.specs.Words.{app_of, shape_of, rule_of};
+ghost use Rattle.clap.specs.Simple.{on_top};
+ghost use Rattle.clap.specs.declared.builder.command.Command.TheViews.{out-Command as fields_of};
+ghost use Rattle.tm_words.specs.CommandLine.{option_rule, with_options, plain_command, with_commands, command_line, kind_among, kind_of_name};
+
+use crate::JobKind;
+use clap::{Arg, ArgAction, Command};
+use std::alloc::{AllocError, Global};
+
+static OPTIONS: [&str; 19] = [
+    "code",
+    "depth",
+    "length",
+    "inner",
+    "invert",
+    "randomize",
+    "basis",
+    "tolerance",
+    "repair",
+    "soft",
+    "start",
+    "skip",
+    "workers",
+    "limit",
+    "fly",
+    "keep",
+    "ahead",
+    "phase",
+    "polarity",
+];
+
+// The commands that have the options of every command and no more.
+static PLAIN_COMMANDS: [(&str, JobKind); 1] = [("encode", JobKind::Encode)];
+
+// An option of one value.
+fn option<'a>(alloc: Global, name: &'a str) -> Arg<'a>
+    ensures rule { rule_of result ≡ option_rule name.entry.now }
+    ensures local { result.global ≡ false }
+{
+    Arg::new(alloc, name).long(name).action(ArgAction::Set)
+}
+
+// Adds an option for each name.
+fn add_options<'a>(
+    alloc: Global,
+    command: Command<'a>,
+    names: &'a [&'a str],
+) -> Result<Command<'a>, AllocError>
+    requires { (fields_of command).has_globals ≡ false }
+    ensures app { IfOk result (λ c. app_of c ≡ on_top (with_options (map (λ name. name.now) names.entry.now)) (app_of command.entry)) }
+    ensures local { IfOk result (λ c. (fields_of c).has_globals ≡ false) }
+{
+    let mut command = command;
+    for name in names {
+        command = command.arg(option(alloc, *name))?;
+    }
+    Ok(command)
+}
+
+// A command with the options of every command.
+fn plain_command<'a>(alloc: Global, name: &'a str) -> Result<Command<'a>, AllocError>
+    ensures shape { IfOk result (λ c. shape_of c ≡ plain_command name.entry.now) }
+    ensures local { IfOk result (λ c. (fields_of c).has_globals ≡ false) }
+{
+    add_options(alloc, Command::new(alloc, name), OPTIONS.as_slice())
+}
+
+// The program's own level: a command is required, and there is no help or version.
+fn program<'a>(alloc: Global) -> Command<'a>
+    ensures app { app_of result ≡ with_commands [] }
+    ensures local { (fields_of result).has_globals ≡ false }
+{
+    Command::new(alloc, "tmchan")
+        .disable_help_flag(true)
+        .disable_help_subcommand(true)
+        .disable_version_flag(true)
+        .subcommand_required(true)
+}
+
+// The program with plain commands of these names.
+fn with_commands<'a>(
+    alloc: Global,
+    commands: &'a [(&'a str, JobKind)],
+) -> Result<Command<'a>, AllocError>
+    ensures app { IfOk result (λ c. app_of c ≡ with_commands (map (λ command. plain_command command.0.now) commands.entry.now)) }
+    ensures local { IfOk result (λ c. (fields_of c).has_globals ≡ false) }
+{
+    let mut line = program(alloc);
+    for (name, _) in commands {
+        let command = plain_command(alloc, *name)?;
+        line = line.subcommand(command)?;
+    }
+    Ok(line)
+}
+
+/// The command line.
+pub fn command_line<'a>(alloc: Global) -> Result<Command<'a>, AllocError>
+    ensures app { IfOk result (λ c. app_of c ≡ command_line) }
+{
+    with_commands(alloc, PLAIN_COMMANDS.as_slice())
+}
+
+/// The command of a name that clap has taken.
+pub fn kind_of_name(name: &str) -> JobKind
+    ensures { result ≡ kind_of_name name.now }
+{
+    kind_among(PLAIN_COMMANDS.as_slice(), name)
+}
+
+fn kind_among(commands: &[(&str, JobKind)], name: &str) -> JobKind
+    ensures { result ≡ kind_among (map (λ command. (command.0.now, command.1)) commands.now) name.now }
+{
+    for (command, kind) in commands {
+        if name == *command {
+            return *kind;
+        }
+    }
+    JobKind::Encode
+}
