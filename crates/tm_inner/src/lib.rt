@@ -1,0 +1,7 @@
+//! The inner stages: from the octets of marked codeblocks to the symbols that are sent, by the inner code of a configuration
+//! (CCSDS 131.0-B, Convolutional Coding).
+#![tactic(auto)]
+
+mod sender;
+
+pub use sender::{InnerSender, SendError};
