@@ -1,0 +1,14 @@
+-- What is sent for a stream of octets.
+use Rattle.std.specs.Prelude.{ℕ, List, flat_map}
+use Rattle.tm_config.specs.Configuration.{Configuration}
+use Rattle.tm_inner.specs.Symbols.{symbols_of_octets}
+use Rattle.tm_channel.specs.Frames.{whole_frames}
+use Rattle.tm_channel.specs.Cadu.{cadu}
+
+-- the channel access data units of the whole frames, in order
+abbrev pub cadus : Configuration → List ℕ → List ℕ
+cadus c octets = flat_map (cadu c) (whole_frames c.frame_length octets)
+
+-- the symbols of the bits of these
+abbrev pub sent : Configuration → List ℕ → List ℕ
+sent c octets = symbols_of_octets c (cadus c octets)
