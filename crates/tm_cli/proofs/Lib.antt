@@ -1,0 +1,5 @@
+mod OneTurn
+pub mod Encoded
+pub mod Words
+pub mod Endings
+pub mod Answering

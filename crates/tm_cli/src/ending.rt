@@ -1,0 +1,33 @@
+// How a command that reads ended.
+ghost use Rattle.std.specs.Prelude.{◌≡◌};
+ghost use Rattle.tm_cli.specs.Ending.{status_of};
+
+/// How a command that reads its input ended.
+#[derive(Clone, Copy, Debug, PartialEq, Eq)]
+pub enum Ending {
+    /// The input was read to its end, and all is written.
+    Done,
+    /// The same, but the input is not whole frames.
+    LeftOver,
+    /// The source failed.
+    SourceFault,
+    /// A sink failed.
+    SinkFault,
+    /// The source gave an octet past the limit.
+    PastLimit,
+}
+
+impl Ending {
+    /// The exit status.
+    pub fn status(self) -> u8
+        ensures { result ≡ status_of self }
+    {
+        match self {
+            Ending::Done => 0,
+            Ending::SourceFault => 3,
+            Ending::SinkFault => 4,
+            Ending::LeftOver => 6,
+            Ending::PastLimit => 7,
+        }
+    }
+}

@@ -1,0 +1,16 @@
+//! The program: the commands, the lines that they write, and the top call `run`, which carries every promise from the octets
+//! read to the octets written and the exit status. What reads takes its octets through one loop (`turns`), whatever the
+//! command; a command answers how it ended (`Ending`), and `run` the status.
+#![tactic(auto)]
+
+mod encode;
+mod ending;
+mod feed;
+mod line;
+mod lines;
+mod refusal;
+mod top;
+mod turns;
+
+pub use tm_words::{HexText, Job, JobKind, WordsError, read_words};
+pub use top::run;
