@@ -1,0 +1,133 @@
+// What the words ask for.
+use crate::runs::words_of;
+use std::alloc::Global;
+use std::process::Abort;
+use std::test::Fail;
+use tm_config::Raw;
+use tm_words::{JobKind, read_words};
+
+// The values where no option is given, and those of a line that gives each option.
+static LINES: [(&str, Raw); 2] = [
+    (
+        "tmchan encode",
+        Raw {
+            code: 16,
+            depth: 1,
+            length: None,
+            inner: 12,
+            invert: None,
+            randomize: 1,
+            basis: 0,
+            tolerance: 0,
+            repair: None,
+            soft: 0,
+            start: 0,
+            skip: 0,
+            workers: 1,
+            limit: 4_294_967_296,
+            fly: 0,
+            keep: 8_192,
+            ahead: 256,
+            phase: 0,
+            polarity: 0,
+        },
+    ),
+    (
+        "tmchan encode --code rs8 --depth 4 --length 956 --inner 7/8 --invert off --randomize off --basis poly --tolerance 8 --repair 7 --soft i8 --start any --skip 15 --workers 64 --limit 1099511627776 --fly 14 --keep 65536 --ahead 4096 --phase find --polarity find",
+        Raw {
+            code: 8,
+            depth: 4,
+            length: Some(956),
+            inner: 78,
+            invert: Some(0),
+            randomize: 0,
+            basis: 1,
+            tolerance: 8,
+            repair: Some(7),
+            soft: 1,
+            start: 1,
+            skip: 15,
+            workers: 64,
+            limit: 1_099_511_627_776,
+            fly: 14,
+            keep: 65_536,
+            ahead: 4_096,
+            phase: 1,
+            polarity: 1,
+        },
+    ),
+];
+
+// An option, a word for it, and the number that stands for that word.
+static OPTION_WORDS: [(&str, &str, u64); 24] = [
+    ("code", "rs16", 16),
+    ("code", "rs8", 8),
+    ("code", "none", 0),
+    ("inner", "none", 0),
+    ("inner", "1/2", 12),
+    ("inner", "2/3", 23),
+    ("inner", "3/4", 34),
+    ("inner", "5/6", 56),
+    ("inner", "7/8", 78),
+    ("invert", "on", 1),
+    ("invert", "off", 0),
+    ("randomize", "on", 1),
+    ("randomize", "off", 0),
+    ("basis", "dual", 0),
+    ("basis", "poly", 1),
+    ("soft", "u8", 0),
+    ("soft", "i8", 1),
+    ("soft", "I8", u64::MAX),
+    ("start", "zero", 0),
+    ("start", "any", 1),
+    ("phase", "given", 0),
+    ("phase", "find", 1),
+    ("polarity", "given", 0),
+    ("polarity", "find", 1),
+];
+
+// The value of an option that has words.
+fn value_of(raw: &Raw, option: &str) -> Option<u64> {
+    match option {
+        "code" => Some(raw.code),
+        "inner" => Some(raw.inner),
+        "invert" => raw.invert,
+        "randomize" => Some(raw.randomize),
+        "basis" => Some(raw.basis),
+        "soft" => Some(raw.soft),
+        "start" => Some(raw.start),
+        "phase" => Some(raw.phase),
+        "polarity" => Some(raw.polarity),
+        _ => None,
+    }
+}
+
+fn check_line(rt: &impl Abort, alloc: Global, line: &str, raw: &Raw) -> Result<(), Fail> {
+    let words = words_of(alloc, line)?;
+    let job = read_words(alloc, words.as_slice())?;
+    assert_eq!(rt; job.kind, JobKind::Encode, "{line}");
+    assert_eq!(rt; job.raw, *raw, "{line}");
+    assert!(rt; job.hex.as_bytes().is_empty(), "{line}");
+    assert_eq!(rt; [job.seed, job.frames, job.hits], [1, 100, 0], "{line}");
+    Ok(())
+}
+
+#[test]
+fn words_become_a_job(rt: HostRuntime) -> Result<(), Fail> {
+    for (line, raw) in &LINES {
+        check_line(&rt, rt.alloc(), *line, raw)?;
+    }
+    Ok(())
+}
+
+#[test]
+fn words_of_options_become_numbers(rt: HostRuntime) -> Result<(), Fail> {
+    let alloc = rt.alloc();
+    for (option, word, number) in &OPTION_WORDS {
+        let line = format!(in alloc; "tmchan encode --{option} {word}")?;
+        let words = words_of(alloc, line.as_str())?;
+        let job = read_words(alloc, words.as_slice())?;
+        assert_eq!(rt; value_of(&job.raw, *option), Some(*number), "{line}");
+    }
+    Ok(())
+}

@@ -1,0 +1,106 @@
+// The program's top call over a source and sinks in memory.
+use std::alloc::{AllocError, Global};
+use std::test::Fail;
+use std::thread::Threads;
+use tm_base::{MemSink, MemSource};
+use tm_cli::run;
+
+/// The most octets that a source gives at a time: each row is run with each of them.
+pub const CUTS: [usize; 3] = [1, 2, 4096];
+
+/// What goes into a call.
+#[derive(Clone, Copy)]
+pub struct Given<'a> {
+    /// The words, parted by blanks. The first is the program's name.
+    pub line: &'a str,
+    pub input: &'a [u8],
+    /// The most octets that the source gives at a time.
+    pub cut: usize,
+    /// The number of the read that fails, counted from 0.
+    pub failing_read: Option<usize>,
+    /// The number of the write to out that fails, counted from 0.
+    pub failing_write: Option<usize>,
+    pub out_room: usize,
+    pub notes_room: usize,
+}
+
+impl<'a> Given<'a> {
+    /// A call that meets no fault.
+    pub fn new(line: &'a str, input: &'a [u8], cut: usize) -> Given<'a> {
+        Given {
+            line,
+            input,
+            cut,
+            failing_read: None,
+            failing_write: None,
+            out_room: 20_000,
+            notes_room: 256,
+        }
+    }
+}
+
+/// What came of a call.
+#[derive(Drop)]
+pub struct Outcome {
+    pub status: u8,
+    /// How often the source was read.
+    pub reads: u64,
+    pub out: MemSink,
+    pub notes: MemSink,
+}
+
+/// The words of a line.
+pub fn words_of(alloc: Global, line: &str) -> Result<Vec<String>, AllocError> {
+    let mut words = Vec::new(alloc);
+    for word in line.split_whitespace() {
+        words.push(word.to_string(alloc)?)?;
+    }
+    Ok(words)
+}
+
+/// The parts, one behind another.
+pub fn joined(alloc: Global, parts: &[&[u8]]) -> Result<Vec<u8>, AllocError> {
+    let mut octets = Vec::new(alloc);
+    for part in parts {
+        octets.extend_from_slice(*part)?;
+    }
+    Ok(octets)
+}
+
+// The number, if there is one, as a list.
+fn list_of(alloc: Global, number: Option<usize>) -> Result<Vec<usize>, AllocError> {
+    let mut list = Vec::new(alloc);
+    if let Some(number) = number {
+        list.push(number)?;
+    }
+    Ok(list)
+}
+
+fn source_of(alloc: Global, given: &Given) -> Result<MemSource, AllocError> {
+    let content = given.input.to_vec(alloc)?;
+    let cuts = vec![in alloc; given.cut; given.input.len()]?;
+    let fails = list_of(alloc, given.failing_read)?;
+    Ok(MemSource::new(content, cuts, fails))
+}
+
+/// Makes the call.
+pub fn run_over(rt: &(impl Threads + Sync), alloc: Global, given: &Given) -> Result<Outcome, Fail> {
+    let words = words_of(alloc, given.line)?;
+    let mut source = source_of(alloc, given)?;
+    let mut out = MemSink::new(alloc, given.out_room, list_of(alloc, given.failing_write)?)?;
+    let mut notes = MemSink::new(alloc, given.notes_room, Vec::new(alloc))?;
+    let status = run(
+        rt,
+        alloc,
+        words.as_slice(),
+        &mut source,
+        &mut out,
+        &mut notes,
+    );
+    Ok(Outcome {
+        status,
+        reads: source.calls(),
+        out,
+        notes,
+    })
+}
