@@ -1,0 +1,11 @@
+pub mod Numbers
+pub mod Sliding
+pub mod Matches
+pub mod Steps
+pub mod Longer
+pub mod FirstPlaces
+pub mod MarkedStreams
+pub mod Turned
+pub mod CleanStreams
+pub mod Ends
+pub mod Given

@@ -1,0 +1,201 @@
+-- The places of a list that goes on.
+use Rattle.std.proofs.Common.{◌≡◌, ℕ, zero, suc, ◌+◌, ◌<◌, ◌≤◌, Bool, true, false, cond, nat_lt, List, [], ◌∷◌, ◌++◌, length, drop, refl, sym, ap, ◌∙◌, subst, arith, Option, Some, None, length-append, ◌⊎◌, inl, inr}
+use Rattle.std.specs.List.{AllByRecursion}
+use Rattle.std.proofs.lemmas.Bool.{cases_lt}
+use Rattle.tm_sync.specs.declared.found.Found.{Found}
+use Rattle.tm_sync.specs.declared.found.Before.{Before}
+use Rattle.tm_sync.specs.Places.{Rules, match_of, before_next, found_at, place_by, place_at, places_from, places}
+use Rattle.tm_sync.proofs.Steps.{places_from-nil, places_from-short, places_from-one, places_from-miss, places_from-inside, match_of-append, wrong_bits-append, place_at-room, place_at-short}
+
+-- what stands at a place with room for its codeblock stays, whatever comes behind
+pub place_by-append : (rules : Rules) (at : ℕ) (before : Option Before) (bits more : List Bool) (way : Option Bool) → 32 ≤ length bits
+    → place_by rules at before (bits ++ more) way ≡ place_by rules at before bits way
+place_by-append rules at before bits more (Some inverted) long = λ i. Some (record { place = at; distance = wrong_bits-append inverted bits more long i; bridged = false; inverted = inverted })
+place_by-append rules at None bits more None long = refl
+place_by-append rules at (Some before) bits more None long =
+    λ i. cond (nat_lt before.bridged rules.fly) (Some (record { place = at; distance = wrong_bits-append before.inverted bits more long i; bridged = true; inverted = before.inverted })) None
+
+pub place_at-append : (rules : Rules) (at : ℕ) (before : Option Before) (bits more : List Bool) → 32 + rules.block_bits ≤ length bits
+    → place_at rules at before (bits ++ more) ≡ place_at rules at before bits
+place_at-append rules at before bits more room =
+    place_at-room rules at before (bits ++ more) (omega (arith, length-append bits more))
+    ∙ ap (place_by rules at before (bits ++ more)) (match_of-append rules bits more (omega arith))
+    ∙ place_by-append rules at before bits more (match_of rules bits) (omega arith)
+    ∙ sym (place_at-room rules at before bits room)
+
+-- whether a place is there, with the equation
+pub data Seen (o : Option Found) : Type 0 where
+  none : o ≡ None → Seen o
+  some : (f : Found) → o ≡ Some f → Seen o
+
+pub seen : (o : Option Found) → Seen o
+seen None = none refl
+seen (Some f) = some f refl
+
+-- ---- each codeblock lies whole in the bits
+-- what a place says of where it stands
+pub record Stands (rules : Rules) (at : ℕ) (bits : List Bool) (f : Found) : Type 0 where
+  pub place : f.place ≡ at
+  pub room : 32 + rules.block_bits ≤ length bits
+
+pub place_by-place : (rules : Rules) (at : ℕ) (before : Option Before) (bits : List Bool) (way : Option Bool) (f : Found) → place_by rules at before bits way ≡ Some f → f.place ≡ at
+place_by-place rules at before bits (Some inverted) f e = let is : found_at at false inverted bits ≡ f = cc in ap (λ (g : Found). g.place) (sym is)
+place_by-place rules at None bits None f e = absurd (cc)
+place_by-place rules at (Some before) bits None f e = go (nat_lt before.bridged rules.fly) e
+  where
+    go : (c : Bool) → cond c (Some (found_at at true before.inverted bits)) None ≡ Some f → f.place ≡ at
+    go true e = let is : found_at at true before.inverted bits ≡ f = cc in ap (λ (g : Found). g.place) (sym is)
+    go false e = absurd (cc)
+
+pub place_at-stands : (rules : Rules) (at : ℕ) (before : Option Before) (bits : List Bool) (f : Found) → place_at rules at before bits ≡ Some f → Stands rules at bits f
+place_at-stands rules at before bits f e = go (cases_lt (length bits) (32 + rules.block_bits))
+  where
+    go : (length bits < 32 + rules.block_bits) ⊎ (32 + rules.block_bits ≤ length bits) → Stands rules at bits f
+    go (inl short) = let no : None ≡ Some f = sym (place_at-short rules at before bits short) ∙ e in absurd (cc)
+    go (inr room) = record { place = place_by-place rules at before bits (match_of rules bits) f (sym (place_at-room rules at before bits room) ∙ e); room = room }
+
+later : (at : ℕ) (fs : List Found) → AllByRecursion (λ f. at + 1 ≤ f.place) fs → AllByRecursion (λ f. at ≤ f.place) fs
+later at [] all = tt
+later at (f ∷ fs) all = (let one = all.0 in omega arith, later at fs all.1)
+
+past-of : (rules : Rules) (end at : ℕ) (fs : List Found) → end < at + 32 + rules.block_bits → AllByRecursion (λ f. at ≤ f.place) fs → AllByRecursion (λ f. end < f.place + 32 + rules.block_bits) fs
+past-of rules end at [] short all = tt
+past-of rules end at (f ∷ fs) short all = (let one = all.0 in omega arith, past-of rules end at fs short all.1)
+
+past-same : (rules : Rules) (end end' : ℕ) (fs : List Found) → end ≡ end' → AllByRecursion (λ f. end < f.place + 32 + rules.block_bits) fs → AllByRecursion (λ f. end' < f.place + 32 + rules.block_bits) fs
+past-same rules end end' fs same all = subst (λ (n : ℕ). AllByRecursion (λ f. n < f.place + 32 + rules.block_bits) fs) same all
+
+-- no place stands before the first bit
+pub places_from-start : (rules : Rules) (at skip : ℕ) (before : Option Before) (bits : List Bool) → AllByRecursion (λ f. at ≤ f.place) (places_from rules at skip before bits)
+places_from-start rules at skip before [] = subst (λ (fs : List Found). AllByRecursion (λ f. at ≤ f.place) fs) (sym (places_from-nil rules at skip before)) tt
+places_from-start rules at (suc skip) before (b ∷ bits) =
+    subst (λ (fs : List Found). AllByRecursion (λ f. at ≤ f.place) fs) (sym (places_from-inside rules at skip before b bits))
+    (later at (places_from rules (at + 1) skip before bits) (places_from-start rules (at + 1) skip before bits))
+places_from-start rules at zero before (b ∷ bits) = here (λ skip behind. later at (places_from rules (at + 1) skip behind bits) (places_from-start rules (at + 1) skip behind bits)) (seen (place_at rules at before (b ∷ bits)))
+  where
+    here : ((skip : ℕ) (before : Option Before) → AllByRecursion (λ f. at ≤ f.place) (places_from rules (at + 1) skip before bits))
+        → Seen (place_at rules at before (b ∷ bits)) → AllByRecursion (λ f. at ≤ f.place) (places_from rules at 0 before (b ∷ bits))
+    here next (none e) = subst (λ (fs : List Found). AllByRecursion (λ f. at ≤ f.place) fs) (sym (places_from-miss rules at before b bits e)) (next 0 None)
+    here next (some f e) =
+        let s = place_at-stands rules at before (b ∷ bits) f e in
+        subst (λ (fs : List Found). AllByRecursion (λ f. at ≤ f.place) fs) (sym (places_from-one rules at before b bits f e)) (omega (arith, s.place), next (31 + rules.block_bits) (Some (before_next before f)))
+
+-- the longer list's places are first those of the shorter one, and the codeblocks of the others end behind it
+pub record GoesOn (rules : Rules) (end : ℕ) (all first : List Found) : Type 0 where
+  pub rest : List Found
+  pub is : all ≡ first ++ rest
+  pub past : AllByRecursion (λ f. end < f.place + 32 + rules.block_bits) rest
+
+pub places_from-append : (rules : Rules) (at skip : ℕ) (before : Option Before) (bits more : List Bool)
+    → GoesOn rules (at + length bits) (places_from rules at skip before (bits ++ more)) (places_from rules at skip before bits)
+places_from-append rules at skip before [] more = record {
+  rest = places_from rules at skip before more;
+  is = ap (λ l. l ++ places_from rules at skip before more) (sym (places_from-nil rules at skip before));
+  past = past-of rules (at + 0) at (places_from rules at skip before more) (omega arith) (places_from-start rules at skip before more);
+}
+places_from-append rules at (suc skip) before (b ∷ bits) more =
+    let go = places_from-append rules (at + 1) skip before bits more in record {
+      rest = go.rest;
+      is = places_from-inside rules at skip before b (bits ++ more) ∙ go.is ∙ ap (λ l. l ++ go.rest) (sym (places_from-inside rules at skip before b bits));
+      past = past-same rules (at + 1 + length bits) (at + suc (length bits)) go.rest (omega arith) go.past;
+    }
+places_from-append rules at zero before (b ∷ bits) more =
+    roomy (λ skip behind. places_from-append rules (at + 1) skip behind bits more) (cases_lt (length (b ∷ bits)) (32 + rules.block_bits))
+  where
+    here : ((skip : ℕ) (before : Option Before) → GoesOn rules (at + 1 + length bits) (places_from rules (at + 1) skip before (bits ++ more)) (places_from rules (at + 1) skip before bits))
+        → place_at rules at before (b ∷ (bits ++ more)) ≡ place_at rules at before (b ∷ bits) → Seen (place_at rules at before (b ∷ bits))
+        → GoesOn rules (at + length (b ∷ bits)) (places_from rules at 0 before ((b ∷ bits) ++ more)) (places_from rules at 0 before (b ∷ bits))
+    here next same (none e) =
+        let go = next 0 None in record {
+          rest = go.rest;
+          is = places_from-miss rules at before b (bits ++ more) (same ∙ e) ∙ go.is ∙ ap (λ l. l ++ go.rest) (sym (places_from-miss rules at before b bits e));
+          past = past-same rules (at + 1 + length bits) (at + suc (length bits)) go.rest (omega arith) go.past;
+        }
+    here next same (some f e) =
+        let go = next (31 + rules.block_bits) (Some (before_next before f)) in record {
+          rest = go.rest;
+          is = places_from-one rules at before b (bits ++ more) f (same ∙ e) ∙ ap (λ l. f ∷ l) go.is
+              ∙ ap (λ l. l ++ go.rest) (sym (places_from-one rules at before b bits f e));
+          past = past-same rules (at + 1 + length bits) (at + suc (length bits)) go.rest (omega arith) go.past;
+        }
+
+    roomy : ((skip : ℕ) (before : Option Before) → GoesOn rules (at + 1 + length bits) (places_from rules (at + 1) skip before (bits ++ more)) (places_from rules (at + 1) skip before bits))
+        → (length (b ∷ bits) < 32 + rules.block_bits) ⊎ (32 + rules.block_bits ≤ length (b ∷ bits))
+        → GoesOn rules (at + length (b ∷ bits)) (places_from rules at 0 before ((b ∷ bits) ++ more)) (places_from rules at 0 before (b ∷ bits))
+    roomy next (inl short) = record {
+      rest = places_from rules at 0 before ((b ∷ bits) ++ more);
+      is = ap (λ l. l ++ places_from rules at 0 before ((b ∷ bits) ++ more)) (sym (places_from-short rules at before (b ∷ bits) short));
+      past = past-of rules (at + length (b ∷ bits)) at (places_from rules at 0 before ((b ∷ bits) ++ more)) (omega arith) (places_from-start rules at 0 before ((b ∷ bits) ++ more));
+    }
+    roomy next (inr room) = here next (place_at-append rules at before (b ∷ bits) more room) (seen (place_at rules at before (b ∷ bits)))
+
+pub places-append : (rules : Rules) (bits more : List Bool) → GoesOn rules (length bits) (places rules (bits ++ more)) (places rules bits)
+places-append rules bits more =
+    let go = places_from-append rules 0 0 None bits more in
+    record { rest = go.rest; is = go.is; past = past-same rules (0 + length bits) (length bits) go.rest (omega arith) go.past }
+
+-- the codeblock of a place ends before `end`
+abbrev pub EndBefore : Rules → ℕ → List Found → Type 0
+EndBefore rules end = AllByRecursion (λ f. f.place + 32 + rules.block_bits ≤ end)
+
+pub places_from-end : (rules : Rules) (at skip : ℕ) (before : Option Before) (bits : List Bool) → EndBefore rules (at + length bits) (places_from rules at skip before bits)
+places_from-end rules at skip before [] = subst (λ (fs : List Found). EndBefore rules (at + 0) fs) (sym (places_from-nil rules at skip before)) tt
+places_from-end rules at (suc skip) before (b ∷ bits) =
+    let there : at + 1 + length bits ≡ at + suc (length bits) = omega arith in
+    subst (λ (fs : List Found). EndBefore rules (at + suc (length bits)) fs) (sym (places_from-inside rules at skip before b bits))
+    (subst (λ (n : ℕ). EndBefore rules n (places_from rules (at + 1) skip before bits)) there (places_from-end rules (at + 1) skip before bits))
+places_from-end rules at zero before (b ∷ bits) = here (λ skip behind. places_from-end rules (at + 1) skip behind bits) (seen (place_at rules at before (b ∷ bits)))
+  where
+    there : at + 1 + length bits ≡ at + suc (length bits)
+    there = omega arith
+
+    here : ((skip : ℕ) (before : Option Before) → EndBefore rules (at + 1 + length bits) (places_from rules (at + 1) skip before bits))
+        → Seen (place_at rules at before (b ∷ bits)) → EndBefore rules (at + suc (length bits)) (places_from rules at 0 before (b ∷ bits))
+    here next (none e) = subst (λ (fs : List Found). EndBefore rules (at + suc (length bits)) fs) (sym (places_from-miss rules at before b bits e))
+        (subst (λ (n : ℕ). EndBefore rules n (places_from rules (at + 1) 0 None bits)) there (next 0 None))
+    here next (some f e) =
+        let s = place_at-stands rules at before (b ∷ bits) f e in
+        subst (λ (fs : List Found). EndBefore rules (at + suc (length bits)) fs) (sym (places_from-one rules at before b bits f e)) (
+          omega (arith, s.place, s.room),
+          subst (λ (n : ℕ). EndBefore rules n (places_from rules (at + 1) (31 + rules.block_bits) (Some (before_next before f)) bits)) there (next (31 + rules.block_bits) (Some (before_next before f))),
+        )
+
+pub places-end : (rules : Rules) (bits : List Bool) → EndBefore rules (length bits) (places rules bits)
+places-end rules bits = subst (λ (n : ℕ). EndBefore rules n (places rules bits)) (omega arith) (places_from-end rules 0 0 None bits)
+
+-- ---- how many places there may be
+pub places_from-count : (rules : Rules) (at skip : ℕ) (before : Option Before) (bits : List Bool) → length (places_from rules at skip before bits) ≤ length bits
+places_from-count rules at skip before [] = subst (λ (fs : List Found). length fs ≤ 0) (sym (places_from-nil rules at skip before)) (omega arith)
+places_from-count rules at (suc skip) before (b ∷ bits) =
+    let more = places_from-count rules (at + 1) skip before bits in
+    subst (λ (fs : List Found). length fs ≤ suc (length bits)) (sym (places_from-inside rules at skip before b bits)) (omega arith)
+places_from-count rules at zero before (b ∷ bits) = here (λ skip behind. places_from-count rules (at + 1) skip behind bits) (seen (place_at rules at before (b ∷ bits)))
+  where
+    here : ((skip : ℕ) (before : Option Before) → length (places_from rules (at + 1) skip before bits) ≤ length bits)
+        → Seen (place_at rules at before (b ∷ bits)) → length (places_from rules at 0 before (b ∷ bits)) ≤ suc (length bits)
+    here next (none e) =
+        let more = next 0 None in
+        subst (λ (fs : List Found). length fs ≤ suc (length bits)) (sym (places_from-miss rules at before b bits e)) (omega arith)
+    here next (some f e) =
+        let more = next (31 + rules.block_bits) (Some (before_next before f)) in
+        subst (λ (fs : List Found). length fs ≤ suc (length bits)) (sym (places_from-one rules at before b bits f e)) (omega arith)
+
+pub places-count : (rules : Rules) (bits : List Bool) → length (places rules bits) ≤ length bits
+places-count rules bits = places_from-count rules 0 0 None bits
+
+-- ---- what stands behind the places of a front
+drop-front : (front rest : List Found) → drop (length front) (front ++ rest) ≡ rest
+drop-front [] rest = refl
+drop-front (f ∷ front) rest = drop-front front rest
+
+behind-front : (rules : Rules) (bits more : List Bool) → drop (length (places rules bits)) (places rules (bits ++ more)) ≡ (places-append rules bits more).rest
+behind-front rules bits more =
+    let go = places-append rules bits more in
+    ap (drop (length (places rules bits))) go.is ∙ drop-front (places rules bits) go.rest
+
+pub places-goes_on : (rules : Rules) (bits more : List Bool) → places rules (bits ++ more) ≡ places rules bits ++ drop (length (places rules bits)) (places rules (bits ++ more))
+places-goes_on rules bits more = (places-append rules bits more).is ∙ ap (λ l. places rules bits ++ l) (sym (behind-front rules bits more))
+
+pub places-past : (rules : Rules) (bits more : List Bool) → AllByRecursion (λ f. length bits < f.place + 32 + rules.block_bits) (drop (length (places rules bits)) (places rules (bits ++ more)))
+places-past rules bits more =
+    subst (λ (fs : List Found). AllByRecursion (λ f. length bits < f.place + 32 + rules.block_bits) fs) (sym (behind-front rules bits more)) (places-append rules bits more).past

@@ -1,0 +1,31 @@
+// Places of markers.
+
+/// The place of a marker with a whole codeblock behind it.
+#[derive(Clone, Copy, Debug, PartialEq, Eq)]
+pub struct Found {
+    /// How many bits stand before the marker.
+    pub place: u64,
+    /// How many of the 32 bits differ from the marker, or from the inverted marker where `inverted` is set.
+    pub distance: u8,
+    /// Whether the 32 bits match in no way, and the place was taken since it stands right behind a codeblock.
+    pub bridged: bool,
+    /// Whether the codeblock's bits are inverted.
+    pub inverted: bool,
+}
+
+/// What ends right before a bit: a codeblock.
+#[derive(Clone, Copy, Debug, PartialEq, Eq)]
+pub struct Before {
+    /// Whether the codeblock's bits are inverted.
+    pub inverted: bool,
+    /// How many places in a row, up to this one, were bridged.
+    pub bridged: u8,
+}
+
+/// A place whose codeblock is not whole yet.
+#[derive(Clone, Copy, Debug, PartialEq, Eq)]
+pub struct Awaited {
+    pub found: Found,
+    /// What will stand before the first bit behind the codeblock.
+    pub next: Before,
+}

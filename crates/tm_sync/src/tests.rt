@@ -1,0 +1,383 @@
+// Worked streams, and the search beside a plain reading of the definition over the whole list.
+use crate::*;
+use std::alloc::{AllocError, Global};
+use std::process::Abort;
+use std::test::Fail;
+use tm_base::{BitReader, MARKER};
+
+// The coefficients of the generator of the (255,223) code in the dual basis: a codeblock of 264 bits.
+const CODEBLOCK: [u8; 33] = [
+    0x7B, 0x47, 0x32, 0x5F, 0x86, 0x4A, 0x18, 0xA0, 0x78, 0x83, 0xFA, 0xB9, 0x5C, 0x5F, 0x4F, 0xEC,
+    0xFE, 0xEC, 0x4F, 0x5F, 0x5C, 0xB9, 0xFA, 0x83, 0x78, 0xA0, 0x18, 0x4A, 0x86, 0x5F, 0x32, 0x47,
+    0x7B,
+];
+
+// How a search is made.
+#[derive(Clone, Copy, Debug)]
+struct Rules {
+    tolerance: u8,
+    fly: u8,
+    either: bool,
+    block_bits: u32,
+}
+
+fn add_octets(bits: &mut Vec<bool>, octets: &[u8]) -> Result<(), AllocError> {
+    let mut reader = BitReader::new(octets);
+    for _ in 0..octets.len() {
+        for _ in 0..8 {
+            match reader.next() {
+                Some(bit) => bits.push(bit == 1)?,
+                None => {}
+            }
+        }
+    }
+    Ok(())
+}
+
+// The bits of pieces of octets, one after another.
+fn bits_of(alloc: Global, pieces: &[&[u8]]) -> Result<Vec<bool>, AllocError> {
+    let mut bits = Vec::new(alloc);
+    for piece in pieces {
+        add_octets(&mut bits, piece)?;
+    }
+    Ok(bits)
+}
+
+// The places that a search finds, and the bits behind the last one's codeblock.
+fn searched(
+    rt: &impl Abort,
+    alloc: Global,
+    rules: Rules,
+    bits: &[bool],
+) -> Result<(Vec<Found>, u64), AllocError> {
+    assert!(rt; rules.tolerance <= 8);
+    let mut search = Search::new(rules.tolerance, rules.fly, rules.either, rules.block_bits);
+    let mut found = Vec::new(alloc);
+    for &bit in bits {
+        assert!(rt; !search.pending());
+        search.push_bit(bit);
+        match search.next() {
+            Some(place) => found.push(place)?,
+            None => {}
+        }
+    }
+    Ok((found, search.finish()))
+}
+
+fn plain(place: u64, distance: u8) -> Found {
+    Found {
+        place,
+        distance,
+        bridged: false,
+        inverted: false,
+    }
+}
+
+fn bridged(place: u64, distance: u8) -> Found {
+    Found {
+        place,
+        distance,
+        bridged: true,
+        inverted: false,
+    }
+}
+
+fn inverted(place: u64, distance: u8) -> Found {
+    Found {
+        place,
+        distance,
+        bridged: false,
+        inverted: true,
+    }
+}
+
+fn rules_of(tolerance: u8, fly: u8, either: bool, block_bits: u32) -> Rules {
+    Rules {
+        tolerance,
+        fly,
+        either,
+        block_bits,
+    }
+}
+
+#[test]
+fn marker_with_a_wrong_bit_is_found_within_the_tolerance(rt: HostRuntime) -> Result<(), Fail> {
+    let bits = bits_of(rt.alloc(), &[&[0x1A, 0xCF, 0xFC, 0x1C], &CODEBLOCK])?;
+    let (found, rest) = searched(&rt, rt.alloc(), rules_of(0, 0, false, 264), &bits)?;
+    assert_eq!(rt; found.len(), 0);
+    assert_eq!(rt; rest, 296);
+    let (found, rest) = searched(&rt, rt.alloc(), rules_of(1, 0, false, 264), &bits)?;
+    assert_eq!(rt; found.as_slice(), [plain(0, 1)].as_slice());
+    assert_eq!(rt; rest, 0);
+    Ok(())
+}
+
+#[test]
+fn first_place_within_the_tolerance_is_taken(rt: HostRuntime) -> Result<(), Fail> {
+    let bits = bits_of(
+        rt.alloc(),
+        &[&[0x1A, 0xCF, 0xFC, 0x1C], &MARKER, &CODEBLOCK],
+    )?;
+    let (found, rest) = searched(&rt, rt.alloc(), rules_of(1, 0, false, 264), &bits)?;
+    assert_eq!(rt; found.as_slice(), [plain(0, 1)].as_slice());
+    assert_eq!(rt; rest, 32);
+    let (found, rest) = searched(&rt, rt.alloc(), rules_of(0, 0, false, 264), &bits)?;
+    assert_eq!(rt; found.as_slice(), [plain(32, 0)].as_slice());
+    assert_eq!(rt; rest, 0);
+    Ok(())
+}
+
+#[test]
+fn missing_marker_is_bridged(rt: HostRuntime) -> Result<(), Fail> {
+    let bits = bits_of(
+        rt.alloc(),
+        &[
+            &MARKER, &CODEBLOCK, &[0; 4], &CODEBLOCK, &MARKER, &CODEBLOCK,
+        ],
+    )?;
+    let (found, rest) = searched(&rt, rt.alloc(), rules_of(0, 1, false, 264), &bits)?;
+    assert_eq!(rt;
+        found.as_slice(),
+        [plain(0, 0), bridged(296, 19), plain(592, 0)].as_slice()
+    );
+    assert_eq!(rt; rest, 0);
+    let (found, rest) = searched(&rt, rt.alloc(), rules_of(0, 0, false, 264), &bits)?;
+    assert_eq!(rt; found.as_slice(), [plain(0, 0), plain(592, 0)].as_slice());
+    assert_eq!(rt; rest, 0);
+    Ok(())
+}
+
+#[test]
+fn no_more_markers_in_a_row_are_bridged_than_given(rt: HostRuntime) -> Result<(), Fail> {
+    let bits = bits_of(
+        rt.alloc(),
+        &[
+            &MARKER, &CODEBLOCK, &[0; 4], &CODEBLOCK, &[0; 4], &CODEBLOCK, &MARKER, &CODEBLOCK,
+        ],
+    )?;
+    let (found, rest) = searched(&rt, rt.alloc(), rules_of(0, 1, false, 264), &bits)?;
+    assert_eq!(rt;
+        found.as_slice(),
+        [plain(0, 0), bridged(296, 19), plain(888, 0)].as_slice()
+    );
+    assert_eq!(rt; rest, 0);
+    Ok(())
+}
+
+#[test]
+fn inverted_marker_is_found(rt: HostRuntime) -> Result<(), Fail> {
+    let mut bits = bits_of(rt.alloc(), &[&MARKER, &CODEBLOCK])?;
+    for bit in &mut bits {
+        *bit = !*bit;
+    }
+    let (found, rest) = searched(&rt, rt.alloc(), rules_of(0, 0, true, 264), &bits)?;
+    assert_eq!(rt; found.as_slice(), [inverted(0, 0)].as_slice());
+    assert_eq!(rt; rest, 0);
+    let (found, rest) = searched(&rt, rt.alloc(), rules_of(0, 0, false, 264), &bits)?;
+    assert_eq!(rt; found.len(), 0);
+    assert_eq!(rt; rest, 296);
+    Ok(())
+}
+
+#[test]
+fn marker_inside_a_codeblock_is_not_searched(rt: HostRuntime) -> Result<(), Fail> {
+    let bits = bits_of(
+        rt.alloc(),
+        &[&MARKER, &[0], &MARKER, &[0], &MARKER, &[0; 6]],
+    )?;
+    let (found, rest) = searched(&rt, rt.alloc(), rules_of(0, 0, false, 48), &bits)?;
+    assert_eq!(rt; found.as_slice(), [plain(0, 0), plain(80, 0)].as_slice());
+    assert_eq!(rt; rest, 0);
+    Ok(())
+}
+
+#[test]
+fn inside_counts_behind_each_kind_of_marker(rt: HostRuntime) -> Result<(), Fail> {
+    let bits = bits_of(
+        rt.alloc(),
+        &[&[0xE5, 0x30, 0x03, 0xE2], &[0xFF], &[0xFF; 4], &[0xFF]],
+    )?;
+    let mut search = Search::new(0, 1, true, 8);
+    let mut given = 0;
+    for &bit in &bits {
+        assert!(rt; !search.pending());
+        search.push_bit(bit);
+        given = u64::saturating_add(given, 1);
+        let part = if given % 40 == 0 { 40 } else { given % 40 };
+        assert_eq!(rt;
+            search.inside(),
+            u64::checked_sub(part, 32),
+            "behind {given} bits"
+        );
+        assert_eq!(rt; search.pending(), part == 40, "behind {given} bits");
+        match search.next() {
+            Some(found) => assert_eq!(rt; found.bridged, given == 80),
+            None => {}
+        }
+    }
+    assert_eq!(rt; search.finish(), 0);
+    laws();
+    Ok(())
+}
+
+fn laws() {
+    one_polarity_law();
+    polarity_law();
+    longer_law();
+    marked_law();
+    clean_law();
+}
+
+// ---- the definition, read over the whole list
+// The number of the 32 bits at `at` that differ from the marker, or from the inverted one.
+fn wrong_at(bits: &[bool], at: usize, inverted: bool) -> u8 {
+    let mut wrong: u8 = 0;
+    for k in 0..32 {
+        let of_marker = u32::from_be_bytes(MARKER).rotate_left(k) >> 31 == 1;
+        match bits.get(at.saturating_add(k as usize)) {
+            Some(&bit) if bit == (of_marker != inverted) => {}
+            _ => wrong = wrong.saturating_add(1),
+        }
+    }
+    wrong
+}
+
+// The polarity in which the 32 bits at `at` match.
+fn match_at(rules: Rules, bits: &[bool], at: usize) -> Option<bool> {
+    if wrong_at(bits, at, false) <= rules.tolerance {
+        return Some(false);
+    }
+    if rules.either && wrong_at(bits, at, true) <= rules.tolerance {
+        return Some(true);
+    }
+    None
+}
+
+fn has_room(rules: Rules, bits: &[bool], at: usize) -> bool {
+    at.saturating_add(32)
+        .saturating_add(rules.block_bits as usize)
+        <= bits.len()
+}
+
+fn place_at(bits: &[bool], at: usize, bridged: bool, inverted: bool) -> Found {
+    Found {
+        place: at as u64,
+        distance: wrong_at(bits, at, inverted),
+        bridged,
+        inverted,
+    }
+}
+
+// The least place from `from` on that matches and has room.
+fn next_match(rules: Rules, bits: &[bool], from: usize) -> Option<Found> {
+    for at in from..bits.len() {
+        match match_at(rules, bits, at) {
+            Some(inverted) if has_room(rules, bits, at) => return Some(place_at(
+                bits, at, false, inverted,
+            )),
+            _ => {}
+        }
+    }
+    None
+}
+
+// The places, and the bits behind the last one's codeblock.
+fn defined(alloc: Global, rules: Rules, bits: &[bool]) -> Result<(Vec<Found>, u64), AllocError> {
+    let mut found = Vec::new(alloc);
+    let mut from: usize = 0;
+    let mut row: u8 = 0;
+    let mut last: Option<Found> = None;
+    for _ in 0..bits.len() {
+        let next = match last {
+            Some(before)
+                if row < rules.fly
+                    && has_room(rules, bits, from)
+                    && match_at(rules, bits, from).is_none() => {
+                row = row.saturating_add(1);
+                Some(place_at(bits, from, true, before.inverted))
+            }
+            _ => {
+                row = 0;
+                next_match(rules, bits, from)
+            }
+        };
+        match next {
+            Some(place) => {
+                found.push(place)?;
+                from = (place.place as usize)
+                    .saturating_add(32)
+                    .saturating_add(rules.block_bits as usize);
+            }
+            None => return Ok((found, bits.len().saturating_sub(from) as u64)),
+        }
+        last = next;
+    }
+    Ok((found, bits.len().saturating_sub(from) as u64))
+}
+
+// ---- many short lists
+fn step(state: u64) -> u64 {
+    let first = state ^ (state << 13);
+    let second = first ^ (first >> 7);
+    second ^ (second << 17)
+}
+
+// A list of up to six codeblocks: with gaps now and then, and with markers that have some wrong bits, are missing or are inverted.
+fn drawn_bits(alloc: Global, seed: u64, block_bits: u32) -> Result<Vec<bool>, AllocError> {
+    let mut bits = Vec::new(alloc);
+    let mut state = seed;
+    for _ in 0..2 + seed % 5 {
+        state = step(state);
+        if state % 4 == 0 {
+            for k in 0..state >> 8 & 7 {
+                bits.push(state >> (16 + k) & 1 == 1)?;
+            }
+        }
+        state = step(state);
+        let turned = if state >> 8 & 3 == 0 { u32::MAX } else { 0 };
+        let mut marker = u32::from_be_bytes(MARKER) ^ turned;
+        for _ in 0..state >> 16 & 15 {
+            state = step(state);
+            marker ^= 1 << (state >> 20 & 31);
+        }
+        if state >> 40 & 3 == 0 {
+            marker = (step(state) & 0xFFFF_FFFF) as u32;
+        }
+        for k in 0..32 {
+            bits.push(marker.rotate_left(k) >> 31 == 1)?;
+        }
+        state = step(state);
+        for k in 0..block_bits {
+            bits.push(state >> (k & 31) & 1 == 1)?;
+        }
+    }
+    Ok(bits)
+}
+
+#[test]
+fn search_finds_the_places_of_the_definition(rt: HostRuntime) -> Result<(), Fail> {
+    let mut bridges: u64 = 0;
+    let mut turned: u64 = 0;
+    for seed in 1..121 {
+        let block_bits = 1 + (seed % 5) as u32;
+        let bits = drawn_bits(rt.alloc(), step(step(seed)), block_bits)?;
+        for tolerance in 0..9 {
+            for fly in 0..3 {
+                for either in [false, true] {
+                    let rules = rules_of(tolerance, fly, either, block_bits);
+                    let (found, rest) = searched(&rt, rt.alloc(), rules, &bits)?;
+                    let (wanted, behind) = defined(rt.alloc(), rules, &bits)?;
+                    assert_eq!(rt; found.as_slice(), wanted.as_slice(), "{rules:?} at {seed}");
+                    assert_eq!(rt; rest, behind, "{rules:?} at {seed}");
+                    for place in &found {
+                        bridges = bridges.saturating_add(u64::from(place.bridged));
+                        turned = turned.saturating_add(u64::from(place.inverted));
+                    }
+                }
+            }
+        }
+    }
+    assert!(rt; bridges > 100);
+    assert!(rt; turned > 100);
+    Ok(())
+}
