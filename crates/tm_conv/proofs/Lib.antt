@@ -1,0 +1,7 @@
+pub mod Sizes
+pub mod Paths
+mod Unique
+pub mod Clean
+mod Starts
+mod Complement
+mod Encoded

@@ -1,0 +1,17 @@
+-- The path metric: how far symbols are from soft octets, of which 0 is the surest 0 and 255 the surest 1.
+use Rattle.std.specs.Prelude.{ℕ, ◌+◌, ◌-◌, ◌==◌, if◌then◌else◌, List, [], ◌∷◌}
+
+-- how far a soft octet is from a symbol
+abbrev pub distance : ℕ → ℕ → ℕ
+distance symbol octet = if symbol == 0 then octet else 255 - octet
+
+-- the sum of the distances of symbols from as many soft octets
+abbrev pub cost : List ℕ → List ℕ → ℕ
+cost [] octets = 0
+cost (symbol ∷ symbols) [] = 0
+cost (symbol ∷ symbols) (octet ∷ octets) = distance symbol octet + cost symbols octets
+
+-- the surest soft octets of symbols
+abbrev pub sure : List ℕ → List ℕ
+sure [] = []
+sure (symbol ∷ symbols) = (if symbol == 0 then 0 else 255) ∷ sure symbols

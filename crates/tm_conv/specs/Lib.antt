@@ -1,0 +1,5 @@
+pub mod Path
+pub mod Cost
+pub mod Best
+pub mod Columns
+pub mod Encoding

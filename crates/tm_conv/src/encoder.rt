@@ -1,0 +1,91 @@
+// The encoder, bit by bit.
+ghost use Rattle.std.specs.Prelude.{◌≡◌, ◌<◌, Bool, List, [], ◌∷◌, ◌++◌};
+ghost use Rattle.tm_base.specs.Bits.{bit_number};
+ghost use Rattle.tm_conv.specs.Path.{c1, c2, sent, step_symbols, next_register};
+ghost use Rattle.tm_conv.specs.Encoding.{StandsFor, sent_for, symbol_list};
+
+use crate::rates::{Rate, kept, period};
+use std::marker::Model;
+
+/// What one step sends: one symbol, or two in their order.
+#[derive(Clone, Copy, Debug, PartialEq, Eq)]
+pub enum Symbols {
+    One(bool),
+    Two(bool, bool),
+}
+
+/// Turns bits into symbols, one step after another. The register and the place in the puncture pattern run on over all bits.
+#[derive(Drop)]
+pub struct Encoder {
+    rate: Rate,
+    invert: bool,
+    register: u8,
+    phase: u8,
+}
+
+impl Model for Encoder {
+    ghost use Rattle.std.specs.Prelude.{◌<◌};
+    ghost use Rattle.tm_conv.specs.Path.{period};
+    ghost use Rattle.tm_conv.specs.Encoding.{Encoding};
+
+    ghost Value = { Encoding };
+
+    ghost view = { λ e. record { rate = e.rate; invert = e.invert; register = e.register; phase = e.phase } };
+
+    ghost invariant = { λ e. (e.register < 64) × (e.phase < period e.rate) };
+}
+
+impl Encoder {
+    /// An encoder that was given nothing yet: register 0 at step 0. Where `invert` is set each second sum is sent inverted.
+    pub fn new(rate: Rate, invert: bool) -> Encoder
+        ensures rate { result.rate ≡ rate }
+        ensures invert { result.invert ≡ invert }
+        ensures stands { StandsFor result [] }
+    {
+        Encoder {
+            rate,
+            invert,
+            register: 0,
+            phase: 0,
+        }
+    }
+
+    /// Takes the next bit, and answers the symbols that its step sends (CCSDS 131.0-B, Convolutional Coding).
+    pub fn step(&mut self, bit: bool) -> Symbols
+        ensures rate { self.new.rate ≡ self.old.rate }
+        ensures invert { self.new.invert ≡ self.old.invert }
+        ensures stands { (given : List Bool) → StandsFor self.old given → StandsFor self.new (given ++ bit ∷ []) }
+        ensures sent { (given : List Bool) → StandsFor self.old given
+            → sent_for self.old.rate self.old.invert (given ++ bit ∷ []) ≡ sent_for self.old.rate self.old.invert given ++ symbol_list result }
+    {
+        let (first, second) = sums(self.register, bit);
+        let symbols = symbols_kept(self.rate, self.invert, self.phase, first, second);
+        self.register = self.register / 2 + 32 * u8::from(bit);
+        self.phase = (self.phase + 1) % period(self.rate);
+        symbols
+    }
+}
+
+// The two sums of a step.
+fn sums(register: u8, bit: bool) -> (bool, bool)
+    requires { register < 64 }
+    ensures first { bit_number result.0 ≡ c1 register (bit_number bit) }
+    ensures second { bit_number result.1 ≡ c2 register (bit_number bit) }
+{
+    let u = u8::from(bit);
+    let first = (u + register / 32 + register / 16 + register / 8 + register) % 2;
+    let second = (u + register / 16 + register / 8 + register / 2 + register) % 2;
+    (first == 1, second == 1)
+}
+
+// What a step at this place of the pattern sends of its two sums.
+fn symbols_kept(rate: Rate, invert: bool, phase: u8, first: bool, second: bool) -> Symbols
+    ensures { symbol_list result ≡ sent rate invert phase (bit_number first) (bit_number second) }
+{
+    let sent_second = second != invert;
+    match kept(rate, u64::from(phase)) {
+        (true, true) => Symbols::Two(first, sent_second),
+        (true, false) => Symbols::One(first),
+        (false, _) => Symbols::One(sent_second),
+    }
+}

@@ -1,0 +1,15 @@
+//! The convolutional code of rate 1/2 and its punctured rates (CCSDS 131.0-B, Convolutional Coding): the encoder, and in
+//! specs/ the code's paths, their costs, the best path and the columns of least costs, on which decoder and checker stand.
+//! It stands on the bits of tm_base.
+#![tactic(auto)]
+
+mod encoder;
+mod laws;
+mod rates;
+
+pub use encoder::{Encoder, Symbols};
+pub use laws::{best_path_law, clean_symbols_law, complement_law, six_pairs_law};
+pub use rates::{Rate, kept, symbols_of};
+
+#[cfg(test)]
+mod worked_values;

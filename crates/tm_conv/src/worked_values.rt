@@ -1,0 +1,108 @@
+// Worked values: the first steps of the marker, the punctured rates, the patterns, the numbers of symbols.
+ghost use Rattle.std.specs.Prelude.{◌≤◌};
+
+use super::*;
+
+// The marker 1A CF FC 1D.
+const MARKER_BITS: u64 = 0x1ACFFC1D;
+
+// The symbols that are sent for the `count` lowest bits of `bits`, as the digits behind a first 1.
+fn symbols(rate: Rate, invert: bool, bits: u64, count: u32) -> u64
+    requires { count ≤ 32 }
+{
+    let mut encoder = Encoder::new(rate, invert);
+    let mut digits = 1;
+    for i in 0..count {
+        let bit = bits >> (count - 1 - i) & 1 == 1;
+        digits = match encoder.step(bit) {
+            Symbols::One(symbol) => digits << 1 | u64::from(symbol),
+            Symbols::Two(first, second) => digits << 2 | u64::from(first) << 1 | u64::from(second),
+        };
+    }
+    digits
+}
+
+#[test]
+fn marker_at_half(rt: HostRuntime) {
+    assert_eq!(rt;
+        symbols(Rate::R12, true, MARKER_BITS, 32),
+        0x56081C971AA73D3E
+    );
+}
+
+#[test]
+fn first_steps_of_the_marker(rt: HostRuntime) {
+    let pairs = [
+        (false, true),
+        (false, true),
+        (false, true),
+        (true, false),
+        (false, false),
+        (false, false),
+        (true, false),
+        (false, false),
+        (false, false),
+    ];
+    let mut encoder = Encoder::new(Rate::R12, true);
+    for (i, (first, second)) in pairs.into_iter().enumerate() {
+        let bit = MARKER_BITS >> (31 - i) & 1 == 1;
+        assert_eq!(rt; encoder.step(bit), Symbols::Two(first, second), "step {i}");
+    }
+}
+
+#[test]
+fn marker_at_the_punctured_rates(rt: HostRuntime) {
+    assert_eq!(rt; symbols(Rate::R23, false, 0x1A, 8), 0b1_000001011111);
+    assert_eq!(rt; symbols(Rate::R34, false, 0x35, 9), 0b1_000011101110);
+    assert_eq!(rt; symbols(Rate::R56, false, 0x03, 5), 0b1_000010);
+    assert_eq!(rt; symbols(Rate::R78, false, 0x0D, 7), 0b1_00001011);
+}
+
+#[test]
+fn patterns(rt: HostRuntime) {
+    let rows = [
+        (Rate::R12, 1, 0b1, 0b1),
+        (Rate::R23, 2, 0b10, 0b11),
+        (Rate::R34, 3, 0b101, 0b110),
+        (Rate::R56, 5, 0b10101, 0b11010),
+        (Rate::R78, 7, 0b1000101, 0b1111010),
+    ];
+    for (rate, period, first, second) in rows {
+        for t in 0..period {
+            let keeps = (
+                first >> (period - 1 - t) & 1 == 1,
+                second >> (period - 1 - t) & 1 == 1,
+            );
+            assert_eq!(rt; kept(rate, t), keeps, "step {t}");
+            assert_eq!(rt;
+                kept(rate, 1_000_000_000 * period + t),
+                keeps,
+                "step {t} of a later period"
+            );
+        }
+    }
+}
+
+#[test]
+fn symbols_of_periods(rt: HostRuntime) {
+    for (rate, period, size) in [
+        (Rate::R12, 1, 2),
+        (Rate::R23, 2, 3),
+        (Rate::R34, 3, 4),
+        (Rate::R56, 5, 6),
+        (Rate::R78, 7, 8),
+    ] {
+        assert_eq!(rt; symbols_of(rate, 0), 0);
+        assert_eq!(rt; symbols_of(rate, 1), 2);
+        assert_eq!(rt; symbols_of(rate, period), size);
+        assert_eq!(rt; symbols_of(rate, 1_000 * period), 1_000 * size);
+    }
+}
+
+#[test]
+fn laws(_rt: HostRuntime) {
+    clean_symbols_law();
+    complement_law();
+    six_pairs_law();
+    best_path_law();
+}
