@@ -9,9 +9,9 @@ use Rattle.tm_sync.specs.declared.found.Found.{Found}
 use Rattle.tm_sync.specs.declared.found.Before.{Before}
 use Rattle.tm_sync.specs.declared.found.Awaited.{Awaited}
 use Rattle.tm_sync.specs.Places.{Rules, before_next, match_of, place_by, places, places_from}
-use Rattle.tm_sync.specs.Searching.{Searching, StandsFor, awaited_at, first_place, place_ahead, inside_ahead, is_pending, end_of, before_behind, before_last}
+use Rattle.tm_sync.specs.Searching.{Counts, Searching, StandsFor, awaited_at, first_place, place_ahead, inside_ahead, is_pending, end_of, before_behind, before_last}
 use Rattle.tm_sync.proofs.Numbers.{value_from, value-last, number-value}
-use Rattle.tm_sync.proofs.Sliding.{word-push}
+use Rattle.tm_sync.proofs.Sliding.{byte-number, word-push}
 use Rattle.tm_sync.proofs.Steps.{places_from-nil}
 use Rattle.tm_sync.proofs.Longer.{Seen, none, some, seen, place_by-place}
 use Rattle.tm_sync.proofs.FirstPlaces.{here, ready, first_place-nil, first_place-short, first_place-stays, first_place-push, first_place-room, places_from-none, places_from-whole, places_from-unfinished, not-bridged-here, behind-matched}
@@ -140,17 +140,31 @@ grown s s' b bits found h g is after fresh = stands_of s' (bits ++ b ∷ []) fou
 }
 
 -- what the fields were is what the search was
-pub grows : (s old s' : Searching) (b : Bool) (byte : ℕ) → old ≡ s → byte ≡ bool_byte b → s.pushed < 2 ^ 63 → s'.rules ≡ old.rules
-    → s'.word ≡ bit_or (old.word * 2 % 2 ^ 32) byte → s'.pushed ≡ (old.pushed + 1) % 2 ^ 64 → s'.start ≡ old.start → s'.before ≡ old.before → Grows s s' b
-grows s old s' b byte same is few rules word pushed start before =
+pub counts : (s old s' : Searching) (b : Bool) (byte : ℕ) → old ≡ s → byte ≡ bool_byte b → s.pushed < 2 ^ 63 → s'.rules ≡ old.rules
+    → s'.word ≡ bit_or (old.word * 2 % 2 ^ 32) byte → s'.pushed ≡ (old.pushed + 1) % 2 ^ 64 → s'.start ≡ old.start → s'.before ≡ old.before
+    → s'.awaited ≡ old.awaited → s'.after ≡ old.after → Counts s s' b
+counts s old s' b byte same is few rules word pushed start before awaited after =
     let pushed_was : old.pushed ≡ s.pushed = ap (λ (v : Searching). v.pushed) same in
     record {
       rules = rules ∙ ap (λ (v : Searching). v.rules) same;
-      word = word ∙ (λ i. bit_or ((same i).word * 2 % 2 ^ 32) (is i));
+      word = word ∙ (λ i. bit_or ((same i).word * 2 % 2 ^ 32) ((is ∙ byte-number b) i));
       pushed = omega arith;
       start = start ∙ ap (λ (v : Searching). v.start) same;
       before = before ∙ ap (λ (v : Searching). v.before) same;
+      awaited = awaited ∙ ap (λ (v : Searching). v.awaited) same;
+      after = after ∙ ap (λ (v : Searching). v.after) same;
     }
+
+-- a bit that was counted before is given
+pub grows : (s old s' : Searching) (b : Bool) → Counts s old b → s'.rules ≡ old.rules → s'.word ≡ old.word → s'.pushed ≡ old.pushed → s'.start ≡ old.start
+    → s'.before ≡ old.before → Grows s s' b
+grows s old s' b c rules word pushed start before = record {
+  rules = rules ∙ c.rules;
+  word = word ∙ c.word ∙ ap (bit_or (s.word * 2 % 2 ^ 32)) (sym (byte-number b));
+  pushed = pushed ∙ c.pushed;
+  start = start ∙ c.start;
+  before = before ∙ c.before;
+}
 
 -- the bits given, and those up to the last codeblock found
 pub start-there : (s : Searching) (bits : List Bool) (found : List Found) → StandsFor s bits found → (s.pushed ≡ length bits) × (s.start ≤ s.pushed)

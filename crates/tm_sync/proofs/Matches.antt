@@ -6,7 +6,7 @@ use Rattle.std.proofs.lemmas.Bool.Decides.{nat_tests}
 use Rattle.tm_base.specs.Bits.{number_of}
 use Rattle.tm_sync.specs.Bits.{flip, complement, difference, differences, marker_bits}
 use Rattle.tm_sync.specs.Places.{Rules, match_of, wrong_bits}
-use Rattle.tm_sync.specs.Searching.{far_limit}
+use Rattle.tm_sync.specs.Searching.{far_count}
 use Rattle.tm_sync.proofs.Numbers.{ones-marker, number-value, length-marker_bits}
 
 pub few-ones : (x y : ℕ) → x < 2 ^ 32 → y < 2 ^ 32 → count_ones (bit_xor x y) ≤ 32
@@ -75,10 +75,10 @@ match-none rules bits wrong other is far also away =
     go false test second = λ i. cond (test i) (Some false) None
 
 -- bits that are far from the marker and from the inverted marker match in no way
-pub match-far : (rules : Rules) (bits : List Bool) (wrong : ℕ) → length bits ≡ 32 → wrong ≡ wrong_bits false bits → rules.tolerance < wrong
-    → wrong < far_limit rules.tolerance rules.either → match_of rules bits ≡ None
-match-far rules bits wrong long is far below = go rules.either refl below
+pub match-far : (rules : Rules) (bits : List Bool) (wrong : ℕ) → rules.tolerance ≤ 8 → length bits ≡ 32 → wrong ≡ wrong_bits false bits → rules.tolerance < wrong
+    → wrong < rules.tolerance + 1 + far_count rules.tolerance rules.either → match_of rules bits ≡ None
+match-far rules bits wrong most long is far below = go rules.either refl below
   where
-    go : (either : Bool) → rules.either ≡ either → wrong < far_limit rules.tolerance either → match_of rules bits ≡ None
+    go : (either : Bool) → rules.either ≡ either → wrong < rules.tolerance + 1 + far_count rules.tolerance either → match_of rules bits ≡ None
     go true e below = match-none rules bits wrong (32 - wrong) is far (wrong-inverted wrong bits long is) (omega arith)
     go false e below = match-given rules bits wrong is far e

@@ -6,7 +6,7 @@ use Rattle.std.specs.Int.Bits.{or_zero_l, or_zero_r}
 use Rattle.tm_base.specs.Bits.{bit_number}
 use Rattle.tm_sync.proofs.Numbers.{value_from, value-append}
 
-byte-number : (b : Bool) → bool_byte b ≡ bit_number b
+pub byte-number : (b : Bool) → bool_byte b ≡ bit_number b
 byte-number true = refl
 byte-number false = refl
 

@@ -1,7 +1,7 @@
 -- What contracts see of a search, and for which bits, given so far, and places, found so far, it stands.
-use Rattle.std.specs.Prelude.{◌≡◌, ℕ, ◌+◌, ◌-◌, ◌%◌, ◌^◌, Bool, false, ◌==◌, List, [], ◌∷◌, length, take, drop, if◌then◌else◌, nat_le, Option, Some, None, unwrap_or}
+use Rattle.std.specs.Prelude.{◌≡◌, ℕ, ◌+◌, ◌-◌, ◌*◌, ◌%◌, ◌^◌, Bool, false, ◌==◌, List, [], ◌∷◌, length, take, drop, if◌then◌else◌, nat_le, Option, Some, None, unwrap_or, bit_or}
 use Rattle.std.specs.Option.{option_map, option_map_or, option_or}
-use Rattle.tm_base.specs.Bits.{number_of}
+use Rattle.tm_base.specs.Bits.{bit_number, number_of}
 use Rattle.tm_sync.specs.declared.found.Found.{Found}
 use Rattle.tm_sync.specs.declared.found.Before.{Before}
 use Rattle.tm_sync.specs.declared.found.Awaited.{Awaited}
@@ -77,10 +77,21 @@ pub record StandsFor (s : Searching) (bits : List Bool) (found : List Found) : T
   pub search : s ≡ search_of s.rules bits found
   pub found_first : places s.rules (take (end_of s.rules found) bits) ≡ found
 
+-- It has counted one bit more, which is now the last of the 32, and has not looked at it.
+pub record Counts (s s' : Searching) (bit : Bool) : Type 0 where
+  pub rules : s'.rules ≡ s.rules
+  pub word : s'.word ≡ bit_or (s.word * 2 % 2 ^ 32) (bit_number bit)
+  pub pushed : s'.pushed ≡ s.pushed + 1
+  pub start : s'.start ≡ s.start
+  pub before : s'.before ≡ s.before
+  pub awaited : s'.awaited ≡ s.awaited
+  pub after : s'.after ≡ s.after
+
 -- what ends right before the last 32 bits
 abbrev pub before_last : ℕ → Option Before → Option Before
 before_last behind before = if behind == 32 then before else None
 
--- where more than the tolerance and fewer than these of 32 bits differ from the marker, they match in no way
-abbrev pub far_limit : ℕ → Bool → ℕ
-far_limit tolerance either = if either then 32 - tolerance else 33
+-- how many numbers, from one more than the tolerance on, show that 32 bits match in no way, where so many of them differ
+-- from the marker
+abbrev pub far_count : ℕ → Bool → ℕ
+far_count tolerance either = if either then 31 - 2 * tolerance else 32 - tolerance

@@ -5,7 +5,7 @@ ghost use Rattle.tm_base.specs.Bits.{number_of};
 ghost use Rattle.tm_sync.specs.declared.found.Found.{Found};
 ghost use Rattle.tm_sync.specs.declared.found.Before.{Before};
 ghost use Rattle.tm_sync.specs.Places.{Rules, wrong_bits, match_of, place_by, places};
-ghost use Rattle.tm_sync.specs.Searching.{StandsFor, awaited_at, before_last, far_limit, end_of, inside_ahead, inside_of, is_pending};
+ghost use Rattle.tm_sync.specs.Searching.{Counts, Searching, StandsFor, awaited_at, before_last, far_count, end_of, inside_ahead, inside_of, is_pending};
 
 use crate::found::{Awaited, Before, Found};
 use std::marker::Model;
@@ -27,15 +27,15 @@ pub struct Search {
     // The first place behind that codeblock, and the bits behind its marker.
     awaited: Option<Awaited>,
     after: u32,
-    // While more bits than these are given, no place is awaited, and none is bridged: all that counts is whether 32 bits match.
-    bridged_up_to: u64,
-    // They match in no way where more than `tolerance` of them, and fewer than these, differ from the marker.
-    far_below: u8,
+    // 32 bits match in no way where the number of them that differ from the marker is one of `far` numbers from here on.
+    too_many: u8,
+    // None while every bit is looked at more closely: a place is awaited, or the next one may be bridged.
+    far: u8,
 }
 
 impl Model for Search {
     ghost use Rattle.std.specs.Prelude.{◌≡◌, ◌<◌, ◌≤◌, ◌+◌, ◌-◌, ◌^◌, None};
-    ghost use Rattle.tm_sync.specs.Searching.{Searching, far_limit};
+    ghost use Rattle.tm_sync.specs.Searching.{Searching, far_count};
 
     ghost Value = { Searching };
 
@@ -49,8 +49,8 @@ impl Model for Search {
       after = s.after;
     } };
 
-    ghost invariant = { λ s. (s.after ≤ s.block_bits) × (s.tolerance ≤ 8) × (s.far_below ≡ far_limit s.tolerance s.either)
-        × (s.bridged_up_to < 2 ^ 64 - 1 → (s.awaited ≡ None) × (s.start + 32 ≤ s.bridged_up_to)) };
+    ghost invariant = { λ s. (s.after ≤ s.block_bits) × (s.tolerance ≤ 8) × (s.too_many ≡ s.tolerance + 1)
+        × (0 < s.far → (s.far ≡ far_count s.tolerance s.either) × (s.awaited ≡ None) × (s.start + 32 ≤ s.pushed)) };
 }
 
 impl Search {
@@ -76,8 +76,8 @@ impl Search {
             before: None,
             awaited: None,
             after: 0,
-            bridged_up_to: 32,
-            far_below: if either { 32 - tolerance } else { 33 },
+            too_many: tolerance + 1,
+            far: 0,
         }
     }
 
@@ -95,11 +95,25 @@ impl Search {
     {
         self.word = (self.word << 1) | u32::from(bit);
         self.pushed = self.pushed.wrapping_add(1);
-        if self.pushed > self.bridged_up_to
-            && is_far(self.word, self.tolerance, self.either, self.far_below)
-        {
+        if self.pushed != 0 && is_far(self.word, self.too_many, self.far) {
             return;
         }
+        self.far = 0;
+        self.look_closer();
+    }
+
+    // Takes the last bit, which is counted and in the last 32 bits, where they may be a place or one is awaited.
+    #[cold]
+    #[inline(never)]
+    fn look_closer(&mut self)
+        requires { is_pending self.old ≡ false }
+        ensures rules { self.new.rules ≡ self.old.rules }
+        ensures more { IfSome (inside_of self.old) (λ count. inside_of self.new ≡ Some (count + 1)) }
+        ensures first { IfNone (inside_of self.old) (unwrap_or (inside_of self.new) 0 ≡ 0) }
+        ensures within { unwrap_or (inside_of self.new) 0 ≤ self.new.rules.block_bits }
+        ensures stands { (s : Searching) (bit : Bool) (bits : List Bool) (found : List Found) → length bits < 2 ^ 63
+            → Counts s self.old bit → StandsFor s bits found → StandsFor self.new (bits ++ bit ∷ []) found }
+    {
         if self.awaited.is_some() {
             self.after += 1;
             return;
@@ -117,7 +131,13 @@ impl Search {
                 self.either,
             );
             self.after = 0;
-            self.bridged_up_to = limit_while(self.awaited, self.bridged_up_to);
+            self.far = far_while(
+                self.awaited,
+                self.start,
+                self.pushed,
+                self.tolerance,
+                self.either,
+            );
         }
     }
 
@@ -165,7 +185,6 @@ impl Search {
                 self.after = 0;
                 self.before = Some(awaited.next);
                 self.start = self.pushed;
-                self.bridged_up_to = self.pushed.saturating_add(32);
                 Some(awaited.found)
             }
             None => None,
@@ -184,24 +203,28 @@ impl Search {
     }
 }
 
-// The number of bits up to which a bit is looked at more closely: all, while a place is awaited.
-fn limit_while(awaited: Option<Awaited>, limit: u64) -> u64
-    ensures { result < 2 ^ 64 - 1 → (awaited ≡ None) × (result ≡ limit) }
+// How many numbers of wrong bits, from one more than the tolerance on, show without a closer look that 32 bits are no
+// place: none while a place is awaited, or may stand right behind the last codeblock found.
+fn far_while(awaited: Option<Awaited>, start: u64, pushed: u64, tolerance: u8, either: bool) -> u8
+    requires { tolerance ≤ 8 }
+    ensures { 0 < result → (result ≡ far_count tolerance either) × (awaited ≡ None) × (start + 32 ≤ pushed) }
 {
-    match awaited {
-        Some(_) => u64::MAX,
-        None => limit,
+    if awaited.is_some() || pushed < 32 || pushed - 32 < start {
+        0
+    } else if either {
+        31 - 2 * tolerance
+    } else {
+        32 - tolerance
     }
 }
 
 // Whether the last 32 bits match in no way.
-fn is_far(word: u32, tolerance: u8, either: bool, far_below: u8) -> bool
-    requires { far_below ≡ far_limit tolerance either }
-    ensures { IsTrue result → (bits : List Bool) (fly block_bits : ℕ) → length bits ≡ 32 → word ≡ number_of bits
-        → match_of (record { tolerance = tolerance; fly = fly; either = either; block_bits = block_bits }) bits ≡ None }
+fn is_far(word: u32, too_many: u8, far: u8) -> bool
+    ensures { IsTrue result → (0 < far) × ((bits : List Bool) (tolerance : ℕ) (either : Bool) (fly block_bits : ℕ) → tolerance ≤ 8
+        → too_many ≡ tolerance + 1 → far ≡ far_count tolerance either → length bits ≡ 32 → word ≡ number_of bits
+        → match_of (record { tolerance = tolerance; fly = fly; either = either; block_bits = block_bits }) bits ≡ None) }
 {
-    let wrong = wrong_count(word);
-    tolerance < wrong && wrong < far_below
+    wrong_count(word).wrapping_sub(too_many) < far
 }
 
 // What ends right before the last 32 bits, where `behind` bits stand behind the last codeblock found.

@@ -1,12 +1,22 @@
-use Rattle.std.proofs.Common.{◌≡◌, ◌<◌, arith, true, nat_lt}
+use Rattle.std.proofs.Common.{◌≡◌, ◌<◌, ◌≤◌, ◌+◌, ◌-◌, ◌%◌, ℕ, Bool, arith, true, false, nat_lt}
 use Rattle.std.proofs.lemmas.Bool.Decides.{nat_tests}
-use Rattle.tm_sync.specs.Searching.{far_limit}
+use Rattle.tm_sync.specs.Searching.{far_count}
 use Rattle.tm_sync.proofs.Matches.{match-far}
 use Rattle.tm_sync.proofs.search.is_far.Goals as goal
 
-pub returns-then-tolerance-wrong : goal.returns-then-tolerance-wrong
-returns-then-tolerance-wrong c = λ below bits fly block_bits long is.
-    let less : nat_lt c.wrong_count-wrong.result c.args.far_below ≡ true = below in
-    let near : c.wrong_count-wrong.result < c.args.far_below = grind (arith, nat_tests) in
-    let limit : c.args.far_below ≡ far_limit c.args.tolerance c.args.either = c.requires in
-    match-far _ bits _ long (c.wrong_count-wrong.ensures.upright bits long is) c.if-tolerance-wrong.true (omega arith)
+pub returns : goal.returns
+returns c = λ far.
+    let wrong : ℕ = c.wrong_count.result in
+    let gap : ℕ = (wrong + (256 - c.args.too_many)) % 256 in
+    let test : nat_lt gap c.args.far ≡ true = far in
+    let less : gap < c.args.far = grind (arith, nat_tests) in
+    let few : wrong ≤ 32 = c.wrong_count.ensures.few in (
+      omega arith,
+      λ bits tolerance either fly block_bits most many count long is.
+          let most_far : far_count tolerance either ≤ 32 = at_most tolerance either in
+          match-far _ bits _ most long (c.wrong_count.ensures.upright bits long is) (omega arith) (omega arith),
+    )
+  where
+    at_most : (tolerance : ℕ) (either : Bool) → far_count tolerance either ≤ 32
+    at_most tolerance true = omega arith
+    at_most tolerance false = omega arith
