@@ -1,0 +1,4 @@
+mod Costs
+mod Bounds
+mod Pushed
+mod Rows

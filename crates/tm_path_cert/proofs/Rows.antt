@@ -1,0 +1,23 @@
+-- One step at rate 1/2.
+use Rattle.std.proofs.Common.{◌≡◌, ℕ, ◌+◌, ◌≤◌, ◌-◌, ◌%◌, min, length, sym, subst, arith}
+use Rattle.tm_conv.specs.declared.rates.Rate.TheVariants.{R12}
+use Rattle.tm_conv.specs.Path.{steps_size, step_size}
+use Rattle.tm_conv.proofs.Sizes.{step_size-is}
+use Rattle.tm_path_cert.specs.Claim.{Claim}
+use Rattle.tm_path_cert.proofs.Costs.{steps_size-next, steps_size-none}
+
+pub one_step : (t : ℕ) → steps_size R12 t 1 ≡ 2
+one_step t =
+    let one : step_size R12 t ≡ 2 = (let h : step_size R12 t ≡ 2 - min 1 (t % 1) = step_size-is R12 t in omega (arith, h)) in
+    omega (arith, steps_size-next R12 t 0, steps_size-none R12 (t + 1), one)
+
+pub room : (claim known : Claim) (count n : ℕ) → claim ≡ known → count ≡ n → steps_size known.rate known.first n ≤ length known.soft → steps_size claim.rate claim.first count ≤ length claim.soft
+room claim known count n e f h =
+    let P : Claim → Type 0 = λ v. steps_size v.rate v.first count ≤ length v.soft in
+    let Q : ℕ → Type 0 = λ v. steps_size known.rate known.first v ≤ length known.soft in
+    subst P (sym e) (subst Q (sym f) h)
+
+pub room_end : (claim known : Claim) → claim ≡ known → length known.soft ≡ steps_size known.rate known.first 1 → length claim.soft ≡ steps_size claim.rate claim.first 1
+room_end claim known e h =
+    let P : Claim → Type 0 = λ v. length v.soft ≡ steps_size v.rate v.first 1 in
+    subst P (sym e) h

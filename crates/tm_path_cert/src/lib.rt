@@ -1,0 +1,15 @@
+//! The checker of path certificates: columns of sums that no code path undercuts show that no candidate costs less than
+//! the path that a decoder found (CCSDS 131.0-B, Convolutional Coding). It knows nothing of the decoder.
+//! It stands on the definitions of paths and costs of tm_conv.
+#![tactic(auto)]
+
+mod checking;
+mod columns;
+mod steps;
+mod verdicts;
+
+pub use checking::Check;
+pub use verdicts::{Starts, Verdict};
+
+#[cfg(test)]
+mod worked_values;

@@ -1,0 +1,104 @@
+// What the steps of a path cost.
+ghost use Rattle.std.specs.Prelude.{◌≡◌, ◌≤◌, ◌<◌, ◌^◌, length};
+ghost use Rattle.tm_conv.specs.Path.{c1, c2, sent_c2, step_size, step_symbols, steps_size, AreBits, path};
+ghost use Rattle.tm_conv.specs.Cost as metric;
+
+use tm_conv::{Rate, kept};
+
+// How far a soft octet is from a symbol.
+fn distance(symbol: u8, octet: u8) -> u32
+    ensures { result ≡ metric.distance symbol octet }
+{
+    u32::from(if symbol == 0 { octet } else { 255 - octet })
+}
+
+// The first sum of a step.
+fn first_sum(register: u8, bit: u8) -> u8
+    requires register { register < 64 }
+    requires bit { bit < 2 }
+    ensures { result ≡ c1 register bit }
+{
+    (bit + register / 32 + register / 16 + register / 8 + register) % 2
+}
+
+// The second sum of a step, as it is sent.
+fn second_sum(invert: bool, register: u8, bit: u8) -> u8
+    requires register { register < 64 }
+    requires bit { bit < 2 }
+    ensures { result ≡ sent_c2 invert (c2 register bit) }
+{
+    let sum = (bit + register / 16 + register / 8 + register / 2 + register) % 2;
+    if invert { 1 - sum } else { sum }
+}
+
+// How many symbols step `t` sends.
+pub(crate) fn step_len(rate: Rate, t: u64) -> usize
+    ensures { result ≡ step_size rate t }
+{
+    let (first, second) = kept(rate, t);
+    usize::from(first) + usize::from(second)
+}
+
+// A step and its soft octets.
+#[derive(Clone, Copy)]
+pub(crate) struct Step<'a> {
+    pub(crate) rate: Rate,
+    pub(crate) invert: bool,
+    pub(crate) t: u64,
+    pub(crate) octets: &'a [u8],
+    ghost size: { length octets.now ≡ step_size rate t },
+}
+
+impl<'a> Step<'a> {
+    // What the step costs from a register by a bit.
+    pub(crate) fn cost(&self, register: u8, bit: u8) -> u32
+        requires register { register < 64 }
+        requires bit { bit < 2 }
+        ensures cost { result ≡ metric.cost (step_symbols self.now.rate self.now.invert self.now.t register bit) self.now.octets.now }
+        ensures small { result ≤ 510 }
+    {
+        let first = first_sum(register, bit);
+        let second = second_sum(self.invert, register, bit);
+        match kept(self.rate, self.t) {
+            (true, true) => distance(first, self.octets[0]) + distance(second, self.octets[1]),
+            (true, false) => distance(first, self.octets[0]),
+            (false, true) => distance(second, self.octets[0]),
+            (false, false) => 0,
+        }
+    }
+}
+
+// What a path costs for soft octets that are the symbols of its steps, from step `first` on.
+pub(crate) fn path_sum(
+    rate: Rate,
+    invert: bool,
+    first: u64,
+    soft: &[u8],
+    register: u8,
+    bits: &[u8],
+) -> u64
+    requires register { register < 64 }
+    requires bits { AreBits bits.now }
+    requires first { first ≤ 2 ^ 44 }
+    requires few { length soft.now ≤ 2 ^ 25 }
+    requires steps { length soft.now ≡ steps_size rate first (length bits.now) }
+    ensures { result ≡ metric.cost (path rate invert first register bits.now) soft.now }
+{
+    let mut sum = 0;
+    let mut place = 0;
+    let mut now = register;
+    for i in 0..bits.len() {
+        let t = first + i as u64;
+        let end = place + step_len(rate, t);
+        let step = Step {
+            rate,
+            invert,
+            t,
+            octets: &soft[place..end],
+        };
+        sum += u64::from(step.cost(now, bits[i]));
+        now = now / 2 + 32 * bits[i];
+        place = end;
+    }
+    sum
+}
