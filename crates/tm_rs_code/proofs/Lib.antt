@@ -5,3 +5,17 @@ pub mod Numbers
 pub mod Generator
 pub mod Register
 pub mod Systematic
+pub mod Factor
+pub mod Windows
+pub mod Values
+pub mod Recurrence
+pub mod Locator
+pub mod Roots
+pub mod Forney
+pub mod Division
+pub mod Corrections
+pub mod OnlyNearest
+pub mod Covering
+pub mod ErasedPlaces
+pub mod ErasedPatterns
+pub mod ErasedWords

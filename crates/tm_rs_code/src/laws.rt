@@ -1,6 +1,9 @@
 // The laws of the code.
-ghost use Rattle.std.specs.Prelude.{◌≡◌, ◌≢◌, ◌<◌, ◌≤◌, ◌+◌, ◌*◌, ℕ, List, length};
+ghost use Rattle.std.specs.Prelude.{◌≡◌, ◌≢◌, ◌<◌, ◌≤◌, ◌+◌, ◌*◌, ℕ, Bool, List, length};
 ghost use Rattle.tm_rs_code.specs.Code.{AreElements, IsCodeword, IsSystematic, distance, encode_word};
+ghost use Rattle.tm_rs_code.specs.Erasures.{IsErasedPattern, IsNearestErased, NearestErased};
+ghost use Rattle.tm_rs_code.specs.Nearest.{IsNearest, Nearest};
+ghost use Rattle.tm_rs_code.specs.Pattern.{IsPattern};
 
 /// The distance law: two different codewords of one length differ in at least 2e + 1 places.
 pub fn distance_law()
@@ -15,4 +18,25 @@ pub fn systematic_codeword_law()
         → IsSystematic e info (encode_word e info) }
     ensures unique { (e : ℕ) (info c : List ℕ) → length info + 2 * e ≤ 255
         → IsSystematic e info c → c ≡ encode_word e info }
+{}
+
+/// A word has just one nearest codeword within a bound of at most e, or none.
+pub fn nearest_law()
+    ensures { (e bound : ℕ) (w : List ℕ) (a b : Nearest) → bound ≤ e → length w ≤ 255
+        → IsNearest e bound w a → IsNearest e bound w b → a ≡ b }
+{}
+
+/// A word with erased places has just one nearest codeword within the bounds, or none.
+pub fn nearest_erased_law()
+    ensures { (e bound : ℕ) (erased : List Bool) (w : List ℕ) (a b : NearestErased)
+        → length erased ≡ length w → length w ≤ 255
+        → IsNearestErased e bound erased w a → IsNearestErased e bound erased w b → a ≡ b }
+{}
+
+/// Syndromes have just one error pattern, or none, with erased places and without.
+pub fn pattern_law()
+    ensures one { (e n : ℕ) (s : ℕ → ℕ) (v w : List ℕ) → n ≤ 255
+        → IsPattern e n s v → IsPattern e n s w → v ≡ w }
+    ensures one_erased { (e : ℕ) (erased : List Bool) (s : ℕ → ℕ) (v w : List ℕ) → length erased ≤ 255
+        → IsErasedPattern e erased s v → IsErasedPattern e erased s w → v ≡ w }
 {}

@@ -7,7 +7,9 @@ mod laws;
 mod params;
 mod words;
 
-pub use laws::{distance_law, systematic_codeword_law};
+pub use laws::{
+    distance_law, nearest_erased_law, nearest_law, pattern_law, systematic_codeword_law,
+};
 pub use params::{BadParams, Params};
 pub use words::{distance, is_codeword, syndromes};
 
