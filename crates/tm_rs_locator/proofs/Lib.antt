@@ -1,0 +1,6 @@
+pub mod Transitions
+pub mod Endings
+pub mod Entries
+pub mod Erasures
+pub mod ErasedEndings
+pub mod Starts

@@ -1,0 +1,2 @@
+pub mod Locator
+pub mod State

@@ -1,0 +1,139 @@
+// The locator of the wrong symbols of a word with erased places.
+ghost use Rattle.std.specs.Prelude.{◌≡◌, ◌<◌, ◌≤◌, ◌+◌, ◌*◌, ◌↔◌, ℕ, suc, List, length, IfNone, IfSome, IsTrue};
+ghost use Rattle.tm_gf256.specs.Poly.{entry, numbers};
+ghost use Rattle.tm_rs_code.specs.Erasures.{IsErasedPattern, count_erased, marks};
+ghost use Rattle.tm_rs_code.specs.Pattern.{locator_of};
+ghost use Rattle.tm_rs_code.specs.Recurrence.{discrepancy, listing};
+ghost use Rattle.tm_rs_locator.specs.Locator.{AvoidsErased, LocatesErased};
+
+use crate::counter::Steps;
+use crate::recurrence::{mismatch, patch, shortest};
+use crate::roots::count_roots;
+use crate::solving::Locator;
+use std::sync::ledger::Ledger;
+use tm_gf256::{Gf, eval, see_range};
+use tm_rs_code::Params;
+
+// The number of erased places.
+fn count_places(erased: &[bool]) -> usize
+    requires { length erased.now ≤ 255 }
+    ensures { result ≡ count_erased erased.now }
+{
+    let mut count = 0;
+    for i in 0..erased.len() {
+        if erased[i] {
+            count += 1;
+        }
+    }
+    count
+}
+
+// The locator of the erased places, of which there are `count`.
+fn erasure_locator<L: Ledger>(erased: &[bool], count: usize, steps: &mut Steps<L>) -> [Gf; 33]
+    requires short { length erased.now ≤ 255 }
+    requires counted { count ≡ count_erased erased.now }
+    requires few { count ≤ 32 }
+    ensures room { length result ≡ 33 }
+    ensures locator { listing (entry result) 0 (suc count) ≡ locator_of (marks erased.now) }
+    ensures beyond { (i : ℕ) → suc count ≤ i → entry result i ≡ 0 }
+    ensures cost { steps.new ≤ steps.old + count * (count + 1) }
+{
+    let mut coefs = [Gf(0); 33];
+    coefs[0] = Gf(1);
+    let mut degree = 0;
+    let n = erased.len();
+    for p in 0..n {
+        if erased[n - 1 - p] {
+            let before = coefs;
+            patch(
+                &mut coefs,
+                &before,
+                Gf::exp(11 * p as u32),
+                1,
+                degree + 2,
+                steps,
+            );
+            degree += 1;
+        }
+    }
+    coefs
+}
+
+// The first `known` of the syndromes that are left when the erased places are taken out.
+fn modified<L: Ledger>(
+    erasures: &[Gf; 33],
+    count: usize,
+    known: usize,
+    syndromes: &[Gf; 32],
+    steps: &mut Steps<L>,
+) -> [Gf; 32]
+    requires { count + known ≤ 32 }
+    ensures room { length result ≡ 32 }
+    ensures values { (m : ℕ) → m < known
+        → entry result m ≡ discrepancy (entry erasures.now) (entry syndromes.now) (m + count) (suc count) }
+    ensures cost { steps.new ≤ steps.old + known * (count + 1) }
+{
+    let mut values = [Gf(0); 32];
+    for m in 0..known {
+        values[m] = mismatch(erasures, syndromes, m + count, count, steps);
+    }
+    values
+}
+
+// Whether no erased place is a root.
+fn avoids_erased(poly: &[Gf], erased: &[bool]) -> bool
+    requires { length erased.now ≤ 255 }
+    ensures { IsTrue result ↔ AvoidsErased (numbers poly.now) erased.now }
+{
+    let n = erased.len();
+    for i in 0..n {
+        if erased[i] && eval(poly, Gf::exp(11 * (n - 1 - i) as u32)).number() == 0 {
+            return false;
+        }
+    }
+    true
+}
+
+/// The locator of the wrong symbols at places that are not erased, for a word of n symbols whose first
+/// 2e syndromes are given: of the word that has these syndromes, any symbols at the erased places, and
+/// so few others that are not 0 that twice their number and the number of erased places is at most 2e.
+/// None where there is no such word. The first flag of `erased` is that of the first symbol.
+pub fn solve_erased<L: Ledger>(
+    params: &Params,
+    syndromes: &[Gf; 32],
+    erased: &[bool],
+    steps: &mut Steps<L>,
+) -> Option<Locator>
+    requires { length erased.now ≡ params.now.n }
+    ensures none { IfNone result ((w : List ℕ)
+        → IsErasedPattern params.now.e erased.now (entry syndromes.now) w → ⊥) }
+    ensures some { IfSome result (λ l.
+        LocatesErased params.now.e erased.now (entry syndromes.now) l.coefs l.degree) }
+    ensures cost { steps.new ≤ steps.old
+        + (2 * params.now.e * (4 * params.now.e + 3) + 8 * params.now.e * params.now.e) }
+{
+    let all = 2 * params.e() as usize;
+    let n = params.n() as usize;
+    let count = count_places(erased);
+    if count > all {
+        return None;
+    }
+    let known = all - count;
+    see_range(syndromes);
+    let erasures = erasure_locator(erased, count, steps);
+    let terms = modified(&erasures, count, known, syndromes, steps);
+    see_range(&terms);
+    let Some(found) = shortest(&terms, known, steps) else {
+        return None;
+    };
+    if count_roots(&found.current[..found.len + 1], n) != found.len {
+        return None;
+    }
+    if !avoids_erased(&found.current[..found.len + 1], erased) {
+        return None;
+    }
+    Some(Locator {
+        coefs: found.current,
+        degree: found.len as u8,
+    })
+}

@@ -1,0 +1,14 @@
+//! The locator of the error pattern of a Reed-Solomon word, from its syndromes: the polynomial whose
+//! factors name the places of the wrong symbols. A linear recurrence takes in one syndrome after
+//! another, and ends as soon as no error pattern is left.
+#![tactic(auto)]
+
+mod counter;
+mod erasing;
+mod recurrence;
+mod roots;
+mod solving;
+
+pub use counter::Steps;
+pub use erasing::solve_erased;
+pub use solving::{Locator, solve};

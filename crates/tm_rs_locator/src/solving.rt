@@ -1,0 +1,49 @@
+// The locator of the error pattern that has given syndromes.
+ghost use Rattle.std.specs.Prelude.{◌≡◌, ◌≤◌, ◌+◌, ◌*◌, ℕ, List, IfNone, IfSome};
+ghost use Rattle.tm_gf256.specs.Poly.{entry};
+ghost use Rattle.tm_rs_code.specs.Pattern.{IsPattern};
+ghost use Rattle.tm_rs_locator.specs.Locator.{Locates};
+
+use crate::counter::Steps;
+use crate::recurrence::shortest;
+use crate::roots::count_roots;
+use std::sync::ledger::Ledger;
+use tm_gf256::{Gf, see_range};
+use tm_rs_code::Params;
+
+/// The product of 1 + X z over the elements X of the places of the wrong symbols, as many as the
+/// degree: entry k is the coefficient of z^k, and 0 behind the degree.
+#[derive(Clone, Copy, Debug, PartialEq, Eq)]
+pub struct Locator {
+    pub coefs: [Gf; 17],
+    pub degree: u8,
+}
+
+/// The locator of the error pattern of a word of n symbols whose first 2e syndromes are given: the
+/// word of at most e symbols that are not 0, all of them at places below n, that has these
+/// syndromes. None where there is no such word. The rest of `syndromes` is not looked at.
+pub fn solve<L: Ledger>(
+    params: &Params,
+    syndromes: &[Gf; 32],
+    steps: &mut Steps<L>,
+) -> Option<Locator>
+    ensures none { IfNone result ((w : List ℕ)
+        → IsPattern params.now.e params.now.n (entry syndromes.now) w → ⊥) }
+    ensures some { IfSome result (λ l.
+        Locates params.now.e params.now.n (entry syndromes.now) l.coefs l.degree) }
+    ensures cost { steps.new ≤ steps.old + 2 * params.now.e * (4 * params.now.e + 3) }
+{
+    see_range(syndromes);
+    let count = 2 * params.e() as usize;
+    let n = params.n() as usize;
+    let Some(found) = shortest(syndromes, count, steps) else {
+        return None;
+    };
+    if count_roots(&found.current[..found.len + 1], n) != found.len {
+        return None;
+    }
+    Some(Locator {
+        coefs: found.current,
+        degree: found.len as u8,
+    })
+}
