@@ -1,0 +1,4 @@
+pub mod Dividing
+pub mod Words
+pub mod ErrorsAt
+pub mod Named

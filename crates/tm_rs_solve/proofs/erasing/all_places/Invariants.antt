@@ -1,0 +1,13 @@
+use Rattle.std.proofs.Common.{◌≡◌, ◌-◌, drop, length}
+use Rattle.tm_gf256.specs.Poly.{entry, numbers}
+use Rattle.tm_rs_code.specs.Code.{weight}
+use Rattle.tm_rs_code.specs.Erasures.{places_named}
+use Rattle.tm_rs_locator.proofs.Erasures.{IsProduct}
+use Rattle.tm_rs_solve.proofs.erasing.all_places.Given as goal
+
+abbrev pub invariant-loop-p : goal.invariant-loop-p
+invariant-loop-p l = record {
+  product : IsProduct (entry l.coefs) l.degree (places_named (numbers l.poly) (drop (length l.erased - l.p) l.erased));
+  counted : l.degree ≡ weight (places_named (numbers l.poly) (drop (length l.erased - l.p) l.erased));
+  room : length l.coefs ≡ 33;
+}

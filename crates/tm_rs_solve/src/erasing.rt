@@ -1,0 +1,145 @@
+// The nearest codeword of a word with erased places.
+ghost use Rattle.std.specs.Prelude.{◌≡◌, ◌<◌, ◌≤◌, ◌+◌, ◌-◌, ◌*◌, ◌==◌, ◌||◌, ℕ, suc, List, length, if◌then◌else◌, slice_index_or, false};
+ghost use Rattle.tm_gf256.specs.Poly.{entry, numbers, value_at};
+ghost use Rattle.tm_rs_code.specs.Code.{place_of, weight};
+ghost use Rattle.tm_rs_code.specs.Erasures.{IsNearestErased, inside, places_named};
+ghost use Rattle.tm_rs_code.specs.ErrorValues.{IsLocated, symbol_at};
+ghost use Rattle.tm_rs_code.specs.Pattern.{locator_of};
+ghost use Rattle.tm_rs_code.specs.Recurrence.{listing, patched};
+ghost use Rattle.tm_rs_solve.specs.Answers.{found_erased};
+
+use crate::answers::ErasedAnswer;
+use crate::values::{correct, error_at};
+use std::sync::ledger::Ledger;
+use tm_gf256::{Gf, eval, see_range};
+use tm_rs_code::{Params, syndromes};
+use tm_rs_locator::{Steps, solve_erased};
+
+// Multiplies a polynomial of this degree by 1 + x z.
+fn times_factor(coefs: &mut [Gf; 33], degree: usize, x: Gf)
+    requires { degree + 2 ≤ 33 }
+    ensures room { length coefs.new ≡ 33 }
+    ensures factor { (i : ℕ) → i < degree + 2
+        → entry coefs.new i ≡ patched (entry coefs.old) x.0 1 (entry coefs.old) i }
+    ensures rest { (i : ℕ) → degree + 2 ≤ i → entry coefs.new i ≡ entry coefs.old i }
+{
+    let before = *coefs;
+    for i in 1..degree + 2 {
+        coefs[i] = before[i].add(x.mul(before[i - 1]));
+    }
+}
+
+// Whether place p is erased or a root.
+fn names_place(poly: &[Gf], erased: bool, p: usize) -> bool
+    requires { p < 255 }
+    ensures { result ≡ (erased || (value_at (numbers poly.now) (place_of p) == 0)) }
+{
+    erased || eval(poly, Gf::exp(11 * p as u32)).number() == 0
+}
+
+#[derive(Drop)]
+struct Places {
+    coefs: [Gf; 33],
+    degree: usize,
+}
+
+// The locator of the places that are erased or roots of a polynomial.
+fn all_places(poly: &[Gf], erased: &[bool]) -> Places
+    requires short { length erased.now ≤ 255 }
+    requires few { weight (places_named (numbers poly.now) erased.now) ≤ 32 }
+    ensures room { length result.coefs ≡ 33 }
+    ensures degree { result.degree ≡ weight (places_named (numbers poly.now) erased.now) }
+    ensures locator { listing (entry result.coefs) 0 (suc result.degree)
+        ≡ locator_of (places_named (numbers poly.now) erased.now) }
+{
+    let mut coefs = [Gf(0); 33];
+    coefs[0] = Gf(1);
+    let mut degree = 0;
+    let n = erased.len();
+    for p in 0..n {
+        if names_place(poly, erased[n - 1 - p], p) {
+            times_factor(&mut coefs, degree, Gf::exp(11 * p as u32));
+            degree += 1;
+        }
+    }
+    Places { coefs, degree }
+}
+
+// 1 where an erased place has an error, and else 0.
+fn erased_error(erased: bool, locator: &[Gf], syndromes: &[Gf; 32], e: usize, p: usize) -> usize
+    requires most { e ≤ 16 }
+    requires some { 1 ≤ length locator.now }
+    requires few { length locator.now ≤ 33 }
+    requires inside { p < 255 }
+    requires located { (u : List ℕ) × (w : List ℕ) × IsLocated e (entry syndromes.now) (numbers locator.now) u w }
+    ensures { (u w : List ℕ) → IsLocated e (entry syndromes.now) (numbers locator.now) u w
+        → result ≡ (if (if erased then symbol_at w p else 0) == 0 then 0 else 1) }
+{
+    if !erased {
+        return 0;
+    }
+    if error_at(locator, syndromes, e, p).number() == 0 {
+        return 0;
+    }
+    1
+}
+
+// How many of the erased places have an error.
+fn count_inside(erased: &[bool], locator: &[Gf], syndromes: &[Gf; 32], e: usize) -> usize
+    requires most { e ≤ 16 }
+    requires some { 1 ≤ length locator.now }
+    requires few { length locator.now ≤ 33 }
+    requires short { length erased.now ≤ 255 }
+    requires located { (u : List ℕ) × (w : List ℕ) × IsLocated e (entry syndromes.now) (numbers locator.now) u w }
+    ensures count { (u w : List ℕ) → IsLocated e (entry syndromes.now) (numbers locator.now) u w
+        → length w ≡ length erased.now → result ≡ weight (inside erased.now w) }
+    ensures small { result ≤ length erased.now }
+{
+    let n = erased.len();
+    let mut count = 0;
+    for j in 0..n {
+        count += erased_error(erased[j], locator, syndromes, e, n - 1 - j);
+    }
+    count
+}
+
+/// Makes a word of n symbols the nearest codeword, the symbols at erased places not being counted:
+/// where a codeword differs from the word in `a` places that are not erased, at most `repair`, and
+/// twice `a` and the number of erased places is at most 2e. The answer is then `Fixed` of `a` and of
+/// the number of erased places that differ. Everywhere else it is `Beyond`, and the word is as it was.
+/// It takes no memory. The first flag of `erased` is that of the first symbol.
+pub fn decode_erased<L: Ledger>(
+    params: &Params,
+    repair: u8,
+    erased: &[bool],
+    word: &mut [Gf],
+    steps: &mut Steps<L>,
+) -> ErasedAnswer
+    requires bound { repair ≤ params.now.e }
+    requires flags { length erased.now ≡ params.now.n }
+    requires size { length word.old ≡ params.now.n }
+    ensures nearest { IsNearestErased params.now.e repair erased.now (numbers word.old)
+        (found_erased result (numbers word.new)) }
+    ensures unchanged { result ≡ ErasedAnswer.Beyond → word.new ≡ word.old }
+    ensures same_size { length word.new ≡ length word.old }
+    ensures cost { steps.new ≤ steps.old
+        + (2 * params.now.e * (4 * params.now.e + 3) + 8 * params.now.e * params.now.e) }
+{
+    see_range(word);
+    let e = params.e() as usize;
+    let _n = params.n();
+    let values = syndromes(params, word);
+    match solve_erased(params, &values, erased, steps) {
+        Some(l) => {
+            if l.degree > repair {
+                return ErasedAnswer::Beyond;
+            }
+            let places = all_places(&l.coefs[..l.degree as usize + 1], erased);
+            let locator = &places.coefs[..places.degree + 1];
+            let inside = count_inside(erased, locator, &values, e);
+            correct(word, locator, &values, e);
+            ErasedAnswer::Fixed(l.degree, inside as u8)
+        }
+        None => ErasedAnswer::Beyond,
+    }
+}

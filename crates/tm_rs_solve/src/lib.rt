@@ -1,0 +1,16 @@
+//! The Reed-Solomon decoder (CCSDS 131.0-B, Reed-Solomon Coding): a word within the repair bound of a
+//! codeword becomes that codeword, and every other word is reported as beyond the bound. The locator
+//! of the error pattern names the wrong symbols, and the locator divided by a place's factor their values.
+#![tactic(auto)]
+
+mod answers;
+mod erasing;
+mod values;
+mod word;
+
+pub use answers::{Answer, ErasedAnswer};
+pub use erasing::decode_erased;
+pub use word::decode_word;
+
+#[cfg(test)]
+mod tests;

@@ -1,0 +1,77 @@
+// The values of the wrong symbols.
+ghost use Rattle.std.specs.Prelude.{◌≡◌, ◌<◌, ◌≤◌, ◌+◌, ◌-◌, ℕ, List, length};
+ghost use Rattle.tm_gf256.specs.Poly.{entry, numbers, value_at};
+ghost use Rattle.tm_rs_code.specs.ErrorValues.{IsLocated, quotient_at, symbol_at};
+ghost use Rattle.tm_rs_code.specs.Recurrence.{discrepancy, listing};
+ghost use Rattle.tm_rs_code.specs.Register.{sums};
+
+use tm_gf256::{Gf, eval, see_range};
+
+#[derive(Drop)]
+struct Parts {
+    sum: Gf,
+    slope: Gf,
+}
+
+// The locator divided by the factor of its root x: the quotient's sum with the syndromes, and its
+// value at x.
+fn divide(locator: &[Gf], degree: usize, syndromes: &[Gf; 32], x: Gf) -> Parts
+    requires size { length locator.now ≡ degree + 1 }
+    requires some { 1 ≤ degree }
+    requires few { degree ≤ 32 }
+    ensures sum { result.sum.0
+        ≡ discrepancy (quotient_at (entry locator.now) x.0) (entry syndromes.now) (degree - 1) degree }
+    ensures slope { result.slope.0 ≡ value_at (listing (quotient_at (entry locator.now) x.0) 0 degree) x.0 }
+{
+    see_range(locator);
+    let mut q = Gf(0);
+    let mut sum = Gf(0);
+    let mut slope = Gf(0);
+    for i in 0..degree {
+        q = locator[i].add(x.mul(q));
+        sum = sum.add(q.mul(syndromes[degree - 1 - i]));
+        slope = slope.mul(x).add(q);
+    }
+    Parts { sum, slope }
+}
+
+// The symbol at place p of the error pattern with these syndromes, whose places the locator names.
+pub fn error_at(locator: &[Gf], syndromes: &[Gf; 32], e: usize, p: usize) -> Gf
+    requires most { e ≤ 16 }
+    requires some { 1 ≤ length locator.now }
+    requires few { length locator.now ≤ 33 }
+    requires inside { p < 255 }
+    requires located { (u : List ℕ) × (w : List ℕ) × IsLocated e (entry syndromes.now) (numbers locator.now) u w }
+    ensures { (u w : List ℕ) → IsLocated e (entry syndromes.now) (numbers locator.now) u w
+        → result.0 ≡ symbol_at w p }
+{
+    let degree = locator.len() - 1;
+    let x = Gf::exp(11 * p as u32);
+    if eval(locator, x).number() != 0 {
+        return Gf(0);
+    }
+    if degree == 0 {
+        return Gf(0);
+    }
+    see_range(locator);
+    let parts = divide(locator, degree, syndromes, x);
+    let scale = parts.slope.mul(x.pow(128 - e as u32));
+    parts.sum.mul(scale.inv())
+}
+
+// Adds the error pattern to the word.
+pub fn correct(word: &mut [Gf], locator: &[Gf], syndromes: &[Gf; 32], e: usize)
+    requires most { e ≤ 16 }
+    requires some { 1 ≤ length locator.now }
+    requires few { length locator.now ≤ 33 }
+    requires short { length word.old ≤ 255 }
+    requires located { (u : List ℕ) × (w : List ℕ) × IsLocated e (entry syndromes.now) (numbers locator.now) u w }
+    ensures { (u w : List ℕ) → IsLocated e (entry syndromes.now) (numbers locator.now) u w
+        → length w ≡ length word.old → numbers word.new ≡ sums (numbers word.old) w }
+{
+    let n = word.len();
+    for j in 0..n {
+        let error = error_at(locator, syndromes, e, n - 1 - j);
+        word[j] = word[j].add(error);
+    }
+}
