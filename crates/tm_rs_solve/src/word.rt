@@ -30,6 +30,7 @@ pub fn decode_word<L: Ledger>(
 {
     see_range(word);
     let e = params.e() as usize;
+    // So that the proof has the range of n.
     let _n = params.n();
     let values = syndromes(params, word);
     match solve(params, &values, steps) {
