@@ -1,0 +1,17 @@
+mod Back
+mod Survivors
+mod Walk
+mod Totals
+mod Final
+mod StepCosts
+mod Vectors
+mod Places
+mod Butterfly
+mod PassSteps
+mod Carrying
+mod NarrowLanes
+mod LeastTotals
+mod Filled
+mod Tails
+mod Closing
+mod Handing

@@ -1,0 +1,225 @@
+-- The best path to each register, one column on.
+use Rattle.std.proofs.Common.{◌≡◌, ℕ, ◌+◌, ◌*◌, ◌/◌, ◌%◌, ◌^◌, ◌<◌, ◌≤◌, ◌⊎◌, ◌∙◌, inl, inr, min, sym, ap, subst, cond, ltb, arith, length, get_or, List, [], ◌∷◌, zero, suc, refl}
+use Rattle.std.proofs.lemmas.Bool.{cases_lt}
+use Rattle.std.specs.List.{All}
+use Rattle.std.proofs.lemmas.Nat.{pow-add}
+use Rattle.std.proofs.Math.Nat.{pow-suc, mul-le-mul_right}
+use Rattle.std.proofs.lemmas.List.Elements.{All-head, All-tail, All-cons, All-nil}
+use Rattle.tm_viterbi.proofs.Survivors.{choice_second, choice_first}
+use Rattle.tm_conv.specs.Path.{next_register, c1, c2}
+use Rattle.tm_viterbi.specs.Walk.{register_back, rank, IsPathTo, IsNoWorse, IsBestTo, before, past_of, start_of, AreBest}
+use Rattle.tm_viterbi.specs.Column.{first_way, second_way, IsNextSums, AreSurvivors}
+
+pub register_back_lt : (r : ℕ) (past : List ℕ) → r < 64 → All (λ b. b < 2) past → register_back r past < 64
+register_back_lt r [] lt each = lt
+register_back_lt r (b ∷ past) lt each =
+    let h = register_back_lt r past lt (All-tail (λ b. b < 2) b past each) in
+    let k : b < 2 = All-head (λ b. b < 2) b past each in
+    omega arith
+
+-- the rank begins with the register's digits
+record HasTop (k p size : ℕ) : Type 0 where
+  low : ℕ
+  below : low < size
+  is : k ≡ p * size + low
+
+top_halves : (b q m p low size : ℕ) → p ≡ 2 * q + m → b * (64 * size) + (p * size + low) ≡ (q + 32 * b) * (2 * size) + (m * size + low)
+top_halves b q m p low size e = rw e (omega arith)
+
+low_fits : (m low size : ℕ) → m < 2 → low < size → m * size + low < 2 * size
+low_fits zero low size m l = omega arith
+low_fits (suc zero) low size m l = omega arith
+low_fits (suc (suc k)) low size m l = absurd (omega arith)
+
+top_more : (k p b size : ℕ) → HasTop k p size → HasTop (b * (64 * size) + k) (next_register p b) (2 * size)
+top_more k p b size h = record {
+  low = p % 2 * size + h.low;
+  below = low_fits (p % 2) h.low size (omega arith) h.below;
+  is = ap (λ v. b * (64 * size) + v) h.is ∙ top_halves b (p / 2) (p % 2) p h.low size (omega arith);
+}
+
+size_more : (n : ℕ) → 2 ^ suc n ≡ 2 * 2 ^ n
+size_more n = omega (arith, pow-suc 2 n)
+
+size_six : (n : ℕ) → 2 ^ (n + 6) ≡ 64 * 2 ^ n
+size_six n = pow-add 2 n 6 ∙ omega arith
+
+has_top : (r : ℕ) (past : List ℕ) → HasTop (rank r past) (register_back r past) (2 ^ length past)
+has_top r [] = record { low = 0; below = omega arith; is = omega arith }
+has_top r (b ∷ past) =
+    rw (size_more (length past), size_six (length past)) (top_more (rank r past) (register_back r past) b (2 ^ length past) (has_top r past))
+
+tops_lt : (k l p q size : ℕ) → p < q → HasTop k p size → HasTop l q size → k < l
+tops_lt k l p q size lt a b =
+    let h = mul-le-mul_right size lt in
+    let more : suc p * size ≡ p * size + size = omega arith in
+    omega (arith, h, more, a.is, a.below, b.is)
+
+pub rank_lt : (n p q r s : ℕ) (past other : List ℕ) → p < q → IsPathTo n p r past → IsPathTo n q s other → rank r past < rank s other
+rank_lt n p q r s past other lt a b =
+    let P = λ (v : ℕ). HasTop (rank r past) v (2 ^ length past) in
+    tops_lt (rank r past) (rank s other) p q (2 ^ n) lt
+    (rw (← a.long, ← a.ends) (has_top r past))
+    (rw (← b.long, ← b.ends) (has_top s other))
+
+-- a path of one more bit, taken apart
+record Extends (s p b : ℕ) : Type 0 where
+  bit : b ≡ s / 32
+  register : (p ≡ 2 * (s % 32)) ⊎ (p ≡ 2 * (s % 32) + 1)
+
+extends : (s p b : ℕ) → p < 64 → b < 2 → next_register p b ≡ s → Extends s p b
+extends s p b pl bl e = record {
+  bit = omega arith;
+  register = elim (cases_lt (p % 2) 1) as (λ _. (p ≡ 2 * (s % 32)) ⊎ (p ≡ 2 * (s % 32) + 1)) [ inl h ↦ inl (omega arith) | inr h ↦ inr (omega arith) ];
+}
+
+-- how totals grow by one more step
+pub record Grows (total more : ℕ → List ℕ → ℕ) (n : ℕ) (edge : ℕ → ℕ → ℕ) : Type 0 where
+  pub is : (q : ℕ) (past : List ℕ) (b : ℕ) → length past ≡ n → more q (b ∷ past) ≡ total q past + edge (register_back q past) b
+
+pub path_front : (n s q b : ℕ) (other : List ℕ) → IsPathTo (n + 1) s q (b ∷ other) → IsPathTo n (register_back q other) q other
+path_front n s q b other h = record {
+  start = h.start;
+  each = All-tail (λ b. b < 2) b other h.each;
+  long = let l : suc (length other) ≡ n + 1 = h.long in omega arith;
+  ends = refl;
+}
+
+path_more : (n s p r : ℕ) (past : List ℕ) → s < 64 → IsPathTo n p r past → next_register p (s / 32) ≡ s → IsPathTo (n + 1) s r ((s / 32) ∷ past)
+path_more n s p r past lt h e = record {
+  start = h.start;
+  each = let small : s / 32 < 2 = omega arith in All-cons (λ b. b < 2) (s / 32) past small h.each;
+  long = let l : length past ≡ n = h.long in omega arith;
+  ends = let P : ℕ → Type 0 = λ v. next_register v (s / 32) ≡ s in subst P (sym h.ends) e;
+}
+
+-- The chosen way x0 with rank k0 is no worse than any other path through either register before.
+rival : (total more : ℕ → List ℕ → ℕ) (n s : ℕ) (edge : ℕ → ℕ → ℕ) → s < 64 → Grows total more n edge
+    → (sum r : ℕ) (past : List ℕ) → length past ≡ n
+    → ((p q : ℕ) (other : List ℕ) → (p ≡ 2 * (s % 32)) ⊎ (p ≡ 2 * (s % 32) + 1) → IsPathTo n p q other → IsNoWorse sum (rank r past) (total q other + edge p (s / 32)) (rank q other))
+    → (q : ℕ) (other : List ℕ) → IsPathTo (n + 1) s q other → IsNoWorse sum (rank r ((s / 32) ∷ past)) (more q other) (rank q other)
+rival total more n s edge lt grows sum r past long best q [] path = absurd (let h : 0 ≡ n + 1 = path.long in omega arith)
+rival total more n s edge lt grows sum r past long best q (b ∷ other) path =
+    let front = path_front n s q b other path in
+    let p = register_back q other in
+    let pl : p < 64 = register_back_lt q other path.start front.each in
+    let bl : b < 2 = All-head (λ b. b < 2) b other path.each in
+    let ex : Extends s p b = extends s p b pl bl path.ends in
+    let h : IsNoWorse sum (rank r past) (total q other + edge p (s / 32)) (rank q other) = best p q other ex.register front in
+    let g : more q (b ∷ other) ≡ total q other + edge p (s / 32) = grows.is q other b front.long ∙ ap (λ v. total q other + edge p v) ex.bit in
+    let size : b * 2 ^ (length other + 6) ≡ s / 32 * 2 ^ (length past + 6) = ap (λ v. v * 2 ^ (length other + 6)) ex.bit ∙ ap (λ v. s / 32 * 2 ^ (v + 6)) (front.long ∙ sym long) in
+    record {
+      least = omega (arith, h.least, g);
+      first = λ le. let k : rank r past ≤ rank q other = h.first (omega (arith, g, le)) in omega (arith, k, size);
+    }
+
+pub first_best : (total more : ℕ → List ℕ → ℕ) (n s : ℕ) (edge : ℕ → ℕ → ℕ) → s < 64 → Grows total more n edge
+    → (x y r q : ℕ) (past other : List ℕ)
+    → IsBestTo total n (2 * (s % 32)) x r past → IsBestTo total n (2 * (s % 32) + 1) y q other
+    → x + edge (2 * (s % 32)) (s / 32) ≤ y + edge (2 * (s % 32) + 1) (s / 32)
+    → IsBestTo more (n + 1) s (x + edge (2 * (s % 32)) (s / 32)) r ((s / 32) ∷ past)
+first_best total more n s edge lt grows x y r q past other a b le =
+    let p0 = 2 * (s % 32) in
+    let p1 = 2 * (s % 32) + 1 in
+    let d = s / 32 in
+    let compare : (p v : ℕ) (rest : List ℕ) → (p ≡ p0) ⊎ (p ≡ p1) → IsPathTo n p v rest → IsNoWorse (x + edge p0 d) (rank r past) (total v rest + edge p d) (rank v rest)
+    = λ p v rest cases path. elim cases [
+      | inl e ↦ (let P : ℕ → Type 0 = λ w. IsPathTo n w v rest in
+          let h : IsNoWorse x (rank r past) (total v rest) (rank v rest) = a.best v rest (subst P e path) in
+          let f : edge p d ≡ edge p0 d = ap (λ w. edge w d) e in
+          record { least = omega (arith, h.least, f); first = λ l. h.first (omega (arith, l, f)) })
+      | inr e ↦ (let P : ℕ → Type 0 = λ w. IsPathTo n w v rest in
+          let path1 : IsPathTo n p1 v rest = subst P e path in
+          let h : IsNoWorse y (rank q other) (total v rest) (rank v rest) = b.best v rest path1 in
+          let f : edge p d ≡ edge p1 d = ap (λ w. edge w d) e in
+          record { least = omega (arith, h.least, f, le); first = λ l. let k : rank r past < rank v rest = rank_lt n p0 p1 r v past rest (omega arith) a.is_path path1 in omega (arith, k) })
+    ] in
+    record {
+      is_path = path_more n s p0 r past lt a.is_path (omega arith);
+      is_sum = grows.is r past d a.is_path.long ∙ ap (λ v. v + edge (register_back r past) d) a.is_sum ∙ ap (λ v. x + edge v d) a.is_path.ends;
+      best = rival total more n s edge lt grows (x + edge p0 d) r past a.is_path.long compare;
+    }
+
+pub second_best : (total more : ℕ → List ℕ → ℕ) (n s : ℕ) (edge : ℕ → ℕ → ℕ) → s < 64 → Grows total more n edge
+    → (x y r q : ℕ) (past other : List ℕ)
+    → IsBestTo total n (2 * (s % 32)) x r past → IsBestTo total n (2 * (s % 32) + 1) y q other
+    → y + edge (2 * (s % 32) + 1) (s / 32) < x + edge (2 * (s % 32)) (s / 32)
+    → IsBestTo more (n + 1) s (y + edge (2 * (s % 32) + 1) (s / 32)) q ((s / 32) ∷ other)
+second_best total more n s edge lt grows x y r q past other a b less =
+    let p0 = 2 * (s % 32) in
+    let p1 = 2 * (s % 32) + 1 in
+    let d = s / 32 in
+    let compare : (p v : ℕ) (rest : List ℕ) → (p ≡ p0) ⊎ (p ≡ p1) → IsPathTo n p v rest → IsNoWorse (y + edge p1 d) (rank q other) (total v rest + edge p d) (rank v rest)
+    = λ p v rest cases path. elim cases [
+      | inl e ↦ (let P : ℕ → Type 0 = λ w. IsPathTo n w v rest in
+          let h : IsNoWorse x (rank r past) (total v rest) (rank v rest) = a.best v rest (subst P e path) in
+          let f : edge p d ≡ edge p0 d = ap (λ w. edge w d) e in
+          record { least = omega (arith, h.least, f, less); first = λ l. absurd (omega (arith, h.least, l, f, less)) })
+      | inr e ↦ (let P : ℕ → Type 0 = λ w. IsPathTo n w v rest in
+          let h : IsNoWorse y (rank q other) (total v rest) (rank v rest) = b.best v rest (subst P e path) in
+          let f : edge p d ≡ edge p1 d = ap (λ w. edge w d) e in
+          record { least = omega (arith, h.least, f); first = λ l. h.first (omega (arith, l, f)) })
+    ] in
+    record {
+      is_path = path_more n s p1 q other lt b.is_path (omega arith);
+      is_sum = grows.is q other d b.is_path.long ∙ ap (λ v. v + edge (register_back q other) d) b.is_sum ∙ ap (λ v. y + edge v d) b.is_path.ends;
+      best = rival total more n s edge lt grows (y + edge p1 d) q other b.is_path.long compare;
+    }
+
+-- what an edge costs, by the four costs of a step
+abbrev pub edge_cost : List ℕ → ℕ → ℕ → ℕ
+edge_cost costs p b = get_or costs (2 * c1 p b + c2 p b) 0
+
+pub AreBest-more : (total more : ℕ → List ℕ → ℕ) (n column : ℕ) (sums costs next columns : List ℕ)
+    → Grows total more n (edge_cost costs)
+    → IsNextSums sums costs next → AreSurvivors sums costs column
+    → AreBest total n sums columns → AreBest more (n + 1) next (column ∷ columns)
+AreBest-more total more n column sums costs next columns grows is_next survive best s lt =
+    let p0 = 2 * (s % 32) in
+    let p1 = 2 * (s % 32) + 1 in
+    let first : ℕ = first_way sums costs s in
+    let second : ℕ = second_way sums costs s in
+    let a : IsBestTo total n p0 (get_or sums p0 0) (start_of columns p0) (past_of columns p0) = best p0 (omega arith) in
+    let b : IsBestTo total n p1 (get_or sums p1 0) (start_of columns p1) (past_of columns p1) = best p1 (omega arith) in
+    let P : ℕ → ℕ → Type 0 = λ v w. IsBestTo more (n + 1) s v (start_of columns w) ((s / 32) ∷ past_of columns w) in
+    let goes : (v w : ℕ) → get_or next s 0 ≡ v → before column s ≡ w → P v w → P (get_or next s 0) (before column s)
+    = λ v w e f h. subst (λ (z : ℕ). P z (before column s)) (sym e) (subst (λ (z : ℕ). P v z) (sym f) h) in
+    let chosen : column / 2 ^ s % 2 ≡ cond (ltb second first) 1 0 = survive s lt in
+    let least : get_or next s 0 ≡ min first second = is_next s lt in
+    elim (cases_lt second first) as (λ _. P (get_or next s 0) (before column s)) [
+      | inl h ↦ (let one : column / 2 ^ s % 2 ≡ 1 = chosen ∙ choice_second first second first second refl refl h in
+          goes second p1 (omega (arith, least, h)) (omega (arith, one))
+          (second_best total more n s (edge_cost costs) lt grows _ _ _ _ _ _ a b h))
+      | inr h ↦ (let none : column / 2 ^ s % 2 ≡ 0 = chosen ∙ choice_first first second first second refl refl h in
+          goes first p0 (omega (arith, least, h)) (omega (arith, none))
+          (first_best total more n s (edge_cost costs) lt grows _ _ _ _ _ _ a b h))
+    ]
+
+-- before any step each path is a register alone
+none_best : (total : ℕ → List ℕ → ℕ) (s sum q : ℕ) (other : List ℕ) → total s [] ≡ sum → IsPathTo 0 s q other → IsNoWorse sum s (total q other) (rank q other)
+none_best total s sum q [] e path =
+    let ends : q ≡ s = path.ends in
+    let same : total q [] ≡ total s [] = ap (λ v. total v []) ends in
+    record { least = omega (arith, e, same); first = λ _. omega (arith, ends) }
+none_best total s sum q (b ∷ other) e path = absurd (let h : suc (length other) ≡ 0 = path.long in omega arith)
+
+pub AreBest-none : (total : ℕ → List ℕ → ℕ) (sums : List ℕ) → ((r : ℕ) → r < 64 → total r [] ≡ get_or sums r 0) → AreBest total 0 sums []
+AreBest-none total sums same s lt = record {
+  is_path = record { start = lt; each = All-nil (λ b. b < 2); long = refl; ends = refl };
+  is_sum = same s lt;
+  best = λ q other path. none_best total s (get_or sums s 0) q other (same s lt) path;
+}
+
+-- what columns keep is a path, whatever the sums
+before_lt : (c s : ℕ) → s < 64 → before c s < 64
+before_lt c s lt = omega arith
+
+pub start_of_lt : (columns : List ℕ) (s : ℕ) → s < 64 → start_of columns s < 64
+start_of_lt [] s lt = lt
+start_of_lt (c ∷ columns) s lt = start_of_lt columns (before c s) (before_lt c s lt)
+
+pub past_of_small : (columns : List ℕ) (s : ℕ) → s < 64 → All (λ b. b < 2) (past_of columns s)
+past_of_small [] s lt = All-nil (λ b. b < 2)
+past_of_small (c ∷ columns) s lt =
+    let small : s / 32 < 2 = omega arith in
+    All-cons (λ b. b < 2) (s / 32) (past_of columns (before c s)) small (past_of_small columns (before c s) (before_lt c s lt))

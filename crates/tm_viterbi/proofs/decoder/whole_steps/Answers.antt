@@ -1,0 +1,21 @@
+use Rattle.std.proofs.Common.{◌∙◌, sym, arith}
+use Rattle.tm_conv.proofs.Paths.{steps_size-more}
+use Rattle.tm_viterbi.proofs.Carrying.{one_step}
+use Rattle.tm_viterbi.proofs.decoder.whole_steps.Goals as goal
+
+pub loop-count-init : goal.loop-count-init
+loop-count-init c = record {
+  some = omega arith;
+  within = c.requires.limit;
+  size = c.step_len-size.ensures ∙ sym (one_step c.args.rate c.args.t);
+  fits = omega (arith, c.step_len-size.ensures, c.requires.step);
+}
+
+pub loop-count-preserved : goal.loop-count-preserved
+loop-count-preserved c =
+    let i = c.loop-count.invariant in record {
+      some = omega arith;
+      within = omega arith;
+      size = omega (arith, i.size, c.step_len-more.ensures, steps_size-more c.args.rate c.args.t c.loop-count.count);
+      fits = omega arith;
+    }

@@ -1,0 +1,28 @@
+-- One column of sums from the one before.
+use Rattle.std.specs.Prelude.{ℕ, ◌≡◌, ◌+◌, ◌*◌, ◌/◌, ◌%◌, ◌^◌, ◌<◌, List, min, length, slice_index, nat_lt, if◌then◌else◌}
+use Rattle.tm_conv.specs.Path.{c1, c2}
+
+-- the sum of a path that comes to register p and goes on by bit b
+abbrev pub sum_via : List ℕ → List ℕ → ℕ → ℕ → ℕ
+sum_via sums costs p b = slice_index sums p + slice_index costs (2 * c1 p b + c2 p b)
+
+-- the sums of the two ways into register s
+abbrev pub first_way : List ℕ → List ℕ → ℕ → ℕ
+first_way sums costs s = sum_via sums costs (2 * (s % 32)) (s / 32)
+
+abbrev pub second_way : List ℕ → List ℕ → ℕ → ℕ
+second_way sums costs s = sum_via sums costs (2 * (s % 32) + 1) (s / 32)
+
+-- the lesser of the two at each register
+abbrev pub IsNextSums : List ℕ → List ℕ → List ℕ → Type 0
+IsNextSums sums costs next = (s : ℕ) → s < 64 → slice_index next s ≡ min (first_way sums costs s) (second_way sums costs s)
+
+-- bit s is 1 exactly where the second way is strictly less
+abbrev pub AreSurvivors : List ℕ → List ℕ → ℕ → Type 0
+AreSurvivors sums costs bits =
+    (s : ℕ) → s < 64 → bits / 2 ^ s % 2 ≡ (if nat_lt (second_way sums costs s) (first_way sums costs s) then 1 else 0)
+
+-- 32 lanes, and what each is
+pub record IsEach (lanes : List ℕ) (value : ℕ → ℕ) : Type 0 where
+  pub long : length lanes ≡ 32
+  pub each : (i : ℕ) → i < 32 → slice_index lanes i ≡ value i

@@ -1,0 +1,13 @@
+pub mod Starts
+pub mod WindowBlock
+pub mod Blocks
+pub mod Due
+pub mod Column
+pub mod Walk
+pub mod Totals
+pub mod Carries
+pub mod Summing
+pub mod Filling
+pub mod TailOctets
+pub mod Flowing
+pub mod Decoding

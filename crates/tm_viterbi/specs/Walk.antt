@@ -1,0 +1,49 @@
+-- Paths with the newest bit first, as the decoder walks them.
+use Rattle.std.specs.Prelude.{ℕ, ◌≡◌, ◌+◌, ◌*◌, ◌/◌, ◌%◌, ◌^◌, ◌<◌, ◌≤◌, List, [], ◌∷◌, length, slice_index}
+use Rattle.std.specs.List.{All}
+use Rattle.tm_conv.specs.Path.{next_register}
+
+-- the register after these bits, the newest first
+abbrev pub register_back : ℕ → List ℕ → ℕ
+register_back r [] = r
+register_back r (b ∷ past) = next_register (register_back r past) b
+
+-- the number whose binary digits are the bits, the newest first, and then those of the register
+abbrev pub rank : ℕ → List ℕ → ℕ
+rank r [] = r
+rank r (b ∷ past) = b * 2 ^ (length past + 6) + rank r past
+
+-- a path of n bits to register s
+pub record IsPathTo (n s r : ℕ) (past : List ℕ) : Type 0 where
+  pub start : r < 64
+  pub each : All (λ b. b < 2) past
+  pub long : length past ≡ n
+  pub ends : register_back r past ≡ s
+
+-- a sum and a rank against others: less, or as little and of no greater rank
+pub record IsNoWorse (sum k other l : ℕ) : Type 0 where
+  pub least : sum ≤ other
+  pub first : other ≤ sum → k ≤ l
+
+-- the path of least total to register s, and of those the first
+pub record IsBestTo (total : ℕ → List ℕ → ℕ) (n s sum r : ℕ) (past : List ℕ) : Type 0 where
+  pub is_path : IsPathTo n s r past
+  pub is_sum : total r past ≡ sum
+  pub best : (q : ℕ) (other : List ℕ) → IsPathTo n s q other → IsNoWorse sum (rank r past) (total q other) (rank q other)
+
+-- the register before s, by a column of survivor bits
+abbrev pub before : ℕ → ℕ → ℕ
+before column s = 2 * (s % 32) + column / 2 ^ s % 2
+
+-- the path that columns keep for register s, the newest column first
+abbrev pub past_of : List ℕ → ℕ → List ℕ
+past_of [] s = []
+past_of (c ∷ columns) s = (s / 32) ∷ past_of columns (before c s)
+
+abbrev pub start_of : List ℕ → ℕ → ℕ
+start_of [] s = s
+start_of (c ∷ columns) s = start_of columns (before c s)
+
+-- the sums and the columns have the best path to each register
+abbrev pub AreBest : (ℕ → List ℕ → ℕ) → ℕ → List ℕ → List ℕ → Type 0
+AreBest total n sums columns = (s : ℕ) → s < 64 → IsBestTo total n s (slice_index sums s) (start_of columns s) (past_of columns s)

@@ -1,0 +1,11 @@
+-- A window's block as contracts see it.
+use Rattle.std.specs.Prelude.{ℕ, List}
+
+-- the register its path starts from, its steps and how many are kept, its path's cost and bits, and the register behind the kept ones
+pub record WindowBlock : Type 0 where
+  pub start : ℕ
+  pub steps : ℕ
+  pub kept : ℕ
+  pub metric : ℕ
+  pub bits : List ℕ
+  pub end_state : ℕ

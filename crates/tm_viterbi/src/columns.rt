@@ -1,0 +1,41 @@
+// One column of sums from the one before, register by register.
+ghost use Rattle.std.specs.Prelude.{◌≡◌, ◌++◌, min, IsTrue, ℕ, ◌+◌, ◌-◌, ◌*◌, ◌/◌, ◌%◌, ◌^◌, ◌<◌, ◌≤◌, List, take, drop, reverse, length, slice_index, nat_lt, if◌then◌else◌};
+ghost use Rattle.tm_conv.specs.Path.{c1, c2};
+ghost use Rattle.tm_viterbi.specs.Column.{IsEach, sum_via, IsNextSums, AreSurvivors};
+
+fn pair(r: usize, b: usize) -> usize
+    requires register { r < 64 }
+    requires bit { b < 2 }
+    ensures value { result ≡ 2 * c1 r b + c2 r b }
+    ensures small { result < 4 }
+{
+    let first = (b + r / 32 + r / 16 + r / 8 + r) % 2;
+    let second = (b + r / 16 + r / 8 + r / 2 + r) % 2;
+    2 * first + second
+}
+
+fn way(sums: &[u32; 64], costs: &[u32; 4], p: usize, b: usize) -> u32
+    requires fit { (s k : ℕ) → s < 64 → k < 4 → slice_index sums.now s + slice_index costs.now k < 2 ^ 32 }
+    requires register { p < 64 }
+    requires bit { b < 2 }
+    ensures { result ≡ sum_via sums.now costs.now p b }
+{
+    sums[p] + costs[pair(p, b)]
+}
+
+pub fn plain_column(sums: &[u32; 64], costs: &[u32; 4], next: &mut [u32; 64]) -> u64
+    requires { (s k : ℕ) → s < 64 → k < 4 → slice_index sums.now s + slice_index costs.now k < 2 ^ 32 }
+    ensures sums { IsNextSums sums.now costs.now next.new }
+    ensures survivors { AreSurvivors sums.now costs.now result }
+{
+    let mut survivors = 0u64;
+    for s in 0..64usize {
+        let first = way(sums, costs, 2 * (s % 32), s / 32);
+        let second = way(sums, costs, 2 * (s % 32) + 1, s / 32);
+        next[s] = first.min(second);
+        if second < first {
+            survivors |= 1 << s;
+        }
+    }
+    survivors
+}

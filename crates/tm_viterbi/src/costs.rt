@@ -1,0 +1,72 @@
+// What the four pairs of sums of a step cost.
+ghost use Rattle.std.specs.Prelude.{◌≡◌, ◌++◌, min, IsTrue, ℕ, ◌+◌, ◌-◌, ◌*◌, ◌/◌, ◌%◌, ◌^◌, ◌<◌, ◌≤◌, List, take, drop, reverse, length, slice_index, nat_lt, if◌then◌else◌};
+ghost use Rattle.tm_conv.specs.Path.{keeps_c1, keeps_c2, sent_c2, step_size};
+ghost use Rattle.tm_conv.specs.Cost.{distance};
+ghost use Rattle.tm_viterbi.specs.Totals.{AreCosts};
+
+use tm_conv::{Rate, kept};
+
+pub(crate) fn step_len(rate: Rate, t: u64) -> usize
+    ensures { result ≡ step_size rate t }
+{
+    let (first, second) = kept(rate, t);
+    usize::from(first) + usize::from(second)
+}
+
+// What the first octet is from a 0 and from a 1, or nothing where c1 is not sent.
+fn c1_costs(is_sent: bool, octets: &[u8]) -> (u16, u16)
+    requires { IsTrue is_sent → 0 < length octets.now }
+    ensures zero { result.0 ≡ (if is_sent then distance 0 (slice_index octets.now 0) else 0) }
+    ensures one { result.1 ≡ (if is_sent then distance 1 (slice_index octets.now 0) else 0) }
+    ensures small { (result.0 ≤ 255) × (result.1 ≤ 255) }
+{
+    if is_sent {
+        (u16::from(octets[0]), u16::from(255 - octets[0]))
+    } else {
+        (0, 0)
+    }
+}
+
+// The same of the last octet and c2 as it is sent.
+fn c2_costs(is_sent: bool, invert: bool, octets: &[u8]) -> (u16, u16)
+    requires { IsTrue is_sent → 0 < length octets.now }
+    ensures zero { result.0 ≡ (if is_sent then distance (sent_c2 invert 0) (slice_index octets.now (length octets.now - 1)) else 0) }
+    ensures one { result.1 ≡ (if is_sent then distance (sent_c2 invert 1) (slice_index octets.now (length octets.now - 1)) else 0) }
+    ensures small { (result.0 ≤ 255) × (result.1 ≤ 255) }
+{
+    if is_sent {
+        let octet = octets[octets.len() - 1];
+        let near = u16::from(octet);
+        let far = u16::from(255 - octet);
+        if invert { (far, near) } else { (near, far) }
+    } else {
+        (0, 0)
+    }
+}
+
+pub(crate) fn step_costs(rate: Rate, invert: bool, t: u64, octets: &[u8]) -> [u16; 4]
+    requires { length octets.now ≡ step_size rate t }
+    ensures costs { AreCosts rate invert t octets.now result }
+    ensures small { (k : ℕ) → k < 4 → slice_index result k ≤ 510 }
+{
+    let (sends_first, sends_second) = kept(rate, t);
+    let first = c1_costs(sends_first, octets);
+    let second = c2_costs(sends_second, invert, octets);
+    [
+        first.0 + second.0,
+        first.0 + second.1,
+        first.1 + second.0,
+        first.1 + second.1,
+    ]
+}
+
+pub(crate) fn wide_costs(costs: [u16; 4]) -> [u32; 4]
+    ensures { result ≡ costs }
+{
+    [
+        u32::from(costs[0]),
+        u32::from(costs[1]),
+        u32::from(costs[2]),
+        u32::from(costs[3]),
+    ]
+}

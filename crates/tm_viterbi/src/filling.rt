@@ -1,0 +1,141 @@
+// A window that is filled by the steps of pieces.
+ghost use Rattle.std.specs.Prelude.{◌≡◌, IfOk, IsTrue, ℕ, ◌+◌, ◌-◌, ◌*◌, ◌^◌, ◌<◌, ◌≤◌, ◌++◌, List, Option, [], length, vec_len};
+ghost use Rattle.tm_conv.specs.Path.{steps_size};
+ghost use Rattle.tm_viterbi.specs.Starts.{starts_from};
+ghost use Rattle.tm_viterbi.specs.Totals.{AreAtMost};
+
+use crate::passes::run;
+use crate::window::{first_sums, least_register, register_behind, trace_back};
+use std::alloc::{AllocError, Global};
+use tm_conv::Rate;
+
+/// The best path of a window.
+#[derive(Drop)]
+pub(crate) struct Found {
+    pub(crate) start: u8,
+    pub(crate) metric: u64,
+    pub(crate) end_state: u8,
+}
+
+/// A window from step `t` on, of which some steps are filled.
+#[derive(Drop)]
+pub(crate) struct Window {
+    pub(crate) rate: Rate,
+    pub(crate) invert: bool,
+    pub(crate) keep: usize,
+    pub(crate) ahead: usize,
+    pub(crate) starts: Option<u8>,
+    pub(crate) t: u64,
+    pub(crate) filled: usize,
+    sums: [u32; 64],
+    columns: Vec<u64>,
+    ghost few: { keep + ahead ≤ 69632 },
+    ghost room: { vec_len columns ≡ keep + ahead },
+    ghost within: { filled ≤ keep + ahead },
+    ghost bounded: { AreAtMost (2 ^ 30 + 510 * filled) sums },
+}
+
+fn zeros(alloc: Global, count: usize) -> Result<Vec<u64>, AllocError>
+    ensures { IfOk result (λ v. vec_len v ≡ count) }
+{
+    vec![in alloc; 0u64; count]
+}
+
+impl Window {
+    ghost use Rattle.tm_viterbi.specs.Filling.{Holds};
+    ghost use Rattle.tm_viterbi.specs.WindowBlock.{WindowBlock};
+    ghost use Rattle.tm_viterbi.specs.Blocks.{IsBlock, window_steps, kept_steps};
+
+    /// The first window, from step 0, with nothing filled. It takes its memory here.
+    #[tactic(auto, unfolding(tm_conv::specs::Path::steps_size))]
+    pub(crate) fn new(
+        alloc: Global,
+        rate: Rate,
+        invert: bool,
+        keep: usize,
+        ahead: usize,
+        starts: Option<u8>,
+    ) -> Result<Window, AllocError>
+        requires { keep + ahead ≤ 69632 }
+        ensures holds { IfOk result (λ w. Holds w []) }
+        ensures began { IfOk result (λ w. (w.rate ≡ rate) × (w.invert ≡ invert) × (w.keep ≡ keep) × (w.ahead ≡ ahead) × (w.starts ≡ starts) × (w.t ≡ 0) × (w.filled ≡ 0)) }
+    {
+        let columns = zeros(alloc, keep + ahead)?;
+        let sums = first_sums(starts);
+        Ok(Window {
+            rate,
+            invert,
+            keep,
+            ahead,
+            starts,
+            t: 0,
+            filled: 0,
+            sums,
+            columns,
+        })
+    }
+
+    /// Begins the next window, behind the steps that are kept.
+    #[tactic(auto, unfolding(tm_conv::specs::Path::steps_size))]
+    pub(crate) fn restart(&mut self, end_state: u8)
+        requires few { self.old.t < 2 ^ 60 }
+        ensures holds { Holds self.new [] }
+        ensures place { (self.new.t ≡ self.old.t + self.old.keep) × (self.new.filled ≡ 0) × (self.new.starts ≡ Option.Some end_state) }
+        ensures same { (self.new.rate ≡ self.old.rate) × (self.new.invert ≡ self.old.invert) × (self.new.keep ≡ self.old.keep) × (self.new.ahead ≡ self.old.ahead) }
+    {
+        let starts = Some(end_state);
+        self.sums = first_sums(starts);
+        self.starts = starts;
+        self.t += self.keep as u64;
+        self.filled = 0;
+    }
+
+    /// Takes the octets of some more steps.
+    pub(crate) fn take_steps(&mut self, count: usize, octets: &[u8])
+        requires room { self.old.filled + count ≤ self.old.keep + self.old.ahead }
+        requires size { length octets.now ≡ steps_size self.old.rate (self.old.t + self.old.filled) count }
+        requires few { self.old.t < 2 ^ 58 }
+        ensures holds { (given : List ℕ) → Holds self.old given → Holds self.new (given ++ octets.now) }
+        ensures steps { self.new.filled ≡ self.old.filled + count }
+        ensures same { (self.new.rate ≡ self.old.rate) × (self.new.invert ≡ self.old.invert) × (self.new.keep ≡ self.old.keep) × (self.new.ahead ≡ self.old.ahead)
+            × (self.new.starts ≡ self.old.starts) × (self.new.t ≡ self.old.t) }
+    {
+        let most = (1 << 30) + 510 * self.filled as u32;
+        let now = self.t + self.filled as u64;
+        let end = self.filled + count;
+        let columns = &mut self.columns[self.filled..end];
+        run(
+            self.rate,
+            self.invert,
+            now,
+            octets,
+            &mut self.sums,
+            columns,
+            most,
+        );
+        self.filled = end;
+    }
+
+    /// The block of the steps so far, of which `kept` are kept; its bits are written.
+    pub(crate) fn find(&self, kept: usize, bits: &mut [u8]) -> Found
+        requires bits { length bits.old ≡ self.now.filled }
+        requires kept { kept ≤ self.now.filled }
+        requires start { (register : ℕ) × (register < 64) × IsTrue (starts_from self.now.starts register) }
+        ensures block { (given after : List ℕ) (remaining : ℕ) → Holds self.now given → self.now.filled ≡ window_steps self.now.keep self.now.ahead remaining
+            → kept ≡ kept_steps self.now.keep self.now.ahead remaining
+            → IsBlock self.now.rate self.now.invert self.now.keep self.now.ahead self.now.starts self.now.t remaining (given ++ after)
+            (record { start = result.start; steps = self.now.filled; kept = kept; metric = result.metric; bits = bits.new; end_state = result.end_state }) }
+        ensures register { result.end_state < 64 }
+    {
+        let last = least_register(&self.sums);
+        let start = trace_back(&self.columns[..self.filled], last, bits);
+        let metric = u64::from(self.sums[last]);
+        let start = start as u8;
+        let end_state = register_behind(start, &bits[..kept]);
+        Found {
+            start,
+            metric,
+            end_state,
+        }
+    }
+}

@@ -1,0 +1,111 @@
+// One window after another.
+ghost use Rattle.std.specs.Prelude.{◌≡◌, IfOk, IsTrue, ℕ, ◌+◌, ◌-◌, ◌*◌, ◌^◌, ◌<◌, ◌≤◌, ◌++◌, List, Option, [], length, drop};
+ghost use Rattle.tm_conv.specs.Path.{steps_size};
+ghost use Rattle.tm_viterbi.specs.Starts.{starts_from};
+
+use crate::costs::step_len;
+use crate::filling::{Found, Window};
+use crate::tail::Tail;
+use std::alloc::{AllocError, Global};
+use tm_conv::Rate;
+
+// How many symbols so many steps from step t on send.
+fn span(rate: Rate, t: u64, count: usize) -> usize
+    requires { t + count < 2 ^ 60 }
+    ensures value { result ≡ steps_size rate t count }
+{
+    let mut all = 0usize;
+    for i in 0..count {
+        all += step_len(rate, t + i as u64);
+    }
+    all
+}
+
+/// A window, and the octets behind its kept steps.
+#[derive(Drop)]
+pub(crate) struct Flow {
+    pub(crate) window: Window,
+    tail: Tail,
+    ghost tail_len: { length tail.octets ≡ steps_size window.rate (window.t + window.keep) (window.filled - window.keep) },
+    ghost tail_room: { 2 * window.ahead ≤ tail.room },
+}
+
+impl Flow {
+    ghost use Rattle.tm_viterbi.specs.Flowing.{Keeps};
+    ghost use Rattle.tm_viterbi.specs.WindowBlock.{WindowBlock};
+    ghost use Rattle.tm_viterbi.specs.Due.{Place, Closes};
+
+    /// The first window, from step 0. It takes its memory here.
+    pub(crate) fn new(
+        alloc: Global,
+        rate: Rate,
+        invert: bool,
+        keep: usize,
+        ahead: usize,
+        starts: Option<u8>,
+    ) -> Result<Flow, AllocError>
+        requires { keep + ahead ≤ 69632 }
+        ensures keeps { IfOk result (λ f. Keeps f []) }
+        ensures began { IfOk result (λ f. (f.window.rate ≡ rate) × (f.window.invert ≡ invert) × (f.window.keep ≡ keep) × (f.window.ahead ≡ ahead) × (f.window.starts ≡ starts) × (f.window.t ≡ 0) × (f.window.filled ≡ 0)) }
+    {
+        let window = Window::new(alloc, rate, invert, keep, ahead, starts)?;
+        let tail = Tail::new(alloc, 2 * (ahead + 1))?;
+        Ok(Flow { window, tail })
+    }
+
+    /// Takes the octets of some more steps, all before the window's first `keep` are full or all behind them.
+    pub(crate) fn take_steps(&mut self, count: usize, octets: &[u8])
+        requires room { self.old.window.filled + count ≤ self.old.window.keep + self.old.window.ahead }
+        requires side { self.old.window.filled < self.old.window.keep → self.old.window.filled + count ≤ self.old.window.keep }
+        requires size { length octets.now ≡ steps_size self.old.window.rate (self.old.window.t + self.old.window.filled) count }
+        requires few { self.old.window.t < 2 ^ 58 }
+        ensures keeps { (given : List ℕ) → Keeps self.old given → Keeps self.new (given ++ octets.now) }
+        ensures steps { self.new.window.filled ≡ self.old.window.filled + count }
+        ensures same { (self.new.window.rate ≡ self.old.window.rate) × (self.new.window.invert ≡ self.old.window.invert) × (self.new.window.keep ≡ self.old.window.keep)
+            × (self.new.window.ahead ≡ self.old.window.ahead) × (self.new.window.starts ≡ self.old.window.starts) × (self.new.window.t ≡ self.old.window.t) }
+    {
+        let is_behind = self.window.filled >= self.window.keep;
+        self.window.take_steps(count, octets);
+        if is_behind {
+            self.tail.append(octets);
+        }
+    }
+
+    /// Begins the next window, behind the kept steps, from this register.
+    pub(crate) fn turn(&mut self, end_state: u8)
+        requires full { self.old.window.filled ≡ self.old.window.keep + self.old.window.ahead }
+        requires few { self.old.window.t < 2 ^ 57 }
+        ensures keeps { (given : List ℕ) → Keeps self.old given → Keeps self.new (drop (steps_size self.old.window.rate self.old.window.t self.old.window.keep) given) }
+        ensures place { (self.new.window.t ≡ self.old.window.t + self.old.window.keep) × (self.new.window.filled ≡ self.old.window.ahead) × (self.new.window.starts ≡ Option.Some end_state) }
+        ensures same { (self.new.window.rate ≡ self.old.window.rate) × (self.new.window.invert ≡ self.old.window.invert) × (self.new.window.keep ≡ self.old.window.keep) × (self.new.window.ahead ≡ self.old.window.ahead) }
+    {
+        self.window.restart(end_state);
+        let ahead = self.window.ahead;
+        let octets = self.tail.as_slice();
+        self.window.take_steps(ahead, octets);
+        let size = span(self.window.rate, self.window.t, ahead.min(self.window.keep));
+        self.tail.drop_front(size);
+    }
+
+    /// Closes a full window: answers its block, whose bits are written, and begins the next one. A window may be closed once
+    /// the step behind it is there too.
+    pub(crate) fn close(&mut self, bits: &mut [u8]) -> Found
+        requires full { self.old.window.filled ≡ self.old.window.keep + self.old.window.ahead }
+        requires bits { length bits.old ≡ self.old.window.keep + self.old.window.ahead }
+        requires start { (register : ℕ) × (register < 64) × IsTrue (starts_from self.old.window.starts register) }
+        requires few { self.old.window.t < 2 ^ 57 }
+        ensures closes { (given after : List ℕ) → Keeps self.old given
+            → steps_size self.old.window.rate self.old.window.t (self.old.window.keep + self.old.window.ahead + 1) ≤ length (given ++ after)
+            → Closes self.old.window.rate self.old.window.invert self.old.window.keep self.old.window.ahead
+            (record { starts = self.old.window.starts; t = self.old.window.t; octets = given ++ after })
+            (record { start = result.start; steps = self.old.window.keep + self.old.window.ahead; kept = self.old.window.keep; metric = result.metric; bits = bits.new; end_state = result.end_state }) }
+        ensures keeps { (given : List ℕ) → Keeps self.old given → Keeps self.new (drop (steps_size self.old.window.rate self.old.window.t self.old.window.keep) given) }
+        ensures place { (self.new.window.t ≡ self.old.window.t + self.old.window.keep) × (self.new.window.filled ≡ self.old.window.ahead) × (self.new.window.starts ≡ Option.Some result.end_state) }
+        ensures same { (self.new.window.rate ≡ self.old.window.rate) × (self.new.window.invert ≡ self.old.window.invert) × (self.new.window.keep ≡ self.old.window.keep) × (self.new.window.ahead ≡ self.old.window.ahead) }
+        ensures register { result.end_state < 64 }
+    {
+        let found = self.window.find(self.window.keep, bits);
+        self.turn(found.end_state);
+        found
+    }
+}

@@ -1,0 +1,80 @@
+// One column of sums from the one before, by lanes of thirty-two bits.
+ghost use Rattle.std.specs.Prelude.{◌≡◌, ◌++◌, min, IsTrue, ℕ, ◌+◌, ◌-◌, ◌*◌, ◌/◌, ◌%◌, ◌^◌, ◌<◌, ◌≤◌, List, take, drop, reverse, length, slice_index, nat_lt, if◌then◌else◌};
+ghost use Rattle.tm_conv.specs.Path.{c1, c2};
+ghost use Rattle.tm_viterbi.specs.Column.{IsEach, sum_via, IsNextSums, AreSurvivors};
+
+use std::simd::prelude::*;
+
+// The pair of symbols from register 2 * s by bit 0, and from the register after it.
+pub(crate) const NEAR: [usize; 32] = [
+    0, 1, 0, 1, 3, 2, 3, 2, 3, 2, 3, 2, 0, 1, 0, 1, 2, 3, 2, 3, 1, 0, 1, 0, 1, 0, 1, 0, 2, 3, 2, 3,
+];
+
+pub(crate) const FAR: [usize; 32] = [
+    3, 2, 3, 2, 0, 1, 0, 1, 0, 1, 0, 1, 3, 2, 3, 2, 1, 0, 1, 0, 2, 3, 2, 3, 2, 3, 2, 3, 1, 0, 1, 0,
+];
+
+// The sums of the even registers and those of the odd ones.
+fn halves(sums: &[u32; 64]) -> (Simd<u32, 32>, Simd<u32, 32>)
+    ensures even { IsEach result.0 (λ i. slice_index sums.now (2 * i)) }
+    ensures odd { IsEach result.1 (λ i. slice_index sums.now (2 * i + 1)) }
+{
+    let low = Simd::<u32, 32>::from_slice(&sums[..32]);
+    let high = Simd::<u32, 32>::from_slice(&sums[32..]);
+    low.deinterleave(high)
+}
+
+fn near_costs(costs: &[u32; 4]) -> Simd<u32, 32>
+    ensures { IsEach result (λ i. slice_index costs.now (2 * c1 (2 * i) 0 + c2 (2 * i) 0)) }
+{
+    u32x4::from_array(*costs).swizzle(NEAR)
+}
+
+fn far_costs(costs: &[u32; 4]) -> Simd<u32, 32>
+    ensures { IsEach result (λ i. slice_index costs.now (2 * c1 (2 * i + 1) 0 + c2 (2 * i + 1) 0)) }
+{
+    u32x4::from_array(*costs).swizzle(FAR)
+}
+
+// The lesser of two ways, and where the second is strictly less.
+fn lesser(
+    first: Simd<u32, 32>,
+    near: Simd<u32, 32>,
+    second: Simd<u32, 32>,
+    far: Simd<u32, 32>,
+) -> (Simd<u32, 32>, u64)
+    requires lanes { (length first ≡ 32) × (length near ≡ 32) × (length second ≡ 32) × (length far ≡ 32) }
+    requires first_fits { (i : ℕ) → i < 32 → slice_index first i + slice_index near i < 2 ^ 32 }
+    requires second_fits { (i : ℕ) → i < 32 → slice_index second i + slice_index far i < 2 ^ 32 }
+    ensures sums { IsEach result.0 (λ i. min (slice_index first i + slice_index near i) (slice_index second i + slice_index far i)) }
+    ensures bits { (i : ℕ) → i < 32 → result.1 / 2 ^ i % 2
+        ≡ (if nat_lt (slice_index second i + slice_index far i) (slice_index first i + slice_index near i) then 1 else 0) }
+    ensures small { result.1 < 2 ^ 32 }
+{
+    let one = first.strict_add(near);
+    let other = second.strict_add(far);
+    let less = other.simd_lt(one);
+    (less.select(other, one), less.to_bitmask())
+}
+
+fn store_halves(low: Simd<u32, 32>, high: Simd<u32, 32>, next: &mut [u32; 64])
+    requires { (length low ≡ 32) × (length high ≡ 32) }
+    ensures { next.new ≡ low ++ high }
+{
+    low.copy_to_slice(&mut next[..32]);
+    high.copy_to_slice(&mut next[32..]);
+}
+
+pub fn lane_column(sums: &[u32; 64], costs: &[u32; 4], next: &mut [u32; 64]) -> u64
+    requires { (s k : ℕ) → s < 64 → k < 4 → slice_index sums.now s + slice_index costs.now k < 2 ^ 32 }
+    ensures sums { IsNextSums sums.now costs.now next.new }
+    ensures survivors { AreSurvivors sums.now costs.now result }
+{
+    let (even, odd) = halves(sums);
+    let near = near_costs(costs);
+    let far = far_costs(costs);
+    let (low, low_bits) = lesser(even, near, odd, far);
+    let (high, high_bits) = lesser(even, far, odd, near);
+    store_halves(low, high, next);
+    low_bits + (high_bits << 32)
+}

@@ -1,0 +1,23 @@
+//! The soft decoder of the convolutional code (CCSDS 131.0-B, Convolutional Coding): the Viterbi algorithm in windows, whose
+//! path none betters, with its columns step by step and by lanes, and its sums alone. It stands on the code of tm_conv and
+//! the takers of tm_base, and knows nothing of markers or frames.
+#![tactic(auto)]
+
+mod block;
+mod columns;
+mod costs;
+mod decoder;
+mod filling;
+mod flow;
+mod lanes;
+mod narrow;
+mod passes;
+mod sums;
+mod tail;
+mod window;
+
+pub use block::{Block, BlockTaker, Start};
+pub use columns::plain_column;
+pub use decoder::Decoder;
+pub use lanes::lane_column;
+pub use sums::Sums;

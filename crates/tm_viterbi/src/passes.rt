@@ -1,0 +1,132 @@
+// The steps of the forward pass.
+ghost use Rattle.std.specs.Prelude.{◌≡◌, ◌++◌, min, IsTrue, ℕ, ◌+◌, ◌-◌, ◌*◌, ◌/◌, ◌%◌, ◌^◌, ◌<◌, ◌≤◌, List, take, drop, reverse, length, slice_index, nat_lt, if◌then◌else◌};
+ghost use Rattle.tm_conv.specs.Path.{step_size, steps_size};
+ghost use Rattle.tm_viterbi.specs.Totals.{StepsTo, AreAtMost};
+ghost use Rattle.tm_viterbi.specs.Carries.{Carries};
+
+use crate::costs::{step_costs, step_len, wide_costs};
+use crate::lanes::lane_column;
+use crate::narrow::{are_close, halves_of, least_sum, less_least, narrow_at, with_least};
+use tm_conv::Rate;
+
+pub(crate) fn step(
+    rate: Rate,
+    invert: bool,
+    t: u64,
+    octets: &[u8],
+    sums: &mut [u32; 64],
+    most: u32,
+) -> u64
+    requires size { length octets.now ≡ step_size rate t }
+    requires most { most + 510 < 2 ^ 32 }
+    requires bounded { AreAtMost most sums.old }
+    ensures steps { StepsTo rate invert t octets.now sums.old sums.new result }
+    ensures bounded { AreAtMost (most + 510) sums.new }
+{
+    let costs = wide_costs(step_costs(rate, invert, t, octets));
+    let mut next = [0u32; 64];
+    let column = lane_column(sums, &costs, &mut next);
+    *sums = next;
+    column
+}
+
+// Some steps in sixteen bits.
+fn narrow_block(
+    rate: Rate,
+    invert: bool,
+    t: u64,
+    soft: &[u8],
+    sums: &mut [u32; 64],
+    least: u32,
+    columns: &mut [u64],
+) -> usize
+    requires size { steps_size rate t (length columns.old) ≤ length soft.now }
+    requires few { length columns.old ≤ 120 }
+    requires first { t < 2 ^ 60 }
+    requires room { least + 65536 < 2 ^ 32 }
+    requires least { (s : ℕ) → s < 64 → least ≤ slice_index sums.old s }
+    requires close { (s : ℕ) → s < 64 → slice_index sums.old s ≤ least + 4096 }
+    ensures taken { result ≡ steps_size rate t (length columns.new) }
+    ensures carries { Carries rate invert t (take result soft.now) sums.old sums.new columns.new }
+    ensures bounded { (m : ℕ) → AreAtMost m sums.old → AreAtMost (m + 510 * length columns.new) sums.new }
+{
+    let narrow = less_least(sums, least);
+    let (first_low, first_high) = halves_of(&narrow);
+    let (low, high, taken) = narrow_at(rate, invert, t, soft, first_low, first_high, columns);
+    *sums = with_least(low, high, least);
+    taken
+}
+
+// One step in thirty-two bits.
+fn wide_step(
+    rate: Rate,
+    invert: bool,
+    t: u64,
+    soft: &[u8],
+    sums: &mut [u32; 64],
+    columns: &mut [u64],
+    most: u32,
+) -> usize
+    requires one { length columns.old ≡ 1 }
+    requires size { steps_size rate t 1 ≤ length soft.now }
+    requires most { most + 510 < 2 ^ 32 }
+    requires bounded { AreAtMost most sums.old }
+    ensures taken { result ≡ steps_size rate t (length columns.new) }
+    ensures carries { Carries rate invert t (take result soft.now) sums.old sums.new columns.new }
+    ensures bounded { AreAtMost (most + 510) sums.new }
+{
+    let end = step_len(rate, t);
+    columns[0] = step(rate, invert, t, &soft[..end], sums, most);
+    end
+}
+
+// Some steps of the forward pass: those from sums that lie close together go in sixteen bits.
+// No sum is above `most` before them.
+pub(crate) fn run(
+    rate: Rate,
+    invert: bool,
+    t: u64,
+    soft: &[u8],
+    sums: &mut [u32; 64],
+    columns: &mut [u64],
+    most: u32,
+)
+    requires size { length soft.now ≡ steps_size rate t (length columns.old) }
+    requires first { t < 2 ^ 59 }
+    requires room { most + 510 * length columns.old + 65536 < 2 ^ 32 }
+    requires bounded { AreAtMost most sums.old }
+    ensures bounded { AreAtMost (most + 510 * length columns.new) sums.new }
+    ensures carries { Carries rate invert t soft.now sums.old sums.new columns.new }
+{
+    let mut done = 0usize;
+    let mut at = 0usize;
+    while done < columns.len() {
+        let now = t + done as u64;
+        let least = least_sum(sums);
+        if are_close(sums, least) {
+            let end = (columns.len() - done).min(120) + done;
+            at += narrow_block(
+                rate,
+                invert,
+                now,
+                &soft[at..],
+                sums,
+                least,
+                &mut columns[done..end],
+            );
+            done = end;
+        } else {
+            let now_most = most + 510 * done as u32;
+            at += wide_step(
+                rate,
+                invert,
+                now,
+                &soft[at..],
+                sums,
+                &mut columns[done..done + 1],
+                now_most,
+            );
+            done += 1;
+        }
+    }
+}

@@ -1,0 +1,80 @@
+// The sums of the Viterbi algorithm without its survivors.
+ghost use Rattle.std.specs.Prelude.{◌≡◌, ◌++◌, ℕ, ◌+◌, ◌*◌, ◌^◌, ◌<◌, ◌≤◌, List, [], IfSome, length};
+ghost use Rattle.tm_conv.specs.Path.{path, step_size, steps_size};
+ghost use Rattle.tm_conv.specs.Cost.{cost};
+ghost use Rattle.tm_conv.specs.Best.{IsBest};
+ghost use Rattle.tm_conv.specs.Columns.{IsColumn};
+ghost use Rattle.tm_viterbi.specs.Starts.{starts_from, first_start};
+ghost use Rattle.tm_viterbi.specs.Summing.{SumsFor};
+
+use crate::block::Start;
+use crate::passes::step;
+use crate::window::first_sums;
+use std::marker::Model;
+use tm_conv::Rate;
+
+/// The columns of least costs, one step after another (CCSDS 131.0-B, Convolutional Coding). It takes no memory.
+#[derive(Drop)]
+pub struct Sums {
+    rate: Rate,
+    invert: bool,
+    first: u64,
+    start: Option<u8>,
+    steps: u32,
+    column: [u32; 64],
+}
+
+impl Model for Sums {
+    ghost use Rattle.std.specs.Prelude.{◌≤◌, ◌+◌, ◌*◌, ◌^◌};
+    ghost use Rattle.tm_viterbi.specs.Totals.{AreAtMost};
+    ghost use Rattle.tm_viterbi.specs.Summing.{Summing};
+
+    ghost Value = { Summing };
+
+    ghost view = { λ s. record { rate = s.rate; invert = s.invert; first = s.first; start = s.start; steps = s.steps; column = s.column } };
+
+    ghost invariant = { λ s. (s.first ≤ 2 ^ 44) × (s.steps ≤ 69632) × AreAtMost (2 ^ 30 + 510 * s.steps) s.column };
+}
+
+impl Sums {
+    /// The sums before step `first`, at most 2^44: 0 for the register `start`, below 64, or for all 64 registers at `None`, and
+    /// else 2^30.
+    #[tactic(auto, unfolding(tm_conv::specs::Path::steps_size))]
+    pub fn new(rate: Rate, invert: bool, first: u64, start: Option<u8>) -> Sums
+        requires first { first ≤ 2 ^ 44 }
+        requires start { IfSome start (λ register. register < 64) }
+        ensures began { (result.rate ≡ rate) × (result.invert ≡ invert) × (result.first ≡ first) × (result.start ≡ start) × (result.steps ≡ 0) }
+        ensures stands { SumsFor result [] }
+    {
+        Sums {
+            rate,
+            invert,
+            first,
+            start,
+            steps: 0,
+            column: first_sums(start),
+        }
+    }
+
+    /// Takes the soft octets of the next step, just as many as it sends symbols; at most 69,632 steps in all.
+    pub fn step(&mut self, octets: &[u8])
+        requires size { length octets.now ≡ step_size self.old.rate (self.old.first + self.old.steps) }
+        requires few { self.old.steps < 69632 }
+        ensures began { (self.new.rate ≡ self.old.rate) × (self.new.invert ≡ self.old.invert) × (self.new.first ≡ self.old.first) × (self.new.start ≡ self.old.start) }
+        ensures steps { self.new.steps ≡ self.old.steps + 1 }
+        ensures stands { (given : List ℕ) → SumsFor self.old given → SumsFor self.new (given ++ octets.now) }
+    {
+        let most = (1 << 30) + 510 * self.steps;
+        let now = self.first + u64::from(self.steps);
+        let _ = step(self.rate, self.invert, now, octets, &mut self.column, most);
+        self.steps += 1;
+    }
+
+    /// The column behind the steps so far: for each register the least cost of a path to it, with what its first register costs.
+    pub fn column(&self) -> &[u32; 64]
+        ensures column { result.now ≡ self.now.column }
+        ensures least { (given : List ℕ) → SumsFor self.now given → IsColumn (starts_from self.now.start) self.now.rate self.now.invert self.now.first given result.now }
+    {
+        &self.column
+    }
+}
