@@ -21,10 +21,10 @@ full_window keep ahead filled is = omega (arith, is)
 pub full_kept : (keep ahead : ℕ) → keep ≡ kept_steps keep ahead (keep + ahead + 1)
 full_kept keep ahead = grind (arith, nat_tests)
 
-kept_is : (keep ahead : ℕ) → kept_steps keep ahead (keep + ahead + 1) ≡ keep
+pub kept_is : (keep ahead : ℕ) → kept_steps keep ahead (keep + ahead + 1) ≡ keep
 kept_is keep ahead = grind (arith, nat_tests)
 
-kept_at : (keep ahead n : ℕ) → keep + ahead + 1 ≤ n → kept_steps keep ahead n ≡ keep
+pub kept_at : (keep ahead n : ℕ) → keep + ahead + 1 ≤ n → kept_steps keep ahead n ≡ keep
 kept_at keep ahead n le = grind (arith, nat_tests)
 
 Closes-append : (rate : Rate) (invert : Bool) (keep ahead : ℕ) (at : Place) (b : WindowBlock) (octets : List ℕ)

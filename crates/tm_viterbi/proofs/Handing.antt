@@ -1,5 +1,5 @@
 -- One more window closed, by the window that follows.
-use Rattle.std.proofs.Common.{◌≡◌, ℕ, ◌+◌, ◌<◌, ◌≤◌, ◌∙◌, sym, ap, subst, refl, arith, get_or, zero, suc, append_assoc, List, [], ◌∷◌, ◌++◌, Bool, drop, length, length-append, Result, Ok, Err, OnOk, OnErr, Option, Some, None, IsTrue}
+use Rattle.std.proofs.Common.{◌≡◌, ℕ, ◌+◌, ◌<◌, ◌≤◌, ◌∙◌, sym, ap, subst, refl, arith, get_or, zero, suc, append_assoc, List, [], ◌∷◌, ◌++◌, Bool, drop, length, length-append, Result, Ok, Err, IsErr, OnOk, OnErr, Option, Some, None, IsTrue}
 use Rattle.std.specs.Option.{ForSome}
 use Rattle.std.proofs.lemmas.List.{drop-append-le}
 use Rattle.std.proofs.lemmas.Bool.Decides.{nat_tests}
@@ -9,6 +9,10 @@ use Rattle.tm_conv.proofs.Paths.{steps_size-more}
 use Rattle.tm_conv.proofs.Sizes.{step_size_pos}
 use Rattle.tm_viterbi.specs.Starts.{starts_from}
 use Rattle.tm_viterbi.specs.WindowBlock.{WindowBlock}
+use Rattle.tm_viterbi.specs.Settings.{Settings}
+use Rattle.tm_viterbi.specs.Streaming.{settings_of}
+use Rattle.tm_viterbi.specs.declared.block.Start.{Start}
+use Rattle.tm_viterbi.specs.declared.stream.Stream.{Stream}
 use Rattle.tm_viterbi.specs.Due.{Place, Closes, Closed, behind}
 use Rattle.tm_viterbi.proofs.PassSteps.{steps_size-le}
 use Rattle.tm_viterbi.proofs.Closing.{Closed-push}
@@ -20,6 +24,10 @@ on_ok (Err e) P Q f p = p
 pub on_err : {T E : Type 0} (r : Result T E) (P Q : Type 0) → (P → Q) → OnErr r P → OnErr r Q
 on_err (Ok x) P Q f p = p
 on_err (Err e) P Q f p = f p
+
+pub on_err_of : {T E : Type 0} (r : Result T E) (P : Type 0) → IsErr r → P → OnErr r P
+on_err_of (Ok x) P is p = absurd (cc)
+on_err_of (Err e) P is p = p
 
 pub some_start : (starts : Option ℕ) → ForSome starts (λ register. register < 64) → (register : ℕ) × (register < 64) × IsTrue (starts_from starts register)
 some_start None are = (0, omega arith, refl)
@@ -89,3 +97,12 @@ closed_same rate rate' invert invert' keep keep' ahead ahead' t t' starts starts
 pub head_rest : (xs : List ℕ) → 0 < length xs → get_or xs 0 0 ∷ drop 1 xs ≡ xs
 head_rest [] some = absurd (omega arith)
 head_rest (x ∷ xs) some = refl
+
+pub same_settings : (s v : Stream) → v.start ≡ s.start → v.flow.window.rate ≡ s.flow.window.rate → v.flow.window.invert ≡ s.flow.window.invert
+    → v.flow.window.keep ≡ s.flow.window.keep → v.flow.window.ahead ≡ s.flow.window.ahead → settings_of v ≡ settings_of s
+same_settings s v es er ei ek ea =
+    let set : Rate → Bool → Start → ℕ → ℕ → Settings = λ rate invert start keep ahead. record { rate = rate; invert = invert; start = start; keep = keep; ahead = ahead } in
+    let w = s.flow.window in
+    let u = v.flow.window in
+    ap (λ (r : Rate). set r u.invert v.start u.keep u.ahead) er ∙ ap (λ (i : Bool). set w.rate i v.start u.keep u.ahead) ei ∙ ap (λ (b : Start). set w.rate w.invert b u.keep u.ahead) es
+    ∙ ap (λ (k : ℕ). set w.rate w.invert s.start k u.ahead) ek ∙ ap (λ (a : ℕ). set w.rate w.invert s.start w.keep a) ea

@@ -15,3 +15,6 @@ mod Filled
 mod Tails
 mod Closing
 mod Handing
+mod WholeBlocks
+mod LastWindow
+mod Feeding

@@ -4,7 +4,8 @@ use Rattle.tm_conv.specs.declared.rates.Rate.{Rate}
 use Rattle.tm_conv.specs.Path.{steps_size, path, register_after}
 use Rattle.tm_conv.specs.Cost.{cost}
 use Rattle.tm_conv.specs.Best.{IsBest}
-use Rattle.tm_viterbi.specs.Starts.{starts_from}
+use Rattle.tm_viterbi.specs.Starts.{starts_from, first_start}
+use Rattle.tm_viterbi.specs.Settings.{Settings}
 use Rattle.tm_viterbi.specs.WindowBlock.{WindowBlock}
 
 -- the octets have this many whole steps from step t on
@@ -37,8 +38,8 @@ AreBlocks rate invert keep ahead starts t remaining octets (block ∷ blocks) =
     (drop (steps_size rate t block.kept) octets) blocks
 
 -- the blocks of all whole steps of the octets, from step 0; an octet behind them is left over
-pub record AreBlocksOf (rate : Rate) (invert : Bool) (keep ahead : ℕ) (starts : Option ℕ) (octets : List ℕ) (blocks : List WindowBlock) (left : ℕ) : Type 0 where
+pub record AreBlocksOf (s : Settings) (octets : List ℕ) (blocks : List WindowBlock) (left : ℕ) : Type 0 where
   pub count : ℕ
-  pub steps : AreSteps rate 0 octets count
-  pub are : AreBlocks rate invert keep ahead starts 0 count octets blocks
-  pub rest : length octets ≡ steps_size rate 0 count + left
+  pub steps : AreSteps s.rate 0 octets count
+  pub are : AreBlocks s.rate s.invert s.keep s.ahead (first_start s.start) 0 count octets blocks
+  pub rest : length octets ≡ steps_size s.rate 0 count + left

@@ -2,6 +2,8 @@
 use Rattle.std.specs.Prelude.{ℕ, ◌≡◌, ◌+◌, ◌<◌, ◌≤◌, List, [], ◌∷◌, Bool, Option, Some, length, drop}
 use Rattle.tm_conv.specs.declared.rates.Rate.{Rate}
 use Rattle.tm_conv.specs.Path.{steps_size}
+use Rattle.tm_viterbi.specs.Starts.{first_start}
+use Rattle.tm_viterbi.specs.Settings.{Settings}
 use Rattle.tm_viterbi.specs.WindowBlock.{WindowBlock}
 use Rattle.tm_viterbi.specs.Blocks.{IsBlock}
 
@@ -26,8 +28,16 @@ Closed rate invert keep ahead from [] to = from ≡ to
 Closed rate invert keep ahead from (block ∷ blocks) to =
     Closes rate invert keep ahead from block × Closed rate invert keep ahead (behind rate from block) blocks to
 
--- the blocks of all closed windows of the octets, from step 0: all blocks but the last
-pub record AreDue (rate : Rate) (invert : Bool) (keep ahead : ℕ) (starts : Option ℕ) (octets : List ℕ) (blocks : List WindowBlock) : Type 0 where
+-- where the first window begins
+abbrev pub first_place : Settings → List ℕ → Place
+first_place s octets = record { starts = first_start s.start; t = 0; octets = octets }
+
+-- the blocks of the first windows of the octets, each of them closed
+abbrev pub AreFirst : Settings → List ℕ → List WindowBlock → Type 0
+AreFirst s octets blocks = (to : Place) × Closed s.rate s.invert s.keep s.ahead (first_place s octets) blocks to
+
+-- the blocks of all closed windows of the octets: all blocks but the last
+pub record AreDue (s : Settings) (octets : List ℕ) (blocks : List WindowBlock) : Type 0 where
   pub to : Place
-  pub closed : Closed rate invert keep ahead (record { starts = starts; t = 0; octets = octets }) blocks to
-  pub few : length to.octets < steps_size rate to.t (keep + ahead + 1)
+  pub closed : Closed s.rate s.invert s.keep s.ahead (first_place s octets) blocks to
+  pub few : length to.octets < steps_size s.rate to.t (s.keep + s.ahead + 1)

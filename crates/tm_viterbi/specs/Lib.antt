@@ -1,4 +1,5 @@
 pub mod Starts
+pub mod Settings
 pub mod WindowBlock
 pub mod Blocks
 pub mod Due
@@ -10,4 +11,5 @@ pub mod Summing
 pub mod Filling
 pub mod TailOctets
 pub mod Flowing
+pub mod Streaming
 pub mod Decoding

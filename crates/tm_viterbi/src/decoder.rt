@@ -1,74 +1,55 @@
-// The decoder, fed in pieces.
-ghost use Rattle.std.specs.Prelude.{◌≡◌, ◌++◌, ◌∷◌, ℕ, ◌+◌, ◌*◌, ◌^◌, ◌<◌, ◌≤◌, IsTrue, List, [], Bool, false, IfOk, OnOk, OnErr, drop, length, vec_len, Option};
-ghost use Rattle.std.specs.Option.{ForSome};
-ghost use Rattle.tm_base.specs.Takers.{HandedOver};
-ghost use Rattle.tm_base.specs.Outside.{HasCause};
-ghost use Rattle.tm_conv.specs.Path.{step_size, steps_size};
-ghost use Rattle.tm_viterbi.specs.Starts.{starts_from, first_start};
+// The decoder.
+ghost use Rattle.std.specs.Prelude.{◌≡◌, ◌≢◌, ◌↔◌, ◌++◌, ◌∷◌, ℕ, ◌+◌, ◌^◌, ◌<◌, ◌≤◌, IsTrue, List, [], true, false, IfOk, OnOk, IsErrOf, Err, length};
+ghost use Rattle.tm_base.specs.Takers.{HandedOver, HandedPart};
+ghost use Rattle.tm_base.specs.Outside.{Rose};
 ghost use Rattle.tm_viterbi.specs.WindowBlock.{WindowBlock};
+ghost use Rattle.tm_viterbi.specs.Settings.{Settings};
+ghost use Rattle.tm_viterbi.specs.Blocks.{AreBlocksOf};
+ghost use Rattle.tm_viterbi.specs.Due.{AreDue, AreFirst};
+ghost use Rattle.tm_viterbi.specs.Decoding.{StandsFor};
 
-use crate::block::{Block, BlockTaker, Start};
-use crate::costs::step_len;
-use crate::flow::Flow;
-use std::alloc::{AllocError, Global};
+use crate::block::{BlockTaker, Start};
+use crate::stream::Stream;
+use std::alloc::Global;
+use std::marker::Model;
+use thiserror::Error;
 use tm_base::{Failed, NoMemory};
 use tm_conv::Rate;
+
+/// Why a call of a decoder was refused.
+#[derive(Clone, Copy, Debug, PartialEq, Eq, Error)]
+pub enum FeedError {
+    /// The taker of the blocks failed.
+    #[error("taker")]
+    Taker,
+    /// An earlier call answered `Taker`, or `finish` was called.
+    #[error("stopped")]
+    Stopped,
+}
 
 /// The soft decoder (CCSDS 131.0-B, Convolutional Coding), fed in pieces of soft octets, of which 0 is the surest 0 and 255
 /// the surest 1. It takes all its memory at `open`.
 #[derive(Drop)]
 pub struct Decoder {
-    start: Start,
-    flow: Flow,
-    bits: Vec<u8>,
-    waiting: Option<u8>,
+    stream: Stream,
+    // The octets given.
+    count: u64,
     has_stopped: bool,
-    ghost room: { vec_len bits ≡ flow.window.keep + flow.window.ahead },
-    ghost some: { ForSome flow.window.starts (λ register. register < 64) },
-    ghost sizes: { (64 ≤ flow.window.keep) × (flow.window.keep + flow.window.ahead ≤ 69632) },
 }
 
-fn first_start(start: Start) -> Option<u8>
-    ensures { result ≡ first_start start }
-{
-    match start {
-        Start::Zero => Some(0),
-        Start::Any => None,
-    }
-}
+impl Model for Decoder {
+    ghost use Rattle.std.specs.Prelude.{◌≤◌, ◌<◌, ◌^◌};
+    ghost use Rattle.tm_viterbi.specs.Streaming.{settings_of, reached, IsOpenStep};
+    ghost use Rattle.tm_viterbi.specs.Decoding.{Decoding};
 
-fn zeros(alloc: Global, count: usize) -> Result<Vec<u8>, AllocError>
-    ensures { IfOk result (λ v. vec_len v ≡ count) }
-{
-    vec![in alloc; 0u8; count]
-}
+    ghost Value = { Decoding };
 
-// How many whole steps the next octets have from step t on, at most `limit`, and how many octets these steps take.
-fn whole_steps(rate: Rate, t: u64, limit: usize, len: usize) -> (usize, usize)
-    requires step { step_size rate t ≤ len }
-    requires limit { 0 < limit }
-    requires few { t + limit < 2 ^ 60 }
-    ensures some { (0 < result.0) × (result.0 ≤ limit) }
-    ensures size { result.1 ≡ steps_size rate t result.0 }
-    ensures fits { result.1 ≤ len }
-{
-    let mut count = 1usize;
-    let mut size = step_len(rate, t);
-    while count < limit {
-        let more = step_len(rate, t + count as u64);
-        if len - size < more {
-            break;
-        }
-        size += more;
-        count += 1;
-    }
-    (count, size)
+    ghost view = { λ d. record { settings = settings_of d.stream; has_stopped = d.has_stopped; count = d.count; stream = d.stream } };
+
+    ghost invariant = { λ d. (reached d.stream ≤ d.count) × (d.count < 2 ^ 60) × IsOpenStep d.stream };
 }
 
 impl Decoder {
-    ghost use Rattle.tm_viterbi.specs.Due.{Place, Closed};
-    ghost use Rattle.tm_viterbi.specs.Decoding.{Reaches, StandsFor, waiting_octets};
-
     /// A decoder that was given nothing yet, for windows of `keep` steps, 64 to 65,536, and `ahead` more, at most 4,096. Where
     /// `invert` is set each second sum was sent inverted. Of each window but the last `keep` steps are kept. It fails
     /// only where there isn't enough memory.
@@ -82,148 +63,83 @@ impl Decoder {
     ) -> Result<Decoder, NoMemory>
         requires keep { (64 ≤ keep) × (keep ≤ 65536) }
         requires ahead { ahead ≤ 4096 }
-        ensures began { IfOk result (λ d. (d.flow.window.rate ≡ rate) × (d.flow.window.invert ≡ invert) × (d.flow.window.keep ≡ keep) × (d.flow.window.ahead ≡ ahead)
-            × (d.start ≡ start) × (d.has_stopped ≡ false)) }
+        ensures settings { IfOk result (λ d. d.settings ≡ record { rate = rate; invert = invert; start = start; keep = keep; ahead = ahead }) }
+        ensures fresh { IfOk result (λ d. d.has_stopped ≡ false) }
         ensures stands { IfOk result (λ d. StandsFor d [] []) }
     {
-        let keep = keep as usize;
-        let ahead = ahead as usize;
-        let Ok(flow) = Flow::new(alloc, rate, invert, keep, ahead, first_start(start)) else {
-            return Err(NoMemory);
-        };
-        let Ok(bits) = zeros(alloc, keep + ahead) else {
-            return Err(NoMemory);
-        };
-        Ok(Decoder {
-            start,
-            flow,
-            bits,
-            waiting: None,
-            has_stopped: false,
-        })
+        match Stream::new(alloc, rate, invert, start, keep as usize, ahead as usize) {
+            Ok(stream) => Ok(Decoder {
+                stream,
+                count: 0,
+                has_stopped: false,
+            }),
+            Err(_) => Err(NoMemory),
+        }
     }
 
-    // Where the window is full, closes it and hands its block over. It is called where the next step is whole by `rest`.
-    fn make_room<B: BlockTaker>(&mut self, rest: &[u8], blocks: &mut B) -> Result<(), Failed>
-        requires step { step_size self.old.flow.window.rate (self.old.flow.window.t + self.old.flow.window.filled) ≤ length (waiting_octets self.old.waiting ++ rest.now) }
-        requires few { self.old.flow.window.t < 2 ^ 57 }
-        ensures ok { OnOk result ((more : List WindowBlock) × HandedOver B.took blocks.old more blocks.new
-            × ((all : List ℕ) (done : List WindowBlock) → Reaches self.old all rest.now done → Reaches self.new all rest.now (done ++ more))) }
-        ensures err { OnErr result ((block : WindowBlock) × B.broke blocks.old block blocks.new
-            × ((all : List ℕ) (done : List WindowBlock) → Reaches self.old all rest.now done
-            → (to : Place) × Closed self.old.flow.window.rate self.old.flow.window.invert self.old.flow.window.keep self.old.flow.window.ahead
-            (record { starts = first_start self.old.start; t = 0; octets = all }) (done ++ block ∷ []) to)) }
-        ensures cause { HasCause (B.faults blocks.old) (B.faults blocks.new) (B.is_last blocks.new) result }
-        ensures room { OnOk result (self.new.flow.window.filled < self.new.flow.window.keep + self.new.flow.window.ahead) }
-        ensures place { self.new.flow.window.t + self.new.flow.window.filled ≡ self.old.flow.window.t + self.old.flow.window.filled }
-        ensures same { (self.new.start ≡ self.old.start) × (self.new.waiting ≡ self.old.waiting) × (self.new.has_stopped ≡ self.old.has_stopped)
-            × (self.new.flow.window.rate ≡ self.old.flow.window.rate) × (self.new.flow.window.invert ≡ self.old.flow.window.invert)
-            × (self.new.flow.window.keep ≡ self.old.flow.window.keep) × (self.new.flow.window.ahead ≡ self.old.flow.window.ahead) }
+    /// Takes the next soft octets, and hands over the blocks of the windows that are closed by them: a window is closed once
+    /// the step behind it is whole.
+    ///
+    /// `Taker` comes where `blocks` fails; a front of the blocks was then handed over. `Stopped` comes where an earlier call
+    /// answered `Taker` or `finish` was called; nothing is handed over then.
+    ///
+    /// The octets given in all are to be below 2^60.
+    pub fn feed<B: BlockTaker>(&mut self, piece: &[u8], blocks: &mut B) -> Result<(), FeedError>
+        ensures stopped { IsErrOf result FeedError.Stopped ↔ IsTrue self.old.has_stopped }
+        ensures unchanged { IsErrOf result FeedError.Stopped → (self.new ≡ self.old) × (blocks.new ≡ blocks.old) }
+        ensures stops { IsTrue self.new.has_stopped ↔ OnOk result ⊥ }
+        ensures settings { self.new.settings ≡ self.old.settings }
+        ensures handed { OnOk result ((more : List WindowBlock) × HandedOver B.took blocks.old more blocks.new
+            × ((given : List ℕ) (done : List WindowBlock) → length given + length piece.now < 2 ^ 60 → StandsFor self.old given done
+            → StandsFor self.new (given ++ piece.now) (done ++ more) × AreDue self.old.settings (given ++ piece.now) (done ++ more))) }
+        ensures front { IsErrOf result FeedError.Taker → (tried : List WindowBlock) × HandedPart B.took B.broke blocks.old tried blocks.new
+            × ((given : List ℕ) (done : List WindowBlock) → StandsFor self.old given done → AreFirst self.old.settings (given ++ piece.now) (done ++ tried)) }
+        ensures later { B.faults blocks.old ≤ B.faults blocks.new }
+        ensures rose { IsErrOf result FeedError.Taker → Rose (B.faults blocks.old) (B.faults blocks.new) (B.is_last blocks.new) }
+        ensures same { result ≢ Err FeedError.Taker → B.faults blocks.new ≡ B.faults blocks.old }
     {
-        let kept = self.flow.window.keep;
-        let steps = kept + self.flow.window.ahead;
-        if self.flow.window.filled < steps {
+        if self.has_stopped {
+            return Err(FeedError::Stopped);
+        }
+        if piece.len() as u64 >= (1 << 60) - self.count {
             return Ok(());
         }
-        let bits = self.bits.as_mut_slice();
-        let found = self.flow.close(bits);
-        let block = Block {
-            start: found.start,
-            steps: steps as u32,
-            kept: kept as u32,
-            metric: found.metric,
-            bits,
-            end_state: found.end_state,
-        };
-        blocks.block(&block)
-    }
-
-    // Takes the octets of some more steps, which begin with the octet that waits.
-    fn take_steps(&mut self, count: usize, octets: &[u8])
-        requires room { self.old.flow.window.filled + count ≤ self.old.flow.window.keep + self.old.flow.window.ahead }
-        requires side { self.old.flow.window.filled < self.old.flow.window.keep → self.old.flow.window.filled + count ≤ self.old.flow.window.keep }
-        requires size { length octets.now ≡ steps_size self.old.flow.window.rate (self.old.flow.window.t + self.old.flow.window.filled) count }
-        requires few { self.old.flow.window.t < 2 ^ 57 }
-        ensures reaches { (all taken rest : List ℕ) (done : List WindowBlock) → octets.now ≡ waiting_octets self.old.waiting ++ taken
-            → Reaches self.old all (taken ++ rest) done → Reaches self.new all rest done }
-        ensures steps { self.new.flow.window.filled ≡ self.old.flow.window.filled + count }
-        ensures waiting { waiting_octets self.new.waiting ≡ [] }
-        ensures same { (self.new.start ≡ self.old.start) × (self.new.has_stopped ≡ self.old.has_stopped) × (self.new.flow.window.rate ≡ self.old.flow.window.rate)
-            × (self.new.flow.window.invert ≡ self.old.flow.window.invert) × (self.new.flow.window.keep ≡ self.old.flow.window.keep)
-            × (self.new.flow.window.ahead ≡ self.old.flow.window.ahead) × (self.new.flow.window.t ≡ self.old.flow.window.t) }
-    {
-        self.flow.take_steps(count, octets);
-        self.waiting = None;
-    }
-
-    // Takes an octet that is the first of a step of two.
-    fn wait(&mut self, octet: u8)
-        requires { waiting_octets self.old.waiting ≡ [] }
-        ensures reaches { (all rest : List ℕ) (done : List WindowBlock) → Reaches self.old all (octet ∷ rest) done → Reaches self.new all rest done }
-        ensures waiting { waiting_octets self.new.waiting ≡ octet ∷ [] }
-        ensures same { (self.new.start ≡ self.old.start) × (self.new.has_stopped ≡ self.old.has_stopped) × (self.new.flow ≡ self.old.flow) }
-    {
-        self.waiting = Some(octet);
-    }
-
-    // Takes the octets of the next steps that are whole by `rest`, and answers how many of `rest` these are. It is called where
-    // the window has room.
-    fn take_some(&mut self, rest: &[u8]) -> usize
-        requires room { self.old.flow.window.filled < self.old.flow.window.keep + self.old.flow.window.ahead }
-        requires step { step_size self.old.flow.window.rate (self.old.flow.window.t + self.old.flow.window.filled) ≤ length (waiting_octets self.old.waiting ++ rest.now) }
-        requires open_step { length (waiting_octets self.old.waiting) < step_size self.old.flow.window.rate (self.old.flow.window.t + self.old.flow.window.filled) }
-        requires few { self.old.flow.window.t < 2 ^ 57 }
-        ensures some { (0 < result) × (result ≤ length rest.now) }
-        ensures reaches { (all : List ℕ) (done : List WindowBlock) → Reaches self.old all rest.now done → Reaches self.new all (drop result rest.now) done }
-        ensures waiting { waiting_octets self.new.waiting ≡ [] }
-        ensures same { (self.new.start ≡ self.old.start) × (self.new.has_stopped ≡ self.old.has_stopped) × (self.new.flow.window.rate ≡ self.old.flow.window.rate)
-            × (self.new.flow.window.invert ≡ self.old.flow.window.invert) × (self.new.flow.window.keep ≡ self.old.flow.window.keep)
-            × (self.new.flow.window.ahead ≡ self.old.flow.window.ahead) × (self.new.flow.window.t ≡ self.old.flow.window.t) }
-    {
-        if let Some(first) = self.waiting {
-            self.take_steps(1, &[first, rest[0]]);
-            return 1;
+        self.count += piece.len() as u64;
+        match self.stream.take(piece, blocks) {
+            Ok(()) => Ok(()),
+            Err(Failed) => {
+                self.has_stopped = true;
+                Err(FeedError::Taker)
+            }
         }
-        let filled = self.flow.window.filled;
-        let keep = self.flow.window.keep;
-        let limit = if filled < keep {
-            keep - filled
-        } else {
-            keep + self.flow.window.ahead - filled
-        };
-        let now = self.flow.window.t + filled as u64;
-        let (count, size) = whole_steps(self.flow.window.rate, now, limit, rest.len());
-        self.take_steps(count, &rest[..size]);
-        size
     }
 
-    // Takes the next octets of a piece, and answers how many: whole steps, or one octet that waits.
-    #[tactic(auto, using(tm_conv::proofs::Sizes::step_size_pos))]
-    fn take_next<B: BlockTaker>(&mut self, rest: &[u8], blocks: &mut B) -> Result<usize, Failed>
-        requires some { 0 < length rest.now }
-        requires open_step { length (waiting_octets self.old.waiting) < step_size self.old.flow.window.rate (self.old.flow.window.t + self.old.flow.window.filled) }
-        requires few { self.old.flow.window.t + self.old.flow.window.filled < 2 ^ 57 }
-        ensures ok { IfOk result (λ n. (0 < n) × (n ≤ length rest.now) × (more : List WindowBlock) × HandedOver B.took blocks.old more blocks.new
-            × ((all : List ℕ) (done : List WindowBlock) → Reaches self.old all rest.now done → Reaches self.new all (drop n rest.now) (done ++ more))) }
-        ensures err { OnErr result ((block : WindowBlock) × B.broke blocks.old block blocks.new
-            × ((all : List ℕ) (done : List WindowBlock) → Reaches self.old all rest.now done
-            → (to : Place) × Closed self.old.flow.window.rate self.old.flow.window.invert self.old.flow.window.keep self.old.flow.window.ahead
-            (record { starts = first_start self.old.start; t = 0; octets = all }) (done ++ block ∷ []) to)) }
-        ensures same { (self.new.start ≡ self.old.start) × (self.new.has_stopped ≡ self.old.has_stopped)
-            × (self.new.flow.window.rate ≡ self.old.flow.window.rate) × (self.new.flow.window.invert ≡ self.old.flow.window.invert)
-            × (self.new.flow.window.keep ≡ self.old.flow.window.keep) × (self.new.flow.window.ahead ≡ self.old.flow.window.ahead) }
-        ensures open_step { OnOk result (length (waiting_octets self.new.waiting) < step_size self.new.flow.window.rate (self.new.flow.window.t + self.new.flow.window.filled)) }
-        ensures cause { HasCause (B.faults blocks.old) (B.faults blocks.new) (B.is_last blocks.new) result }
+    /// Hands over the block of the last window, where a step is left for it, and answers how many octets are left over behind
+    /// the last whole step: none or one. It is called once, at the end of the stream.
+    ///
+    /// `Taker` comes where `blocks` fails. `Stopped` comes where an earlier call answered `Taker` or `finish` was called;
+    /// nothing is handed over then.
+    pub fn finish<B: BlockTaker>(&mut self, blocks: &mut B) -> Result<u8, FeedError>
+        ensures stopped { IsErrOf result FeedError.Stopped ↔ IsTrue self.old.has_stopped }
+        ensures unchanged { IsErrOf result FeedError.Stopped → (self.new ≡ self.old) × (blocks.new ≡ blocks.old) }
+        ensures stops { self.new.has_stopped ≡ true }
+        ensures settings { self.new.settings ≡ self.old.settings }
+        ensures handed { IfOk result (λ left. (last : List WindowBlock) × HandedOver B.took blocks.old last blocks.new
+            × ((given : List ℕ) (done : List WindowBlock) → StandsFor self.old given done → AreBlocksOf self.old.settings given (done ++ last) left)) }
+        ensures front { IsErrOf result FeedError.Taker → (last : WindowBlock) × B.broke blocks.old last blocks.new
+            × ((given : List ℕ) (done : List WindowBlock) → StandsFor self.old given done → (left : ℕ) × AreBlocksOf self.old.settings given (done ++ last ∷ []) left) }
+        ensures left { IfOk result (λ left. left ≤ 1) }
+        ensures later { B.faults blocks.old ≤ B.faults blocks.new }
+        ensures rose { IsErrOf result FeedError.Taker → Rose (B.faults blocks.old) (B.faults blocks.new) (B.is_last blocks.new) }
+        ensures same { result ≢ Err FeedError.Taker → B.faults blocks.new ≡ B.faults blocks.old }
     {
-        let now = self.flow.window.t + self.flow.window.filled as u64;
-        let len = step_len(self.flow.window.rate, now);
-        let held = usize::from(self.waiting.is_some());
-        if held == 0 && rest.len() < len {
-            self.wait(rest[0]);
-            return Ok(1);
+        if self.has_stopped {
+            return Err(FeedError::Stopped);
         }
-        self.make_room(rest, blocks)?;
-        let taken = self.take_some(rest);
-        Ok(taken)
+        self.has_stopped = true;
+        match self.stream.end(blocks) {
+            Ok(left) => return Ok(left),
+            Err(Failed) => return Err(FeedError::Taker),
+        }
     }
 }

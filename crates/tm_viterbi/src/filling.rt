@@ -94,7 +94,7 @@ impl Window {
     pub(crate) fn take_steps(&mut self, count: usize, octets: &[u8])
         requires room { self.old.filled + count ≤ self.old.keep + self.old.ahead }
         requires size { length octets.now ≡ steps_size self.old.rate (self.old.t + self.old.filled) count }
-        requires few { self.old.t < 2 ^ 58 }
+        requires few { self.old.t < 2 ^ 61 }
         ensures holds { (given : List ℕ) → Holds self.old given → Holds self.new (given ++ octets.now) }
         ensures steps { self.new.filled ≡ self.old.filled + count }
         ensures same { (self.new.rate ≡ self.old.rate) × (self.new.invert ≡ self.old.invert) × (self.new.keep ≡ self.old.keep) × (self.new.ahead ≡ self.old.ahead)

@@ -1,5 +1,5 @@
 // One window after another.
-ghost use Rattle.std.specs.Prelude.{◌≡◌, IfOk, IsTrue, ℕ, ◌+◌, ◌-◌, ◌*◌, ◌^◌, ◌<◌, ◌≤◌, ◌++◌, List, Option, [], length, drop};
+ghost use Rattle.std.specs.Prelude.{◌≡◌, IfOk, IsTrue, ℕ, ◌+◌, ◌-◌, ◌*◌, ◌^◌, ◌<◌, ◌≤◌, ◌++◌, List, Option, [], length, drop, take};
 ghost use Rattle.tm_conv.specs.Path.{steps_size};
 ghost use Rattle.tm_viterbi.specs.Starts.{starts_from};
 
@@ -11,7 +11,7 @@ use tm_conv::Rate;
 
 // How many symbols so many steps from step t on send.
 fn span(rate: Rate, t: u64, count: usize) -> usize
-    requires { t + count < 2 ^ 60 }
+    requires { t + count < 2 ^ 62 }
     ensures value { result ≡ steps_size rate t count }
 {
     let mut all = 0usize;
@@ -33,6 +33,7 @@ pub(crate) struct Flow {
 impl Flow {
     ghost use Rattle.tm_viterbi.specs.Flowing.{Keeps};
     ghost use Rattle.tm_viterbi.specs.WindowBlock.{WindowBlock};
+    ghost use Rattle.tm_viterbi.specs.Blocks.{IsBlock};
     ghost use Rattle.tm_viterbi.specs.Due.{Place, Closes};
 
     /// The first window, from step 0. It takes its memory here.
@@ -58,7 +59,7 @@ impl Flow {
         requires room { self.old.window.filled + count ≤ self.old.window.keep + self.old.window.ahead }
         requires side { self.old.window.filled < self.old.window.keep → self.old.window.filled + count ≤ self.old.window.keep }
         requires size { length octets.now ≡ steps_size self.old.window.rate (self.old.window.t + self.old.window.filled) count }
-        requires few { self.old.window.t < 2 ^ 58 }
+        requires few { self.old.window.t < 2 ^ 61 }
         ensures keeps { (given : List ℕ) → Keeps self.old given → Keeps self.new (given ++ octets.now) }
         ensures steps { self.new.window.filled ≡ self.old.window.filled + count }
         ensures same { (self.new.window.rate ≡ self.old.window.rate) × (self.new.window.invert ≡ self.old.window.invert) × (self.new.window.keep ≡ self.old.window.keep)
@@ -74,7 +75,7 @@ impl Flow {
     /// Begins the next window, behind the kept steps, from this register.
     pub(crate) fn turn(&mut self, end_state: u8)
         requires full { self.old.window.filled ≡ self.old.window.keep + self.old.window.ahead }
-        requires few { self.old.window.t < 2 ^ 57 }
+        requires few { self.old.window.t < 2 ^ 60 }
         ensures keeps { (given : List ℕ) → Keeps self.old given → Keeps self.new (drop (steps_size self.old.window.rate self.old.window.t self.old.window.keep) given) }
         ensures place { (self.new.window.t ≡ self.old.window.t + self.old.window.keep) × (self.new.window.filled ≡ self.old.window.ahead) × (self.new.window.starts ≡ Option.Some end_state) }
         ensures same { (self.new.window.rate ≡ self.old.window.rate) × (self.new.window.invert ≡ self.old.window.invert) × (self.new.window.keep ≡ self.old.window.keep) × (self.new.window.ahead ≡ self.old.window.ahead) }
@@ -93,7 +94,7 @@ impl Flow {
         requires full { self.old.window.filled ≡ self.old.window.keep + self.old.window.ahead }
         requires bits { length bits.old ≡ self.old.window.keep + self.old.window.ahead }
         requires start { (register : ℕ) × (register < 64) × IsTrue (starts_from self.old.window.starts register) }
-        requires few { self.old.window.t < 2 ^ 57 }
+        requires few { self.old.window.t < 2 ^ 60 }
         ensures closes { (given after : List ℕ) → Keeps self.old given
             → steps_size self.old.window.rate self.old.window.t (self.old.window.keep + self.old.window.ahead + 1) ≤ length (given ++ after)
             → Closes self.old.window.rate self.old.window.invert self.old.window.keep self.old.window.ahead
@@ -107,5 +108,18 @@ impl Flow {
         let found = self.window.find(self.window.keep, bits);
         self.turn(found.end_state);
         found
+    }
+
+    /// The block of the last window, all of whose steps are kept; its bits are written to the front of `bits`.
+    pub(crate) fn find_last(&self, bits: &mut [u8]) -> Found
+        requires bits { self.now.window.filled ≤ length bits.old }
+        requires start { (register : ℕ) × (register < 64) × IsTrue (starts_from self.now.window.starts register) }
+        ensures block { (given after : List ℕ) → Keeps self.now given
+            → IsBlock self.now.window.rate self.now.window.invert self.now.window.keep self.now.window.ahead self.now.window.starts self.now.window.t self.now.window.filled (given ++ after)
+            (record { start = result.start; steps = self.now.window.filled; kept = self.now.window.filled; metric = result.metric; bits = take self.now.window.filled bits.new; end_state = result.end_state }) }
+        ensures long { length bits.new ≡ length bits.old }
+    {
+        let filled = self.window.filled;
+        self.window.find(filled, &mut bits[..filled])
     }
 }

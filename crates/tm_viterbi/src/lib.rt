@@ -12,12 +12,13 @@ mod flow;
 mod lanes;
 mod narrow;
 mod passes;
+mod stream;
 mod sums;
 mod tail;
 mod window;
 
 pub use block::{Block, BlockTaker, Start};
 pub use columns::plain_column;
-pub use decoder::Decoder;
+pub use decoder::{Decoder, FeedError};
 pub use lanes::lane_column;
 pub use sums::Sums;

@@ -95,7 +95,7 @@ fn narrow_run(
 ) -> (Simd<u16, 32>, Simd<u16, 32>, usize)
     requires size { steps_size rate t (length columns.old) ≤ length soft.now }
     requires few { length columns.old ≤ 120 }
-    requires first { t < 2 ^ 60 }
+    requires first { t < 2 ^ 63 }
     requires bounded { AreAtMost 4096 (first_low ++ first_high) }
     ensures taken { result.2 ≡ steps_size rate t (length columns.new) }
     ensures carries { (base : ℕ) → Carries rate invert t (take result.2 soft.now) (lifted base (first_low ++ first_high)) (lifted base (result.0 ++ result.1)) columns.new }
@@ -202,7 +202,7 @@ pub(crate) fn narrow_at(
 ) -> (Simd<u16, 32>, Simd<u16, 32>, usize)
     requires size { steps_size rate t (length columns.old) ≤ length soft.now }
     requires few { length columns.old ≤ 120 }
-    requires first { t < 2 ^ 60 }
+    requires first { t < 2 ^ 63 }
     requires bounded { AreAtMost 4096 (low ++ high) }
     ensures taken { result.2 ≡ steps_size rate t (length columns.new) }
     ensures carries { (base : ℕ) → Carries rate invert t (take result.2 soft.now) (lifted base (low ++ high)) (lifted base (result.0 ++ result.1)) columns.new }

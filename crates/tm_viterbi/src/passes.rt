@@ -42,7 +42,7 @@ fn narrow_block(
 ) -> usize
     requires size { steps_size rate t (length columns.old) ≤ length soft.now }
     requires few { length columns.old ≤ 120 }
-    requires first { t < 2 ^ 60 }
+    requires first { t < 2 ^ 63 }
     requires room { least + 65536 < 2 ^ 32 }
     requires least { (s : ℕ) → s < 64 → least ≤ slice_index sums.old s }
     requires close { (s : ℕ) → s < 64 → slice_index sums.old s ≤ least + 4096 }
@@ -92,7 +92,7 @@ pub(crate) fn run(
     most: u32,
 )
     requires size { length soft.now ≡ steps_size rate t (length columns.old) }
-    requires first { t < 2 ^ 59 }
+    requires first { t < 2 ^ 62 }
     requires room { most + 510 * length columns.old + 65536 < 2 ^ 32 }
     requires bounded { AreAtMost most sums.old }
     ensures bounded { AreAtMost (most + 510 * length columns.new) sums.new }

@@ -8,9 +8,6 @@ ghost use Rattle.tm_viterbi.specs.Starts.{starts_from};
 ghost use Rattle.tm_viterbi.specs.Walk.{past_of, start_of};
 ghost use Rattle.tm_viterbi.specs.Totals.{AreFirsts, IsFirstLeast};
 
-use crate::passes::run;
-use tm_conv::Rate;
-
 pub(crate) fn least_register(sums: &[u32; 64]) -> usize
     ensures { IsFirstLeast sums.now result }
 {
@@ -68,32 +65,6 @@ pub(crate) fn first_sums(starts: Option<u8>) -> [u32; 64]
         sums[r] = first_sum(starts, r);
     }
     sums
-}
-
-/// The best path for one window's octets: its starting register and its metric; its bits are written.
-pub(crate) fn decode_window(
-    rate: Rate,
-    invert: bool,
-    t: u64,
-    starts: Option<u8>,
-    soft: &[u8],
-    columns: &mut [u64],
-    bits: &mut [u8],
-) -> (u8, u64)
-    requires size { length soft.now ≡ steps_size rate t (length columns.old) }
-    requires bits { length bits.old ≡ length columns.old }
-    requires steps { length columns.old < 2 ^ 19 }
-    requires first { t < 2 ^ 59 }
-    requires start { (r : ℕ) × (r < 64) × IsTrue (starts_from starts r) }
-    ensures best { IsBest (starts_from starts) rate invert t soft.now result.0 bits.new }
-    ensures metric { result.1 ≡ cost (path rate invert t result.0 bits.new) soft.now }
-{
-    let mut sums = first_sums(starts);
-    run(rate, invert, t, soft, &mut sums, columns, 1 << 30);
-    let last = least_register(&sums);
-    let first = trace_back(columns, last, bits);
-    let metric = u64::from(sums[last]);
-    (first as u8, metric)
 }
 
 // The register behind these bits.

@@ -4,10 +4,10 @@ use Rattle.tm_base.proofs.Handing.{HandedOver-one}
 use Rattle.tm_conv.specs.Path.{steps_size}
 use Rattle.tm_viterbi.specs.WindowBlock.{WindowBlock}
 use Rattle.tm_viterbi.specs.Due.{Place, behind}
-use Rattle.tm_viterbi.specs.Decoding.{Reaches, waiting_octets}
+use Rattle.tm_viterbi.specs.Streaming.{Reaches, waiting_octets}
 use Rattle.tm_viterbi.proofs.Closing.{Closed-push}
 use Rattle.tm_viterbi.proofs.Handing.{on_ok, on_err, some_start, room_to_close, closed_on}
-use Rattle.tm_viterbi.proofs.decoder.Decoder.make_room.Goals as goal
+use Rattle.tm_viterbi.proofs.stream.Stream.make_room.Goals as goal
 
 pub returns-then-self-steps-clause-ok : goal.returns-then-self-steps-clause-ok
 returns-then-self-steps-clause-ok g c = (
@@ -36,7 +36,6 @@ returns-clause-ok g c =
             closed = closed_on w.rate _ w.invert _ w.keep _ w.ahead _ w.t _ w.filled w.starts _ _ done block r.whole rest
                 c.close-found.ensures.same.0 c.close-found.ensures.same.1 c.close-found.ensures.same.2 c.close-found.ensures.same.3 c.close-found.ensures.place.0 c.close-found.ensures.place.2 refl size full
                 r.closed (c.close-found.ensures.closes r.whole rest r.keeps (room_to_close w.rate w.t w.filled w.keep w.ahead r.whole rest full size c.requires.step));
-            counted = omega (arith, r.counted, full, c.close-found.ensures.place.0, c.close-found.ensures.place.1);
           },
     )) c.block.ensures.ok
 

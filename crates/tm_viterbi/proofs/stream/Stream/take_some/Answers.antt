@@ -1,10 +1,10 @@
 use Rattle.std.proofs.Common.{◌≡◌, ◌++◌, ◌∷◌, [], ◌+◌, ◌<◌, ap, arith, sym, subst, length, length-append, take, drop, get_or}
 use Rattle.std.proofs.lemmas.List.{take-append-drop}
-use Rattle.tm_viterbi.specs.Decoding.{Reaches, waiting_octets}
+use Rattle.tm_viterbi.specs.Streaming.{Reaches, waiting_octets}
 use Rattle.tm_viterbi.proofs.Carrying.{one_step}
 use Rattle.tm_viterbi.proofs.PassSteps.{step_size_le}
 use Rattle.tm_viterbi.proofs.Handing.{steps_size-large, head_rest}
-use Rattle.tm_viterbi.proofs.decoder.Decoder.take_some.Goals as goal
+use Rattle.tm_viterbi.proofs.stream.Stream.take_some.Goals as goal
 
 pub take_steps-requires-clause-size : goal.take_steps-requires-clause-size
 take_steps-requires-clause-size c =
@@ -34,3 +34,9 @@ returns-clause-reaches c all done r =
     c.take_steps-2.ensures.reaches all (take size xs) (drop size xs) done
     (ap (λ v. waiting_octets v ++ take size xs) (sym c.in_default.is))
     (subst (λ v. Reaches c.args.self.now all v done) (sym (take-append-drop size xs)) r)
+
+pub returns-clause-counted : goal.returns-clause-counted
+returns-clause-counted c =
+    let w = c.args.self.now.flow.window in
+    let found = c.whole_steps-count.ensures in
+    omega (arith, found.size, steps_size-large w.rate (w.t + w.filled) c.whole_steps-count.result.0, ap length c.take_steps-2.ensures.waiting, c.take_steps-2.ensures.steps, c.take_steps-2.ensures.same)

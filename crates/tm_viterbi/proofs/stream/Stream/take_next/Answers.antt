@@ -1,8 +1,8 @@
 use Rattle.std.proofs.Common.{[], arith, sym, subst, refl, drop}
 use Rattle.std.proofs.lemmas.List.{append-nil}
-use Rattle.tm_viterbi.specs.Decoding.{Reaches}
+use Rattle.tm_viterbi.specs.Streaming.{Reaches}
 use Rattle.tm_viterbi.proofs.Handing.{head_rest}
-use Rattle.tm_viterbi.proofs.decoder.Decoder.take_next.Goals as goal
+use Rattle.tm_viterbi.proofs.stream.Stream.take_next.Goals as goal
 
 pub returns-then-rest-len-clause-ok : goal.returns-then-rest-len-clause-ok
 returns-then-rest-len-clause-ok g c = (
