@@ -18,3 +18,5 @@ mod Handing
 mod WholeBlocks
 mod LastWindow
 mod Feeding
+mod LeastCost
+mod OneList

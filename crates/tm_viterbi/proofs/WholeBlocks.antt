@@ -62,7 +62,7 @@ room_for rate invert keep ahead from to b count n m closes h place most = elim (
       )
 ]
 
-closed_block : (rate : Rate) (invert : Bool) (keep ahead : ℕ) (from : Place) (b : WindowBlock) (m : ℕ) → Closes rate invert keep ahead from b
+pub closed_block : (rate : Rate) (invert : Bool) (keep ahead : ℕ) (from : Place) (b : WindowBlock) (m : ℕ) → Closes rate invert keep ahead from b
     → keep + ahead + 1 ≤ m → IsBlock rate invert keep ahead from.starts from.t m from.octets b
 closed_block rate invert keep ahead from b m closes big =
     let is = closes.is_block in
@@ -88,7 +88,7 @@ AreBlocks-closed rate invert keep ahead from to (b ∷ blocks) last n m h place 
     let next : from.t + b.kept + (m - b.kept) ≡ to.t + n = omega (arith, kept, big, place) in
     (omega (arith, big), closed_block rate invert keep ahead from b m h.0 big, AreBlocks-closed rate invert keep ahead (behind rate from b) to blocks last n (m - b.kept) h.1 next most are)
 
-from_zero : (rate : Rate) (a b : ℕ) → steps_size rate 0 (a + b) ≡ steps_size rate 0 a + steps_size rate a b
+pub from_zero : (rate : Rate) (a b : ℕ) → steps_size rate 0 (a + b) ≡ steps_size rate 0 a + steps_size rate a b
 from_zero rate a b =
     let e : 0 + a ≡ a = omega arith in
     steps_size-add rate 0 a b ∙ ap (λ (t : ℕ). steps_size rate 0 a + steps_size rate t b) e

@@ -137,9 +137,9 @@ impl Decoder {
             return Err(FeedError::Stopped);
         }
         self.has_stopped = true;
-        match self.stream.end(blocks) {
-            Ok(left) => return Ok(left),
-            Err(Failed) => return Err(FeedError::Taker),
-        }
+        let Ok(left) = self.stream.end(blocks) else {
+            return Err(FeedError::Taker);
+        };
+        Ok(left)
     }
 }

@@ -43,7 +43,7 @@ fn zeros(alloc: Global, count: usize) -> Result<Vec<u8>, AllocError>
 }
 
 // How many whole steps the next octets have from step t on, at most `limit`, and how many octets these steps take.
-fn whole_steps(rate: Rate, t: u64, limit: usize, len: usize) -> (usize, usize)
+pub(crate) fn whole_steps(rate: Rate, t: u64, limit: usize, len: usize) -> (usize, usize)
     requires step { step_size rate t ≤ len }
     requires limit { 0 < limit }
     requires few { t + limit < 2 ^ 62 }

@@ -5,8 +5,8 @@ use Rattle.tm_viterbi.specs.Streaming.{settings_of}
 use Rattle.tm_viterbi.specs.Decoding.{Decoding, StandsFor}
 use Rattle.tm_viterbi.proofs.decoder.Decoder.finish.Goals as goal
 
-pub returns-in-Ok-clause-handed : goal.returns-in-Ok-clause-handed
-returns-in-Ok-clause-handed g c =
+pub returns-clause-handed : goal.returns-clause-handed
+returns-clause-handed g c =
     let ok = c.in-Ok.ensures.ok in
     let set : settings_of c.self.inside.stream ≡ c.args.self.now.settings = ap (λ (d : Decoding). d.settings) c.self.view_is in (
       ok.0,
@@ -16,9 +16,9 @@ returns-in-Ok-clause-handed g c =
           subst (λ (v : Settings). AreBlocksOf v given (done ++ ok.0) c.in-Ok.left) set (ok.2 given done stood.open_step stood.reaches),
     )
 
-pub returns-in-Err-clause-front : goal.returns-in-Err-clause-front
-returns-in-Err-clause-front g c = λ _.
-    let err = c.in-Err.ensures.err in
+pub returns-in_default-clause-front : goal.returns-in_default-clause-front
+returns-in_default-clause-front g c = λ _.
+    let err = c.in_default.ensures.err in
     let set : settings_of c.self.inside.stream ≡ c.args.self.now.settings = ap (λ (d : Decoding). d.settings) c.self.view_is in (
       err.0,
       err.1,

@@ -1,0 +1,19 @@
+use Rattle.std.proofs.Common.{◌≡◌, ◌≤◌, ◌+◌, ◌-◌, ◌*◌, ◌^◌, ℕ, List, length, take}
+use Rattle.tm_conv.specs.Path.{steps_size}
+use Rattle.tm_viterbi.specs.Walk.{AreBest}
+use Rattle.tm_viterbi.specs.Totals.{total_of, AreAtMost}
+use Rattle.tm_viterbi.proofs.whole.least_cost.Given as goal
+
+abbrev pub invariant-loop-at : goal.invariant-loop-at
+invariant-loop-at l = record {
+  within : l.at ≤ length l.soft;
+  place : l.at ≡ steps_size l.rate 0 l.done;
+  few : l.done ≤ 69632;
+  long : length l.columns ≡ 120;
+  sums : length l.sums ≡ 64;
+  bounded : AreAtMost (2 ^ 30 + 510 * l.done) l.sums;
+  best : (past : List ℕ) × AreBest (total_of l.rate l.invert 0 l.initial.sums (take l.at l.soft)) l.done l.sums past;
+}
+
+abbrev pub decreases-loop-at : goal.decreases-loop-at
+decreases-loop-at l = length l.soft - l.at

@@ -1,0 +1,99 @@
+// Octets decoded at once, and their least cost.
+ghost use Rattle.std.specs.Prelude.{◌≡◌, ◌≢◌, ◌⊎◌, ℕ, ◌^◌, ◌<◌, ◌≤◌, List, IfOk, IsErrOf, Err, length};
+ghost use Rattle.tm_base.specs.Takers.{HandedOver, HandedPart};
+ghost use Rattle.tm_base.specs.Outside.{Rose};
+ghost use Rattle.tm_conv.specs.Path.{path, steps_size};
+ghost use Rattle.tm_conv.specs.Cost.{cost};
+ghost use Rattle.tm_conv.specs.Best.{IsBest};
+ghost use Rattle.tm_viterbi.specs.Starts.{starts_from, first_start};
+ghost use Rattle.tm_viterbi.specs.WindowBlock.{WindowBlock};
+ghost use Rattle.tm_viterbi.specs.Settings.{Settings};
+ghost use Rattle.tm_viterbi.specs.Blocks.{AreBlocksOf};
+ghost use Rattle.tm_viterbi.specs.Due.{AreFirst};
+
+use crate::block::{BlockTaker, Start};
+use crate::decoder::Decoder;
+use crate::passes::run;
+use crate::stream::{first_start, whole_steps};
+use crate::window::{first_sums, least_register};
+use std::alloc::Global;
+use thiserror::Error;
+use tm_conv::Rate;
+
+/// Why octets were not decoded at once.
+#[derive(Clone, Copy, Debug, PartialEq, Eq, Error)]
+pub enum AllError {
+    /// There was not enough memory; nothing was handed over.
+    #[error("memory")]
+    Memory,
+    /// The taker of the blocks failed.
+    #[error("taker")]
+    Taker,
+}
+
+/// Hands over the blocks of soft octets, fewer than 2^60, and answers how many octets are left over behind the last whole
+/// step: none or one. The settings are those of `Decoder::open`.
+///
+/// `Memory` comes only where there isn't enough of it. `Taker` comes where `blocks` fails; a front of the blocks was then
+/// handed over.
+pub fn decode_all<B: BlockTaker>(
+    alloc: Global,
+    rate: Rate,
+    invert: bool,
+    start: Start,
+    keep: u32,
+    ahead: u32,
+    soft: &[u8],
+    blocks: &mut B,
+) -> Result<u8, AllError>
+    requires keep { (64 ≤ keep) × (keep ≤ 65536) }
+    requires ahead { ahead ≤ 4096 }
+    ensures handed { IfOk result (λ left. (all : List WindowBlock) × HandedOver B.took blocks.old all blocks.new
+        × (length soft.now < 2 ^ 60 → AreBlocksOf (record { rate = rate; invert = invert; start = start; keep = keep; ahead = ahead }) soft.now all left)) }
+    ensures front { IsErrOf result AllError.Taker → (tried : List WindowBlock) × HandedPart B.took B.broke blocks.old tried blocks.new
+        × (length soft.now < 2 ^ 60 → AreFirst (record { rate = rate; invert = invert; start = start; keep = keep; ahead = ahead }) soft.now tried
+        ⊎ ((left : ℕ) × AreBlocksOf (record { rate = rate; invert = invert; start = start; keep = keep; ahead = ahead }) soft.now tried left)) }
+    ensures left { IfOk result (λ left. left ≤ 1) }
+    ensures unchanged { IsErrOf result AllError.Memory → blocks.new ≡ blocks.old }
+    ensures later { B.faults blocks.old ≤ B.faults blocks.new }
+    ensures rose { IsErrOf result AllError.Taker → Rose (B.faults blocks.old) (B.faults blocks.new) (B.is_last blocks.new) }
+    ensures same { result ≢ Err AllError.Taker → B.faults blocks.new ≡ B.faults blocks.old }
+{
+    let Ok(mut decoder) = Decoder::open(alloc, rate, invert, start, keep, ahead) else {
+        return Err(AllError::Memory);
+    };
+    let Ok(()) = decoder.feed(soft, blocks) else {
+        return Err(AllError::Taker);
+    };
+    match decoder.finish(blocks) {
+        Ok(left) => Ok(left),
+        Err(_) => Err(AllError::Taker),
+    }
+}
+
+/// What the best path over soft octets from step 0 on costs. They are the symbols of at most 69,632 steps. It takes no memory.
+pub fn least_cost(rate: Rate, invert: bool, start: Start, soft: &[u8]) -> u64
+    requires { (steps : ℕ) × (steps ≤ 69632) × (length soft.now ≡ steps_size rate 0 steps) }
+    ensures { (initial : ℕ) × (bits : List ℕ) × IsBest (starts_from (first_start start)) rate invert 0 soft.now initial bits
+        × (result ≡ cost (path rate invert 0 initial bits) soft.now) }
+{
+    let mut sums = first_sums(first_start(start));
+    let mut columns = [0u64; 120];
+    let mut done = 0usize;
+    let mut at = 0usize;
+    while at < soft.len() {
+        let (count, size) = whole_steps(rate, done as u64, columns.len(), soft.len() - at);
+        run(
+            rate,
+            invert,
+            done as u64,
+            &soft[at..at + size],
+            &mut sums,
+            &mut columns[..count],
+            (1 << 30) + 510 * done as u32,
+        );
+        done += count;
+        at += size;
+    }
+    u64::from(sums[least_register(&sums)])
+}
