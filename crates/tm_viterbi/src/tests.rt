@@ -1,0 +1,409 @@
+// Worked values, and the decoder beside plain programs that know nothing of columns or windows that are filled.
+ghost use Rattle.std.specs.Prelude.{◌+◌, ◌<◌, ◌^◌, ℕ, slice_index};
+
+mod plain;
+mod takers;
+
+use crate::*;
+use plain::{best_listed, best_walked, step_symbols};
+use std::alloc::{AllocError, Global};
+use std::process::Abort;
+use std::test::Fail;
+use takers::{Collector, Kept};
+use tm_conv::Rate;
+
+const RATES: [Rate; 5] = [Rate::R12, Rate::R23, Rate::R34, Rate::R56, Rate::R78];
+
+// A drawn octet, often one at which symbols tie, and the next number of the sequence.
+fn drawn(seed: u64) -> (u8, u64) {
+    let next = seed
+        .wrapping_mul(6364136223846793005)
+        .wrapping_add(1442695040888963407);
+    let octet = match (next >> 40) % 8 {
+        0 | 1 => 0,
+        2 | 3 => 255,
+        4 => 128,
+        5 => 127,
+        _ => (next >> 56) as u8,
+    };
+    (octet, next)
+}
+
+fn drawn_octets(alloc: Global, count: usize, seed: u64) -> Result<Vec<u8>, AllocError> {
+    let mut octets = Vec::new(alloc);
+    let mut now = seed;
+    for _ in 0..count {
+        let (octet, next) = drawn(now);
+        octets.push(octet)?;
+        now = next;
+    }
+    Ok(octets)
+}
+
+// Two octets, many times.
+fn repeated(alloc: Global, pair: (u8, u8), count: usize) -> Result<Vec<u8>, AllocError> {
+    let mut octets = Vec::new(alloc);
+    for _ in 0..count {
+        octets.push(pair.0)?;
+        octets.push(pair.1)?;
+    }
+    Ok(octets)
+}
+
+// What a row tells of a block.
+#[derive(Clone, Copy, Debug)]
+struct Told {
+    steps: u32,
+    kept: u32,
+    metric: u64,
+}
+
+fn row(steps: u32, kept: u32, metric: u64) -> Told {
+    Told {
+        steps,
+        kept,
+        metric,
+    }
+}
+
+fn check_told(rt: &impl Abort, found: &[Kept], wanted: &[Told]) {
+    assert_eq!(rt; found.len(), wanted.len());
+    for (block, told) in found.iter().zip(wanted) {
+        assert_eq!(rt; block.steps, told.steps);
+        assert_eq!(rt; block.kept, told.kept);
+        assert_eq!(rt; block.metric, told.metric);
+    }
+}
+
+// How a stream is decoded in a row.
+#[derive(Clone, Copy, Debug)]
+struct Link {
+    rate: Rate,
+    invert: bool,
+    start: Start,
+    keep: u32,
+    ahead: u32,
+}
+
+const DEFAULT: Link = Link {
+    rate: Rate::R12,
+    invert: true,
+    start: Start::Zero,
+    keep: 8192,
+    ahead: 256,
+};
+
+// Feeds a new decoder pieces of `cut` octets and finishes it: the blocks, and the octets left over. A finished decoder is stopped.
+fn decoded(
+    rt: &impl Abort,
+    alloc: Global,
+    link: Link,
+    octets: &[u8],
+    cut: usize,
+) -> Result<(Collector, u8), Fail> {
+    assert!(rt; 64 <= link.keep && link.keep <= 65536 && link.ahead <= 4096);
+    let mut blocks = Collector::new(alloc, u64::MAX);
+    let mut decoder = Decoder::open(
+        alloc,
+        link.rate,
+        link.invert,
+        link.start,
+        link.keep,
+        link.ahead,
+    )?;
+    let mut rest = octets;
+    for _ in 0..octets.len() {
+        let count = rest.len().min(cut.max(1));
+        decoder.feed(&rest[..count], &mut blocks)?;
+        rest = &rest[count..];
+    }
+    assert!(rt; rest.is_empty());
+    let left = decoder.finish(&mut blocks)?;
+    assert_eq!(rt; decoder.feed(&[0], &mut blocks), Err(FeedError::Stopped));
+    assert_eq!(rt; decoder.finish(&mut blocks), Err(FeedError::Stopped));
+    Ok((blocks, left))
+}
+
+// The same at once.
+fn decoded_at_once(
+    rt: &impl Abort,
+    alloc: Global,
+    link: Link,
+    octets: &[u8],
+) -> Result<(Collector, u8), Fail> {
+    assert!(rt; 64 <= link.keep && link.keep <= 65536 && link.ahead <= 4096);
+    let mut blocks = Collector::new(alloc, u64::MAX);
+    let left = decode_all(
+        alloc,
+        link.rate,
+        link.invert,
+        link.start,
+        link.keep,
+        link.ahead,
+        octets,
+        &mut blocks,
+    )?;
+    Ok((blocks, left))
+}
+
+fn check_decoded(
+    rt: &impl Abort,
+    alloc: Global,
+    link: Link,
+    octets: &[u8],
+    wanted: &[Told],
+    wanted_left: u8,
+) -> Result<(), Fail> {
+    let (blocks, left) = decoded(rt, alloc, link, octets, 4096)?;
+    check_told(rt, blocks.kept(), wanted);
+    assert_eq!(rt; left, wanted_left);
+    let (blocks, left) = decoded_at_once(rt, alloc, link, octets)?;
+    check_told(rt, blocks.kept(), wanted);
+    assert_eq!(rt; left, wanted_left);
+    Ok(())
+}
+
+#[test]
+fn short_inputs(rt: HostRuntime) -> Result<(), Fail> {
+    let alloc = rt.alloc();
+    let any = Link {
+        start: Start::Any,
+        ..DEFAULT
+    };
+    let punctured = Link {
+        rate: Rate::R23,
+        invert: false,
+        ..DEFAULT
+    };
+    check_decoded(&rt, alloc, DEFAULT, &[], &[], 0)?;
+    check_decoded(&rt, alloc, DEFAULT, &[0x80, 0x00], &[row(1, 1, 127)], 0)?;
+    check_decoded(&rt, alloc, DEFAULT, &[0x00, 0x00], &[row(1, 1, 255)], 0)?;
+    check_decoded(&rt, alloc, DEFAULT, &[0x00, 0xFF, 0x00], &[row(1, 1, 0)], 1)?;
+    check_decoded(&rt, alloc, punctured, &[0; 4], &[row(2, 2, 0)], 1)?;
+    check_decoded(&rt, alloc, any, &[0x00, 0x00], &[row(1, 1, 0)], 0)?;
+
+    let (blocks, _) = decoded(&rt, alloc, DEFAULT, &[0x80, 0x00], 1)?;
+    assert_eq!(rt; blocks.only(&rt), (0, 1, 32));
+    let (blocks, _) = decoded(&rt, alloc, DEFAULT, &[0x00, 0x00], 1)?;
+    assert_eq!(rt; blocks.only(&rt), (0, 0, 0));
+    let (blocks, _) = decoded(&rt, alloc, any, &[0x00, 0x00], 2)?;
+    assert_eq!(rt; blocks.only(&rt), (2, 0, 1));
+    Ok(())
+}
+
+#[test]
+fn windows_of_every_size(rt: HostRuntime) -> Result<(), Fail> {
+    let alloc = rt.alloc();
+    let long = repeated(alloc, (0x00, 0xFF), 8449)?;
+    let (short, _) = long.as_slice().split_at(16896.min(long.len()));
+    check_decoded(&rt, alloc, DEFAULT, short, &[row(8448, 8448, 0)], 0)?;
+    check_decoded(
+        &rt,
+        alloc,
+        DEFAULT,
+        &long,
+        &[row(8448, 8192, 0), row(257, 257, 0)],
+        0,
+    )?;
+    let (blocks, left) = decoded(&rt, alloc, DEFAULT, &long, 1)?;
+    assert_eq!(rt; left, 0);
+    assert_eq!(rt; blocks.kept().len(), 2);
+    assert_eq!(rt;
+        (blocks.kept()[1].start, blocks.kept()[1].end_state),
+        (0, 0)
+    );
+
+    let few = repeated(alloc, (0x00, 0xFF), 65)?;
+    let tight = Link {
+        keep: 64,
+        ahead: 0,
+        ..DEFAULT
+    };
+    check_decoded(&rt, alloc, tight, &few, &[row(64, 64, 0), row(1, 1, 0)], 0)?;
+    let one_ahead = Link { ahead: 1, ..tight };
+    check_decoded(&rt, alloc, one_ahead, &few, &[row(65, 65, 0)], 0)?;
+
+    let any = Link {
+        rate: Rate::R23,
+        invert: false,
+        start: Start::Any,
+        ..DEFAULT
+    };
+    let ones = repeated(alloc, (0x80, 0x80), 6338)?;
+    let (whole, _) = ones.as_slice().split_at(12672.min(ones.len()));
+    check_decoded(&rt, alloc, any, whole, &[row(8448, 8448, 1609344)], 0)?;
+    let (more, _) = ones.as_slice().split_at(12675.min(ones.len()));
+    check_decoded(
+        &rt,
+        alloc,
+        any,
+        more,
+        &[row(8448, 8192, 1609344), row(258, 258, 49149)],
+        0,
+    )
+}
+
+// Sums and costs that are all 0.
+fn zeros() -> ([u32; 64], [u32; 4])
+    ensures { (s k : ℕ) → s < 64 → k < 4 → slice_index result.0 s + slice_index result.1 k < 2 ^ 32 }
+{
+    ([0; 64], [0; 4])
+}
+
+#[test]
+fn columns_of_zeros(rt: HostRuntime) {
+    let (sums, costs) = zeros();
+    let mut next = [1; 64];
+    assert_eq!(rt; plain_column(&sums, &costs, &mut next), 0);
+    assert_eq!(rt; next, [0; 64]);
+    let mut next = [1; 64];
+    assert_eq!(rt; lane_column(&sums, &costs, &mut next), 0);
+    assert_eq!(rt; next, [0; 64]);
+}
+
+#[test]
+fn failing_taker(rt: HostRuntime) -> Result<(), Fail> {
+    let octets = repeated(rt.alloc(), (0x00, 0xFF), 200)?;
+    let mut blocks = Collector::new(rt.alloc(), 1);
+    let mut decoder = Decoder::open(rt.alloc(), Rate::R12, true, Start::Zero, 64, 0)?;
+    assert_eq!(rt; decoder.feed(&octets, &mut blocks), Err(FeedError::Taker));
+    assert_eq!(rt; blocks.kept().len(), 1);
+    assert_eq!(rt; decoder.feed(&[], &mut blocks), Err(FeedError::Stopped));
+    assert_eq!(rt; decoder.finish(&mut blocks), Err(FeedError::Stopped));
+    assert_eq!(rt; blocks.faults(), 1);
+
+    let mut blocks = Collector::new(rt.alloc(), 0);
+    let mut decoder = Decoder::open(rt.alloc(), Rate::R12, true, Start::Zero, 64, 0)?;
+    decoder.feed(&[0, 255], &mut blocks)?;
+    assert_eq!(rt; decoder.finish(&mut blocks), Err(FeedError::Taker));
+    assert_eq!(rt; decoder.feed(&[], &mut blocks), Err(FeedError::Stopped));
+    let all = decode_all(
+        rt.alloc(),
+        Rate::R12,
+        true,
+        Start::Zero,
+        64,
+        0,
+        &[0, 255],
+        &mut blocks,
+    );
+    assert_eq!(rt; all, Err(AllError::Taker));
+    assert_eq!(rt; blocks.faults(), 2);
+    Ok(())
+}
+
+fn start_of(first: Option<u8>) -> Start {
+    match first {
+        Some(_) => Start::Zero,
+        None => Start::Any,
+    }
+}
+
+// How many octets some steps take.
+fn octets_of(rate: Rate, t: u64, steps: u32) -> usize {
+    let mut all = 0usize;
+    for i in 0..steps {
+        all = all.wrapping_add(step_symbols(rate, t.wrapping_add(u64::from(i))));
+    }
+    all
+}
+
+fn check_block(rt: &impl Abort, block: &Kept, wanted: Option<plain::Path>, steps: u32, kept: u32) {
+    assert_eq!(rt; (block.steps, block.kept), (steps, kept));
+    assert_eq!(rt; block.bits.len(), steps as usize);
+    let Some(path) = wanted else {
+        assert!(rt; false);
+        return;
+    };
+    assert_eq!(rt; block.metric, path.cost);
+    assert_eq!(rt; block.start, path.start());
+    assert_eq!(rt; block.end_state, path.register(kept));
+    for i in 0..block.bits.len() {
+        assert_eq!(rt; block.bits[i], path.bit(i as u32));
+    }
+}
+
+// Each window with ties beside all of its candidates.
+#[test]
+fn best_of_all_candidates(rt: HostRuntime) -> Result<(), Fail> {
+    let mut seed = 1u64;
+    for rate in RATES {
+        for first in [Some(0), None] {
+            for steps in 1..7u32 {
+                let invert = steps % 2 == 0;
+                seed = seed.wrapping_add(1);
+                let octets = drawn_octets(rt.alloc(), octets_of(rate, 0, steps), seed)?;
+                let link = Link {
+                    rate,
+                    invert,
+                    start: start_of(first),
+                    ..DEFAULT
+                };
+                let (blocks, left) = decoded(&rt, rt.alloc(), link, &octets, 2)?;
+                assert_eq!(rt; left, 0);
+                assert_eq!(rt; blocks.kept().len(), 1);
+                let wanted = best_listed(rate, invert, first, 0, &octets, steps);
+                check_block(&rt, &blocks.kept()[0], wanted, steps, steps);
+                assert_eq!(rt; best_walked(rate, invert, first, 0, &octets, steps), wanted);
+            }
+        }
+    }
+    Ok(())
+}
+
+// The blocks of a stream beside the windows one at a time, each next one from the register kept.
+fn check_windows(rt: &impl Abort, link: Link, octets: &[u8], whole: u32, blocks: &[Kept]) {
+    let mut first = match link.start {
+        Start::Zero => Some(0),
+        Start::Any => None,
+    };
+    let full = link.keep.wrapping_add(link.ahead);
+    let mut t = 0u64;
+    let mut remaining = whole;
+    let mut rest = octets;
+    for block in blocks {
+        let steps = remaining.min(full);
+        let kept = if remaining > full {
+            link.keep
+        } else {
+            remaining
+        };
+        let path = best_walked(link.rate, link.invert, first, t, rest, steps);
+        check_block(rt, block, path, steps, kept);
+        first = path.map(|found| found.register(kept));
+        let taken = octets_of(link.rate, t, kept).min(rest.len());
+        rest = &rest[taken..];
+        remaining = remaining.wrapping_sub(kept);
+        t = t.wrapping_add(u64::from(kept));
+    }
+    assert_eq!(rt; remaining, 0);
+}
+
+#[test]
+fn windows_in_any_cut(rt: HostRuntime) -> Result<(), Fail> {
+    let mut seed = 1000u64;
+    for rate in RATES {
+        for (ahead, cut, start) in [
+            (0, 1, Start::Zero),
+            (0, 7, Start::Any),
+            (3, 50, Start::Any),
+            (3, 4096, Start::Zero),
+            (100, 33, Start::Any),
+        ] {
+            let link = Link {
+                rate,
+                invert: ahead == 0,
+                start,
+                keep: 64,
+                ahead,
+            };
+            seed = seed.wrapping_add(1);
+            let whole = 300;
+            let octets = drawn_octets(rt.alloc(), octets_of(rate, 0, whole), seed)?;
+            let (blocks, left) = decoded(&rt, rt.alloc(), link, &octets, cut)?;
+            assert_eq!(rt; left, 0);
+            check_windows(&rt, link, &octets, whole, blocks.kept());
+        }
+    }
+    Ok(())
+}
