@@ -43,7 +43,8 @@ fn zeros(alloc: Global, count: usize) -> Result<Vec<u8>, AllocError>
 }
 
 // How many whole steps the next octets have from step t on, at most `limit`, and how many octets these steps take.
-pub(crate) fn whole_steps(rate: Rate, t: u64, limit: usize, len: usize) -> (usize, usize)
+#[inline(always)]
+fn count_steps(rate: Rate, t: u64, limit: usize, len: usize) -> (usize, usize)
     requires step { step_size rate t ≤ len }
     requires limit { 0 < limit }
     requires few { t + limit < 2 ^ 62 }
@@ -62,6 +63,24 @@ pub(crate) fn whole_steps(rate: Rate, t: u64, limit: usize, len: usize) -> (usiz
         count += 1;
     }
     (count, size)
+}
+
+// The same for one rate at a time, so that what a step sends is known to the compiler.
+pub(crate) fn whole_steps(rate: Rate, t: u64, limit: usize, len: usize) -> (usize, usize)
+    requires step { step_size rate t ≤ len }
+    requires limit { 0 < limit }
+    requires few { t + limit < 2 ^ 62 }
+    ensures some { (0 < result.0) × (result.0 ≤ limit) }
+    ensures size { result.1 ≡ steps_size rate t result.0 }
+    ensures fits { result.1 ≤ len }
+{
+    match rate {
+        Rate::R12 => count_steps(Rate::R12, t, limit, len),
+        Rate::R23 => count_steps(Rate::R23, t, limit, len),
+        Rate::R34 => count_steps(Rate::R34, t, limit, len),
+        Rate::R56 => count_steps(Rate::R56, t, limit, len),
+        Rate::R78 => count_steps(Rate::R78, t, limit, len),
+    }
 }
 
 // Hands over a window's block, whose bits are the front of `bits`.
