@@ -19,3 +19,6 @@ pub mod Covering
 pub mod ErasedPlaces
 pub mod ErasedPatterns
 pub mod ErasedWords
+pub mod Writes
+pub mod Halves
+pub mod PowerRows

@@ -38,7 +38,7 @@ value_at-push_zero (c ∷ cs) x =
     ∙ ap (λ (y : ℕ). bit_xor y (times (value_at cs x) x)) (sym (times-assoc c (power x (length cs)) x))
     ∙ sym (plus-times (times c (power x (length cs))) (value_at cs x) x)
 
-length-multiple : (q : ℕ) (cs : List ℕ) → length (multiple q cs) ≡ length cs
+pub length-multiple : (q : ℕ) (cs : List ℕ) → length (multiple q cs) ≡ length cs
 length-multiple q [] = refl
 length-multiple q (c ∷ cs) = ap suc (length-multiple q cs)
 

@@ -5,3 +5,5 @@ pub mod Erasures
 pub mod Pattern
 pub mod Recurrence
 pub mod ErrorValues
+pub mod PlaceValues
+pub mod Powers

@@ -3,15 +3,18 @@
 //! the decoder rest.
 #![tactic(auto)]
 
+mod lanes;
 mod laws;
 mod params;
+mod places;
 mod words;
 
 pub use laws::{
     distance_law, nearest_erased_law, nearest_law, pattern_law, systematic_codeword_law,
 };
 pub use params::{BadParams, Params};
-pub use words::{distance, is_codeword, syndromes};
+pub use places::{plain_values_at_places, values_at_places};
+pub use words::{count_erased, distance, is_codeword, short_syndromes, syndromes};
 
 #[cfg(test)]
 mod tests;

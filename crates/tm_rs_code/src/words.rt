@@ -2,8 +2,10 @@
 ghost use Rattle.std.specs.Prelude.{◌≡◌, ◌<◌, ◌≤◌, ◌*◌, ◌↔◌, ℕ, length, IsTrue};
 ghost use Rattle.tm_gf256.specs.Poly.{entry, numbers, value_at};
 ghost use Rattle.tm_rs_code.specs.Code.{IsCodeword, distance as distance_of, root};
+ghost use Rattle.tm_rs_code.specs.Erasures.{count_erased as count_of_erased};
 
 use crate::Params;
+use crate::lanes::store_values;
 use tm_gf256::{Gf, eval};
 
 // Root number k of the generator polynomial.
@@ -15,11 +17,9 @@ fn root_of(e: u64, k: usize) -> Gf
     Gf::exp(11 * (128 - e as u32 + k as u32))
 }
 
-/// The syndromes of a word of n symbols: entry k below 2e is the value of the word's polynomial at root
-/// number k of the generator polynomial, and the other entries are 0 (CCSDS 131.0-B, Reed-Solomon
-/// Coding).
+/// The syndromes of a word: entry k below 2e is the value of the word's polynomial at root number k of
+/// the generator polynomial, and the other entries are 0 (CCSDS 131.0-B, Reed-Solomon Coding).
 pub fn syndromes(params: &Params, word: &[Gf]) -> [Gf; 32]
-    requires { length word.now ≡ params.now.n }
     ensures size { length result ≡ 32 }
     ensures values { (k : ℕ) → k < 2 * params.now.e
         → entry result k ≡ value_at (numbers word.now) (root params.now.e k) }
@@ -31,6 +31,26 @@ pub fn syndromes(params: &Params, word: &[Gf]) -> [Gf; 32]
         values[k] = eval(word, root_of(e, k));
     }
     values
+}
+
+/// The syndromes of a word of at most 33 symbols, as what is left of a division by the generator
+/// polynomial: those that `syndromes` gives, sixteen at a time.
+pub fn short_syndromes(params: &Params, word: &[Gf]) -> [Gf; 32]
+    requires { length word.now ≤ 33 }
+    ensures size { length result ≡ 32 }
+    ensures values { (k : ℕ) → k < 2 * params.now.e
+        → entry result k ≡ value_at (numbers word.now) (root params.now.e k) }
+    ensures rest { (k : ℕ) → 2 * params.now.e ≤ k → entry result k ≡ 0 }
+{
+    let e = params.e() as usize;
+    // The values at places 112 to 143: the roots are the elements of places 128 - e to 127 + e.
+    let mut around = [0; 32];
+    store_values(word, 7, 2, &mut around);
+    let mut found = [Gf(0); 32];
+    for k in 0..2 * e {
+        found[k] = Gf(around[16 - e + k]);
+    }
+    found
 }
 
 /// Whether a word of n symbols is a codeword.
@@ -56,6 +76,20 @@ pub fn distance(a: &[Gf], b: &[Gf]) -> u32
     let mut count = 0;
     for i in 0..a.len() {
         if a[i].number() != b[i].number() {
+            count += 1;
+        }
+    }
+    count
+}
+
+/// The number of erased places of a word of at most 255 symbols.
+pub fn count_erased(erased: &[bool]) -> usize
+    requires { length erased.now ≤ 255 }
+    ensures { result ≡ count_of_erased erased.now }
+{
+    let mut count = 0;
+    for i in 0..erased.len() {
+        if erased[i] {
             count += 1;
         }
     }

@@ -1,0 +1,134 @@
+-- Products by the halves of an octet.
+use Rattle.std.proofs.Common.{◌≡◌, ◌<◌, ◌+◌, ◌*◌, ◌/◌, ◌%◌, ◌∙◌, ℕ, suc, zero, List, [], ◌∷◌, get_or, length, refl, sym, ap, eqb, true, false, Bool, ◌&&◌, arith, w8}
+use Rattle.std.specs.Prelude.{bit_xor}
+use Rattle.std.proofs.lemmas.Bool.{eqb-true}
+use Rattle.std.proofs.lemmas.List.{ext_get_or}
+use Rattle.std.proofs.lemmas.Simd.{swz_l, SwzOk, length-swz_l, get_or-swz_l_below, SwzOk-from_below, get_or-zip2, length-zip2, Each1-from_get_or}
+use lib.Lanes.{zip2, Each1}
+use Rattle.tm_gf256.specs.Field.{times, bit_product, remainder}
+use Rattle.tm_gf256.proofs.Below.{all_below, same_below}
+use Rattle.tm_gf256.proofs.Ring.{times-plus}
+use Rattle.tm_rs_code.specs.Register.{multiple}
+use Rattle.tm_rs_code.proofs.Register.{length-multiple}
+use Rattle.tm_rs_code.specs.declared.lanes.TheConstants.{LOW_PLACES, HIGH_PLACES}
+use Rattle.tm_rs_code.specs.declared.lanes.products.TheConstants.{LOW, HIGH}
+
+-- ---- the tables
+
+unfoldable pub are_products : ℕ → List ℕ → List ℕ → Bool
+are_products f [] [] = true
+are_products f [] (c ∷ cs) = false
+are_products f (x ∷ xs) [] = false
+are_products f (x ∷ xs) (c ∷ cs) = eqb x (times f c) && are_products f xs cs
+
+unfoldable pub are_rows : ℕ → List ℕ → List (List ℕ) → Bool
+are_rows f g [] = true
+are_rows f g (r ∷ rs) = are_products f r g && are_rows (suc f) g rs
+
+and_parts : (a b : Bool) → (a && b) ≡ true → (a ≡ true) × (b ≡ true)
+and_parts true b e = (refl, e)
+and_parts false b e = absurd cc
+
+products_are : (f : ℕ) (xs g : List ℕ) → are_products f xs g ≡ true → xs ≡ multiple f g
+unfolding are_products
+products_are f [] [] e = refl
+products_are f [] (c ∷ cs) e = absurd cc
+products_are f (x ∷ xs) [] e = absurd cc
+products_are f (x ∷ xs) (c ∷ cs) e =
+    let both = and_parts (eqb x (times f c)) (are_products f xs cs) e in
+    ap (λ (v : ℕ). v ∷ xs) (eqb-true x (times f c) both.0) ∙ ap (λ (vs : List ℕ). times f c ∷ vs) (products_are f xs cs both.1)
+
+row_at : (f : ℕ) (g : List ℕ) (rs : List (List ℕ)) (i : ℕ) → are_rows f g rs ≡ true → i < length rs → get_or rs i [] ≡ multiple (f + i) g
+unfolding are_rows
+row_at f g [] i e lt = absurd (omega arith)
+row_at f g (r ∷ rs) zero e lt =
+    let same : f ≡ f + 0 = omega arith in
+    products_are f r g (and_parts (are_products f r g) (are_rows (suc f) g rs) e).0 ∙ ap (λ (v : ℕ). multiple v g) same
+row_at f g (r ∷ rs) (suc i) e lt =
+    let same : suc f + i ≡ f + suc i = omega arith in
+    row_at (suc f) g rs i (and_parts (are_products f r g) (are_rows (suc f) g rs) e).1 (omega arith) ∙ ap (λ (v : ℕ). multiple v g) same
+
+low_pass : are_rows 0 LOW_PLACES LOW ≡ true
+unfolding are_rows are_products times bit_product remainder
+low_pass = refl
+
+high_pass : are_rows 0 HIGH_PLACES HIGH ≡ true
+unfolding are_rows are_products times bit_product remainder
+high_pass = refl
+
+pub low_is : (f : ℕ) → f < 256 → get_or LOW f [] ≡ multiple f LOW_PLACES
+low_is f lt = let same : 0 + f ≡ f = omega arith in row_at 0 LOW_PLACES LOW f low_pass lt ∙ ap (λ (v : ℕ). multiple v LOW_PLACES) same
+
+pub high_is : (f : ℕ) → f < 256 → get_or HIGH f [] ≡ multiple f HIGH_PLACES
+high_is f lt = let same : 0 + f ≡ f = omega arith in row_at 0 HIGH_PLACES HIGH f high_pass lt ∙ ap (λ (v : ℕ). multiple v HIGH_PLACES) same
+
+-- ---- entries
+
+pub get_or-multiple : (f : ℕ) (xs : List ℕ) (i : ℕ) → i < length xs → get_or (multiple f xs) i 0 ≡ times f (get_or xs i 0)
+get_or-multiple f [] i lt = absurd (omega arith)
+get_or-multiple f (x ∷ xs) zero lt = refl
+get_or-multiple f (x ∷ xs) (suc i) lt = get_or-multiple f xs i (omega arith)
+
+places_low : all_below 16 (λ i. eqb (get_or LOW_PLACES i 0) i) ≡ true
+places_low = refl
+
+places_high : all_below 16 (λ i. eqb (get_or HIGH_PLACES i 0) (16 * i)) ≡ true
+places_high = refl
+
+halves_pass : all_below 256 (λ v. eqb (bit_xor (v % 16) (16 * (v / 16))) v) ≡ true
+halves_pass = refl
+
+halves : (v : ℕ) → v < 256 → bit_xor (v % 16) (16 * (v / 16)) ≡ v
+halves = same_below 256 (λ v. bit_xor (v % 16) (16 * (v / 16))) (λ v. v) halves_pass
+
+-- ---- the lanes
+
+-- what a vector of positions holds
+pub record ArePlaces (row js : List ℕ) (part : ℕ → ℕ) : Type 0 where
+  pub long : length js ≡ 16
+  pub each : (i : ℕ) → i < 16 → get_or js i 0 ≡ part (get_or row i 0)
+
+pub ArePlaces-from_zip2 : (f : ℕ → ℕ → ℕ) (row ks : List ℕ) (k : ℕ) (part : ℕ → ℕ) → length row ≡ 16 → length ks ≡ 16 → ((i : ℕ) → i < 16 → get_or ks i 0 ≡ k)
+    → ((v : ℕ) → f v k ≡ part v) → ArePlaces row (zip2 f row ks) part
+ArePlaces-from_zip2 f row ks k part lr lk same is = record {
+  long = length-zip2 f row ks (omega arith) ∙ lr;
+  each = λ i lt. get_or-zip2 f row ks i 0 0 0 (omega arith) (omega arith) ∙ ap (f (get_or row i 0)) (same i lt) ∙ is (get_or row i 0);
+}
+
+Each1-from_places : (js : List ℕ) → length js ≡ 16 → ((i : ℕ) → i < 16 → get_or js i 0 < 16) → Each1 (λ j. j < 16) js
+Each1-from_places js long each = Each1-from_get_or (λ j. j < 16) js 0 (λ i lt. each i (omega arith))
+
+pub places_fit : (row js : List ℕ) (part : ℕ → ℕ) → ArePlaces row js part → ((i : ℕ) → i < 16 → part (get_or row i 0) < 16) → SwzOk w8 16 16 0 js
+places_fit row js part h small =
+    SwzOk-from_below w8 16 1 16 0 js refl (omega (arith, h.long)) (Each1-from_places js h.long (λ i lt. omega (arith, h.each i lt, small i lt)))
+
+taken : (xs row js : List ℕ) (part : ℕ → ℕ) (i : ℕ) → ArePlaces row js part → i < 16 → part (get_or row i 0) < 16 → get_or (swz_l w8 16 xs 0 js) i 0 ≡ get_or xs (part (get_or row i 0)) 0
+taken xs row js part i h lt small =
+    let at : 16 * ((0 + i) / 16) + get_or js i 0 ≡ get_or js i 0 = omega arith in
+    get_or-swz_l_below w8 16 xs 0 js i (omega (arith, h.long)) (omega (arith, h.each i lt))
+    ∙ ap (λ (k : ℕ). get_or xs k 0) (at ∙ h.each i lt)
+
+pub halves_multiple : (f : ℕ) (row low high js ks : List ℕ) → length row ≡ 16 → ((i : ℕ) → i < 16 → get_or row i 0 < 256)
+    → low ≡ multiple f LOW_PLACES → high ≡ multiple f HIGH_PLACES → ArePlaces row js (λ v. v % 16) → ArePlaces row ks (λ v. v / 16)
+    → zip2 bit_xor (swz_l w8 16 low 0 js) (swz_l w8 16 high 0 ks) ≡ multiple f row
+halves_multiple f row low high js ks long small lowis highis hj hk =
+    let lj : length (swz_l w8 16 low 0 js) ≡ 16 = length-swz_l w8 16 low 0 js ∙ hj.long in
+    let lk : length (swz_l w8 16 high 0 ks) ≡ 16 = length-swz_l w8 16 high 0 ks ∙ hk.long in
+    let all : length (zip2 bit_xor (swz_l w8 16 low 0 js) (swz_l w8 16 high 0 ks)) ≡ 16 = length-zip2 bit_xor (swz_l w8 16 low 0 js) (swz_l w8 16 high 0 ks) (omega arith) ∙ lj in
+    ext_get_or 0 (zip2 bit_xor (swz_l w8 16 low 0 js) (swz_l w8 16 high 0 ks)) (multiple f row) (omega (arith, length-multiple f row))
+    (λ i lt0.
+    let lt : i < 16 = omega arith in
+    let v = get_or row i 0 in
+    let vs : v < 256 = small i lt in
+    let a : v % 16 < 16 = omega arith in
+    let b : v / 16 < 16 = omega arith in
+    get_or-zip2 bit_xor (swz_l w8 16 low 0 js) (swz_l w8 16 high 0 ks) i 0 0 0 (omega arith) (omega arith)
+    ∙ ap (λ (x : ℕ). bit_xor x (get_or (swz_l w8 16 high 0 ks) i 0))
+    (taken low row js (λ v. v % 16) i hj lt a ∙ ap (λ (l : List ℕ). get_or l (v % 16) 0) lowis ∙ get_or-multiple f LOW_PLACES (v % 16) a
+    ∙ ap (times f) (same_below 16 (λ i. get_or LOW_PLACES i 0) (λ i. i) places_low (v % 16) a))
+    ∙ ap (bit_xor (times f (v % 16)))
+    (taken high row ks (λ v. v / 16) i hk lt b ∙ ap (λ (l : List ℕ). get_or l (v / 16) 0) highis ∙ get_or-multiple f HIGH_PLACES (v / 16) b
+    ∙ ap (times f) (same_below 16 (λ i. get_or HIGH_PLACES i 0) (λ i. 16 * i) places_high (v / 16) b))
+    ∙ sym (times-plus f (v % 16) (16 * (v / 16)))
+    ∙ ap (times f) (halves v vs)
+    ∙ sym (get_or-multiple f row i (omega arith)))
