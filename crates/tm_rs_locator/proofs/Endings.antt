@@ -3,7 +3,6 @@ use Rattle.std.proofs.Common.{◌≡◌, ◌≢◌, ◌<◌, ◌≤◌, ◌+◌,
 use Rattle.std.proofs.lemmas.Bool.{cases_lt}
 use Rattle.std.proofs.lemmas.Bool.Decides.{eqb_tells}
 use Rattle.tm_gf256.specs.declared.Gf.{Gf}
-use Rattle.tm_gf256.specs.Field.{power}
 use Rattle.tm_gf256.specs.Poly.{entry, numbers, value_at}
 use Rattle.tm_rs_code.specs.Code.{place_of}
 use Rattle.tm_rs_code.specs.Pattern.{Explains, IsPattern, roots_below}
@@ -34,11 +33,6 @@ one_more_root p n h = elim (eqb_tells (value_at p (place_of n)) 0) [ inl t ↦ r
 
 pub no_more_root : (p : List ℕ) (n : ℕ) → value_at p (place_of n) ≢ 0 → length (roots_below p (suc n)) ≡ length (roots_below p n)
 no_more_root p n h = elim (eqb_tells (value_at p (place_of n)) 0) [ inl t ↦ absurd (h t.1) | inr t ↦ rw t.0 refl ]
-
--- the value at a place
-pub at_place : (poly : List ℕ) (p x v : ℕ) → x ≡ power 2 (11 * p) → v ≡ value_at poly x → value_at poly (place_of p) ≡ v
-unfolding place_of
-at_place poly p x v e f = ap (value_at poly) (sym e) ∙ sym f
 
 -- ---- the end
 

@@ -1,6 +1,5 @@
 pub mod Transitions
 pub mod Endings
-pub mod Entries
 pub mod Erasures
 pub mod ErasedEndings
 pub mod Starts

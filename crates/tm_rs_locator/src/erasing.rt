@@ -1,8 +1,9 @@
 // The locator of the wrong symbols of a word with erased places.
 ghost use Rattle.std.specs.Prelude.{◌≡◌, ◌<◌, ◌≤◌, ◌+◌, ◌*◌, ◌↔◌, ℕ, suc, List, length, IfNone, IfSome, IsTrue};
-ghost use Rattle.tm_gf256.specs.Poly.{entry, numbers};
-ghost use Rattle.tm_rs_code.specs.Erasures.{IsErasedPattern, count_erased, marks};
+ghost use Rattle.tm_gf256.specs.Poly.{entry};
+ghost use Rattle.tm_rs_code.specs.Erasures.{IsErasedPattern, count_erased as count_of_erased, marks};
 ghost use Rattle.tm_rs_code.specs.Pattern.{locator_of};
+ghost use Rattle.tm_rs_code.specs.PlaceValues.{AreValues};
 ghost use Rattle.tm_rs_code.specs.Recurrence.{discrepancy, listing};
 ghost use Rattle.tm_rs_locator.specs.Locator.{AvoidsErased, LocatesErased};
 
@@ -11,27 +12,13 @@ use crate::recurrence::{mismatch, patch, shortest};
 use crate::roots::count_roots;
 use crate::solving::Locator;
 use std::sync::ledger::Ledger;
-use tm_gf256::{Gf, eval, see_range};
-use tm_rs_code::Params;
-
-// The number of erased places.
-fn count_places(erased: &[bool]) -> usize
-    requires { length erased.now ≤ 255 }
-    ensures { result ≡ count_erased erased.now }
-{
-    let mut count = 0;
-    for i in 0..erased.len() {
-        if erased[i] {
-            count += 1;
-        }
-    }
-    count
-}
+use tm_gf256::{Gf, see_range};
+use tm_rs_code::{Params, count_erased, values_at_places};
 
 // The locator of the erased places, of which there are `count`.
 fn erasure_locator<L: Ledger>(erased: &[bool], count: usize, steps: &mut Steps<L>) -> [Gf; 33]
     requires short { length erased.now ≤ 255 }
-    requires counted { count ≡ count_erased erased.now }
+    requires counted { count ≡ count_of_erased erased.now }
     requires few { count ≤ 32 }
     ensures room { length result ≡ 33 }
     ensures locator { listing (entry result) 0 (suc count) ≡ locator_of (marks erased.now) }
@@ -80,14 +67,15 @@ fn modified<L: Ledger>(
     values
 }
 
-// Whether no erased place is a root.
-fn avoids_erased(poly: &[Gf], erased: &[bool]) -> bool
+// Whether no erased place is a root of the polynomial that has these values.
+fn avoids_erased(values: &[u8; 256], erased: &[bool]) -> bool
     requires { length erased.now ≤ 255 }
-    ensures { IsTrue result ↔ AvoidsErased (numbers poly.now) erased.now }
+    ensures { (poly : List ℕ) → AreValues poly (length erased.now) values.now
+        → (IsTrue result ↔ AvoidsErased poly erased.now) }
 {
     let n = erased.len();
     for i in 0..n {
-        if erased[i] && eval(poly, Gf::exp(11 * (n - 1 - i) as u32)).number() == 0 {
+        if erased[i] && values[n - 1 - i] == 0 {
             return false;
         }
     }
@@ -114,7 +102,7 @@ pub fn solve_erased<L: Ledger>(
 {
     let all = 2 * params.e() as usize;
     let n = params.n() as usize;
-    let count = count_places(erased);
+    let count = count_erased(erased);
     if count > all {
         return None;
     }
@@ -126,10 +114,11 @@ pub fn solve_erased<L: Ledger>(
     let Some(found) = shortest(&terms, known, steps) else {
         return None;
     };
-    if count_roots(&found.current[..found.len + 1], n) != found.len {
+    let values = values_at_places(&found.current[..found.len + 1], n);
+    if count_roots(&values, n) != found.len {
         return None;
     }
-    if !avoids_erased(&found.current[..found.len + 1], erased) {
+    if !avoids_erased(&values, erased) {
         return None;
     }
     Some(Locator {

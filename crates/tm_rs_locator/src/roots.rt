@@ -1,18 +1,16 @@
-// The places at which a polynomial is 0.
-ghost use Rattle.std.specs.Prelude.{◌≡◌, ◌≤◌, length};
-ghost use Rattle.tm_gf256.specs.Poly.{numbers};
+// The places at which a polynomial is 0, by its values there.
+ghost use Rattle.std.specs.Prelude.{◌≡◌, ◌≤◌, ℕ, List, length};
 ghost use Rattle.tm_rs_code.specs.Pattern.{roots_below};
-
-use tm_gf256::{Gf, eval};
+ghost use Rattle.tm_rs_code.specs.PlaceValues.{AreValues};
 
 // How many of the places below n are roots.
-pub fn count_roots(poly: &[Gf], n: usize) -> usize
+pub fn count_roots(values: &[u8; 256], n: usize) -> usize
     requires { n ≤ 255 }
-    ensures { result ≡ length (roots_below (numbers poly.now) n) }
+    ensures { (poly : List ℕ) → AreValues poly n values.now → result ≡ length (roots_below poly n) }
 {
     let mut count = 0;
     for p in 0..n {
-        if eval(poly, Gf::exp(11 * p as u32)).number() == 0 {
+        if values[p] == 0 {
             count += 1;
         }
     }

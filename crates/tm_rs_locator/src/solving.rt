@@ -9,7 +9,7 @@ use crate::recurrence::shortest;
 use crate::roots::count_roots;
 use std::sync::ledger::Ledger;
 use tm_gf256::{Gf, see_range};
-use tm_rs_code::Params;
+use tm_rs_code::{Params, values_at_places};
 
 /// The product of 1 + X z over the elements X of the places of the wrong symbols, as many as the
 /// degree: entry k is the coefficient of z^k, and 0 behind the degree.
@@ -39,7 +39,8 @@ pub fn solve<L: Ledger>(
     let Some(found) = shortest(syndromes, count, steps) else {
         return None;
     };
-    if count_roots(&found.current[..found.len + 1], n) != found.len {
+    let values = values_at_places(&found.current[..found.len + 1], n);
+    if count_roots(&values, n) != found.len {
         return None;
     }
     Some(Locator {

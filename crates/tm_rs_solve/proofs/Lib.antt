@@ -1,4 +1,5 @@
-pub mod Dividing
+pub mod Quotients
+pub mod Remainders
 pub mod Words
 pub mod ErrorsAt
 pub mod Named

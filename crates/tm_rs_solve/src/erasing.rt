@@ -1,7 +1,7 @@
 // The nearest codeword of a word with erased places.
 ghost use Rattle.std.specs.Prelude.{◌≡◌, ◌<◌, ◌≤◌, ◌+◌, ◌-◌, ◌*◌, ◌==◌, ◌||◌, ℕ, suc, List, length, if◌then◌else◌, slice_index_or, false};
 ghost use Rattle.tm_gf256.specs.Poly.{entry, numbers, value_at};
-ghost use Rattle.tm_rs_code.specs.Code.{place_of, weight};
+ghost use Rattle.tm_rs_code.specs.Code.{place_of, root, weight};
 ghost use Rattle.tm_rs_code.specs.Erasures.{IsNearestErased, inside, places_named};
 ghost use Rattle.tm_rs_code.specs.ErrorValues.{IsLocated, symbol_at};
 ghost use Rattle.tm_rs_code.specs.Pattern.{locator_of};
@@ -9,10 +9,11 @@ ghost use Rattle.tm_rs_code.specs.Recurrence.{listing, patched};
 ghost use Rattle.tm_rs_solve.specs.Answers.{found_erased};
 
 use crate::answers::ErasedAnswer;
+use crate::dividing::{is_zero, remainder};
 use crate::values::{correct, error_at};
 use std::sync::ledger::Ledger;
-use tm_gf256::{Gf, eval, see_range};
-use tm_rs_code::{Params, syndromes};
+use tm_gf256::{Gf, see_range};
+use tm_rs_code::{Params, count_erased, short_syndromes, syndromes, values_at_places};
 use tm_rs_locator::{Steps, solve_erased};
 
 // Multiplies a polynomial of this degree by 1 + x z.
@@ -29,12 +30,11 @@ fn times_factor(coefs: &mut [Gf; 33], degree: usize, x: Gf)
     }
 }
 
-// Whether place p is erased or a root.
-fn names_place(poly: &[Gf], erased: bool, p: usize) -> bool
-    requires { p < 255 }
-    ensures { result ≡ (erased || (value_at (numbers poly.now) (place_of p) == 0)) }
+// Whether a place is erased, or a root of the polynomial that has this value there.
+fn names_place(erased: bool, value: u8) -> bool
+    ensures { result ≡ (erased || (value == 0)) }
 {
-    erased || eval(poly, Gf::exp(11 * p as u32)).number() == 0
+    erased || value == 0
 }
 
 #[derive(Drop)]
@@ -45,6 +45,7 @@ struct Places {
 
 // The locator of the places that are erased or roots of a polynomial.
 fn all_places(poly: &[Gf], erased: &[bool]) -> Places
+    requires degree { length poly.now ≤ 33 }
     requires short { length erased.now ≤ 255 }
     requires few { weight (places_named (numbers poly.now) erased.now) ≤ 32 }
     ensures room { length result.coefs ≡ 33 }
@@ -56,8 +57,9 @@ fn all_places(poly: &[Gf], erased: &[bool]) -> Places
     coefs[0] = Gf(1);
     let mut degree = 0;
     let n = erased.len();
+    let values = values_at_places(poly, n);
     for p in 0..n {
-        if names_place(poly, erased[n - 1 - p], p) {
+        if names_place(erased[n - 1 - p], values[p]) {
             times_factor(&mut coefs, degree, Gf::exp(11 * p as u32));
             degree += 1;
         }
@@ -66,11 +68,19 @@ fn all_places(poly: &[Gf], erased: &[bool]) -> Places
 }
 
 // 1 where an erased place has an error, and else 0.
-fn erased_error(erased: bool, locator: &[Gf], syndromes: &[Gf; 32], e: usize, p: usize) -> usize
+fn erased_error(
+    erased: bool,
+    locator: &[Gf],
+    value: u8,
+    syndromes: &[Gf; 32],
+    e: usize,
+    p: usize,
+) -> usize
     requires most { e ≤ 16 }
     requires some { 1 ≤ length locator.now }
     requires few { length locator.now ≤ 33 }
     requires inside { p < 255 }
+    requires value { value ≡ value_at (numbers locator.now) (place_of p) }
     requires located { (u : List ℕ) × (w : List ℕ) × IsLocated e (entry syndromes.now) (numbers locator.now) u w }
     ensures { (u w : List ℕ) → IsLocated e (entry syndromes.now) (numbers locator.now) u w
         → result ≡ (if (if erased then symbol_at w p else 0) == 0 then 0 else 1) }
@@ -78,7 +88,7 @@ fn erased_error(erased: bool, locator: &[Gf], syndromes: &[Gf; 32], e: usize, p:
     if !erased {
         return 0;
     }
-    if error_at(locator, syndromes, e, p).number() == 0 {
+    if error_at(locator, value, syndromes, e, p).number() == 0 {
         return 0;
     }
     1
@@ -96,9 +106,11 @@ fn count_inside(erased: &[bool], locator: &[Gf], syndromes: &[Gf; 32], e: usize)
     ensures small { result ≤ length erased.now }
 {
     let n = erased.len();
+    let values = values_at_places(locator, n);
     let mut count = 0;
     for j in 0..n {
-        count += erased_error(erased[j], locator, syndromes, e, n - 1 - j);
+        let p = n - 1 - j;
+        count += erased_error(erased[j], locator, values[p], syndromes, e, p);
     }
     count
 }
@@ -129,16 +141,72 @@ pub fn decode_erased<L: Ledger>(
     let e = params.e() as usize;
     // So that the proof has the range of n.
     let _n = params.n();
+    let mut room = [Gf(0); 32];
+    let left = &mut room[..2 * e];
+    remainder(params, word, left);
+    if is_zero(left) && count_erased(erased) <= 2 * e {
+        return ErasedAnswer::Fixed(0, 0);
+    }
+    let values = short_syndromes(params, left);
+    repaired(params, repair, erased, word, &values, steps)
+}
+
+/// The same by the syndromes of the whole word.
+pub fn plain_decode_erased<L: Ledger>(
+    params: &Params,
+    repair: u8,
+    erased: &[bool],
+    word: &mut [Gf],
+    steps: &mut Steps<L>,
+) -> ErasedAnswer
+    requires bound { repair ≤ params.now.e }
+    requires flags { length erased.now ≡ params.now.n }
+    requires size { length word.old ≡ params.now.n }
+    ensures nearest { IsNearestErased params.now.e repair erased.now (numbers word.old)
+        (found_erased result (numbers word.new)) }
+    ensures unchanged { result ≡ ErasedAnswer.Beyond → word.new ≡ word.old }
+    ensures same_size { length word.new ≡ length word.old }
+    ensures cost { steps.new ≤ steps.old
+        + (2 * params.now.e * (4 * params.now.e + 3) + 8 * params.now.e * params.now.e) }
+{
     let values = syndromes(params, word);
-    match solve_erased(params, &values, erased, steps) {
+    repaired(params, repair, erased, word, &values, steps)
+}
+
+// The answer for a word with these syndromes, which is repaired.
+fn repaired<L: Ledger>(
+    params: &Params,
+    repair: u8,
+    erased: &[bool],
+    word: &mut [Gf],
+    values: &[Gf; 32],
+    steps: &mut Steps<L>,
+) -> ErasedAnswer
+    requires bound { repair ≤ params.now.e }
+    requires flags { length erased.now ≡ params.now.n }
+    requires size { length word.old ≡ params.now.n }
+    requires syndromes { (k : ℕ) → k < 2 * params.now.e
+        → entry values.now k ≡ value_at (numbers word.old) (root params.now.e k) }
+    ensures nearest { IsNearestErased params.now.e repair erased.now (numbers word.old)
+        (found_erased result (numbers word.new)) }
+    ensures unchanged { result ≡ ErasedAnswer.Beyond → word.new ≡ word.old }
+    ensures same_size { length word.new ≡ length word.old }
+    ensures cost { steps.new ≤ steps.old
+        + (2 * params.now.e * (4 * params.now.e + 3) + 8 * params.now.e * params.now.e) }
+{
+    see_range(word);
+    let e = params.e() as usize;
+    // So that the proof has the range of n.
+    let _n = params.n();
+    match solve_erased(params, values, erased, steps) {
         Some(l) => {
             if l.degree > repair {
                 return ErasedAnswer::Beyond;
             }
             let places = all_places(&l.coefs[..l.degree as usize + 1], erased);
             let locator = &places.coefs[..places.degree + 1];
-            let inside = count_inside(erased, locator, &values, e);
-            correct(word, locator, &values, e);
+            let inside = count_inside(erased, locator, values, e);
+            correct(word, locator, values, e);
             ErasedAnswer::Fixed(l.degree, inside as u8)
         }
         None => ErasedAnswer::Beyond,

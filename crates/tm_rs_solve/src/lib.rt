@@ -4,13 +4,14 @@
 #![tactic(auto)]
 
 mod answers;
+mod dividing;
 mod erasing;
 mod values;
 mod word;
 
 pub use answers::{Answer, ErasedAnswer};
-pub use erasing::decode_erased;
-pub use word::decode_word;
+pub use erasing::{decode_erased, plain_decode_erased};
+pub use word::{decode_word, plain_decode_word};
 
 #[cfg(test)]
 mod tests;

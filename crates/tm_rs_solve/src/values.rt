@@ -1,11 +1,13 @@
 // The values of the wrong symbols.
 ghost use Rattle.std.specs.Prelude.{◌≡◌, ◌<◌, ◌≤◌, ◌+◌, ◌-◌, ℕ, List, length};
 ghost use Rattle.tm_gf256.specs.Poly.{entry, numbers, value_at};
+ghost use Rattle.tm_rs_code.specs.Code.{place_of};
 ghost use Rattle.tm_rs_code.specs.ErrorValues.{IsLocated, quotient_at, symbol_at};
 ghost use Rattle.tm_rs_code.specs.Recurrence.{discrepancy, listing};
 ghost use Rattle.tm_rs_code.specs.Register.{sums};
 
-use tm_gf256::{Gf, eval, see_range};
+use tm_gf256::{Gf, see_range};
+use tm_rs_code::values_at_places;
 
 #[derive(Drop)]
 struct Parts {
@@ -35,28 +37,44 @@ fn divide(locator: &[Gf], degree: usize, syndromes: &[Gf; 32], x: Gf) -> Parts
     Parts { sum, slope }
 }
 
-// The symbol at place p of the error pattern with these syndromes, whose places the locator names.
-pub fn error_at(locator: &[Gf], syndromes: &[Gf; 32], e: usize, p: usize) -> Gf
+// The symbol at place p, a root of the locator, of the error pattern with these syndromes, whose places
+// the locator names.
+fn value_at_root(locator: &[Gf], syndromes: &[Gf; 32], e: usize, p: usize) -> Gf
     requires most { e ≤ 16 }
     requires some { 1 ≤ length locator.now }
     requires few { length locator.now ≤ 33 }
     requires inside { p < 255 }
+    requires root { value_at (numbers locator.now) (place_of p) ≡ 0 }
     requires located { (u : List ℕ) × (w : List ℕ) × IsLocated e (entry syndromes.now) (numbers locator.now) u w }
     ensures { (u w : List ℕ) → IsLocated e (entry syndromes.now) (numbers locator.now) u w
         → result.0 ≡ symbol_at w p }
 {
     let degree = locator.len() - 1;
-    let x = Gf::exp(11 * p as u32);
-    if eval(locator, x).number() != 0 {
-        return Gf(0);
-    }
     if degree == 0 {
         return Gf(0);
     }
     see_range(locator);
+    let x = Gf::exp(11 * p as u32);
     let parts = divide(locator, degree, syndromes, x);
     let scale = parts.slope.mul(x.pow(128 - e as u32));
     parts.sum.mul(scale.inv())
+}
+
+// The symbol at place p of that error pattern, given the locator's value there.
+pub fn error_at(locator: &[Gf], value: u8, syndromes: &[Gf; 32], e: usize, p: usize) -> Gf
+    requires most { e ≤ 16 }
+    requires some { 1 ≤ length locator.now }
+    requires few { length locator.now ≤ 33 }
+    requires inside { p < 255 }
+    requires value { value ≡ value_at (numbers locator.now) (place_of p) }
+    requires located { (u : List ℕ) × (w : List ℕ) × IsLocated e (entry syndromes.now) (numbers locator.now) u w }
+    ensures { (u w : List ℕ) → IsLocated e (entry syndromes.now) (numbers locator.now) u w
+        → result.0 ≡ symbol_at w p }
+{
+    if value != 0 {
+        return Gf(0);
+    }
+    value_at_root(locator, syndromes, e, p)
 }
 
 // Adds the error pattern to the word.
@@ -70,8 +88,10 @@ pub fn correct(word: &mut [Gf], locator: &[Gf], syndromes: &[Gf; 32], e: usize)
         → length w ≡ length word.old → numbers word.new ≡ sums (numbers word.old) w }
 {
     let n = word.len();
+    let values = values_at_places(locator, n);
     for j in 0..n {
-        let error = error_at(locator, syndromes, e, n - 1 - j);
+        let p = n - 1 - j;
+        let error = error_at(locator, values[p], syndromes, e, p);
         word[j] = word[j].add(error);
     }
 }

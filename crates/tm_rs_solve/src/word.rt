@@ -1,14 +1,16 @@
 // The nearest codeword within the repair bound.
-ghost use Rattle.std.specs.Prelude.{◌≡◌, ◌≤◌, ◌+◌, ◌*◌, length};
-ghost use Rattle.tm_gf256.specs.Poly.{numbers};
+ghost use Rattle.std.specs.Prelude.{◌≡◌, ◌<◌, ◌≤◌, ◌+◌, ◌*◌, ℕ, length};
+ghost use Rattle.tm_gf256.specs.Poly.{entry, numbers, value_at};
+ghost use Rattle.tm_rs_code.specs.Code.{root};
 ghost use Rattle.tm_rs_code.specs.Nearest.{IsNearest};
 ghost use Rattle.tm_rs_solve.specs.Answers.{found};
 
 use crate::answers::Answer;
+use crate::dividing::{is_zero, remainder};
 use crate::values::correct;
 use std::sync::ledger::Ledger;
 use tm_gf256::{Gf, see_range};
-use tm_rs_code::{Params, syndromes};
+use tm_rs_code::{Params, short_syndromes, syndromes};
 use tm_rs_locator::{Steps, solve};
 
 /// Makes a word of n symbols the nearest codeword, where one differs from it in at most `repair`
@@ -29,16 +31,61 @@ pub fn decode_word<L: Ledger>(
     ensures cost { steps.new ≤ steps.old + 2 * params.now.e * (4 * params.now.e + 3) }
 {
     see_range(word);
+    let mut room = [Gf(0); 32];
+    let left = &mut room[..2 * params.e() as usize];
+    remainder(params, word, left);
+    if is_zero(left) {
+        return Answer::Fixed(0);
+    }
+    let values = short_syndromes(params, left);
+    repaired(params, repair, word, &values, steps)
+}
+
+/// The same by the syndromes of the whole word.
+pub fn plain_decode_word<L: Ledger>(
+    params: &Params,
+    repair: u8,
+    word: &mut [Gf],
+    steps: &mut Steps<L>,
+) -> Answer
+    requires bound { repair ≤ params.now.e }
+    requires size { length word.old ≡ params.now.n }
+    ensures nearest { IsNearest params.now.e repair (numbers word.old) (found result (numbers word.new)) }
+    ensures unchanged { result ≡ Answer.Beyond → word.new ≡ word.old }
+    ensures same_size { length word.new ≡ length word.old }
+    ensures cost { steps.new ≤ steps.old + 2 * params.now.e * (4 * params.now.e + 3) }
+{
+    let values = syndromes(params, word);
+    repaired(params, repair, word, &values, steps)
+}
+
+// The answer for a word with these syndromes, which is repaired.
+fn repaired<L: Ledger>(
+    params: &Params,
+    repair: u8,
+    word: &mut [Gf],
+    values: &[Gf; 32],
+    steps: &mut Steps<L>,
+) -> Answer
+    requires bound { repair ≤ params.now.e }
+    requires size { length word.old ≡ params.now.n }
+    requires syndromes { (k : ℕ) → k < 2 * params.now.e
+        → entry values.now k ≡ value_at (numbers word.old) (root params.now.e k) }
+    ensures nearest { IsNearest params.now.e repair (numbers word.old) (found result (numbers word.new)) }
+    ensures unchanged { result ≡ Answer.Beyond → word.new ≡ word.old }
+    ensures same_size { length word.new ≡ length word.old }
+    ensures cost { steps.new ≤ steps.old + 2 * params.now.e * (4 * params.now.e + 3) }
+{
+    see_range(word);
     let e = params.e() as usize;
     // So that the proof has the range of n.
     let _n = params.n();
-    let values = syndromes(params, word);
-    match solve(params, &values, steps) {
+    match solve(params, values, steps) {
         Some(l) => {
             if l.degree > repair {
                 return Answer::Beyond;
             }
-            correct(word, &l.coefs[..l.degree as usize + 1], &values, e);
+            correct(word, &l.coefs[..l.degree as usize + 1], values, e);
             Answer::Fixed(l.degree)
         }
         None => Answer::Beyond,

@@ -4,7 +4,7 @@ use Rattle.std.proofs.lemmas.Bool.{cases_eq}
 use Rattle.tm_gf256.specs.Poly.{entry}
 use Rattle.tm_rs_code.specs.Recurrence.{patched}
 use Rattle.tm_rs_code.proofs.Recurrence.{patched_low, patched_high}
-use Rattle.tm_rs_locator.proofs.Entries.{entry-set_same, entry-set_other}
+use Rattle.tm_rs_code.proofs.Writes.{entry-set_same, entry-set_other}
 use Rattle.tm_rs_locator.proofs.recurrence.patch.Goals as goal
 
 pub loop-i-init : goal.loop-i-init

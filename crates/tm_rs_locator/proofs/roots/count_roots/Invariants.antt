@@ -1,7 +1,10 @@
-use Rattle.std.proofs.Common.{◌≡◌, ◌≤◌, length}
+use Rattle.std.proofs.Common.{◌≡◌, ◌≤◌, ℕ, List, length}
 use Rattle.tm_rs_code.specs.Pattern.{roots_below}
-use Rattle.tm_gf256.specs.Poly.{numbers}
+use Rattle.tm_rs_code.specs.PlaceValues.{AreValues}
 use Rattle.tm_rs_locator.proofs.roots.count_roots.Given as goal
 
 abbrev pub invariant-loop-p : goal.invariant-loop-p
-invariant-loop-p l = record { counted : l.count ≡ length (roots_below (numbers l.poly) l.p); few : l.count ≤ l.p }
+invariant-loop-p l = record {
+  counted : (poly : List ℕ) → AreValues poly l.n l.values → l.count ≡ length (roots_below poly l.p);
+  few : l.count ≤ l.p;
+}

@@ -19,11 +19,11 @@ pub returns-then-count_roots-found-clause-none : goal.returns-then-count_roots-f
 returns-then-count_roots-found-clause-none g c =
     no_pattern_at_end c.args.params.now.e c.args.params.now.n (entry c.args.syndromes.now) c.in-Some.found.current c.in-Some.found.len
     (subst (λ (k : ℕ). IsShortest k (entry c.args.syndromes.now) (entry c.in-Some.found.current) c.in-Some.found.len) (ap (λ (e : ℕ). 2 * e) c.e.ensures.value) c.in-Some.ensures.some)
-    (c.n-n.ensures.range.1) c.in-Some.ensures.room (omega arith) (λ e. c.if-count_roots-found.true (c.count_roots.ensures ∙ same_roots c.in-Some.found.current c.in-Some.found.len c.n-n.result c.args.params.now.n c.n-n.ensures.value ∙ e))
+    (c.n-n.ensures.range.1) c.in-Some.ensures.room (omega arith) (λ e. c.if-count_roots-found.true (c.count_roots.ensures (numbers (take (c.in-Some.found.len + 1) c.in-Some.found.current)) c.values_at_places-values.ensures.values ∙ same_roots c.in-Some.found.current c.in-Some.found.len c.n-n.result c.args.params.now.n c.n-n.ensures.value ∙ e))
 
 pub returns-clause-some : goal.returns-clause-some
 returns-clause-some g c =
     locates_at_end c.args.params.now.e c.args.params.now.n (entry c.args.syndromes.now) c.in-Some.found.current c.in-Some.found.len
     (subst (λ (k : ℕ). IsShortest k (entry c.args.syndromes.now) (entry c.in-Some.found.current) c.in-Some.found.len) (ap (λ (e : ℕ). 2 * e) c.e.ensures.value) c.in-Some.ensures.some)
     (c.n-n.ensures.range.1) c.in-Some.ensures.room (omega arith) (elements_of c.args.syndromes.now c.see_range.ensures)
-    (sym (same_roots c.in-Some.found.current c.in-Some.found.len c.n-n.result c.args.params.now.n c.n-n.ensures.value) ∙ sym c.count_roots.ensures ∙ c.if-count_roots-found.false)
+    (sym (same_roots c.in-Some.found.current c.in-Some.found.len c.n-n.result c.args.params.now.n c.n-n.ensures.value) ∙ sym (c.count_roots.ensures (numbers (take (c.in-Some.found.len + 1) c.in-Some.found.current)) c.values_at_places-values.ensures.values) ∙ c.if-count_roots-found.false)

@@ -4,7 +4,7 @@ use Rattle.std.proofs.lemmas.Bool.{cases_eq}
 use Rattle.tm_gf256.specs.Poly.{entry}
 use Rattle.tm_rs_code.specs.ErrorValues.{symbol_at}
 use Rattle.tm_rs_code.proofs.Corrections.{symbol-index}
-use Rattle.tm_rs_locator.proofs.Entries.{entry-set_same, entry-set_other}
+use Rattle.tm_rs_code.proofs.Writes.{entry-set_same, entry-set_other}
 use Rattle.tm_rs_solve.proofs.Words.{sums_by_entries}
 use Rattle.tm_rs_solve.proofs.values.correct.Goals as goal
 

@@ -3,7 +3,7 @@ use Rattle.tm_gf256.specs.Poly.{entry}
 use Rattle.tm_rs_code.specs.ErrorValues.{divided, quotient_at}
 use Rattle.tm_rs_code.proofs.Division.{divided-lt}
 use Rattle.tm_rs_locator.proofs.Endings.{elements_of}
-use Rattle.tm_rs_solve.proofs.Dividing.{divided_more, discrepancy_more, value_more}
+use Rattle.tm_rs_solve.proofs.Quotients.{divided_more, discrepancy_more, value_more}
 use Rattle.tm_rs_solve.proofs.values.divide.Goals as goal
 
 pub loop-i-preserved : goal.loop-i-preserved

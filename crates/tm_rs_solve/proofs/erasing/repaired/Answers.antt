@@ -1,0 +1,105 @@
+use Rattle.std.proofs.Common.{◌+◌, ℕ, List, take, arith, sym, ◌∙◌}
+use Rattle.tm_gf256.specs.Poly.{entry, numbers}
+use Rattle.tm_gf256.proofs.PolyLemmas.{length-numbers}
+use Rattle.tm_rs_code.specs.Erasures.{places_named}
+use Rattle.tm_rs_code.specs.ErrorValues.{IsLocated}
+use Rattle.tm_rs_code.proofs.Numbers.{AreElements-numbers}
+use Rattle.tm_rs_code.proofs.ErasedWords.{fixed_erased, beyond_erased_far, beyond_erased_none}
+use Rattle.tm_rs_solve.proofs.Named.{located_for, named_few}
+use Rattle.tm_rs_solve.proofs.erasing.repaired.Goals as goal
+
+pub returns-then-l-repair-clause-nearest : goal.returns-then-l-repair-clause-nearest
+returns-then-l-repair-clause-nearest g c =
+    let found = c.in-Some.ensures.some in
+    beyond_erased_far c.args.params.now.e c.args.repair c.in-Some.l.degree c.args.erased.now (entry c.args.values.now) (numbers c.args.word.now) found.0
+    (omega (arith, c.n-n.ensures.range.1, c.requires.flags)) (length-numbers c.args.word.now ∙ c.requires.size ∙ sym c.requires.flags)
+    (AreElements-numbers c.args.word.now c.see_range.ensures) (λ k lt. sym (c.requires.syndromes k lt))
+    found.1 found.2.places (omega arith)
+
+pub all_places-places-requires-clause-few : goal.all_places-places-requires-clause-few
+all_places-places-requires-clause-few g c =
+    let found = c.in-Some.ensures.some in
+    omega (
+      arith,
+      c.requires.bound,
+      named_few c.args.params.now.e c.args.erased.now (entry c.args.values.now) (numbers (take (c.in-Some.l.degree + 1) c.in-Some.l.coefs)) found.0
+          (omega (arith, c.n-n.ensures.range.1, c.requires.flags)) found.1 found.2.product,
+    )
+
+pub overflow_add-locator : goal.overflow_add-locator
+overflow_add-locator g c =
+    let found = c.in-Some.ensures.some in
+    omega (
+      arith,
+      c.all_places-places.ensures.degree,
+      named_few c.args.params.now.e c.args.erased.now (entry c.args.values.now) (numbers (take (c.in-Some.l.degree + 1) c.in-Some.l.coefs)) found.0
+          (omega (arith, c.n-n.ensures.range.1, c.requires.flags)) found.1 found.2.product,
+    )
+
+pub shared_ref_as_front-locator : goal.shared_ref_as_front-locator
+shared_ref_as_front-locator g c =
+    let found = c.in-Some.ensures.some in
+    omega (
+      arith,
+      c.all_places-places.ensures.degree,
+      c.all_places-places.ensures.room,
+      named_few c.args.params.now.e c.args.erased.now (entry c.args.values.now) (numbers (take (c.in-Some.l.degree + 1) c.in-Some.l.coefs)) found.0
+          (omega (arith, c.n-n.ensures.range.1, c.requires.flags)) found.1 found.2.product,
+    )
+
+pub count_inside-inside-requires-clause-located : goal.count_inside-inside-requires-clause-located
+count_inside-inside-requires-clause-located g c =
+    let found = c.in-Some.ensures.some in (
+      places_named (numbers (take (c.in-Some.l.degree + 1) c.in-Some.l.coefs)) c.args.erased.now,
+      found.0,
+      located_for c.args.params.now.e c.e-e.result c.args.erased.now (entry c.args.values.now) (numbers (take (c.in-Some.l.degree + 1) c.in-Some.l.coefs))
+          c.all_places-places.result.coefs c.all_places-places.result.degree found.0 (omega (arith, c.n-n.ensures.range.1, c.requires.flags)) found.1 found.2.product c.e-e.ensures.value
+          (omega (
+            arith,
+            c.all_places-places.ensures.degree,
+            c.all_places-places.ensures.room,
+            named_few c.args.params.now.e c.args.erased.now (entry c.args.values.now) (numbers (take (c.in-Some.l.degree + 1) c.in-Some.l.coefs)) found.0
+                (omega (arith, c.n-n.ensures.range.1, c.requires.flags)) found.1 found.2.product,
+          )) c.all_places-places.ensures.locator,
+    )
+
+pub correct-requires-clause-located : goal.correct-requires-clause-located
+correct-requires-clause-located g c =
+    let found = c.in-Some.ensures.some in (
+      places_named (numbers (take (c.in-Some.l.degree + 1) c.in-Some.l.coefs)) c.args.erased.now,
+      found.0,
+      located_for c.args.params.now.e c.e-e.result c.args.erased.now (entry c.args.values.now) (numbers (take (c.in-Some.l.degree + 1) c.in-Some.l.coefs))
+          c.all_places-places.result.coefs c.all_places-places.result.degree found.0 (omega (arith, c.n-n.ensures.range.1, c.requires.flags)) found.1 found.2.product c.e-e.ensures.value
+          (omega (
+            arith,
+            c.all_places-places.ensures.degree,
+            c.all_places-places.ensures.room,
+            named_few c.args.params.now.e c.args.erased.now (entry c.args.values.now) (numbers (take (c.in-Some.l.degree + 1) c.in-Some.l.coefs)) found.0
+                (omega (arith, c.n-n.ensures.range.1, c.requires.flags)) found.1 found.2.product,
+          )) c.all_places-places.ensures.locator,
+    )
+
+pub returns-else-l-repair-clause-nearest : goal.returns-else-l-repair-clause-nearest
+returns-else-l-repair-clause-nearest g c =
+    let found = c.in-Some.ensures.some in
+    let named : List ℕ = places_named (numbers (take (c.in-Some.l.degree + 1) c.in-Some.l.coefs)) c.args.erased.now in
+    let whole : IsLocated c.e-e.result (entry c.args.values.now) (numbers (take (c.all_places-places.result.degree + 1) c.all_places-places.result.coefs)) named found.0 =
+    located_for c.args.params.now.e c.e-e.result c.args.erased.now (entry c.args.values.now) (numbers (take (c.in-Some.l.degree + 1) c.in-Some.l.coefs))
+    c.all_places-places.result.coefs c.all_places-places.result.degree found.0 (omega (arith, c.n-n.ensures.range.1, c.requires.flags)) found.1 found.2.product c.e-e.ensures.value
+    (omega (
+      arith,
+      c.all_places-places.ensures.degree,
+      c.all_places-places.ensures.room,
+      named_few c.args.params.now.e c.args.erased.now (entry c.args.values.now) (numbers (take (c.in-Some.l.degree + 1) c.in-Some.l.coefs)) found.0
+          (omega (arith, c.n-n.ensures.range.1, c.requires.flags)) found.1 found.2.product,
+    )) c.all_places-places.ensures.locator in
+    fixed_erased c.args.params.now.e c.args.repair c.in-Some.l.degree c.count_inside-inside.result c.args.erased.now (entry c.args.values.now) (numbers c.args.word.now) (numbers c.correct.new.word) found.0
+    (length-numbers c.args.word.now ∙ c.requires.size ∙ sym c.requires.flags) (AreElements-numbers c.args.word.now c.see_range.ensures) (λ k lt. sym (c.requires.syndromes k lt))
+    found.1 found.2.places (c.count_inside-inside.ensures.count named found.0 whole found.1.size) (omega arith)
+    (c.correct.ensures named found.0 whole (found.1.size ∙ c.requires.flags ∙ sym c.requires.size))
+
+pub returns-in-None-clause-nearest : goal.returns-in-None-clause-nearest
+returns-in-None-clause-nearest g c =
+    beyond_erased_none c.args.params.now.e c.args.repair c.args.erased.now (entry c.args.values.now) (numbers c.args.word.now)
+    (length-numbers c.args.word.now ∙ c.requires.size ∙ sym c.requires.flags) (AreElements-numbers c.args.word.now c.see_range.ensures) (λ k lt. sym (c.requires.syndromes k lt))
+    c.in-None.ensures.none
