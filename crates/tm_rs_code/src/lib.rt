@@ -1,6 +1,6 @@
 //! The Reed-Solomon codes over the field of 256 elements (CCSDS 131.0-B, Reed-Solomon Coding): their
-//! parameters, what a codeword is, how far two words are apart, and the laws on which the encoder and
-//! the decoder rest.
+//! parameters, what a codeword is, how far two words are apart, the values of a polynomial at the places
+//! of a word, and the laws on which the encoder and the decoder rest.
 #![tactic(auto)]
 
 mod lanes;
