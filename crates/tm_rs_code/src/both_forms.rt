@@ -15,7 +15,15 @@ fn polynomial() -> [Gf; 33] {
 #[test]
 fn values(rt: HostRuntime) {
     let poly = polynomial();
-    for (size, n) in [(0, 255), (1, 255), (17, 255), (33, 255), (33, 256), (17, 33), (9, 1)] {
+    for (size, n) in [
+        (0, 255),
+        (1, 255),
+        (17, 255),
+        (33, 255),
+        (33, 256),
+        (17, 33),
+        (9, 1),
+    ] {
         let lanes = values_at_places(&poly[..size], n);
         let plain = plain_values_at_places(&poly[..size], n);
         assert_eq!(rt; lanes[..n], plain[..n], "{size} coefficients, {n} places");
@@ -29,7 +37,11 @@ fn syndromes_of_short_words(rt: HostRuntime) {
         let params = Params::new(e, 255).unwrap();
         for size in [0, 1, 16, 32, 33] {
             let lanes = short_syndromes(&params, &poly[..size]);
-            assert_eq!(rt; lanes, syndromes(&params, &poly[..size]), "{e}, {size} symbols");
+            assert_eq!(rt;
+                lanes,
+                syndromes(&params, &poly[..size]),
+                "{e}, {size} symbols"
+            );
         }
     }
 }
