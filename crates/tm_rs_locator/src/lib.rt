@@ -12,3 +12,6 @@ mod solving;
 pub use counter::Steps;
 pub use erasing::solve_erased;
 pub use solving::{Locator, solve};
+
+#[cfg(test)]
+mod tests;

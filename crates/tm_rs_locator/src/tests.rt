@@ -1,0 +1,148 @@
+// The locators against values from outside.
+ghost use Rattle.std.specs.Prelude.{◌≡◌, ◌<◌, ◌≤◌, ◌+◌, ◌*◌, length};
+
+use crate::{Locator, Steps, solve, solve_erased};
+use locators::LOCATORS;
+use std::marker::Brand;
+use std::process::Abort;
+use std::sync::ledger::{Blank, Ledger};
+use tm_gf256::Gf;
+use tm_rs_code::Params;
+
+mod locators;
+
+// A line of the table.
+#[derive(Drop)]
+struct Row<'a> {
+    name: &'a str,
+    e: u64,
+    n: u64,
+    erased: &'a [u8],
+    syndromes: &'a [u8],
+    coefs: &'a [u8],
+}
+
+fn row_of(line: &str) -> Option<Row<'_>> {
+    let (name, rest) = line.split_once(": ")?;
+    let mut fields = rest.split_whitespace();
+    Some(Row {
+        name,
+        e: fields.next()?.parse::<u64>().ok()?,
+        n: fields.next()?.parse::<u64>().ok()?,
+        erased: fields.next()?.as_bytes(),
+        syndromes: fields.next()?.as_bytes(),
+        coefs: fields.next()?.as_bytes(),
+    })
+}
+
+fn digit(letter: u8) -> u8
+    ensures { result < 16 }
+{
+    match letter {
+        b'0'..=b'9' => letter - b'0',
+        b'a'..=b'f' => letter - b'a' + 10,
+        _ => 0,
+    }
+}
+
+// The number of two digits at an index of a text.
+fn number_at(text: &[u8], index: usize) -> u8
+    requires { 2 * index + 1 < length text.now }
+{
+    16 * digit(text[2 * index]) + digit(text[2 * index + 1])
+}
+
+// The syndromes of a text. What stands behind them is not looked at.
+fn syndromes_of(text: &[u8]) -> [Gf; 32] {
+    let mut syndromes = [Gf(0xA5); 32];
+    for i in 0..(text.len() / 2).min(32) {
+        syndromes[i] = Gf(number_at(text, i));
+    }
+    syndromes
+}
+
+// A flag at each index that a text names.
+fn flags_of(text: &[u8]) -> [bool; 255]
+    ensures { length result ≡ 255 }
+{
+    let mut flags = [false; 255];
+    for i in 0..text.len() / 2 {
+        flags[usize::from(number_at(text, i)).min(254)] = true;
+    }
+    flags
+}
+
+// The locator whose coefficients a text has, and none where it has none.
+fn locator_of(text: &[u8]) -> Option<Locator> {
+    let count = (text.len() / 2).min(17);
+    if count == 0 {
+        return None;
+    }
+    let mut coefs = [Gf(0); 17];
+    for i in 0..count {
+        coefs[i] = Gf(number_at(text, i));
+    }
+    Some(Locator {
+        coefs,
+        degree: count as u8 - 1,
+    })
+}
+
+// The solution, with its bounds on steps as numbers.
+fn located<L: Ledger>(
+    params: &Params,
+    syndromes: &[Gf; 32],
+    steps: &mut Steps<L>,
+) -> Option<Locator>
+    ensures steps_of_16 { params.now.e ≡ 16 → steps.new ≤ steps.old + 2144 }
+    ensures steps_of_8 { params.now.e ≡ 8 → steps.new ≤ steps.old + 560 }
+{
+    solve(params, syndromes, steps)
+}
+
+// The same with erased places.
+fn located_with<L: Ledger>(
+    params: &Params,
+    syndromes: &[Gf; 32],
+    erased: &[bool],
+    steps: &mut Steps<L>,
+) -> Option<Locator>
+    requires { length erased.now ≡ params.now.n }
+    ensures steps_of_16 { params.now.e ≡ 16 → steps.new ≤ steps.old + 4192 }
+    ensures steps_of_8 { params.now.e ≡ 8 → steps.new ≤ steps.old + 1072 }
+{
+    solve_erased(params, syndromes, erased, steps)
+}
+
+// Syndromes of a word without erased places are given to both calls.
+fn test_row<L: Ledger>(rt: &impl Abort, row: &Row<'_>, steps: &mut Steps<L>) {
+    let params = Params::new(row.e, row.n).expect(rt, "a code");
+    let n = params.n() as usize;
+    assert!(rt; n <= 255);
+    let syndromes = syndromes_of(row.syndromes);
+    let erased = flags_of(row.erased);
+    let wanted = locator_of(row.coefs);
+    let found = located_with(&params, &syndromes, &erased[..n], steps);
+    assert_eq!(rt; found, wanted, "for {}", row.name);
+    if row.erased.len() < 2 {
+        let found = located(&params, &syndromes, steps);
+        assert_eq!(rt; found, wanted, "for {}", row.name);
+    }
+}
+
+fn test_rows<L: Ledger>(rt: &impl Abort, blank: Blank)
+    requires name { blank.name ≡ L.name }
+    requires parts { blank.parts ≡ L.parts }
+    requires share { 0 < blank.parts }
+{
+    let mut steps = Steps::<L>::open(blank);
+    for line in LOCATORS.lines() {
+        let row = row_of(line).expect(rt, "a row");
+        test_row(rt, &row, &mut steps);
+    }
+}
+
+#[test]
+fn syndromes_have_their_locator(rt: HostRuntime) {
+    test_rows::<Brand>(&rt, Blank::new(1));
+}
