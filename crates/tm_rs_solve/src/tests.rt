@@ -1,132 +1,164 @@
-// Worked words. G is the codeword of 33 symbols whose information symbol is 1; the codewords of this
-// length are its multiples.
-ghost use Rattle.std.specs.Prelude.{◌≡◌, ◌<◌, ◌≤◌, length};
+// The decoder against words and answers from outside.
+ghost use Rattle.std.specs.Prelude.{◌≡◌, ◌<◌, ◌≤◌, ◌+◌, ◌*◌, length};
 
 use crate::{Answer, ErasedAnswer, decode_erased, decode_word};
 use std::marker::Brand;
+use std::process::Abort;
 use std::sync::ledger::{Blank, Ledger};
 use tm_gf256::Gf;
 use tm_rs_code::Params;
 use tm_rs_locator::Steps;
+use words::WORDS;
 
-const G: [u8; 33] = [
-    0x01, 0x5B, 0x7F, 0x56, 0x10, 0x1E, 0x0D, 0xEB, 0x61, 0xA5, 0x08, 0x2A, 0x36, 0x56, 0xAB, 0x20,
-    0x71, 0x20, 0xAB, 0x56, 0x36, 0x2A, 0x08, 0xA5, 0x61, 0xEB, 0x0D, 0x1E, 0x10, 0x56, 0x7F, 0x5B,
-    0x01,
-];
+mod words;
 
-fn elements(octets: &[u8; 33]) -> [Gf; 33] {
-    let mut word = [Gf(0); 33];
-    for i in 0..33 {
-        word[i] = Gf(octets[i]);
-    }
-    word
+// A line of the table.
+#[derive(Drop)]
+struct Row<'a> {
+    name: &'a str,
+    e: u64,
+    repair: u8,
+    erased: &'a [u8],
+    answer: ErasedAnswer,
+    changes: &'a [u8],
+    word: &'a [u8],
 }
 
-fn decoded_by<L: Ledger>(blank: Blank, repair: u8, octets: &[u8; 33]) -> (Answer, [Gf; 33])
+fn row_of(line: &str) -> Option<Row<'_>> {
+    let (name, rest) = line.split_once(": ")?;
+    let mut fields = rest.split_whitespace();
+    let e = fields.next()?.parse::<u64>().ok()?;
+    let repair = fields.next()?.parse::<u8>().ok()?;
+    let erased = fields.next()?.as_bytes();
+    let outside = fields.next()?.parse::<u8>();
+    let inside = fields.next()?.parse::<u8>();
+    let answer = match (outside, inside) {
+        (Ok(outside), Ok(inside)) => ErasedAnswer::Fixed(outside, inside),
+        _ => ErasedAnswer::Beyond,
+    };
+    Some(Row {
+        name,
+        e,
+        repair,
+        erased,
+        answer,
+        changes: fields.next()?.as_bytes(),
+        word: fields.next()?.as_bytes(),
+    })
+}
+
+fn digit(letter: u8) -> u8
+    ensures { result < 16 }
+{
+    match letter {
+        b'0'..=b'9' => letter - b'0',
+        b'a'..=b'f' => letter - b'a' + 10,
+        _ => 0,
+    }
+}
+
+// The number of two digits at an index of a text.
+fn number_at(text: &[u8], index: usize) -> u8
+    requires { 2 * index + 1 < length text.now }
+{
+    16 * digit(text[2 * index]) + digit(text[2 * index + 1])
+}
+
+// The symbols of a text, and zeros behind them.
+fn symbols_of(text: &[u8]) -> [Gf; 255]
+    ensures { length result ≡ 255 }
+{
+    let mut symbols = [Gf(0); 255];
+    for i in 0..(text.len() / 2).min(255) {
+        symbols[i] = Gf(number_at(text, i));
+    }
+    symbols
+}
+
+// A flag at each index that a text names.
+fn flags_of(text: &[u8]) -> [bool; 255]
+    ensures { length result ≡ 255 }
+{
+    let mut flags = [false; 255];
+    for i in 0..text.len() / 2 {
+        flags[usize::from(number_at(text, i)).min(254)] = true;
+    }
+    flags
+}
+
+// The word with the changes of a text.
+fn changed(word: &[Gf; 255], text: &[u8]) -> [Gf; 255] {
+    let mut symbols = *word;
+    for i in 0..text.len() / 4 {
+        let index = usize::from(number_at(text, 2 * i)).min(254);
+        symbols[index] = Gf(number_at(text, 2 * i + 1));
+    }
+    symbols
+}
+
+// The decoder, with its bounds on steps as numbers.
+fn decode<L: Ledger>(params: &Params, repair: u8, word: &mut [Gf], steps: &mut Steps<L>) -> Answer
+    requires bound { repair ≤ params.now.e }
+    requires size { length word.old ≡ params.now.n }
+    ensures steps_of_16 { params.now.e ≡ 16 → steps.new ≤ steps.old + 2144 }
+    ensures steps_of_8 { params.now.e ≡ 8 → steps.new ≤ steps.old + 560 }
+{
+    decode_word(params, repair, word, steps)
+}
+
+// The same with erased places.
+fn decode_with<L: Ledger>(
+    params: &Params,
+    repair: u8,
+    erased: &[bool],
+    word: &mut [Gf],
+    steps: &mut Steps<L>,
+) -> ErasedAnswer
+    requires bound { repair ≤ params.now.e }
+    requires flags { length erased.now ≡ params.now.n }
+    requires size { length word.old ≡ params.now.n }
+    ensures steps_of_16 { params.now.e ≡ 16 → steps.new ≤ steps.old + 4192 }
+    ensures steps_of_8 { params.now.e ≡ 8 → steps.new ≤ steps.old + 1072 }
+{
+    decode_erased(params, repair, erased, word, steps)
+}
+
+// A word without erased places is given to both calls.
+fn test_row<L: Ledger>(rt: &impl Abort, row: &Row<'_>, steps: &mut Steps<L>) {
+    let n = row.word.len() / 2;
+    let params = Params::new(row.e, n as u64).expect(rt, "a code");
+    assert!(rt; n <= 255 && params.n() == n as u64 && u64::from(row.repair) <= params.e());
+    let word = symbols_of(row.word);
+    let erased = flags_of(row.erased);
+    let wanted = changed(&word, row.changes);
+    let mut left = word;
+    let answer = decode_with(&params, row.repair, &erased[..n], &mut left[..n], steps);
+    assert_eq!(rt; answer, row.answer, "for {}", row.name);
+    assert_eq!(rt; left, wanted, "for {}", row.name);
+    if row.erased.len() < 2 {
+        let mut left = word;
+        let answer = match decode(&params, row.repair, &mut left[..n], steps) {
+            Answer::Fixed(wrong) => ErasedAnswer::Fixed(wrong, 0),
+            Answer::Beyond => ErasedAnswer::Beyond,
+        };
+        assert_eq!(rt; answer, row.answer, "for {}", row.name);
+        assert_eq!(rt; left, wanted, "for {}", row.name);
+    }
+}
+
+fn test_rows<L: Ledger>(rt: &impl Abort, blank: Blank)
     requires name { blank.name ≡ L.name }
     requires parts { blank.parts ≡ L.parts }
     requires share { 0 < blank.parts }
 {
-    let mut word = elements(octets);
     let mut steps = Steps::<L>::open(blank);
-    let Ok(params) = Params::new(16, 33) else {
-        return (Answer::Beyond, word);
-    };
-    if u64::from(repair) > params.e() || params.n() != 33 {
-        return (Answer::Beyond, word);
+    for line in WORDS.lines() {
+        let row = row_of(line).expect(rt, "a row");
+        test_row(rt, &row, &mut steps);
     }
-    let answer = decode_word(&params, repair, &mut word, &mut steps);
-    (answer, word)
-}
-
-fn decoded_erased_by<L: Ledger>(
-    blank: Blank,
-    erased: &[bool; 33],
-    octets: &[u8; 33],
-) -> (ErasedAnswer, [Gf; 33])
-    requires name { blank.name ≡ L.name }
-    requires parts { blank.parts ≡ L.parts }
-    requires share { 0 < blank.parts }
-{
-    let mut word = elements(octets);
-    let mut steps = Steps::<L>::open(blank);
-    let Ok(params) = Params::new(16, 33) else {
-        return (ErasedAnswer::Beyond, word);
-    };
-    if 16 > params.e() || params.n() != 33 {
-        return (ErasedAnswer::Beyond, word);
-    }
-    let answer = decode_erased(&params, 16, erased, &mut word, &mut steps);
-    (answer, word)
-}
-
-fn decoded(repair: u8, octets: &[u8; 33]) -> (Answer, [Gf; 33]) {
-    decoded_by::<Brand>(Blank::new(1), repair, octets)
-}
-
-fn decoded_erased(erased: &[bool; 33], octets: &[u8; 33]) -> (ErasedAnswer, [Gf; 33]) {
-    decoded_erased_by::<Brand>(Blank::new(1), erased, octets)
 }
 
 #[test]
-fn sixteen_wrong_symbols(rt: HostRuntime) {
-    let mut octets = G;
-    for i in 0..15 {
-        octets[i] ^= 1;
-    }
-    octets[32] ^= 1;
-    assert_eq!(rt; decoded(16, &octets), (Answer::Fixed(16), elements(&G)));
-    assert_eq!(rt; decoded(15, &octets), (Answer::Beyond, elements(&octets)));
-}
-
-#[test]
-fn nearer_codewords(rt: HostRuntime) {
-    let zeros = [0; 33];
-    assert_eq!(rt; decoded(16, &zeros), (Answer::Fixed(0), elements(&zeros)));
-    let mut octets = G;
-    for i in 0..17 {
-        octets[i] = 0;
-    }
-    assert_eq!(rt; decoded(16, &octets), (Answer::Fixed(16), elements(&zeros)));
-    octets[16] = G[16];
-    octets[32] = 0x55;
-    assert_eq!(rt; decoded(16, &octets), (Answer::Beyond, elements(&octets)));
-}
-
-// One error from a longer codeword, but in the virtual fill.
-#[test]
-fn wrong_symbol_in_the_fill(rt: HostRuntime) {
-    let mut octets = [0; 33];
-    for i in 0..32 {
-        octets[i] = G[i + 1];
-    }
-    assert_eq!(rt; decoded(16, &octets), (Answer::Beyond, elements(&octets)));
-}
-
-#[test]
-fn erased_places(rt: HostRuntime) {
-    let mut octets = [0; 33];
-    octets[0] = 1;
-    let mut erased = [true; 33];
-    erased[0] = false;
-    assert_eq!(rt;
-        decoded_erased(&erased, &octets),
-        (ErasedAnswer::Fixed(0, 32), elements(&G))
-    );
-    octets = G;
-    for i in 0..17 {
-        octets[i] = 0;
-    }
-    erased = [false; 33];
-    erased[0] = true;
-    assert_eq!(rt;
-        decoded_erased(&erased, &octets),
-        (ErasedAnswer::Beyond, elements(&octets))
-    );
-    erased[1] = true;
-    assert_eq!(rt;
-        decoded_erased(&erased, &octets),
-        (ErasedAnswer::Fixed(15, 2), elements(&G))
-    );
+fn words_become_the_nearest_codeword(rt: HostRuntime) {
+    test_rows::<Brand>(&rt, Blank::new(1));
 }
