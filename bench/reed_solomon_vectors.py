@@ -199,13 +199,13 @@ def named_words(e):
 
 
 def drawn_word(draws, e, n, wrong, erased):
-    """A codeword with so many wrong symbols outside its erased places, which have any symbols."""
+    """A codeword with so many wrong symbols outside its erased places, of which about half have other symbols too."""
     word = encode(e, [draws.below(256) for _ in range(n - 2 * e)])
     places = draws.places(n, wrong + erased)
     for i in places[:wrong]:
         word[i] ^= 1 + draws.below(255)
     for i in places[wrong:]:
-        word[i] = draws.below(256)
+        word[i] = draws.below(256) if draws.below(2) else word[i]
     return word, sorted(places[wrong:])
 
 
