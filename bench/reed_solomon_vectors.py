@@ -123,6 +123,13 @@ def locator(n, indices):
     return poly
 
 
+def symbols_at(e, n, places, wanted):
+    """The symbols at these places, at most 2e, of the word that is 0 elsewhere and has these syndromes, if one has."""
+    rows = [[power(11 * (n - 1 - i) * (128 - e + k)) for i in places] + [wanted[k]] for k in range(2 * e)]
+    pivots = reduce(rows, len(places))
+    return [rows[pivots[column]][-1] for column in range(len(places))]
+
+
 def nearest(e, repair, erased, word):
     """The codeword that differs from the word in a places that are not erased, a at most `repair`, where 2a and the number
     of erased places are at most 2e together; with it a, and in how many erased places it differs. None where there is none.
@@ -142,11 +149,9 @@ def nearest(e, repair, erased, word):
                 for m in range(left)]
     poly = null_vector([[modified[m - i] for i in range(t + 1)] for m in range(t, 2 * t)], t + 1)
     places = [i for i in range(n) if i in erased or value(poly[::-1], power(-11 * (n - 1 - i))) == 0]
-    rows = [[power(11 * (n - 1 - i) * (128 - e + k)) for i in places] + [known[k]] for k in range(2 * e)]
-    pivots = reduce(rows, len(places))
     codeword = list(word)
-    for column, i in enumerate(places):
-        codeword[i] ^= rows[pivots[column]][-1]
+    for i, error in zip(places, symbols_at(e, n, places, known)):
+        codeword[i] ^= error
     changed = [i for i in range(n) if codeword[i] != word[i]]
     a = sum(i not in erased for i in changed)
     if any(remainder(e, codeword)) or a > repair or 2 * a + len(erased) > 2 * e:
@@ -196,6 +201,10 @@ def named_words(e):
     yield f"{e - 1} wrong and 2 erased", e, [0, 1], half
     yield f"{e - 1} wrong, 2 erased and a bound of {e - 2}", e - 2, [0, 1], half
     yield f"{e} wrong and 1 erased", e, [0], half
+    # Its syndromes k X^k, X being the element of the first place, are those of no word with one wrong symbol: with that
+    # place taken out they become powers of X again.
+    twice = [power(11 * 2 * e * k) if k % 2 else 0 for k in range(2 * e)]
+    yield "an erased place that the recurrence names", e, [0], [0] + symbols_at(e, size, list(range(1, size)), twice)
 
 
 def drawn_word(draws, e, n, wrong, erased):
