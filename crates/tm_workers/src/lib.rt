@@ -3,14 +3,22 @@
 //! slow word holds nobody up.
 #![tactic(auto)]
 
+mod batch;
+mod draws;
+mod gate;
 mod rule;
 mod schedule;
 mod seats;
+mod split;
 mod tickets;
+mod words;
 
+pub use batch::{decode_batch, decode_erased_batch};
+pub use gate::{Gate, OpenGate};
 pub use schedule::schedule_law;
 pub use seats::Seat;
 pub use tickets::{NoMemory, Tickets};
+pub use words::{ErasedWord, Word};
 
 #[cfg(test)]
 mod tests;

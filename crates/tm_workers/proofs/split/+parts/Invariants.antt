@@ -1,0 +1,14 @@
+use Rattle.std.proofs.Common.{◌+◌, ◌-◌, ◌*◌}
+use Rattle.tm_workers.proofs.split.+parts.Given as goal
+
+abbrev pub decreases-split_evenly : goal.decreases-split_evenly
+decreases-split_evenly g l = 4 * l.workers
+
+abbrev pub decreases-split_both : goal.decreases-split_both
+decreases-split_both g l = 4 * l.workers - 1
+
+abbrev pub decreases-split_both-decode_front : goal.decreases-split_both-decode_front
+decreases-split_both-decode_front g l = 4 * l.some + 1
+
+abbrev pub decreases-split_both-decode_back : goal.decreases-split_both-decode_back
+decreases-split_both-decode_back g l = 4 * l.others + 1

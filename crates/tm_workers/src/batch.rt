@@ -1,0 +1,127 @@
+// Batches of words.
+ghost use Rattle.std.specs.Prelude.{All, ◌≡◌, ◌<◌, ◌≤◌, ◌^◌, length, OnOk, OnErr, slice_index_or};
+ghost use Rattle.tm_workers.specs.Batch.{EachBecomes};
+ghost use Rattle.tm_workers.specs.Words.{Decodes, DecodesErased};
+ghost use Rattle.tm_workers.specs.Working.{all_drawn, put_all};
+
+use crate::draws::{Drawn, call_each};
+use crate::gate::Gate;
+use crate::split::split_evenly;
+use crate::words::{ErasedWord, InPlace, Word};
+use std::alloc::{AllocError, Global};
+use std::thread::Threads;
+use tm_rs_code::Params;
+
+// Puts each word in its place.
+fn put<W: InPlace>(room: &[Drawn<W>], words: &mut [W])
+    requires { All (λ d. d.number < length words.old) room.now }
+    ensures { words.new ≡ put_all room.now words.old }
+{
+    for drawn in room {
+        words[drawn.number as usize] = drawn.value;
+    }
+}
+
+// Puts the words of all rooms in their places.
+fn put_rooms<W: InPlace>(rooms: &[Vec<Drawn<W>>], words: &mut [W])
+    requires { All (λ r. All (λ d. d.number < length words.old) r.items) rooms.now }
+    ensures { words.new ≡ put_all (all_drawn rooms.now) words.old }
+{
+    for room in rooms {
+        put(room.as_slice(), words);
+    }
+}
+
+// Decodes each word, by workers that draw the words' numbers. Where memory is refused no gate was entered and no word
+// has changed.
+fn decode_drawn<R: Threads + Sync, G: Gate + Sync, W: InPlace + Send + Sync>(
+    rt: &R,
+    alloc: Global,
+    gate: &G,
+    params: &Params,
+    repair: u8,
+    workers: usize,
+    words: &mut [W],
+) -> Result<(), AllocError>
+    requires bound { repair ≤ params.now.e }
+    requires count { length words.old < 2 ^ 32 }
+    requires workers { (0 < workers) × (workers ≤ 64) }
+    ensures ok { OnOk result (EachBecomes (W.becomes params.now repair) words.old words.new) }
+    ensures err { OnErr result (words.new ≡ words.old) }
+{
+    let given = &words[..];
+    let decode = |number: u32| -> W
+        requires { (repair ≤ params.now.e) × (number < length given.now) }
+        ensures { (d : W) → W.becomes params.entry.now repair (slice_index_or given.entry.now number d) result }
+    {
+        gate.enter(number);
+        let mut word = given[number as usize];
+        word.decode(params, repair);
+        word
+    };
+    let rooms = call_each(rt, alloc, given.len() as u32, workers, &decode)?;
+    put_rooms(rooms.as_slice(), words);
+    Ok(())
+}
+
+// Decodes each word in its place.
+fn decode_all<R: Threads + Sync, G: Gate + Sync, W: InPlace + Send + Sync>(
+    rt: &R,
+    alloc: Global,
+    params: &Params,
+    repair: u8,
+    words: &mut [W],
+    workers: u8,
+    gate: &G,
+)
+    requires bound { repair ≤ params.now.e }
+    requires count { length words.old < 2 ^ 32 }
+    requires workers { (0 < workers) × (workers ≤ 64) }
+    ensures { EachBecomes (W.becomes params.now repair) words.old words.new }
+{
+    // No more workers than words.
+    let most = words.len().min(usize::from(workers));
+    if most < 2 || decode_drawn(rt, alloc, gate, params, repair, most, words).is_err() {
+        split_evenly(rt, gate, params, repair, 0, workers, words);
+    }
+}
+
+/// Decodes each word in its place, as `decode_word` does, and puts its answer into it, with so many workers. The
+/// symbols behind the first n stay. The workers are at least one and at most 64, the words fewer than 2^32, and
+/// `repair` at most e. Before a worker decodes the word of number i it calls `gate.enter(i)`. The words are the same
+/// for every number of workers, and whatever memory is refused: it tries for memory, so that a worker that is done
+/// early can draw more words, and where it gets none each worker has a fixed part of them.
+pub fn decode_batch<R: Threads + Sync, G: Gate + Sync>(
+    rt: &R,
+    alloc: Global,
+    params: &Params,
+    repair: u8,
+    words: &mut [Word],
+    workers: u8,
+    gate: &G,
+)
+    requires bound { repair ≤ params.now.e }
+    requires count { length words.old < 2 ^ 32 }
+    requires workers { (0 < workers) × (workers ≤ 64) }
+    ensures { EachBecomes (Decodes params.now repair) words.old words.new }
+{
+    decode_all(rt, alloc, params, repair, words, workers, gate);
+}
+
+/// Decodes each word with erased places, as `decode_erased` does, and otherwise as `decode_batch`.
+pub fn decode_erased_batch<R: Threads + Sync, G: Gate + Sync>(
+    rt: &R,
+    alloc: Global,
+    params: &Params,
+    repair: u8,
+    words: &mut [ErasedWord],
+    workers: u8,
+    gate: &G,
+)
+    requires bound { repair ≤ params.now.e }
+    requires count { length words.old < 2 ^ 32 }
+    requires workers { (0 < workers) × (workers ≤ 64) }
+    ensures { EachBecomes (DecodesErased params.now repair) words.old words.new }
+{
+    decode_all(rt, alloc, params, repair, words, workers, gate);
+}

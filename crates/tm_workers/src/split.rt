@@ -1,0 +1,86 @@
+// The words in nearly equal parts, one for each worker.
+ghost use Rattle.std.specs.Prelude.{◌≡◌, ◌+◌, ◌<◌, ◌≤◌, ◌^◌, length};
+ghost use Rattle.std.specs.Thread.{IsSend, IsSync};
+ghost use Rattle.tm_workers.specs.Batch.{EachBecomes};
+
+use crate::gate::Gate;
+use crate::words::InPlace;
+use std::thread::{Threads, join_mut};
+use tm_rs_code::Params;
+
+// Decodes words one after another. The first has the number `first`.
+fn decode_part<G: Gate, W: InPlace>(
+    gate: &G,
+    params: &Params,
+    repair: u8,
+    first: u32,
+    words: &mut [W],
+)
+    requires bound { repair ≤ params.now.e }
+    requires count { first + length words.old < 2 ^ 32 }
+    ensures { EachBecomes (W.becomes params.now repair) words.old words.new }
+{
+    let mut number = first;
+    for word in words {
+        gate.enter(number);
+        word.decode(params, repair);
+        number += 1;
+    }
+}
+
+/// Decodes each word in its place, by at most so many workers: each has one part of the words, and the parts are
+/// nearly equal. The first word has the number `first`. It takes no memory.
+#[cycle(parts)]
+pub fn split_evenly<R: Threads + Sync, G: Gate + Sync, W: InPlace + Send>(
+    rt: &R,
+    gate: &G,
+    params: &Params,
+    repair: u8,
+    first: u32,
+    workers: u8,
+    words: &mut [W],
+)
+    requires bound { repair ≤ params.now.e }
+    requires count { first + length words.old < 2 ^ 32 }
+    ensures { EachBecomes (W.becomes params.now repair) words.old words.new }
+{
+    if workers < 2 || words.len() < 2 {
+        decode_part(gate, params, repair, first, words);
+        return;
+    }
+    let middle = words.len() * usize::from(workers / 2) / usize::from(workers);
+    let (front, back) = words.split_at_mut(middle);
+    split_both(rt, gate, params, repair, first, workers, front, back);
+}
+
+// The two parts side by side. It is a function of its own, so that what the closures require is what it is given.
+#[cycle(parts)]
+fn split_both<R: Threads + Sync, G: Gate + Sync, W: InPlace + Send>(
+    rt: &R,
+    gate: &G,
+    params: &Params,
+    repair: u8,
+    first: u32,
+    workers: u8,
+    front: &mut [W],
+    back: &mut [W],
+)
+    requires bound { repair ≤ params.now.e }
+    requires workers { 2 ≤ workers }
+    requires count { first + length front.old + length back.old < 2 ^ 32 }
+    ensures front { EachBecomes (W.becomes params.now repair) front.old front.new }
+    ensures back { EachBecomes (W.becomes params.now repair) back.old back.new }
+{
+    let some = workers / 2;
+    let others = workers - some;
+    let behind = first + front.len() as u32;
+    let mut decode_front = ||
+        requires { IsSync R.row × IsSync G.row × IsSend W.row × (repair ≤ params.now.e) × (first + length front.now < 2 ^ 32) }
+        ensures { EachBecomes (W.becomes params.entry.now repair) front.entry.now front.exit.now }
+    { split_evenly(rt, gate, params, repair, first, some, front) };
+    let mut decode_back = ||
+        requires { IsSync R.row × IsSync G.row × IsSend W.row × (repair ≤ params.now.e) × (behind + length back.now < 2 ^ 32) }
+        ensures { EachBecomes (W.becomes params.entry.now repair) back.entry.now back.exit.now }
+    { split_evenly(rt, gate, params, repair, behind, others, back) };
+    join_mut(rt, &mut decode_front, &mut decode_back);
+}
