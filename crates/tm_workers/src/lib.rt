@@ -6,6 +6,7 @@
 mod batch;
 mod draws;
 mod gate;
+mod outcome;
 mod rule;
 mod schedule;
 mod seats;
@@ -15,6 +16,7 @@ mod words;
 
 pub use batch::{decode_batch, decode_erased_batch};
 pub use gate::{Gate, OpenGate};
+pub use outcome::one_outcome_law;
 pub use schedule::schedule_law;
 pub use seats::Seat;
 pub use tickets::{NoMemory, Tickets};
