@@ -1,11 +1,11 @@
 -- What a batch makes of its words is one list.
-use Rattle.std.proofs.Common.{◌≡◌, ℕ, zero, suc, ◌≤◌, ◌<◌, Bool, true, false, List, [], ◌∷◌, ◌++◌, length, take, drop, get_or, refl, sym, ap, ◌∙◌, arith, min, All, take-append-drop, length-take, Some}
+use Rattle.std.proofs.Common.{◌≡◌, ℕ, suc, ◌≤◌, Bool, true, false, List, [], ◌∷◌, ◌++◌, length, take, drop, refl, sym, ap, ◌∙◌, arith, All, take-append-drop, length-take, Some}
 use Rattle.tm_gf256.specs.Poly.{numbers}
 use Rattle.tm_gf256.specs.declared.element.Gf.{Gf}
 use Rattle.tm_rs_code.specs.Code.{Code}
-use Rattle.tm_rs_code.specs.Erasures.{IsNearestErased, NearestErased}
+use Rattle.tm_rs_code.specs.Erasures.{NearestErased}
 use Rattle.tm_rs_code.specs.Erasures.NearestErased.{Fixed as FixedErased, Beyond as BeyondErased}
-use Rattle.tm_rs_code.specs.Nearest.{IsNearest, Nearest}
+use Rattle.tm_rs_code.specs.Nearest.{Nearest}
 use Rattle.tm_rs_code.specs.Nearest.Nearest.{Fixed as FixedWord, Beyond as BeyondWord}
 use Rattle.tm_rs_code.proofs.OnlyNearest.{nearest_only, nearest_erased_only}
 use Rattle.tm_rs_solve.specs.Answers.{found, found_erased}

@@ -1,44 +1,93 @@
-// Worked draws.
-use crate::Tickets;
+// Worked batches. G is the codeword of 33 symbols whose information symbol is 1. They hold whatever memory is refused.
+use crate::{ErasedWord, OpenGate, Word, decode_batch, decode_erased_batch};
 use std::test::Fail;
+use tm_gf256::Gf;
+use tm_rs_code::Params;
+use tm_rs_solve::{Answer, ErasedAnswer};
+
+const G: [u8; 33] = [
+    0x01, 0x5B, 0x7F, 0x56, 0x10, 0x1E, 0x0D, 0xEB, 0x61, 0xA5, 0x08, 0x2A, 0x36, 0x56, 0xAB, 0x20,
+    0x71, 0x20, 0xAB, 0x56, 0x36, 0x2A, 0x08, 0xA5, 0x61, 0xEB, 0x0D, 0x1E, 0x10, 0x56, 0x7F, 0x5B,
+    0x01,
+];
+
+// The codeword with its first symbols wrong, before symbols that are no part of it.
+fn symbols_with(wrong: usize) -> [Gf; 255] {
+    let mut symbols = [Gf(0x55); 255];
+    for i in 0..33 {
+        symbols[i] = Gf(if i < wrong { G[i] ^ 1 } else { G[i] });
+    }
+    symbols
+}
+
+fn word(wrong: usize) -> Word {
+    Word {
+        symbols: symbols_with(wrong),
+        answer: None,
+    }
+}
+
+fn decoded(wrong: usize, answer: Answer) -> Word {
+    Word {
+        symbols: symbols_with(wrong),
+        answer: Some(answer),
+    }
+}
 
 #[test]
-fn numbers_are_drawn_in_turn(rt: HostRuntime) -> Result<(), Fail> {
-    let Ok((tickets, mut seat)) = Tickets::new(rt.alloc(), 2) else {
-        panic!(rt; "no memory")
+fn each_word_is_decoded_in_its_place(rt: HostRuntime) -> Result<(), Fail> {
+    let Ok(params) = Params::new(16, 33) else {
+        panic!(rt; "no code")
     };
-    let drawn = [
-        tickets.draw(&mut seat),
-        tickets.draw(&mut seat),
-        tickets.draw(&mut seat),
-        tickets.draw(&mut seat),
-    ];
-    assert!(rt; drawn == [Some(0), Some(1), None, None]);
-    assert!(rt; tickets.close(seat) == 2);
+    for workers in [1u8, 2, 3, 5, 64] {
+        let mut words = [word(0), word(16), word(17), word(1), word(4)];
+        decode_batch(&rt, rt.alloc(), &params, 16, &mut words, workers, &OpenGate);
+        let outcome = [
+            decoded(0, Answer::Fixed(0)),
+            decoded(0, Answer::Fixed(16)),
+            decoded(17, Answer::Beyond),
+            decoded(0, Answer::Fixed(1)),
+            decoded(0, Answer::Fixed(4)),
+        ];
+        assert!(rt; words == outcome);
+    }
     Ok(())
 }
 
 #[test]
-fn no_number_is_drawn_of_none(rt: HostRuntime) -> Result<(), Fail> {
-    let Ok((tickets, mut seat)) = Tickets::new(rt.alloc(), 0) else {
-        panic!(rt; "no memory")
+fn no_word_is_decoded(rt: HostRuntime) -> Result<(), Fail> {
+    let Ok(params) = Params::new(8, 255) else {
+        panic!(rt; "no code")
     };
-    assert!(rt; tickets.draw(&mut seat).is_none());
-    assert!(rt; tickets.close(seat) == 0);
+    let mut words: [Word; 0] = [];
+    decode_batch(&rt, rt.alloc(), &params, 0, &mut words, 2, &OpenGate);
+    assert!(rt; words.is_empty());
     Ok(())
 }
 
+// The first 17 symbols are wrong, which is too many without two of them erased.
 #[test]
-fn shares_are_split_and_joined(rt: HostRuntime) -> Result<(), Fail> {
-    let Ok((tickets, mut seat)) = Tickets::new(rt.alloc(), 3) else {
-        panic!(rt; "no memory")
+fn each_word_is_decoded_with_its_own_erased_places(rt: HostRuntime) -> Result<(), Fail> {
+    let Ok(params) = Params::new(16, 33) else {
+        panic!(rt; "no code")
     };
-    let mut other = tickets.split(&mut seat, 32);
-    assert!(rt; seat.shares() == 32 && other.shares() == 32);
-    assert!(rt; tickets.draw(&mut other) == Some(0));
-    assert!(rt; tickets.draw(&mut seat) == Some(1));
-    tickets.join(&mut seat, other);
-    assert!(rt; seat.shares() == 64);
-    assert!(rt; tickets.close(seat) == 2);
+    let plain = ErasedWord {
+        symbols: symbols_with(17),
+        erased: [false; 255],
+        answer: None,
+    };
+    let mut erased = plain;
+    erased.erased[0] = true;
+    erased.erased[1] = true;
+    for workers in [1u8, 2, 64] {
+        let mut words = [plain, erased, plain];
+        decode_erased_batch(&rt, rt.alloc(), &params, 16, &mut words, workers, &OpenGate);
+        for i in [0usize, 2] {
+            assert!(rt; words[i].answer == Some(ErasedAnswer::Beyond));
+            assert!(rt; words[i].symbols == symbols_with(17) && words[i].erased == plain.erased);
+        }
+        assert!(rt; words[1].answer == Some(ErasedAnswer::Fixed(15, 2)));
+        assert!(rt; words[1].symbols == symbols_with(0) && words[1].erased == erased.erased);
+    }
     Ok(())
 }

@@ -1,0 +1,94 @@
+// Workers that are held. A gate waits for nothing: it turns over an atomic word for a stated number of turns.
+use std::sync::atomic::{AtomicU64, Ordering};
+use std::test::Fail;
+use tm_gf256::Gf;
+use tm_rs_code::Params;
+use tm_rs_solve::{Answer, ErasedAnswer};
+use tm_workers::{ErasedWord, Gate, Word, decode_batch, decode_erased_batch};
+
+const TURNS: u64 = 1_000_000_000;
+
+const ZEROS: Word = Word {
+    symbols: [Gf(0); 255],
+    answer: None,
+};
+
+const ERASED_ZEROS: ErasedWord = ErasedWord {
+    symbols: [Gf(0); 255],
+    erased: [false; 255],
+    answer: None,
+};
+
+// Holds the worker of one number until so many others have entered, and notes whether they ended it.
+#[derive(Drop)]
+struct Holding {
+    number: u32,
+    others: u64,
+    entered: AtomicU64,
+    freed: AtomicU64,
+}
+
+impl Gate for Holding {
+    fn enter(&self, index: u32) {
+        if index != self.number {
+            self.entered.fetch_add(1, Ordering::SeqCst);
+            return;
+        }
+        for _ in 0..TURNS {
+            if self.entered.load(Ordering::SeqCst) >= self.others {
+                self.freed.store(1, Ordering::SeqCst);
+                return;
+            }
+        }
+    }
+}
+
+fn gate_that_holds(number: u32, others: u64) -> Holding {
+    Holding {
+        number,
+        others,
+        entered: AtomicU64::new(0),
+        freed: AtomicU64::new(0),
+    }
+}
+
+#[test]
+fn two_words_are_decoded_side_by_side(rt: HostRuntime) -> Result<(), Fail> {
+    let Ok(params) = Params::new(16, 255) else {
+        panic!(rt; "no code")
+    };
+    let gate = gate_that_holds(0, 1);
+    let mut words = [ZEROS; 2];
+    decode_batch(&rt, rt.alloc(), &params, 16, &mut words, 2, &gate);
+    assert!(rt; gate.freed.load(Ordering::SeqCst) == 1);
+    assert!(rt; words[0].answer == Some(Answer::Fixed(0)));
+    assert!(rt; words[1].answer == Some(Answer::Fixed(0)));
+    Ok(())
+}
+
+#[test]
+fn whichever_word_is_held_the_other_worker_decodes_the_rest(rt: HostRuntime) -> Result<(), Fail> {
+    let Ok(params) = Params::new(16, 255) else {
+        panic!(rt; "no code")
+    };
+    for held in 0..8 {
+        let gate = gate_that_holds(held, 7);
+        let mut words = [ZEROS; 8];
+        decode_batch(&rt, rt.alloc(), &params, 16, &mut words, 2, &gate);
+        assert!(rt; gate.freed.load(Ordering::SeqCst) == 1);
+    }
+    Ok(())
+}
+
+#[test]
+fn words_with_erased_places_are_drawn_too(rt: HostRuntime) -> Result<(), Fail> {
+    let Ok(params) = Params::new(8, 17) else {
+        panic!(rt; "no code")
+    };
+    let gate = gate_that_holds(5, 7);
+    let mut words = [ERASED_ZEROS; 8];
+    decode_erased_batch(&rt, rt.alloc(), &params, 8, &mut words, 2, &gate);
+    assert!(rt; gate.freed.load(Ordering::SeqCst) == 1);
+    assert!(rt; words[5].answer == Some(ErasedAnswer::Fixed(0, 0)));
+    Ok(())
+}
