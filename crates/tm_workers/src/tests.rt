@@ -1,5 +1,7 @@
 // Worked batches. G is the codeword of 33 symbols whose information symbol is 1. They hold whatever memory is refused.
-use crate::{ErasedWord, OpenGate, Word, decode_batch, decode_erased_batch};
+use crate::split::split_evenly;
+use crate::{ErasedWord, Gate, OpenGate, Word, decode_batch, decode_erased_batch};
+use std::sync::atomic::{AtomicU64, Ordering};
 use std::test::Fail;
 use tm_gf256::Gf;
 use tm_rs_code::Params;
@@ -89,5 +91,32 @@ fn each_word_is_decoded_with_its_own_erased_places(rt: HostRuntime) -> Result<()
         assert!(rt; words[1].answer == Some(ErasedAnswer::Fixed(15, 2)));
         assert!(rt; words[1].symbols == symbols_with(0) && words[1].erased == erased.erased);
     }
+    Ok(())
+}
+
+// Adds up a power of two for each number that enters.
+#[derive(Drop)]
+struct Noting {
+    entered: AtomicU64,
+}
+
+impl Gate for Noting {
+    fn enter(&self, index: u32) {
+        self.entered.fetch_add(1 << (index % 64), Ordering::SeqCst);
+    }
+}
+
+#[test]
+fn each_number_enters_once_in_an_even_split(rt: HostRuntime) -> Result<(), Fail> {
+    let Ok(params) = Params::new(16, 33) else {
+        panic!(rt; "no code")
+    };
+    let gate = Noting {
+        entered: AtomicU64::new(0),
+    };
+    let mut words = [word(1); 6];
+    split_evenly(&rt, &gate, &params, 16, 0, 4, &mut words);
+    assert!(rt; gate.entered.load(Ordering::SeqCst) == 63);
+    assert!(rt; words == [decoded(0, Answer::Fixed(1)); 6]);
     Ok(())
 }
