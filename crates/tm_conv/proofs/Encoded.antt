@@ -15,14 +15,14 @@ bit_byte true = refl
 bit_byte false = refl
 
 -- a step sends by its place in the pattern
-sent-phase : (rate : Rate) (invert : Bool) (t c d : ℕ) → sent rate invert (t % period rate) c d ≡ sent rate invert t c d
+pub sent-phase : (rate : Rate) (invert : Bool) (t c d : ℕ) → sent rate invert (t % period rate) c d ≡ sent rate invert t c d
 sent-phase R12 invert t c d = ap (λ k. cond (eqb (get_or (c1_pattern R12) k 0) 1) (c ∷ []) [] ++ cond (eqb (get_or (c2_pattern R12) k 0) 1) (cond invert (1 - d) d ∷ []) []) (let e : t % 1 % 1 ≡ t % 1 = omega arith in e)
 sent-phase R23 invert t c d = ap (λ k. cond (eqb (get_or (c1_pattern R23) k 0) 1) (c ∷ []) [] ++ cond (eqb (get_or (c2_pattern R23) k 0) 1) (cond invert (1 - d) d ∷ []) []) (let e : t % 2 % 2 ≡ t % 2 = omega arith in e)
 sent-phase R34 invert t c d = ap (λ k. cond (eqb (get_or (c1_pattern R34) k 0) 1) (c ∷ []) [] ++ cond (eqb (get_or (c2_pattern R34) k 0) 1) (cond invert (1 - d) d ∷ []) []) (let e : t % 3 % 3 ≡ t % 3 = omega arith in e)
 sent-phase R56 invert t c d = ap (λ k. cond (eqb (get_or (c1_pattern R56) k 0) 1) (c ∷ []) [] ++ cond (eqb (get_or (c2_pattern R56) k 0) 1) (cond invert (1 - d) d ∷ []) []) (let e : t % 5 % 5 ≡ t % 5 = omega arith in e)
 sent-phase R78 invert t c d = ap (λ k. cond (eqb (get_or (c1_pattern R78) k 0) 1) (c ∷ []) [] ++ cond (eqb (get_or (c2_pattern R78) k 0) 1) (cond invert (1 - d) d ∷ []) []) (let e : t % 7 % 7 ≡ t % 7 = omega arith in e)
 
-phase-next : (rate : Rate) (t : ℕ) → (t % period rate + 1) % period rate ≡ (t + 1) % period rate
+pub phase-next : (rate : Rate) (t : ℕ) → (t % period rate + 1) % period rate ≡ (t + 1) % period rate
 phase-next R12 t = let e : (t % 1 + 1) % 1 ≡ (t + 1) % 1 = omega arith in e
 phase-next R23 t = let e : (t % 2 + 1) % 2 ≡ (t + 1) % 2 = omega arith in e
 phase-next R34 t = let e : (t % 3 + 1) % 3 ≡ (t + 1) % 3 = omega arith in e

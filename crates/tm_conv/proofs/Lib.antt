@@ -5,3 +5,7 @@ pub mod Clean
 mod Starts
 mod Complement
 mod Encoded
+mod OctetTables
+mod KeptSymbols
+mod LanesTaken
+mod OctetPaths

@@ -36,6 +36,21 @@ path-push rate invert t u r (c ∷ bits) b e =
     ap (λ v. step_symbols rate invert t r c ++ v) (path-push rate invert (t + 1) u (next_register r c) bits b l)
     ∙ sym (append_assoc (step_symbols rate invert t r c) (path rate invert (t + 1) (next_register r c) bits) (step_symbols rate invert u (register_after (next_register r c) bits) b))
 
+pub register_after-append : (register : ℕ) (bits others : List ℕ) → register_after register (bits ++ others) ≡ register_after (register_after register bits) others
+register_after-append register [] others = refl
+register_after-append register (bit ∷ bits) others = register_after-append (next_register register bit) bits others
+
+-- a path that goes on
+pub path-append : (rate : Rate) (invert : Bool) (t register : ℕ) (bits others : List ℕ)
+    → path rate invert t register (bits ++ others) ≡ path rate invert t register bits ++ path rate invert (t + length bits) (register_after register bits) others
+path-append rate invert t register [] others = let same : t ≡ t + 0 = omega arith in ap (λ u. path rate invert u register others) same
+path-append rate invert t register (bit ∷ bits) others =
+    let next = next_register register bit in
+    let later : t + 1 + length bits ≡ t + suc (length bits) = omega arith in
+    ap (λ l. step_symbols rate invert t register bit ++ l) (path-append rate invert (t + 1) next bits others)
+    ∙ sym (append_assoc (step_symbols rate invert t register bit) (path rate invert (t + 1) next bits) (path rate invert (t + 1 + length bits) (register_after next bits) others))
+    ∙ ap (λ u. (step_symbols rate invert t register bit ++ path rate invert (t + 1) next bits) ++ path rate invert u (register_after next bits) others) later
+
 pub cost-append : (xs ys us vs : List ℕ) → length xs ≡ length ys → cost (xs ++ us) (ys ++ vs) ≡ cost xs ys + cost us vs
 cost-append [] [] us vs e = omega arith
 cost-append [] (y ∷ ys) us vs e = absurd (let h : 0 ≡ suc (length ys) = e in omega arith)

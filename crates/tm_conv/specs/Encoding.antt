@@ -1,5 +1,5 @@
 -- What an encoder keeps, for which bits, given so far, it stands, and what is sent for them.
-use Rattle.std.specs.Prelude.{◌≡◌, ℕ, ◌%◌, Bool, List, [], ◌∷◌, length, map}
+use Rattle.std.specs.Prelude.{◌≡◌, ℕ, ◌-◌, ◌%◌, ◌==◌, if◌then◌else◌, Bool, List, [], ◌∷◌, length, map}
 use Rattle.tm_base.specs.Bits.{bit_number}
 use Rattle.tm_conv.specs.declared.rates.Rate.{Rate}
 use Rattle.tm_conv.specs.declared.encoder.Symbols.{Symbols}
@@ -18,6 +18,14 @@ symbol_list (Two first second) = bit_number first ∷ bit_number second ∷ []
 -- the symbols that are sent for bits, from register 0 at step 0
 abbrev pub sent_for : Rate → Bool → List Bool → List ℕ
 sent_for rate invert bits = path rate invert 0 0 (bit_numbers bits)
+
+-- the octet of a symbol: a 0 is sent as the octet `low`, and a 1 as its complement
+abbrev pub level : ℕ → ℕ → ℕ
+level low symbol = if symbol == 0 then low else 255 - low
+
+-- the octets of symbols
+abbrev pub levels : ℕ → List ℕ → List ℕ
+levels low symbols = map (level low) symbols
 
 -- what contracts see of an encoder: its register, and the place of its next step in the puncture pattern
 pub record Encoding : Type 0 where

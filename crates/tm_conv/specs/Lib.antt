@@ -3,3 +3,4 @@ pub mod Cost
 pub mod Best
 pub mod Columns
 pub mod Encoding
+pub mod Octets

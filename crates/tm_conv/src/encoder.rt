@@ -1,9 +1,10 @@
 // The encoder, bit by bit.
-ghost use Rattle.std.specs.Prelude.{◌≡◌, ◌<◌, Bool, List, [], ◌∷◌, ◌++◌};
-ghost use Rattle.tm_base.specs.Bits.{bit_number};
+ghost use Rattle.std.specs.Prelude.{◌≡◌, ◌<◌, ◌≤◌, ◌*◌, Bool, List, [], ◌∷◌, ◌++◌, length, take};
+ghost use Rattle.tm_base.specs.Bits.{bit_number, bits_of};
 ghost use Rattle.tm_conv.specs.Path.{c1, c2, sent, step_symbols, next_register};
-ghost use Rattle.tm_conv.specs.Encoding.{StandsFor, sent_for, symbol_list};
+ghost use Rattle.tm_conv.specs.Encoding.{StandsFor, sent_for, symbol_list, levels};
 
+use crate::octets::{octet_symbols, phase_behind, register_behind};
 use crate::rates::{Rate, kept, period};
 use std::marker::Model;
 
@@ -63,6 +64,43 @@ impl Encoder {
         self.register = self.register / 2 + 32 * u8::from(bit);
         self.phase = (self.phase + 1) % period(self.rate);
         symbols
+    }
+
+    /// Takes the bits of octets, the most significant bit of each first, and writes their symbols to the front of `out`, each
+    /// as an octet: a 0 as the octet `low`, and a 1 as its complement. Answers how many symbols these are, at most 16 for each
+    /// octet. `out` has at least 16 octets for each octet; what stands behind the symbols there means nothing
+    /// (CCSDS 131.0-B, Convolutional Coding).
+    pub fn encode(&mut self, octets: &[u8], low: u8, out: &mut [u8]) -> usize
+        requires room { 16 * length octets.now ≤ length out.old }
+        ensures rate { self.new.rate ≡ self.old.rate }
+        ensures invert { self.new.invert ≡ self.old.invert }
+        ensures stands { (given : List Bool) → StandsFor self.old given → StandsFor self.new (given ++ bits_of octets.now) }
+        ensures sent { (given : List Bool) → StandsFor self.old given
+            → levels low (sent_for self.old.rate self.old.invert (given ++ bits_of octets.now))
+            ≡ levels low (sent_for self.old.rate self.old.invert given) ++ take result out.new }
+        ensures at_most { result ≤ 16 * length octets.now }
+        ensures length { length out.new ≡ length out.old }
+    {
+        let mut register = self.register;
+        let mut phase = self.phase;
+        let mut count = 0;
+        for octet in octets {
+            let (symbols, kept) = octet_symbols(
+                self.rate,
+                self.invert,
+                low,
+                phase,
+                register,
+                *octet,
+            );
+            symbols.copy_to_slice(&mut out[count..count + 16]);
+            count += usize::from(kept);
+            register = register_behind(register, *octet);
+            phase = phase_behind(self.rate, phase);
+        }
+        self.register = register;
+        self.phase = phase;
+        count
     }
 }
 

@@ -5,6 +5,7 @@
 
 mod encoder;
 mod laws;
+mod octets;
 mod rates;
 
 pub use encoder::{Encoder, Symbols};

@@ -1,0 +1,124 @@
+// The symbols of whole octets, by tables.
+ghost use Rattle.std.specs.Prelude.{◌≡◌, ◌+◌, ◌%◌, ◌<◌, ◌≤◌, ℕ, [], length, take};
+ghost use Rattle.std.proofs.Common.{get_or};
+ghost use Rattle.tm_base.specs.Bits.{bits_of_octet};
+ghost use Rattle.tm_conv.specs.declared.rates.Rate.TheVariants.{R12};
+ghost use Rattle.tm_conv.specs.Path.{path, period, register_after};
+ghost use Rattle.tm_conv.specs.Encoding.{bit_numbers, levels};
+ghost use Rattle.tm_conv.specs.Octets.{AreKept};
+
+mod tables;
+
+use crate::rates::Rate;
+use std::simd::prelude::*;
+use tables::{FROM_OCTET, FROM_REGISTER, REGISTER_AFTER};
+
+// Which of the sixteen symbols of an octet at rate 1/2 are sent, in their order and then any others: a row for each rate and
+// each place of the puncture pattern at which the octet begins.
+static KEPT: [[u8; 16]; 18] = [
+    [0, 1, 2, 3, 4, 5, 6, 7, 8, 9, 10, 11, 12, 13, 14, 15],
+    [0, 1, 3, 4, 5, 7, 8, 9, 11, 12, 13, 15, 0, 0, 0, 0],
+    [1, 2, 3, 5, 6, 7, 9, 10, 11, 13, 14, 15, 0, 0, 0, 0],
+    [0, 1, 3, 4, 6, 7, 9, 10, 12, 13, 15, 0, 0, 0, 0, 0],
+    [1, 2, 4, 5, 7, 8, 10, 11, 13, 14, 0, 0, 0, 0, 0, 0],
+    [0, 2, 3, 5, 6, 8, 9, 11, 12, 14, 15, 0, 0, 0, 0, 0],
+    [0, 1, 3, 4, 7, 8, 10, 11, 13, 14, 0, 0, 0, 0, 0, 0],
+    [1, 2, 5, 6, 8, 9, 11, 12, 15, 0, 0, 0, 0, 0, 0, 0],
+    [0, 3, 4, 6, 7, 9, 10, 13, 14, 0, 0, 0, 0, 0, 0, 0],
+    [1, 2, 4, 5, 7, 8, 11, 12, 14, 15, 0, 0, 0, 0, 0, 0],
+    [0, 2, 3, 5, 6, 9, 10, 12, 13, 15, 0, 0, 0, 0, 0, 0],
+    [0, 1, 3, 5, 7, 8, 11, 12, 14, 15, 0, 0, 0, 0, 0, 0],
+    [1, 3, 5, 6, 9, 10, 12, 13, 15, 0, 0, 0, 0, 0, 0, 0],
+    [1, 3, 4, 7, 8, 10, 11, 13, 15, 0, 0, 0, 0, 0, 0, 0],
+    [1, 2, 5, 6, 8, 9, 11, 13, 15, 0, 0, 0, 0, 0, 0, 0],
+    [0, 3, 4, 6, 7, 9, 11, 13, 14, 0, 0, 0, 0, 0, 0, 0],
+    [1, 2, 4, 5, 7, 9, 11, 12, 15, 0, 0, 0, 0, 0, 0, 0],
+    [0, 2, 3, 5, 7, 9, 10, 13, 14, 0, 0, 0, 0, 0, 0, 0],
+];
+
+// How many of them are sent.
+static COUNTS: [u8; 18] = [
+    16, 12, 12, 11, 10, 11, 10, 9, 9, 10, 10, 10, 9, 9, 9, 9, 9, 9,
+];
+
+// The first row of a rate.
+#[inline(always)]
+fn first_row(rate: Rate) -> usize
+    ensures fits { result + period rate ≤ 18 }
+    ensures rows { (phase : ℕ) → phase < period rate → AreKept rate phase (get_or KEPT (result + phase) []) (get_or COUNTS (result + phase) 0) }
+{
+    match rate {
+        Rate::R12 => 0,
+        Rate::R23 => 1,
+        Rate::R34 => 3,
+        Rate::R56 => 6,
+        Rate::R78 => 11,
+    }
+}
+
+// The symbols of an octet at rate 1/2, a 0 as the octet `low` and a 1 as its complement.
+#[inline(always)]
+fn symbols_at_half(invert: bool, low: u8, register: u8, octet: u8) -> u8x16
+    requires { register < 64 }
+    ensures { result ≡ levels low (path R12 invert 0 register (bit_numbers (bits_of_octet octet))) }
+{
+    let second = if invert { !low } else { low };
+    let flips = u8x16::from_array([
+        low, second, low, second, low, second, low, second, low, second, low, second, low, second,
+        low, second,
+    ]);
+    let before = u8x16::from_array(FROM_REGISTER[usize::from(register)]);
+    let own = u8x16::from_array(FROM_OCTET[usize::from(octet)]);
+    before ^ own ^ flips
+}
+
+// The symbols of an octet that begins at a place of the puncture pattern: the first of sixteen octets, and how many they are.
+// A 0 is the octet `low`, and a 1 its complement.
+#[inline(always)]
+pub fn octet_symbols(
+    rate: Rate,
+    invert: bool,
+    low: u8,
+    phase: u8,
+    register: u8,
+    octet: u8,
+) -> (u8x16, u8)
+    requires phase { phase < period rate }
+    requires register { register < 64 }
+    ensures long { length result.0 ≡ 16 }
+    ensures at_most { result.1 ≤ 16 }
+    ensures kept { take result.1 result.0 ≡ levels low (path rate invert phase register (bit_numbers (bits_of_octet octet))) }
+{
+    let row = first_row(rate) + usize::from(phase);
+    let symbols = symbols_at_half(invert, low, register, octet);
+    (
+        symbols.swizzle_dyn(u8x16::from_array(KEPT[row])),
+        COUNTS[row],
+    )
+}
+
+// The register behind an octet.
+#[inline(always)]
+pub fn register_behind(register: u8, octet: u8) -> u8
+    requires { register < 64 }
+    ensures behind { result ≡ register_after register (bit_numbers (bits_of_octet octet)) }
+    ensures small { result < 64 }
+{
+    REGISTER_AFTER[usize::from(octet)]
+}
+
+// The place in the puncture pattern behind an octet.
+#[inline(always)]
+pub fn phase_behind(rate: Rate, phase: u8) -> u8
+    requires { phase < period rate }
+    ensures { result ≡ (phase + 8) % period rate }
+{
+    let steps = phase + 8;
+    match rate {
+        Rate::R12 => steps % 1,
+        Rate::R23 => steps % 2,
+        Rate::R34 => steps % 3,
+        Rate::R56 => steps % 5,
+        Rate::R78 => steps % 7,
+    }
+}
