@@ -9,3 +9,4 @@ mod OctetTables
 mod KeptSymbols
 mod LanesTaken
 mod OctetPaths
+mod BitsInTurn

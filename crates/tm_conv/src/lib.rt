@@ -6,10 +6,12 @@
 mod encoder;
 mod laws;
 mod octets;
+mod plain;
 mod rates;
 
 pub use encoder::{Encoder, Symbols};
 pub use laws::{best_path_law, clean_symbols_law, complement_law, six_pairs_law};
+pub use plain::plain_encode;
 pub use rates::{Rate, kept, symbols_of};
 
 #[cfg(test)]

@@ -58,6 +58,30 @@ fn marker_at_the_punctured_rates(rt: HostRuntime) {
     assert_eq!(rt; symbols(Rate::R78, false, 0x0D, 7), 0b1_00001011);
 }
 
+// Octets at once, and bit by bit: the same symbols, from wherever the pattern stands.
+#[test]
+fn octets_at_once(rt: HostRuntime) {
+    let octets = [0x1A, 0xCF, 0xFC, 0x1D, 0x00, 0xFF, 0x35, 0x80, 0x01];
+    for rate in [Rate::R12, Rate::R23, Rate::R34, Rate::R56, Rate::R78] {
+        for (invert, low) in [(false, 0x00), (true, 0x00), (true, 0x80), (false, 0x80)] {
+            let mut encoder = Encoder::new(rate, invert);
+            let mut plain = Encoder::new(rate, invert);
+            for first in 0..octets.len() {
+                let piece = &octets[first..];
+                let mut out = [0; 144];
+                let mut plain_out = [0; 144];
+                let count = encoder.encode(piece, low, &mut out);
+                let plain_count = plain_encode(&mut plain, piece, low, &mut plain_out);
+                assert_eq!(rt;
+                    out[..count],
+                    plain_out[..plain_count],
+                    "rate {rate:?}, from octet {first}"
+                );
+            }
+        }
+    }
+}
+
 #[test]
 fn patterns(rt: HostRuntime) {
     let rows = [
