@@ -1,5 +1,6 @@
 -- What is sent for a longer list, and a sender that is given one piece after another.
-use Rattle.std.proofs.Common.{◌≡◌, ℕ, ◌<◌, List, [], ◌++◌, flat_map, Option, refl, sym, ◌∙◌, ap, subst}
+use Rattle.std.proofs.Common.{◌≡◌, ℕ, ◌*◌, ◌<◌, arith, drop, List, [], ◌++◌, flat_map, Option, refl, sym, ◌∙◌, ap, subst}
+use Rattle.std.proofs.Math.Nat.{zero-div}
 use Rattle.std.proofs.lemmas.Grind.{flat_map-append}
 use Rattle.tm_base.specs.Written.{Wrote, WroteFront}
 use Rattle.tm_base.specs.Pieces.{beyond, further, GoesOn, Fed, FedFront}
@@ -8,7 +9,7 @@ use Rattle.tm_config.specs.Configuration.{Configuration}
 use Rattle.tm_inner.specs.Symbols.{symbols_of_octets}
 use Rattle.tm_inner.specs.Sending.{StandsFor as InnerStandsFor}
 use Rattle.tm_inner.proofs.Symbols.{symbols-go_on, symbols-none}
-use Rattle.tm_channel.specs.Frames.{Splits, whole_frames, behind_frames}
+use Rattle.tm_channel.specs.Frames.{Splits, first_frames, whole_frames, behind_frames}
 use Rattle.tm_channel.specs.Cadu.{cadu}
 use Rattle.tm_channel.specs.Sent.{cadus, sent}
 use Rattle.tm_channel.specs.Sending.{Sending, StandsFor, Sends, SendsFront}
@@ -29,6 +30,13 @@ sent-goes_on c some given piece =
     let longer : sent c (given ++ piece) ≡ symbols_of_octets c (cadus c given ++ more) = ap (symbols_of_octets c) (cadus-more c some given piece) in
     longer ∙ symbols-go_on c (cadus c given) more
     ∙ ap (λ (l : List ℕ). sent c given ++ beyond (sent c given) l) (sym longer)
+
+pub cadus-none : (c : Configuration) → cadus c [] ≡ []
+unfolding whole_frames
+cadus-none c = ap (λ n. flat_map (cadu c) (first_frames c.frame_length n [])) (zero-div c.frame_length)
+
+pub nothing-held : (size : ℕ) → [] ≡ behind_frames size []
+nothing-held size = let none : 0 * size ≡ 0 = omega arith in sym (ap (λ n. drop (n * size) []) (zero-div size) ∙ ap (λ n. drop n []) none)
 
 pub sent-none : (c : Configuration) → 0 < c.frame_length → sent c [] ≡ []
 sent-none c some = ap (λ (fs : List (List ℕ)). symbols_of_octets c (flat_map (cadu c) fs)) (whole_frames-none c.frame_length some) ∙ symbols-none c

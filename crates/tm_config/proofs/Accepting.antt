@@ -8,7 +8,7 @@ use Rattle.tm_config.specs.declared.error.ConfigError.{ConfigError}
 use Rattle.tm_config.specs.declared.error.ConfigError.TheVariants.{Code, Depth, Length, Inner, Switch, Basis, Tolerance, Repair, Soft, Start, Skip, Workers, Limit, Fly, Keep, Ahead, Phase, Polarity}
 use Rattle.tm_config.specs.Configuration.{configuration_of, most_data}
 use Rattle.tm_config.specs.Accepted.{IsAccepted}
-use Rattle.tm_config.specs.Refusal.{is_listed, is_within, fits_if_given, code_fits, depth_fits, length_fits, switches_fit, repair_fits, first_error, refusal_of}
+use Rattle.tm_config.specs.Refusal.{is_listed, is_within, fits_if_given, code_fits, depth_fits, length_fits, inner_fits, switches_fit, repair_fits, first_error, refusal_of}
 
 -- where no test fails, the first passes, and none of the others fails
 passes : (fits : Bool) (error : ConfigError) (rest : List (Bool × ConfigError)) → first_error ((fits, error) ∷ rest) ≡ None → (fits ≡ true) × (first_error rest ≡ None)
@@ -20,7 +20,7 @@ pub record AllPass (raw : Raw) : Type 0 where
   pub code : code_fits raw ≡ true
   pub depth : depth_fits raw ≡ true
   pub length : length_fits raw ≡ true
-  pub inner : (raw.inner == 0) ≡ true
+  pub inner : inner_fits raw ≡ true
   pub switches : switches_fit raw ≡ true
   pub basis : nat_le raw.basis 1 ≡ true
   pub tolerance : nat_le raw.tolerance 8 ≡ true
@@ -42,7 +42,7 @@ all_pass raw none =
     let p1 = passes (code_fits raw) Code _ none in
     let p2 = passes (depth_fits raw) Depth _ p1.1 in
     let p3 = passes (length_fits raw) Length _ p2.1 in
-    let p4 = passes (raw.inner == 0) Inner _ p3.1 in
+    let p4 = passes (inner_fits raw) Inner _ p3.1 in
     let p5 = passes (switches_fit raw) Switch _ p4.1 in
     let p6 = passes (nat_le raw.basis 1) Basis _ p5.1 in
     let p7 = passes (nat_le raw.tolerance 8) Tolerance _ p6.1 in
@@ -83,6 +83,9 @@ within least most value fits = (grind (arith, nat_tests), grind (arith, nat_test
 
 code_listed : (code : ℕ) → is_listed code (16 ∷ 8 ∷ 0 ∷ []) ≡ true → (code ≡ 16) ⊎ (code ≡ 8) ⊎ (code ≡ 0)
 code_listed code fits = grind (arith, nat_tests)
+
+inner_listed : (inner : ℕ) → is_listed inner (0 ∷ 12 ∷ 23 ∷ 34 ∷ 56 ∷ 78 ∷ []) ≡ true → (inner ≡ 0) ⊎ (inner ≡ 12) ⊎ (inner ≡ 23) ⊎ (inner ≡ 34) ⊎ (inner ≡ 56) ⊎ (inner ≡ 78)
+inner_listed inner fits = grind (arith, nat_tests)
 
 depth_listed : (depth : ℕ) → is_listed depth (1 ∷ 2 ∷ 3 ∷ 4 ∷ 5 ∷ 8 ∷ []) ≡ true → (1 ≤ depth) × (depth ≤ 8)
 depth_listed depth fits = (grind (arith, nat_tests), grind (arith, nat_tests))
@@ -173,7 +176,7 @@ configuration_is_accepted raw none =
       whole = frame.whole;
       some_data = frame.some_data;
       data_fits = frame.data_fits;
-      inner = is_number raw.inner 0 pass.inner;
+      inner = inner_listed raw.inner pass.inner;
       invert = invert_fits raw.invert switches.0;
       randomize = at_most raw.randomize 1 switches.1;
       basis = at_most raw.basis 1 pass.basis;

@@ -13,8 +13,7 @@ pub record IsAccepted (c : Configuration) : Type 0 where
   pub whole : c.frame_length ≡ c.depth * data_length c
   pub some_data : 1 ≤ data_length c
   pub data_fits : data_length c ≤ most_data c.code
-  -- until the inner code stands, none is the only value
-  pub inner : c.inner ≡ 0
+  pub inner : (c.inner ≡ 0) ⊎ (c.inner ≡ 12) ⊎ (c.inner ≡ 23) ⊎ (c.inner ≡ 34) ⊎ (c.inner ≡ 56) ⊎ (c.inner ≡ 78)
   pub invert : ForSome c.invert (λ invert. invert ≤ 1)
   pub randomize : c.randomize ≤ 1
   pub basis : c.basis ≤ 1

@@ -31,6 +31,10 @@ depth_fits raw = if raw.code == 0 then raw.depth == 1 else is_listed raw.depth (
 abbrev pub length_fits : Raw → Bool
 length_fits raw = fits_if_given (λ length. (length % raw.depth == 0) && is_within 1 (most_data raw.code) (length / raw.depth)) raw.length
 
+-- no inner code, or a rate of the convolutional code by its two digits (CCSDS 131.0-B, Convolutional Coding)
+abbrev pub inner_fits : Raw → Bool
+inner_fits raw = is_listed raw.inner (0 ∷ 12 ∷ 23 ∷ 34 ∷ 56 ∷ 78 ∷ [])
+
 -- both switches are on or off
 abbrev pub switches_fit : Raw → Bool
 switches_fit raw = fits_if_given (λ invert. nat_le invert 1) raw.invert && nat_le raw.randomize 1
@@ -45,8 +49,7 @@ tests raw =
     (code_fits raw, Code)
     ∷ (depth_fits raw, Depth)
     ∷ (length_fits raw, Length)
-    -- until the inner code stands, none is the only value
-    ∷ (raw.inner == 0, Inner)
+    ∷ (inner_fits raw, Inner)
     ∷ (switches_fit raw, Switch)
     ∷ (nat_le raw.basis 1, Basis)
     ∷ (nat_le raw.tolerance 8, Tolerance)

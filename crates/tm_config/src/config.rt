@@ -111,7 +111,7 @@ impl Config {
     ///
     /// - `Code`: 16, 8 or 0. `Depth`: 1, 2, 3, 4, 5 or 8, and 1 alone with code 0.
     /// - `Length`: `None`, or a multiple of the depth with quotient 1 to 255 - 2E; with code 0, 1 to 2,040.
-    /// - `Inner`: 0. `Switch`: `invert` `None`, 0 or 1, and `randomize` 0 or 1. `Basis`: 0 or 1.
+    /// - `Inner`: 0, 12, 23, 34, 56 or 78. `Switch`: `invert` `None`, 0 or 1, and `randomize` 0 or 1. `Basis`: 0 or 1.
     /// - `Tolerance`: 0 to 8. `Repair`: `None`, or 0 to E. `Soft`, `Start`: 0 or 1. `Skip`: 0 to 15.
     /// - `Workers`: 1 to 64. `Limit`: 1 to 2^40. `Fly`: 0 to 15. `Keep`: 64 to 65,536. `Ahead`: 0 to 4,096.
     /// - `Phase`: 0. `Polarity`: 0 or 1.

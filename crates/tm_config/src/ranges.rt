@@ -1,7 +1,7 @@
 // The test of each value, and the first that fails.
 ghost use Rattle.std.specs.Prelude.{◌≡◌, ◌*◌, None, unwrap_or};
 ghost use Rattle.tm_config.specs.Configuration.{most_data};
-ghost use Rattle.tm_config.specs.Refusal.{is_within, code_fits, depth_fits, length_fits, switches_fit, repair_fits, first_error, refusal_of};
+ghost use Rattle.tm_config.specs.Refusal.{is_within, code_fits, depth_fits, length_fits, inner_fits, switches_fit, repair_fits, first_error, refusal_of};
 
 use crate::{ConfigError, Raw};
 
@@ -51,6 +51,12 @@ fn length_fits(raw: &Raw) -> bool
     }
 }
 
+fn inner_fits(raw: &Raw) -> bool
+    ensures { result ≡ inner_fits raw.now }
+{
+    matches!(raw.inner, 0 | 12 | 23 | 34 | 56 | 78)
+}
+
 fn switches_fit(raw: &Raw) -> bool
     ensures { result ≡ switches_fit raw.now }
 {
@@ -89,8 +95,7 @@ pub fn refusal(raw: &Raw) -> Option<ConfigError>
         (code_fits(raw), ConfigError::Code),
         (depth_fits(raw), ConfigError::Depth),
         (length_fits(raw), ConfigError::Length),
-        // Until the inner code stands, none is the only value.
-        (raw.inner == 0, ConfigError::Inner),
+        (inner_fits(raw), ConfigError::Inner),
         (switches_fit(raw), ConfigError::Switch),
         (raw.basis <= 1, ConfigError::Basis),
         (raw.tolerance <= 8, ConfigError::Tolerance),

@@ -67,11 +67,19 @@ fn refuses_the_first_value_out_of_range(rt: HostRuntime) {
         ),
         (
             Raw {
-                inner: 34,
+                inner: 35,
                 invert: Some(2),
                 ..plain()
             },
             ConfigError::Inner,
+        ),
+        (
+            Raw {
+                inner: 34,
+                invert: Some(2),
+                ..plain()
+            },
+            ConfigError::Switch,
         ),
         (
             Raw {
@@ -210,6 +218,24 @@ fn refuses_the_first_value_out_of_range(rt: HostRuntime) {
 }
 
 #[test]
+fn takes_each_inner_code(rt: HostRuntime) {
+    for inner in 0..=100 {
+        let raw = Raw { inner, ..plain() };
+        let is_listed = [0, 12, 23, 34, 56, 78].contains(&inner);
+        match Config::check(&raw) {
+            Ok(config) => {
+                assert!(rt; is_listed, "accepted: {inner}");
+                assert_eq!(rt; config.inner(), inner);
+            }
+            Err(error) => {
+                assert!(rt; !is_listed, "refused: {inner}");
+                assert_eq!(rt; error, ConfigError::Inner);
+            }
+        }
+    }
+}
+
+#[test]
 fn resolves_what_was_not_given(rt: HostRuntime) {
     // code, depth, length and repair as given; length, word length and repair as they are then
     let rows = [
@@ -246,7 +272,7 @@ fn tells_each_value(rt: HostRuntime) {
         code: 8,
         depth: 2,
         length: Some(4),
-        inner: 0,
+        inner: 78,
         invert: Some(0),
         randomize: 0,
         basis: 1,
@@ -272,7 +298,7 @@ fn tells_each_value(rt: HostRuntime) {
                     config.length(),
                     config.inner()
                 ],
-                [8, 2, 4, 0]
+                [8, 2, 4, 78]
             );
             assert_eq!(rt; config.invert(), Some(0));
             assert_eq!(rt;

@@ -1,17 +1,39 @@
 -- What an inner sender keeps, and for which octets, given so far, it stands.
-use Rattle.std.specs.Prelude.{◌≡◌, ℕ, Bool, List, Option}
+use Rattle.std.specs.Prelude.{◌≡◌, ℕ, Bool, List, Option, Some, None}
+use Rattle.tm_base.specs.Bits.{bits_of}
 use Rattle.tm_base.specs.Pieces.{Fed, FedFront}
 use Rattle.tm_config.specs.Configuration.{Configuration}
-use Rattle.tm_inner.specs.Symbols.{symbols_of_octets}
+use Rattle.tm_conv.specs.declared.rates.Rate.{Rate}
+use Rattle.tm_conv.specs.Encoding.{Encoding, StandsFor as EncoderStandsFor, levels, sent_for}
+use Rattle.tm_inner.specs.Symbols.{rate_of, is_inverted, symbols_of_octets}
 
 -- what contracts see of an inner sender
 pub record InnerSending : Type 0 where
   pub config : Configuration
+  pub encoder : Option Encoding
   pub has_failed : Bool
 
--- with no inner code nothing is kept of the octets, and a sender stands for any
+-- the encoder is that of the configuration's inner code, and there is none where it has no inner code
+abbrev pub IsEncoderOf : Configuration → Option Encoding → Type 0
+IsEncoderOf c None = rate_of c.inner ≡ None
+IsEncoderOf c (Some encoder) = (rate_of c.inner ≡ Some encoder.rate) × (encoder.invert ≡ is_inverted encoder.rate c.invert)
+
+-- an encoder that was given the bits of these octets
+abbrev pub EncodesFor : Encoding → List ℕ → Type 0
+EncodesFor encoder octets = EncoderStandsFor encoder (bits_of octets)
+
+-- the octets of the symbols of these octets
+abbrev pub encoded : Rate → Bool → ℕ → List ℕ → List ℕ
+encoded rate invert low octets = levels low (sent_for rate invert (bits_of octets))
+
+-- register and pattern are those behind the bits of these octets; with no inner code nothing is kept
+abbrev pub KeepsFor : Option Encoding → List ℕ → Type 0
+KeepsFor None octets = Unit {0}
+KeepsFor (Some encoder) octets = EncodesFor encoder octets
+
+-- an inner sender that was given these octets, and no others
 abbrev pub StandsFor : InnerSending → List ℕ → Type 0
-StandsFor sender octets = Unit {0}
+StandsFor sender octets = KeepsFor sender.encoder octets
 
 -- given these octets, a sender went on and wrote what is due for them
 pub record Sends (before now : InnerSending) (taken taken_now : Option (List ℕ)) (octets : List ℕ) : Type 0 where

@@ -2,6 +2,7 @@
 //! (CCSDS 131.0-B, Convolutional Coding).
 #![tactic(auto)]
 
+mod code;
 mod sender;
 
 pub use sender::{InnerSender, SendError};

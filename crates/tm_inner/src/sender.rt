@@ -1,12 +1,22 @@
 // The sender's last stage.
-ghost use Rattle.std.specs.Prelude.{◌≡◌, ◌≢◌, ◌↔◌, ◌≤◌, List, [], ℕ, IsTrue, OnOk, IsErrOf, false};
-ghost use Rattle.tm_base.specs.Outside.{Rose};
-ghost use Rattle.tm_inner.specs.Sending.{StandsFor, Sends, SendsFront};
+ghost use Rattle.std.specs.Prelude.{◌≡◌, ◌≢◌, ◌↔◌, ◌≤◌, List, [], ℕ, IsTrue, OnOk, OnErr, IsErrOf, false};
+ghost use Rattle.tm_base.specs.Outside.{HasCause, Rose};
+ghost use Rattle.tm_base.specs.Pieces.{Fed, FedFront};
+ghost use Rattle.tm_config.specs.Configuration.{Configuration};
+ghost use Rattle.tm_inner.specs.Symbols.{low_level, symbols_of_octets};
+ghost use Rattle.tm_inner.specs.Sending.{EncodesFor, IsEncoderOf, KeepsFor, StandsFor, Sends, SendsFront, encoded};
 
+use crate::code::{encoder_of, low_level};
 use std::marker::Model;
 use thiserror::Error;
 use tm_base::{Failed, Sink, put_all};
 use tm_config::Config;
+use tm_conv::Encoder;
+
+// The octets that are encoded at a time, and the most that their symbols fill.
+const PIECE: usize = 256;
+
+const ROOM: usize = 16 * PIECE;
 
 /// Why a push was refused.
 #[derive(Clone, Copy, Debug, PartialEq, Eq, Error)]
@@ -23,15 +33,19 @@ pub enum SendError {
 #[derive(Drop)]
 pub struct InnerSender {
     config: Config,
+    // None where there is no inner code.
+    encoder: Option<Encoder>,
     has_failed: bool,
 }
 
 impl Model for InnerSender {
-    ghost use Rattle.tm_inner.specs.Sending.{InnerSending};
+    ghost use Rattle.tm_inner.specs.Sending.{InnerSending, IsEncoderOf};
 
     ghost Value = { InnerSending };
 
-    ghost view = { λ s. record { config = s.config; has_failed = s.has_failed } };
+    ghost view = { λ s. record { config = s.config; encoder = s.encoder; has_failed = s.has_failed } };
+
+    ghost invariant = { λ s. IsEncoderOf s.config s.encoder };
 }
 
 impl InnerSender {
@@ -43,6 +57,7 @@ impl InnerSender {
     {
         InnerSender {
             config: *config,
+            encoder: encoder_of(config),
             has_failed: false,
         }
     }
@@ -54,7 +69,9 @@ impl InnerSender {
         self.has_failed
     }
 
-    /// Writes what is due for the next octets, most significant bit first. With no inner code these are the octets.
+    /// Writes what is due for the next octets, most significant bit first: with an inner code an octet for each symbol, 00 and
+    /// FF, or 80 and 7F (hex) in the signed form, and else the octets (CCSDS 131.0-B, Convolutional Coding). The code's
+    /// register and puncture pattern run on from push to push.
     ///
     /// `Sink` comes where `out` fails, or takes nothing of what is left; a front of what is due was then written.
     /// `Stopped` comes where an earlier push answered `Sink`; nothing is written then.
@@ -72,7 +89,7 @@ impl InnerSender {
         if self.has_failed {
             return Err(SendError::Stopped);
         }
-        match put_all(out, octets) {
+        match send(&mut self.encoder, low_level(&self.config), octets, out) {
             Ok(()) => Ok(()),
             Err(Failed) => {
                 self.has_failed = true;
@@ -80,4 +97,53 @@ impl InnerSender {
             }
         }
     }
+}
+
+// Writes the octets, or where there is an encoder their symbols, a 0 as the octet `low`.
+fn send<O: Sink>(
+    encoder: &mut Option<Encoder>,
+    low: u8,
+    octets: &[u8],
+    out: &mut O,
+) -> Result<(), Failed>
+    ensures of { (c : Configuration) → IsEncoderOf c encoder.old → IsEncoderOf c encoder.new }
+    ensures sent { OnOk result ((c : Configuration) → IsEncoderOf c encoder.old → low ≡ low_level c.soft
+        → Fed KeepsFor (symbols_of_octets c) encoder.old encoder.new (O.taken out.old) (O.taken out.new) octets.now) }
+    ensures front { OnErr result ((c : Configuration) → IsEncoderOf c encoder.old → low ≡ low_level c.soft
+        → FedFront KeepsFor (symbols_of_octets c) encoder.old (O.taken out.old) (O.taken out.new) octets.now) }
+    ensures cause { HasCause (O.faults out.old) (O.faults out.new) (O.is_last out.new) result }
+{
+    match encoder {
+        Some(encoder) => send_symbols(encoder, low, octets, out),
+        None => put_all(out, octets),
+    }
+}
+
+// Writes the symbols of the octets, a 0 as the octet `low` and a 1 as its complement.
+fn send_symbols<O: Sink>(
+    encoder: &mut Encoder,
+    low: u8,
+    octets: &[u8],
+    out: &mut O,
+) -> Result<(), Failed>
+    ensures rate { encoder.new.rate ≡ encoder.old.rate }
+    ensures invert { encoder.new.invert ≡ encoder.old.invert }
+    ensures sent { OnOk result (Fed EncodesFor (encoded encoder.old.rate encoder.old.invert low)
+        encoder.old encoder.new (O.taken out.old) (O.taken out.new) octets.now) }
+    ensures front { OnErr result (FedFront EncodesFor (encoded encoder.old.rate encoder.old.invert low)
+        encoder.old (O.taken out.old) (O.taken out.new) octets.now) }
+    ensures cause { HasCause (O.faults out.old) (O.faults out.new) (O.is_last out.new) result }
+{
+    let mut room = [0; ROOM];
+    let mut done = 0;
+    while done < octets.len() {
+        let end = done + PIECE.min(octets.len() - done);
+        let count = encoder.encode(&octets[done..end], low, &mut room);
+        match put_all(out, &room[..count]) {
+            Ok(()) => {}
+            Err(Failed) => return Err(Failed),
+        }
+        done = end;
+    }
+    Ok(())
 }

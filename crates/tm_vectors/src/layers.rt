@@ -115,6 +115,27 @@ fn no_octets_meet_no_fault(rt: HostRuntime) -> Result<(), Fail> {
     Ok(())
 }
 
+// The register and the pattern run on from push to push.
+#[test]
+fn an_inner_sender_takes_any_pieces(rt: HostRuntime) -> Result<(), Fail> {
+    let alloc = rt.alloc();
+    let config = config_of(alloc, "tmchan encode")?;
+    let wanted = [
+        0x00, 0xFF, 0x00, 0xFF, 0x00, 0xFF, 0xFF, 0x00, 0x00, 0x00, 0x00, 0x00, 0xFF, 0x00, 0x00,
+        0x00, 0x00, 0x00, 0x00, 0xFF, 0xFF, 0xFF, 0x00, 0x00, 0xFF, 0x00, 0x00, 0xFF, 0x00, 0xFF,
+        0xFF, 0xFF,
+    ];
+    for size in [1, 2] {
+        let mut inner = InnerSender::new(&config);
+        let mut out = MemSink::new(alloc, 32, Vec::new(alloc))?;
+        for piece in [0x1A, 0xCF].chunks(size) {
+            inner.push(piece, &mut out)?;
+        }
+        assert_eq!(rt; out.octets(), wanted.as_slice(), "pieces of {size}");
+    }
+    Ok(())
+}
+
 // With no inner code the symbols are the octets.
 #[test]
 fn an_inner_sender_hands_octets_on(rt: HostRuntime) -> Result<(), Fail> {

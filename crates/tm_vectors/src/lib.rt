@@ -4,6 +4,8 @@
 #![tactic(auto)]
 
 #[cfg(test)]
+mod coded;
+#[cfg(test)]
 mod faults;
 #[cfg(test)]
 mod layers;

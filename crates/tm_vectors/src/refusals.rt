@@ -75,9 +75,9 @@ static WORDS: [(&str, &str, &str); 22] = [
     ),
 ];
 
-// The same of values outside their lists and ranges. Each inner code, and a phase that is to be found, is outside until
-// it stands.
-static VALUES: [(&str, &str, &str); 24] = [
+// The same of values outside their lists and ranges. A phase that is to be found is outside until the search
+// for it stands.
+static VALUES: [(&str, &str, &str); 23] = [
     (
         "a depth out of the list",
         "tmchan encode --depth 6 --inner none",
@@ -98,8 +98,7 @@ static VALUES: [(&str, &str, &str); 24] = [
         "tmchan encode --inner none --code rs8 --length 240",
         "length",
     ),
-    ("an inner code by default", "tmchan encode", "inner"),
-    ("an inner code", "tmchan encode --inner 1/2", "inner"),
+    ("no rate of the list", "tmchan encode --inner 4/5", "inner"),
     (
         "a depth before the inner code",
         "tmchan encode --inner 1/4 --depth 6",

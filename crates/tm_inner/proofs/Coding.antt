@@ -1,0 +1,41 @@
+-- An encoder that is fed one piece.
+use Rattle.std.proofs.Common.{◌≡◌, ℕ, ◌+◌, ◌-◌, Bool, List, ◌++◌, Option, take, drop, sym, ◌∙◌, ap, subst, arith}
+use Rattle.std.proofs.Math.Seq.{take-add}
+use Rattle.tm_base.specs.Bits.{bits_of}
+use Rattle.tm_base.specs.Written.{Wrote, WroteFront}
+use Rattle.tm_base.specs.Pieces.{Fed, FedFront, further}
+use Rattle.tm_base.proofs.Packing.{bits_of-append}
+use Rattle.tm_conv.specs.Encoding.{Encoding, StandsFor as EncoderStandsFor, levels, sent_for}
+use Rattle.tm_inner.specs.Sending.{EncodesFor, encoded}
+use Rattle.tm_inner.proofs.Symbols.{further-is}
+
+-- for each list of bits so far, an encoder goes on by these octets and sends these symbols
+pub record GoesOnBy (before now : Encoding) (low : ℕ) (piece symbols : List ℕ) : Type 0 where
+  pub stands : (given : List Bool) → EncoderStandsFor before given → EncoderStandsFor now (given ++ bits_of piece)
+  pub sent : (given : List Bool) → EncoderStandsFor before given
+      → levels low (sent_for before.rate before.invert (given ++ bits_of piece)) ≡ levels low (sent_for before.rate before.invert given) ++ symbols
+
+symbols-due : (before now : Encoding) (low : ℕ) (piece symbols given : List ℕ) → GoesOnBy before now low piece symbols → EncodesFor before given
+    → further (encoded before.rate before.invert low) given piece ≡ symbols
+symbols-due before now low piece symbols given on stood =
+    further-is (encoded before.rate before.invert low) given piece symbols
+    (ap (λ l. levels low (sent_for before.rate before.invert l)) (bits_of-append given piece) ∙ on.sent (bits_of given) stood)
+
+pub fed-piece : (before now : Encoding) (low : ℕ) (piece symbols : List ℕ) (taken taken_now : Option (List ℕ)) → GoesOnBy before now low piece symbols → Wrote taken taken_now symbols
+    → Fed EncodesFor (encoded before.rate before.invert low) before now taken taken_now piece
+fed-piece before now low piece symbols taken taken_now on wrote = record {
+  stands = λ given stood. subst (EncoderStandsFor now) (sym (bits_of-append given piece)) (on.stands (bits_of given) stood);
+  written = λ given stood. subst (Wrote taken taken_now) (sym (symbols-due before now low piece symbols given on stood)) wrote;
+}
+
+pub fed-piece_front : (before now : Encoding) (low : ℕ) (piece symbols : List ℕ) (taken taken_now : Option (List ℕ)) → GoesOnBy before now low piece symbols → WroteFront taken taken_now symbols
+    → FedFront EncodesFor (encoded before.rate before.invert low) before taken taken_now piece
+fed-piece_front before now low piece symbols taken taken_now on wrote = record {
+  front = λ given stood. subst (WroteFront taken taken_now) (sym (symbols-due before now low piece symbols given on stood)) wrote;
+}
+
+-- a piece behind the octets before it
+pub joined : (done count : ℕ) (octets : List ℕ) → take done octets ++ take ((done + count) - done) (drop done octets) ≡ take (done + count) octets
+joined done count octets =
+    let same : (done + count) - done ≡ count = omega arith in
+    ap (λ (n : ℕ). take done octets ++ take n (drop done octets)) same ∙ sym (take-add done count octets)
