@@ -1,11 +1,11 @@
 -- The rows of the symbols that are kept.
-use Rattle.std.proofs.Common.{◌≡◌, ◌<◌, ◌+◌, ℕ, List, [], ◌∷◌, get_or, refl, arith, zero, suc, Bool, true, false, ltb, ◌&&◌}
+use Rattle.std.proofs.Common.{◌≡◌, ◌<◌, ◌+◌, ◌%◌, ℕ, List, [], ◌∷◌, get_or, refl, arith, zero, suc, Bool, true, false, ltb, ◌&&◌}
 use Rattle.std.proofs.lemmas.List.Elements.{All-cons}
 use Rattle.std.proofs.lemmas.Bool.{ltb-true}
 use Rattle.std.specs.Prelude.{All}
 use Rattle.tm_conv.specs.declared.rates.Rate.{Rate}
 use Rattle.tm_conv.specs.declared.rates.Rate.TheVariants.{R12, R23, R34, R56, R78}
-use Rattle.tm_conv.specs.declared.octets.TheConstants.{KEPT, COUNTS}
+use Rattle.tm_conv.specs.declared.octets.TheConstants.{KEPT, COUNTS, NEXT}
 use Rattle.tm_conv.specs.Octets.{AreKept}
 use Rattle.tm_conv.specs.Path.{period}
 
@@ -65,3 +65,40 @@ at_seven_eighths (suc (suc (suc (suc zero)))) lt = record { long = refl; small =
 at_seven_eighths (suc (suc (suc (suc (suc zero))))) lt = record { long = refl; small = below (get_or KEPT 16 []) refl; at_most = omega arith; kept = λ f invert register a b c d e g h i. refl }
 at_seven_eighths (suc (suc (suc (suc (suc (suc zero)))))) lt = record { long = refl; small = below (get_or KEPT 17 []) refl; at_most = omega arith; kept = λ f invert register a b c d e g h i. refl }
 at_seven_eighths (suc (suc (suc (suc (suc (suc (suc phase))))))) lt = absurd (omega arith)
+
+-- the places behind an octet, in the rows of a rate
+abbrev pub AreNext : ℕ → Rate → Type 0
+AreNext first rate = (phase : ℕ) → phase < period rate → get_or NEXT (first + phase) 0 ≡ (phase + 8) % period rate
+
+pub next_at_half : AreNext 0 R12
+next_at_half zero lt = refl
+next_at_half (suc phase) lt = absurd (omega arith)
+
+pub next_at_two_thirds : AreNext 1 R23
+next_at_two_thirds zero lt = refl
+next_at_two_thirds (suc zero) lt = refl
+next_at_two_thirds (suc (suc phase)) lt = absurd (omega arith)
+
+pub next_at_three_quarters : AreNext 3 R34
+next_at_three_quarters zero lt = refl
+next_at_three_quarters (suc zero) lt = refl
+next_at_three_quarters (suc (suc zero)) lt = refl
+next_at_three_quarters (suc (suc (suc phase))) lt = absurd (omega arith)
+
+pub next_at_five_sixths : AreNext 6 R56
+next_at_five_sixths zero lt = refl
+next_at_five_sixths (suc zero) lt = refl
+next_at_five_sixths (suc (suc zero)) lt = refl
+next_at_five_sixths (suc (suc (suc zero))) lt = refl
+next_at_five_sixths (suc (suc (suc (suc zero)))) lt = refl
+next_at_five_sixths (suc (suc (suc (suc (suc phase))))) lt = absurd (omega arith)
+
+pub next_at_seven_eighths : AreNext 11 R78
+next_at_seven_eighths zero lt = refl
+next_at_seven_eighths (suc zero) lt = refl
+next_at_seven_eighths (suc (suc zero)) lt = refl
+next_at_seven_eighths (suc (suc (suc zero))) lt = refl
+next_at_seven_eighths (suc (suc (suc (suc zero)))) lt = refl
+next_at_seven_eighths (suc (suc (suc (suc (suc zero))))) lt = refl
+next_at_seven_eighths (suc (suc (suc (suc (suc (suc zero)))))) lt = refl
+next_at_seven_eighths (suc (suc (suc (suc (suc (suc (suc phase))))))) lt = absurd (omega arith)

@@ -95,7 +95,7 @@ impl Encoder {
             );
             symbols.copy_to_slice(&mut out[count..count + 16]);
             count += usize::from(kept);
-            register = register_behind(register, *octet);
+            register = register_behind(*octet);
             phase = phase_behind(self.rate, phase);
         }
         self.register = register;

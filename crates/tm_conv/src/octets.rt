@@ -41,10 +41,14 @@ static COUNTS: [u8; 18] = [
     16, 12, 12, 11, 10, 11, 10, 9, 9, 10, 10, 10, 9, 9, 9, 9, 9, 9,
 ];
 
+// The place of the puncture pattern behind the octet.
+static NEXT: [u8; 18] = [0, 0, 1, 2, 0, 1, 3, 4, 0, 1, 2, 1, 2, 3, 4, 5, 6, 0];
+
 // The first row of a rate.
 #[inline(always)]
 fn first_row(rate: Rate) -> usize
     ensures fits { result + period rate ≤ 18 }
+    ensures next { (phase : ℕ) → phase < period rate → get_or NEXT (result + phase) 0 ≡ (phase + 8) % period rate }
     ensures rows { (phase : ℕ) → phase < period rate → AreKept rate phase (get_or KEPT (result + phase) []) (get_or COUNTS (result + phase) 0) }
 {
     match rate {
@@ -97,11 +101,10 @@ pub fn octet_symbols(
     )
 }
 
-// The register behind an octet.
+// The register behind an octet, whatever it was before.
 #[inline(always)]
-pub fn register_behind(register: u8, octet: u8) -> u8
-    requires { register < 64 }
-    ensures behind { result ≡ register_after register (bit_numbers (bits_of_octet octet)) }
+pub fn register_behind(octet: u8) -> u8
+    ensures behind { (register : ℕ) → register < 64 → result ≡ register_after register (bit_numbers (bits_of_octet octet)) }
     ensures small { result < 64 }
 {
     REGISTER_AFTER[usize::from(octet)]
@@ -113,12 +116,5 @@ pub fn phase_behind(rate: Rate, phase: u8) -> u8
     requires { phase < period rate }
     ensures { result ≡ (phase + 8) % period rate }
 {
-    let steps = phase + 8;
-    match rate {
-        Rate::R12 => steps % 1,
-        Rate::R23 => steps % 2,
-        Rate::R34 => steps % 3,
-        Rate::R56 => steps % 5,
-        Rate::R78 => steps % 7,
-    }
+    NEXT[first_row(rate) + usize::from(phase)]
 }

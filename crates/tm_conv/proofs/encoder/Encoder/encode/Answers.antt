@@ -14,7 +14,7 @@ loop-octet-preserved c =
     let place = place-more c.self.inside.rate c.self.inside.phase c.loop-octet.phase i now.phase in
     let room : c.loop-octet.count + 16 - c.loop-octet.count ≡ 16 = omega arith in
     record {
-      register = c.register_behind-register.ensures.behind ∙ register-more c.self.inside.register c.loop-octet.register octets i c.loop-octet-test.true now.register;
+      register = c.register_behind-register.ensures.behind c.loop-octet.register now.low ∙ register-more c.self.inside.register c.loop-octet.register octets i c.loop-octet-test.true now.register;
       low = c.register_behind-register.ensures.small;
       phase = c.phase_behind-phase.ensures ∙ place;
       within = subst (λ t. t < period c.self.inside.rate) (sym c.phase_behind-phase.ensures) (phase-within c.self.inside.rate (c.loop-octet.phase + 8));
