@@ -1,0 +1,5 @@
+use Rattle.tm_viterbi.proofs.ClosedFront.{first-longer}
+use Rattle.tm_viterbi.proofs.clean_laws.closed_windows_law.Goals as goal
+
+pub returns : goal.returns
+returns c = first-longer
