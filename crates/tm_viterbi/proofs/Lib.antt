@@ -20,3 +20,5 @@ mod LastWindow
 mod Feeding
 mod LeastCost
 mod OneList
+pub mod CleanBlocks
+mod ClosedFront

@@ -3,6 +3,7 @@ pub mod Settings
 pub mod WindowBlock
 pub mod Blocks
 pub mod Due
+pub mod Clean
 pub mod Column
 pub mod Walk
 pub mod Totals

@@ -4,6 +4,7 @@
 #![tactic(auto)]
 
 mod block;
+mod clean_laws;
 mod columns;
 mod costs;
 mod decoder;
@@ -20,6 +21,7 @@ mod whole;
 mod window;
 
 pub use block::{Block, BlockTaker, Start};
+pub use clean_laws::{clean_blocks_law, closed_windows_law, turned_blocks_law};
 pub use columns::plain_column;
 pub use decoder::{Decoder, FeedError};
 pub use lanes::lane_column;
