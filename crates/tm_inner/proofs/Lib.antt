@@ -1,3 +1,5 @@
 pub mod Symbols
 pub mod Sending
 mod Coding
+pub mod InnerBits
+pub mod DueBits

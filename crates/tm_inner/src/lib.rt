@@ -3,6 +3,8 @@
 #![tactic(auto)]
 
 mod code;
+mod laws;
 mod sender;
 
+pub use laws::{clean_inner_law, due_bits_law, inner_law};
 pub use sender::{InnerSender, SendError};

@@ -1,0 +1,113 @@
+-- The bits that octets come to, and those of octets that were sent and not disturbed.
+use Rattle.std.proofs.Common.{◌≡◌, ℕ, zero, suc, ◌+◌, ◌-◌, ◌%◌, ◌<◌, ◌≤◌, ◌==◌, cond, Bool, true, false, List, [], ◌∷◌, length, drop, map, refl, sym, ap, ◌∙◌, subst, arith, Option, Some, None, ◌⊎◌, inl, inr}
+use Rattle.std.proofs.lemmas.Bool.Decides.{nat_tests, eqb_tells}
+use Rattle.std.proofs.lemmas.List.{length-map}
+use Rattle.std.proofs.lemmas.List.Elements.{All-cons, All-nil}
+use Rattle.tm_base.specs.Bits.{bits_of, octets_of, bit_number}
+use Rattle.tm_base.proofs.Packing.{bits_of-octets_of, length-bits_of}
+use Rattle.tm_config.specs.Configuration.{Configuration}
+use Rattle.tm_config.specs.Accepted.{IsAccepted}
+use Rattle.tm_conv.specs.declared.rates.Rate.{Rate}
+use Rattle.tm_conv.specs.declared.rates.Rate.TheVariants.{R12}
+use Rattle.tm_conv.specs.Path.{AreBits}
+use Rattle.tm_conv.specs.Cost.{sure}
+use Rattle.tm_conv.specs.Encoding.{bit_numbers, sent_for, level, levels}
+use Rattle.tm_viterbi.specs.Settings.{Settings}
+use Rattle.tm_viterbi.specs.WindowBlock.{WindowBlock}
+use Rattle.tm_viterbi.specs.Blocks.{AreBlocksOf}
+use Rattle.tm_viterbi.specs.Clean.{IsFixed, AreClean, sure_symbols}
+use Rattle.tm_inner.specs.Inner.{IsStartKnown, settings_of, soft_value, soft_octets, BlocksAt, bits_at, Inner}
+use Rattle.tm_inner.specs.Symbols.{rate_of, is_inverted, low_level, symbols_by, symbols_of_octets}
+
+-- ---- one list of bits
+
+abbrev pub OneBlocks : Type 0
+OneBlocks = (s : Settings) (octets : List ℕ) (blocks others : List WindowBlock) (left rest : ℕ)
+    → AreBlocksOf s octets blocks left → AreBlocksOf s octets others rest → (blocks ≡ others) × (left ≡ rest)
+
+same-blocks : OneBlocks → (rate : Option Rate) (c : Configuration) (phase : ℕ) (octets : List ℕ) (blocks others : List WindowBlock) (left rest : ℕ)
+    → BlocksAt rate c phase octets blocks left → BlocksAt rate c phase octets others rest → blocks ≡ others
+same-blocks one None c phase octets blocks others left rest p q = p.0 ∙ sym q.0
+same-blocks one (Some rate) c phase octets blocks others left rest p q = (one (settings_of c rate) (soft_octets c phase octets) blocks others left rest p q).0
+
+pub only_bits : OneBlocks → (c : Configuration) (phase : ℕ) (octets : List ℕ) (bits others : List Bool) → Inner c phase octets bits → Inner c phase octets others → bits ≡ others
+only_bits one c phase octets bits others p q =
+    p.are_bits ∙ ap (bits_at (rate_of c.inner) c octets) (same-blocks one (rate_of c.inner) c phase octets p.blocks q.blocks p.left q.left p.are_blocks q.are_blocks) ∙ sym q.are_bits
+
+-- ---- octets that were sent
+
+-- the soft form undone
+value-sent : (c : Configuration) (symbol : ℕ) → soft_value c (level (low_level c.soft) symbol) ≡ cond (symbol == 0) 0 255
+value-sent c symbol = go (c.soft == 0) (symbol == 0)
+  where
+    go : (u8 zero_symbol : Bool) → (let octet = cond zero_symbol (cond u8 0x00 0x80) (255 - cond u8 0x00 0x80) in cond u8 octet ((octet + 128) % 256)) ≡ cond zero_symbol 0 255
+    go true true = refl
+    go true false = refl
+    go false true = refl
+    go false false = refl
+
+values-sent : (c : Configuration) (symbols : List ℕ) → map (soft_value c) (levels (low_level c.soft) symbols) ≡ sure symbols
+values-sent c [] = refl
+values-sent c (symbol ∷ symbols) = (λ i. value-sent c symbol i ∷ values-sent c symbols i)
+
+pub drop-none : {A : Type 0} (n : ℕ) (xs : List A) → n ≡ 0 → drop n xs ≡ xs
+drop-none zero xs none = refl
+drop-none (suc n) xs none = absurd (omega arith)
+
+pub AreBits-bit_numbers : (bits : List Bool) → AreBits (bit_numbers bits)
+AreBits-bit_numbers [] = All-nil (λ b. b < 2)
+AreBits-bit_numbers (bit ∷ bits) = All-cons (λ b. b < 2) (bit_number bit) (bit_numbers bits) (small bit) (AreBits-bit_numbers bits)
+  where
+    small : (bit : Bool) → bit_number bit < 2
+    small true = omega arith
+    small false = omega arith
+
+numbers-bits : (bits : List Bool) → map (λ bit. bit == 1) (bit_numbers bits) ≡ bits
+numbers-bits [] = refl
+numbers-bits (true ∷ bits) = ap (λ l. true ∷ l) (numbers-bits bits)
+numbers-bits (false ∷ bits) = ap (λ l. false ∷ l) (numbers-bits bits)
+
+-- the rates stand under different numbers
+pub half-rate : (c : Configuration) (rate : Rate) → rate_of c.inner ≡ Some rate → c.inner ≡ 12 → rate ≡ R12
+half-rate c rate is half = let same : rate_of 12 ≡ Some rate = ap rate_of (sym half) ∙ is in cc
+
+no-rate : (c : Configuration) (rate : Rate) → rate_of c.inner ≡ Some rate → c.inner ≡ 0 → ⊥
+no-rate c rate is none = let same : rate_of 0 ≡ Some rate = ap rate_of (sym none) ∙ is in absurd (cc)
+
+pub some-steps : (octets : List ℕ) → (bit_numbers (bits_of octets) ≡ []) ⊎ (6 ≤ length (bit_numbers (bits_of octets)))
+some-steps [] = inl refl
+some-steps (octet ∷ octets) = inr (omega (arith, length-map (bits_of (octet ∷ octets)) bit_number, length-bits_of (octet ∷ octets)))
+
+fixed : (c : Configuration) (rate : Rate) (octets : List ℕ) → rate_of c.inner ≡ Some rate → IsStartKnown c → IsFixed (settings_of c rate) 0 (bit_numbers (bits_of octets))
+fixed c rate octets is (inl none) = absurd (no-rate c rate is none)
+fixed c rate octets is (inr (inl zero_start)) = inl (let test : (c.start == 0) ≡ true = grind (arith, nat_tests) in rw test refl, refl)
+fixed c rate octets is (inr (inr half)) = elim (eqb_tells c.start 0) [
+  | inl same ↦ inl (rw same.0 refl, refl)
+  | inr other ↦ inr (rw other.0 refl, half-rate c rate is half, omega arith, some-steps octets)
+]
+
+-- blocks keep what was sent
+abbrev pub CleanBlocks : Type 0
+CleanBlocks = (s : Settings) (register : ℕ) (bits : List ℕ) (blocks : List WindowBlock) (left : ℕ) → 64 ≤ s.keep → AreBits bits
+    → IsFixed s register bits → AreBlocksOf s (sure_symbols s register bits) blocks left → AreClean bits blocks left
+
+-- the soft octets that are decoded are those of the symbols, where none is skipped
+pub soft-sent : (c : Configuration) (rate : Rate) (bits : List Bool) → c.skip ≡ 0
+    → soft_octets c 0 (symbols_by (Some rate) c bits) ≡ sure_symbols (settings_of c rate) 0 (bit_numbers bits)
+soft-sent c rate bits none =
+    ap (map (soft_value c)) (drop-none c.skip (symbols_by (Some rate) c bits) none) ∙ values-sent c (sent_for rate (is_inverted rate c.invert) bits)
+
+bits-sent : CleanBlocks → (c : Configuration) (rate : Option Rate) (octets : List ℕ) (blocks : List WindowBlock) (left : ℕ) → rate_of c.inner ≡ rate
+    → IsAccepted c → c.skip ≡ 0 → IsStartKnown c → BlocksAt rate c 0 (symbols_by rate c (bits_of octets)) blocks left
+    → bits_at rate c (symbols_by rate c (bits_of octets)) blocks ≡ bits_of octets
+bits-sent clean c None octets blocks left is ok none known are =
+    drop-none c.skip (bits_of (octets_of (bits_of octets))) none ∙ bits_of-octets_of (bits_of octets) (omega (arith, length-bits_of octets))
+bits-sent clean c (Some rate) octets blocks left is ok none known are =
+    let bits = bit_numbers (bits_of octets) in
+    let it = clean (settings_of c rate) 0 bits blocks left ok.some_keep (AreBits-bit_numbers (bits_of octets)) (fixed c rate octets is known)
+    (subst (λ (l : List ℕ). AreBlocksOf (settings_of c rate) l blocks left) (soft-sent c rate (bits_of octets) none) are) in
+    ap (map (λ bit. bit == 1)) it.kept ∙ numbers-bits (bits_of octets)
+
+pub bits-clean : CleanBlocks → (c : Configuration) (octets : List ℕ) (bits : List Bool) → IsAccepted c → c.skip ≡ 0 → IsStartKnown c
+    → Inner c 0 (symbols_of_octets c octets) bits → bits ≡ bits_of octets
+bits-clean clean c octets bits ok none known it = it.are_bits ∙ bits-sent clean c (rate_of c.inner) octets it.blocks it.left refl ok none known it.are_blocks

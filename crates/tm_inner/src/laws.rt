@@ -1,0 +1,37 @@
+// What holds of received octets, over the definitions alone.
+ghost use Rattle.std.specs.Prelude.{◌≡◌, ◌++◌, ℕ, Bool, List};
+ghost use Rattle.tm_base.specs.Bits.{bits_of};
+ghost use Rattle.tm_config.specs.Accepted.{IsAccepted};
+ghost use Rattle.tm_config.specs.Configuration.{Configuration};
+ghost use Rattle.tm_inner.specs.Inner.{IsStartKnown, AreInnerBlocks, AreInnerDue, Inner, inner_bits};
+ghost use Rattle.tm_viterbi.specs.WindowBlock.{WindowBlock};
+ghost use Rattle.tm_inner.specs.Symbols.{symbols_of_octets};
+
+use tm_viterbi::{clean_blocks_law, closed_windows_law, due_law, one_list_law};
+
+/// Received octets come to one list of bits. It does nothing.
+pub fn inner_law()
+    ensures { (c : Configuration) (phase : ℕ) (octets : List ℕ) (bits others : List Bool)
+        → Inner c phase octets bits → Inner c phase octets others → bits ≡ others }
+{
+    one_list_law();
+}
+
+/// Octets that were sent and not disturbed come to the bits that were sent, where none is skipped and it is known where the first
+/// path starts. It does nothing.
+pub fn clean_inner_law()
+    ensures { (c : Configuration) (octets : List ℕ) (bits : List Bool) → IsAccepted c → c.skip ≡ 0 → IsStartKnown c
+        → Inner c 0 (symbols_of_octets c octets) bits → bits ≡ bits_of octets }
+{
+    clean_blocks_law();
+}
+
+/// The bits that are due for octets stand first in the bits of these octets with any others behind. It does nothing.
+pub fn due_bits_law()
+    ensures { (c : Configuration) (phase : ℕ) (octets more : List ℕ) (due blocks : List WindowBlock) (left : ℕ)
+        → AreInnerDue c phase octets due → AreInnerBlocks c phase (octets ++ more) blocks left
+        → (rest : List Bool) × (inner_bits c (octets ++ more) blocks ≡ inner_bits c octets due ++ rest) }
+{
+    closed_windows_law();
+    due_law();
+}
