@@ -3,3 +3,4 @@ pub mod Sending
 mod Coding
 pub mod InnerBits
 pub mod DueBits
+pub mod WorkedBits
