@@ -1,5 +1,9 @@
 pub mod Frames
 pub mod Cadu
 pub mod Sent
+pub mod ReceivedCodeblock
+pub mod Items
+pub mod Receive
+pub mod SentStream
 pub mod Sending
 pub mod Steps
