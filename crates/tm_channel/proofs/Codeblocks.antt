@@ -19,7 +19,7 @@ use Rattle.tm_random.specs.Masked.{masked}
 use Rattle.tm_channel.specs.Cadu.{coded_octets, coded_column, codeblock_of, cadu}
 
 -- octets read in a basis and sent in it are the same octets
-sent-read : (basis : Basis) (octets : List ℕ) → AreOctets octets → map (sent_octet basis) (map (element_of basis) octets) ≡ octets
+pub sent-read : (basis : Basis) (octets : List ℕ) → AreOctets octets → map (sent_octet basis) (map (element_of basis) octets) ≡ octets
 sent-read basis [] are = refl
 sent-read basis (x ∷ octets) are = (λ i. sent_octet-element_of basis x (are 0 0 (omega arith)) i ∷ sent-read basis octets (AreOctets-rest x octets are) i)
 

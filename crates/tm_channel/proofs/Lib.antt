@@ -2,3 +2,11 @@ pub mod Frames
 pub mod Steps
 pub mod Sending
 pub mod Codeblocks
+pub mod SentCodeblocks
+pub mod Repairs
+pub mod CleanStreams
+pub mod Polarity
+pub mod OnlyItems
+pub mod ReceivedOctets
+pub mod TurnedOctets
+pub mod DueItems

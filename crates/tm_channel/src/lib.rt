@@ -4,9 +4,11 @@
 #![tactic(auto)]
 
 mod cadus;
+mod laws;
 mod sender;
 
 pub use cadus::cadu;
+pub use laws::{clean_law, disturbed_law, due_items_law, items_law, polarity_law};
 pub use sender::Sender;
 pub use tm_config::{Config, ConfigError, Raw};
 pub use tm_inner::{InnerSender, SendError};

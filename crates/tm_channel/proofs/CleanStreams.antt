@@ -1,0 +1,132 @@
+-- The items of frames that were sent with no gap and not disturbed.
+use Rattle.std.proofs.Common.{◌≡◌, ◌+◌, ◌*◌, ◌==◌, ℕ, Bool, true, false, cond, List, [], ◌∷◌, ◌++◌, length, map, refl, sym, ap, ◌∙◌, subst, arith, append_assoc}
+use Rattle.std.specs.Prelude.{replicate}
+use Rattle.std.specs.List.{AllByRecursion, range_with_len}
+use Rattle.std.proofs.lemmas.List.FromFn.{length-map-range_with_len}
+use Rattle.tm_base.specs.Bits.{bits_of}
+use Rattle.tm_base.specs.Marker.{marker}
+use Rattle.tm_base.proofs.Packing.{bits_of-append, length-bits_of}
+use Rattle.tm_config.specs.Configuration.{Configuration, codeblock_length}
+use Rattle.tm_config.specs.Accepted.{IsAccepted}
+use Rattle.tm_rs_code.proofs.Nearest.{distance-self}
+use Rattle.tm_rs_solve.specs.declared.answers.Answer.{Answer}
+use Rattle.tm_rs_solve.specs.declared.answers.Answer.TheVariants.{Fixed}
+use Rattle.tm_sync.specs.declared.found.Found.{Found}
+use Rattle.tm_sync.specs.Bits.{marker_bits}
+use Rattle.tm_sync.specs.Places.{places}
+use Rattle.tm_sync.specs.Marked.{Entry, joined, IsMarked, clean_entries, clean_places}
+use Rattle.tm_sync.proofs.MarkedStreams.{places-marked}
+use Rattle.tm_sync.proofs.CleanStreams.{clean-marked, places-clean}
+use Rattle.tm_channel.specs.Cadu.{codeblock_of, sent_codeblock, cadu}
+use Rattle.tm_channel.specs.ReceivedCodeblock.{rules_of, received_column, received_columns}
+use Rattle.tm_channel.specs.Items.{ItemValue, AreItems}
+use Rattle.tm_channel.specs.SentStream.{IsFrame, SentUnit, entries_of, IsSent, unit_places, sent_columns, AreRepaired, AreWithin, IsNear, IsAsSent, AreAsSent, sent_bits, clean_answers, clean_items}
+use Rattle.tm_channel.proofs.SentCodeblocks.{length-sent_codeblock, received-as_sent}
+use Rattle.tm_channel.proofs.Repairs.{items-as_sent}
+
+-- the bits of a frame's codeblock, as they are sent
+abbrev sent_block : Configuration → List ℕ → List Bool
+sent_block c frame = bits_of (sent_codeblock c frame)
+
+abbrev blocks_of : Configuration → List (List ℕ) → List (List Bool)
+blocks_of c frames = map (sent_block c) frames
+
+-- a frame's unit, as it is received where nothing is disturbed
+abbrev clean_unit : Configuration → List ℕ → SentUnit
+clean_unit c frame = record { received = record { gap = []; marker = marker_bits; block = sent_block c frame }; frame = frame }
+
+abbrev clean_units : Configuration → List (List ℕ) → List SentUnit
+clean_units c frames = map (clean_unit c) frames
+
+entries-are : (c : Configuration) (frames : List (List ℕ)) → clean_entries (blocks_of c frames) ≡ entries_of (clean_units c frames)
+entries-are c [] = refl
+entries-are c (frame ∷ frames) = ap (λ (l : List Entry). record { gap = []; marker = marker_bits; block = sent_block c frame } ∷ l) (entries-are c frames)
+
+-- what is sent are marked codeblocks
+bits-are : (c : Configuration) (frames : List (List ℕ)) → sent_bits c frames ≡ joined (clean_entries (blocks_of c frames)) []
+unfolding cadu
+bits-are c [] = refl
+bits-are c (frame ∷ frames) =
+    ap (λ l. l ++ sent_bits c frames) (bits_of-append marker (sent_codeblock c frame))
+    ∙ append_assoc marker_bits (sent_block c frame) (sent_bits c frames)
+    ∙ ap (λ l. marker_bits ++ (sent_block c frame ++ l)) (bits-are c frames)
+
+blocks-sized : (c : Configuration) (frames : List (List ℕ)) → IsAccepted c → AllByRecursion (IsFrame c) frames
+    → AllByRecursion (λ block. length block ≡ (rules_of c).block_bits) (blocks_of c frames)
+blocks-sized c [] ok are = tt
+blocks-sized c (frame ∷ frames) ok are =
+    (length-bits_of (sent_codeblock c frame) ∙ ap (λ n. 8 * n) (length-sent_codeblock c frame ok are.0), blocks-sized c frames ok are.1)
+
+units-are_frames : (c : Configuration) (frames : List (List ℕ)) → AllByRecursion (IsFrame c) frames → AllByRecursion (λ (u : SentUnit). IsFrame c u.frame) (clean_units c frames)
+units-are_frames c [] are = tt
+units-are_frames c (frame ∷ frames) are = (are.0, units-are_frames c frames are.1)
+
+marked : (c : Configuration) (frames : List (List ℕ)) → IsAccepted c → AllByRecursion (IsFrame c) frames
+    → IsMarked (rules_of c) (sent_bits c frames) (entries_of (clean_units c frames)) []
+marked c frames ok are =
+    subst (λ (es : List Entry). IsMarked (rules_of c) (sent_bits c frames) es []) (entries-are c frames)
+    (subst (λ (bits : List Bool). IsMarked (rules_of c) bits (clean_entries (blocks_of c frames)) []) (sym (bits-are c frames))
+    (clean-marked (rules_of c) (blocks_of c frames) (blocks-sized c frames ok are)))
+
+-- the bits of frames are a stream of their units
+pub sent-clean : (c : Configuration) (frames : List (List ℕ)) → IsAccepted c → AllByRecursion (IsFrame c) frames → IsSent c (sent_bits c frames) (clean_units c frames) []
+sent-clean c frames ok are = record { marked = marked c frames ok are; frames = units-are_frames c frames are }
+
+places-are : (c : Configuration) (frames : List (List ℕ)) → IsAccepted c → AllByRecursion (IsFrame c) frames
+    → unit_places c (clean_units c frames) ≡ clean_places (8 * codeblock_length c) 0 (blocks_of c frames)
+places-are c frames ok are =
+    sym (places-marked (rules_of c) (sent_bits c frames) (entries_of (clean_units c frames)) [] (marked c frames ok are))
+    ∙ ap (places (rules_of c)) (bits-are c frames)
+    ∙ places-clean (rules_of c) (blocks_of c frames) (blocks-sized c frames ok are)
+
+-- ---- one item
+
+answers-are : (bound : ℕ) (columns : List (List ℕ)) (answers : List Answer) → AreRepaired bound columns columns answers → answers ≡ replicate (length columns) (Fixed 0)
+answers-are bound [] [] are = refl
+answers-are bound [] (answer ∷ answers) are = absurd are
+answers-are bound (column ∷ columns) [] are = absurd are
+answers-are bound (column ∷ columns) (answer ∷ answers) are =
+    let none = distance-self column in
+    let one : answer ≡ Fixed 0 = are.0 (omega arith) ∙ ap Fixed none in
+    (λ i. one i ∷ answers-are bound columns answers are.1 i)
+
+columns-near : (bound : ℕ) (columns : List (List ℕ)) → AreWithin bound columns columns
+columns-near bound [] = tt
+columns-near bound (column ∷ columns) = (let none = distance-self column in omega arith, columns-near bound columns)
+
+clean-answers : (c : Configuration) (frame : List ℕ) → replicate (length (sent_columns c frame)) (Fixed 0) ≡ clean_answers c
+unfolding received_columns
+clean-answers c frame = go (c.code == 0)
+  where
+    go : (none : Bool) → replicate (length (cond none [] (map (received_column c (codeblock_of c frame)) (range_with_len 0 c.depth)))) (Fixed 0) ≡ cond none [] (replicate c.depth (Fixed 0))
+    go true = refl
+    go false = ap (λ n. replicate n (Fixed 0)) (length-map-range_with_len (received_column c (codeblock_of c frame)) 0 c.depth)
+
+clean-one : (c : Configuration) (at : ℕ) (frame : List ℕ) (item : ItemValue) → IsAccepted c → IsFrame c frame
+    → IsAsSent c (record { place = at; distance = 0; bridged = false; inverted = false }) (clean_unit c frame) item
+    → item ≡ record { found = record { place = at; distance = 0; bridged = false; inverted = false }; answers = clean_answers c; frame = frame }
+clean-one c at frame item ok is it =
+    let same = received-as_sent c frame ok is in
+    let answers : item.answers ≡ clean_answers c =
+    answers-are c.repair (sent_columns c frame) item.answers
+    (subst (λ (b : List ℕ). AreRepaired c.repair (received_columns c b) (sent_columns c frame) item.answers) same it.answers)
+    ∙ clean-answers c frame in
+    let near : IsNear c frame (codeblock_of c frame) = record { columns = columns-near c.repair (sent_columns c frame); uncoded = λ none. refl } in
+    let back : item.frame ≡ frame = it.frame (subst (λ (b : List ℕ). IsNear c frame b) (sym same) near) in
+    (λ i. record { found = it.place i; answers = answers i; frame = back i })
+
+clean-from : (c : Configuration) (at : ℕ) (frames : List (List ℕ)) (items : List ItemValue) → IsAccepted c → AllByRecursion (IsFrame c) frames
+    → AreAsSent c (clean_places (8 * codeblock_length c) at (blocks_of c frames)) (clean_units c frames) items → items ≡ clean_items c at frames
+clean-from c at [] [] ok are sent = refl
+clean-from c at [] (item ∷ items) ok are sent = absurd sent
+clean-from c at (frame ∷ frames) [] ok are sent = absurd sent
+clean-from c at (frame ∷ frames) (item ∷ items) ok are sent =
+    (λ i. clean-one c at frame item ok are.0 sent.0 i ∷ clean-from c (at + 32 + 8 * codeblock_length c) frames items ok are.1 sent.1 i)
+
+-- the items of frames that were sent are these frames
+pub items-clean : (c : Configuration) (frames : List (List ℕ)) (items : List ItemValue) → IsAccepted c → AllByRecursion (IsFrame c) frames
+    → AreItems c (sent_bits c frames) items → items ≡ clean_items c 0 frames
+items-clean c frames items ok are its =
+    clean-from c 0 frames items ok are
+    (subst (λ (fs : List Found). AreAsSent c fs (clean_units c frames) items) (places-are c frames ok are)
+    (items-as_sent c (sent_bits c frames) (clean_units c frames) [] items ok (sent-clean c frames ok are) its))

@@ -1,0 +1,85 @@
+-- The items that are due stand first, whatever octets come.
+use Rattle.std.proofs.Common.{◌≡◌, ◌≤◌, ◌+◌, ◌*◌, ℕ, zero, suc, Bool, List, [], ◌∷◌, ◌++◌, length, take, drop, refl, sym, ap, ◌∙◌, subst, arith, take-append-drop, append_assoc, length-drop, length-append}
+use Rattle.std.specs.List.{AllByRecursion}
+use Rattle.std.proofs.lemmas.List.{drop-append-le, take-append-le}
+use Rattle.tm_config.specs.Configuration.{Configuration, codeblock_length}
+use Rattle.tm_config.specs.Accepted.{IsAccepted}
+use Rattle.tm_inner.specs.Inner.{AreInnerBlocks, AreInnerDue, inner_bits}
+use Rattle.tm_sync.specs.declared.found.Found.{Found}
+use Rattle.tm_sync.specs.Places.{places}
+use Rattle.tm_sync.proofs.Longer.{places-end, places-goes_on}
+use Rattle.tm_viterbi.specs.WindowBlock.{WindowBlock}
+use Rattle.tm_channel.specs.ReceivedCodeblock.{rules_of, codeblock_in, codeblock_at}
+use Rattle.tm_channel.specs.Items.{ItemValue, IsItem, AreItemsOf, AreItems}
+use Rattle.tm_channel.specs.Receive.{Receive, ReceiveDue, in_batches}
+use Rattle.tm_channel.proofs.OnlyItems.{items-same}
+
+-- the places end within so many bits
+abbrev pub EndWithin : Configuration → ℕ → List Found → Type 0
+EndWithin c bound fs = AllByRecursion (λ f. f.place + 32 + 8 * codeblock_length c ≤ bound) fs
+
+-- items of some places are items of the first and of the rest
+record Split (c : Configuration) (bits : List Bool) (fs gs : List Found) (items : List ItemValue) : Type 0 where
+  first : List ItemValue
+  rest : List ItemValue
+  parts : items ≡ first ++ rest
+  are_first : AreItemsOf c bits fs first
+
+split : (c : Configuration) (bits : List Bool) (fs gs : List Found) (items : List ItemValue) → AreItemsOf c bits (fs ++ gs) items → Split c bits fs gs items
+split c bits [] gs items are = record { first = []; rest = items; parts = refl; are_first = tt }
+split c bits (f ∷ fs) gs [] are = absurd are
+split c bits (f ∷ fs) gs (item ∷ items) are =
+    let more = split c bits fs gs items are.1 in
+    record { first = item ∷ more.first; rest = more.rest; parts = ap (λ l. item ∷ l) more.parts; are_first = (are.0, more.are_first) }
+
+-- a codeblock that ends within the front of bits is the same in them all
+codeblock-front : (c : Configuration) (front rest : List Bool) (f : Found) → f.place + 32 + 8 * codeblock_length c ≤ length front → codeblock_at c (front ++ rest) f ≡ codeblock_at c front f
+codeblock-front c front rest f within =
+    ap (codeblock_in c f.inverted)
+    (ap (take (8 * codeblock_length c)) (drop-append-le (f.place + 32) front rest (omega arith))
+    ∙ take-append-le (8 * codeblock_length c) (drop (f.place + 32) front) rest (omega (arith, length-drop (f.place + 32) front)))
+
+items-front : (c : Configuration) (front rest : List Bool) (fs : List Found) (items : List ItemValue) → EndWithin c (length front) fs → AreItemsOf c front fs items → AreItemsOf c (front ++ rest) fs items
+items-front c front rest [] [] within are = tt
+items-front c front rest [] (item ∷ items) within are = absurd are
+items-front c front rest (f ∷ fs) [] within are = absurd are
+items-front c front rest (f ∷ fs) (item ∷ items) within are =
+    (subst (λ (b : List ℕ). IsItem c f b item) (sym (codeblock-front c front rest f within.0)) are.0, items-front c front rest fs items within.1 are.1)
+
+within-more : (c : Configuration) (n m : ℕ) (fs : List Found) → n ≤ m → EndWithin c n fs → EndWithin c m fs
+within-more c n m [] le within = tt
+within-more c n m (f ∷ fs) le within = (let one = within.0 in omega arith, within-more c n m fs le within.1)
+
+within-take : (c : Configuration) (n k : ℕ) (fs : List Found) → EndWithin c n fs → EndWithin c n (take k fs)
+within-take c n zero fs within = tt
+within-take c n (suc k) [] within = tt
+within-take c n (suc k) (f ∷ fs) within = (within.0, within-take c n k fs within.1)
+
+-- the items of some of the first places of a front stand first among those of all bits
+first-items : (c : Configuration) (front rest : List Bool) (k : ℕ) (due items : List ItemValue) → IsAccepted c
+    → AreItemsOf c front (take k (places (rules_of c) front)) due → AreItems c (front ++ rest) items → (others : List ItemValue) × (items ≡ due ++ others)
+first-items c front rest k due items ok first all =
+    let fs = places (rules_of c) front in
+    let gs = drop (length fs) (places (rules_of c) (front ++ rest)) in
+    let whole : places (rules_of c) (front ++ rest) ≡ take k (places (rules_of c) front) ++ (drop k fs ++ gs) =
+    places-goes_on (rules_of c) front rest ∙ ap (λ l. l ++ gs) (sym (take-append-drop k fs)) ∙ append_assoc (take k fs) (drop k fs) gs in
+    let parts = split c (front ++ rest) (take k fs) (drop k fs ++ gs) items (subst (λ (l : List Found). AreItemsOf c (front ++ rest) l items) whole all) in
+    let within = within-take c (length front) k fs (places-end (rules_of c) front) in
+    let same : parts.first ≡ due =
+    items-same c (front ++ rest) (take k fs) parts.first due ok (within-more c (length front) (length (front ++ rest)) (take k fs) (omega (arith, length-append front rest)) within)
+    parts.are_first (items-front c front rest (take k fs) due within first) in
+    (parts.rest, parts.parts ∙ ap (λ l. l ++ parts.rest) same)
+
+-- the bits that are due stand first
+abbrev pub DueBits : Type 0
+DueBits = (c : Configuration) (phase : ℕ) (octets more : List ℕ) (due blocks : List WindowBlock) (left : ℕ)
+    → AreInnerDue c phase octets due → AreInnerBlocks c phase (octets ++ more) blocks left
+    → (rest : List Bool) × (inner_bits c (octets ++ more) blocks ≡ inner_bits c octets due ++ rest)
+
+pub due-first : DueBits → (c : Configuration) (phase : ℕ) (octets more : List ℕ) (due items : List ItemValue) → IsAccepted c
+    → ReceiveDue c phase octets due → Receive c phase (octets ++ more) items → (others : List ItemValue) × (items ≡ due ++ others)
+due-first bits_first c phase octets more due items ok first all =
+    let front = inner_bits c octets first.blocks in
+    let bits = bits_first c phase octets more first.blocks all.inner.blocks all.inner.left first.are_due all.inner.are_blocks in
+    first-items c front bits.0 (in_batches (length (places (rules_of c) front))) due items ok first.are_items
+    (subst (λ (l : List Bool). AreItems c l items) (all.inner.are_bits ∙ bits.1) all.are_items)

@@ -1,0 +1,68 @@
+// What holds of received octets, over the definitions alone.
+ghost use Rattle.std.specs.Prelude.{◌≡◌, ◌++◌, ℕ, Bool, List, map};
+ghost use Rattle.std.specs.List.{concat};
+ghost use Rattle.tm_base.specs.Bits.{AreOctets};
+ghost use Rattle.tm_config.specs.Accepted.{IsAccepted};
+ghost use Rattle.tm_config.specs.Configuration.{Configuration};
+ghost use Rattle.tm_inner.specs.Inner.{Inner, IsStartKnown};
+ghost use Rattle.tm_viterbi.specs.Clean.{turned_octets};
+ghost use Rattle.tm_channel.specs.Frames.{whole_frames};
+ghost use Rattle.tm_channel.specs.Sent.{sent};
+ghost use Rattle.tm_channel.specs.Items.{ItemValue, frames_of, turned_item};
+ghost use Rattle.tm_channel.specs.Receive.{Receive, ReceiveDue};
+ghost use Rattle.tm_channel.specs.SentStream.{AreAsSent, AreNear, IsSent, SentUnit, clean_items, unit_frames, unit_places};
+
+use tm_inner::{clean_inner_law, due_bits_law, inner_law};
+use tm_viterbi::turned_blocks_law;
+
+/// Received octets come to one list of items. It does nothing.
+pub fn items_law()
+    ensures { (c : Configuration) (phase : ℕ) (octets : List ℕ) (items others : List ItemValue) → IsAccepted c
+        → Receive c phase octets items → Receive c phase octets others → items ≡ others }
+{
+    inner_law();
+}
+
+/// The items that are due for octets stand first among the items of these octets with any others behind. It does nothing.
+pub fn due_items_law()
+    ensures { (c : Configuration) (phase : ℕ) (octets more : List ℕ) (due items : List ItemValue) → IsAccepted c
+        → ReceiveDue c phase octets due → Receive c phase (octets ++ more) items → (rest : List ItemValue) × (items ≡ due ++ rest) }
+{
+    due_bits_law();
+}
+
+/// However the units of frames were disturbed, with gaps before and behind them, their items stand exactly at their markers,
+/// with distances, bridges and polarities, and each column that is within the repair bound answers how many of its symbols were
+/// wrong. Where that is so of every column, the frames come out in order. It does nothing.
+pub fn disturbed_law()
+    ensures items { (c : Configuration) (phase : ℕ) (octets : List ℕ) (bits : List Bool) (units : List SentUnit) (last : List Bool) (items : List ItemValue)
+        → IsAccepted c → Inner c phase octets bits → IsSent c bits units last → Receive c phase octets items
+        → AreAsSent c (unit_places c units) units items }
+    ensures frames { (c : Configuration) (phase : ℕ) (octets : List ℕ) (bits : List Bool) (units : List SentUnit) (last : List Bool) (items : List ItemValue)
+        → IsAccepted c → Inner c phase octets bits → IsSent c bits units last → Receive c phase octets items
+        → AreNear c (unit_places c units) units → frames_of items ≡ unit_frames units }
+{
+    inner_law();
+}
+
+/// The items of what is sent for octets, where none is skipped, nothing was disturbed and it is known where the first path starts:
+/// the whole frames of the octets, in order and with nothing wrong. Their frames joined are these. It does nothing.
+pub fn clean_law()
+    ensures items { (c : Configuration) (octets : List ℕ) (items : List ItemValue) → IsAccepted c → c.skip ≡ 0 → IsStartKnown c → AreOctets octets
+        → Receive c 0 (sent c octets) items → items ≡ clean_items c 0 (whole_frames c.frame_length octets) }
+    ensures frames { (c : Configuration) (at : ℕ) (frames : List (List ℕ)) → frames_of (clean_items c at frames) ≡ concat frames }
+{
+    clean_inner_law();
+}
+
+/// Where inverted markers match too: with no inner code, the items of octets with each bit turned over are those of the octets,
+/// each in the other polarity. At rate 1/2, where paths start from any register and none is skipped, so are those of the symbols
+/// that are sent for octets, each turned over. It does nothing.
+pub fn polarity_law()
+    ensures uncoded { (c : Configuration) (phase : ℕ) (octets : List ℕ) (items : List ItemValue) → IsAccepted c → c.inner ≡ 0 → c.polarity ≡ 1 → AreOctets octets
+        → Receive c phase octets items → Receive c phase (turned_octets octets) (map turned_item items) }
+    ensures half_rate { (c : Configuration) (octets : List ℕ) (items : List ItemValue) → IsAccepted c → c.inner ≡ 12 → c.polarity ≡ 1 → c.start ≡ 1 → c.skip ≡ 0 → AreOctets octets
+        → Receive c 0 (turned_octets (sent c octets)) items → items ≡ map turned_item (clean_items c 0 (whole_frames c.frame_length octets)) }
+{
+    turned_blocks_law();
+}
