@@ -10,3 +10,4 @@ pub mod OnlyItems
 pub mod ReceivedOctets
 pub mod TurnedOctets
 pub mod DueItems
+pub mod WorkedItems
