@@ -1,5 +1,5 @@
 -- What a search stands for, as it goes on.
-use Rattle.std.proofs.Common.{◌≡◌, ℕ, ◌+◌, ◌-◌, ◌*◌, ◌%◌, ◌^◌, ◌<◌, ◌≤◌, Bool, true, false, cond, ◌==◌, List, [], ◌∷◌, ◌++◌, length, take, drop, refl, sym, ap, ◌∙◌, subst, arith, Option, Some, None, IfSome, IfNone, bit_or, unwrap_or, append_assoc, length-append, length-drop, take-append-drop}
+use Rattle.std.proofs.Common.{◌≡◌, ℕ, ◌+◌, ◌-◌, ◌*◌, ◌%◌, ◌^◌, ◌<◌, ◌≤◌, Bool, true, false, cond, ◌==◌, List, [], ◌∷◌, ◌++◌, length, take, drop, refl, sym, ap, ◌∙◌, subst, arith, Option, Some, None, IsSome, IfSome, IfNone, bit_or, unwrap_or, append_assoc, length-append, length-drop, take-append-drop}
 use mir.Val.{bool_byte}
 use Rattle.std.specs.Option.{option_map, option_map_or, is_some}
 use Rattle.std.proofs.lemmas.List.{length-take-le, append-nil}
@@ -9,7 +9,7 @@ use Rattle.tm_sync.specs.declared.found.Found.{Found}
 use Rattle.tm_sync.specs.declared.found.Before.{Before}
 use Rattle.tm_sync.specs.declared.found.Awaited.{Awaited}
 use Rattle.tm_sync.specs.Places.{Rules, before_next, match_of, place_by, places, places_from}
-use Rattle.tm_sync.specs.Searching.{Counts, Searching, StandsFor, awaited_at, first_place, place_ahead, inside_ahead, is_pending, end_of, before_behind, before_last}
+use Rattle.tm_sync.specs.Searching.{Counts, Searching, StandsFor, awaited_at, first_place, place_ahead, inside_ahead, inside_of, is_pending, end_of, before_behind, before_last}
 use Rattle.tm_sync.proofs.Numbers.{value_from, value-last, number-value}
 use Rattle.tm_sync.proofs.Sliding.{byte-number, word-push}
 use Rattle.tm_sync.proofs.Steps.{places_from-nil}
@@ -187,6 +187,36 @@ push_inside s s' b m g was stays more bits found stood =
         → s.awaited ≡ option_map (awaited_at s.before) (first_place s.rules (length h.front) s.before (h.rest ++ b ∷ []))
     same h None e = let no : None ≡ Some m = sym (h.awaited_is ∙ ap (option_map (awaited_at s.before)) e) ∙ was in absurd (cc)
     same h (Some f) e = h.awaited_is ∙ ap (option_map (awaited_at s.before)) (e ∙ sym (first_place-stays s.rules (length h.front) s.before h.rest (b ∷ []) f e))
+
+-- all bits are of the codeblock behind a place that was found before
+pub push_run : (s s' : Searching) (more : List Bool) (m : Awaited) → s.awaited ≡ Some m → s'.rules ≡ s.rules → s'.pushed ≡ s.pushed + length more → s'.start ≡ s.start
+    → s'.before ≡ s.before → s'.awaited ≡ s.awaited → s'.after ≡ s.after + length more
+    → (bits : List Bool) (found : List Found) → s'.word ≡ number_of (bits ++ more) % 2 ^ 32 → StandsFor s bits found → StandsFor s' (bits ++ more) found
+push_run s s' more m was rules pushed start before stays after bits found word stood =
+    let h = parts_of s bits found stood in
+    let is : s'.awaited ≡ Some m = stays ∙ was in
+    let ends : m.found.place + 32 + s.after ≡ s.pushed = subst (Ends s) was h.after_is in
+    let now : m.found.place + 32 + s'.after ≡ s'.pushed = omega arith in
+    stands_of s' (bits ++ more) found record {
+      front = h.front;
+      rest = h.rest ++ more;
+      parts = ap (λ l. l ++ more) h.parts ∙ append_assoc h.front h.rest more;
+      found_is = ap (λ r. places r h.front) rules ∙ h.found_is;
+      ends = ap (λ r. end_of r found) rules ∙ h.ends;
+      start_is = start ∙ h.start_is;
+      pushed_is = pushed ∙ ap (λ n. n + length more) h.pushed_is ∙ sym (length-append bits more);
+      before_is = before ∙ h.before_is;
+      word_is = word ∙ ap (λ n. n % 2 ^ 32) (number-value (bits ++ more));
+      awaited_is = stays ∙ same h (first_place s.rules (length h.front) s.before h.rest) refl
+          ∙ (λ i. option_map (awaited_at (sym before i)) (first_place (sym rules i) (length h.front) (sym before i) (h.rest ++ more)));
+      after_is = subst (Ends s') (sym is) now;
+      fresh = subst (Fresh s') (sym is) tt;
+    }
+  where
+    same : (h : Parts s bits found) (o : Option Found) → first_place s.rules (length h.front) s.before h.rest ≡ o
+        → s.awaited ≡ option_map (awaited_at s.before) (first_place s.rules (length h.front) s.before (h.rest ++ more))
+    same h None e = let no : None ≡ Some m = sym (h.awaited_is ∙ ap (option_map (awaited_at s.before)) e) ∙ was in absurd (cc)
+    same h (Some f) e = h.awaited_is ∙ ap (option_map (awaited_at s.before)) (e ∙ sym (first_place-stays s.rules (length h.front) s.before h.rest more f e))
 
 -- no place was found before
 none-yet : (s : Searching) (bits : List Bool) (found : List Found) (h : Parts s bits found) → s.awaited ≡ None → first_place s.rules (length h.front) s.before h.rest ≡ None
@@ -449,3 +479,33 @@ left-behind s free most bits found stood =
 -- no more bits stand behind a marker than a codeblock has
 pub most_after : (s other : Searching) → other ≡ s → other.after ≤ other.rules.block_bits → s.after ≤ s.rules.block_bits
 most_after s other same most = subst (λ (v : Searching). v.after ≤ v.rules.block_bits) same most
+
+-- ---- octets
+-- a place is awaited where bits stand behind its marker
+pub some_inside : (s : Searching) → IsSome (inside_of s) → (m : Awaited) × (s.awaited ≡ Some m)
+some_inside s is = go s.awaited refl
+  where
+    go : (o : Option Awaited) → s.awaited ≡ o → (m : Awaited) × (s.awaited ≡ Some m)
+    go None e = let no : IsSome (option_map (λ (m : Awaited). s.after) None) = subst (λ (o : Option Awaited). IsSome (option_map (λ _. s.after) o)) e is in absurd (cc)
+    go (Some m) e = (m, e)
+
+pub none_few : (o : Option ℕ) (left : ℕ) → o ≡ None → IfSome o (λ count. count + left < 8)
+none_few o left e = subst (λ (o : Option ℕ). IfSome o (λ count. count + left < 8)) (sym e) tt
+
+-- one bit more, and one fewer is left
+pub few_more : (o o' : Option ℕ) (left : ℕ) → 0 < left → left ≤ 8 → IfSome o (λ count. count + left < 8) → IfSome o (λ count. o' ≡ Some (count + 1)) → IfNone o (unwrap_or o' 0 ≡ 0)
+    → IfSome o' (λ count. count + (left - 1) < 8)
+few_more (Some count) o' left any most few more first = subst (λ (o : Option ℕ). IfSome o (λ count. count + (left - 1) < 8)) (sym more) (omega arith)
+few_more None None left any most few more first = tt
+few_more None (Some count) left any most few more first = omega arith
+
+pub few_free : (s : Searching) (left : ℕ) → IfSome (inside_of s) (λ count. count + left < 8) → 8 ≤ s.rules.block_bits → is_pending s ≡ false
+few_free s left few fits = go (inside_of s) few
+  where
+    go : (o : Option ℕ) → IfSome o (λ count. count + left < 8) → option_map_or (λ count. count == s.rules.block_bits) o false ≡ false
+    go None few = refl
+    go (Some count) few = grind (arith, nat_tests)
+
+pub few_less : (o : Option ℕ) (left : ℕ) → IfSome o (λ count. count + left < 8) → unwrap_or o 0 < 8
+few_less None left few = omega arith
+few_less (Some count) left few = omega arith

@@ -54,7 +54,7 @@ pub value-append : (xs ys : List Bool) (high : ℕ) → value_from high (xs ++ y
 value-append [] ys high = refl
 value-append (x ∷ xs) ys high = value-append xs ys (high * 2 + bit_number x)
 
-value-high : (xs : List Bool) (high : ℕ) → value_from high xs ≡ high * 2 ^ length xs + value_from 0 xs
+pub value-high : (xs : List Bool) (high : ℕ) → value_from high xs ≡ high * 2 ^ length xs + value_from 0 xs
 value-high [] high = omega arith
 value-high (x ∷ xs) high =
     let both = value-high xs (high * 2 + bit_number x) in

@@ -1,10 +1,12 @@
 -- The word that slides over the bits.
-use Rattle.std.proofs.Common.{◌≡◌, ℕ, ◌+◌, ◌*◌, ◌%◌, ◌^◌, ◌<◌, Bool, true, false, List, [], ◌∷◌, ◌++◌, refl, ap, ◌∙◌, arith, lit<, bit_or}
+use Rattle.std.proofs.Common.{◌≡◌, ℕ, zero, suc, ◌+◌, ◌-◌, ◌*◌, ◌/◌, ◌%◌, ◌^◌, ◌<◌, ◌==◌, Bool, true, false, List, [], ◌∷◌, ◌++◌, refl, sym, ap, ◌∙◌, arith, lit<, bit_and, bit_or, append_assoc}
 use mir.Val.{bool_byte}
-use Rattle.std.proofs.lemmas.Nat.{or_block}
+use Rattle.std.proofs.lemmas.Nat.{or_block, and_mask}
 use Rattle.std.specs.Int.Bits.{or_zero_l, or_zero_r}
-use Rattle.tm_base.specs.Bits.{bit_number}
-use Rattle.tm_sync.proofs.Numbers.{value_from, value-append}
+use Rattle.std.proofs.lemmas.List.{append-nil}
+use Rattle.tm_base.specs.Bits.{bit_number, bits_of, bits_of_octet, low_bits, number_of}
+use Rattle.tm_base.proofs.Packing.{length-low_bits, low_bits-zero, low_bits-first, number_of-octet, bits_of-append}
+use Rattle.tm_sync.proofs.Numbers.{value_from, value-append, value-high, number-value}
 
 pub byte-number : (b : Bool) → bool_byte b ≡ bit_number b
 byte-number true = refl
@@ -31,3 +33,47 @@ word-push w b bits e =
     let w_is : w ≡ v % 2 ^ 32 = e in
     let longer : value_from 0 (bits ++ b ∷ []) ≡ v * 2 + d = value-append bits (b ∷ []) 0 in
     ap (bit_or (w * 2 % 2 ^ 32)) byte ∙ slides w d small ∙ rw longer (omega arith)
+
+slides-octet : (w x : ℕ) → x < 256 → bit_or (w * 256 % 2 ^ 32) x ≡ w * 256 % 2 ^ 32 + x
+slides-octet w x small =
+    let a : ℕ = w % 16777216 in
+    let even : w * 256 % 2 ^ 32 ≡ a * 2 ^ 8 + 0 = omega arith in
+    let low : x ≡ 0 * 2 ^ 8 + x = omega arith in
+    let parts = (λ i. bit_or (even i) (low i)) ∙ or_block 8 a 0 0 x (lit< tt) small ∙ (λ i. or_zero_r a i * 2 ^ 8 + or_zero_l x i) in
+    parts ∙ ap (λ n. n + x) (omega arith)
+
+pub word-octet : (w x : ℕ) (bits : List Bool) → x < 256 → w ≡ number_of bits % 2 ^ 32 → bit_or (w * 256 % 2 ^ 32) x ≡ number_of (bits ++ bits_of_octet x) % 2 ^ 32
+word-octet w x bits small e =
+    let v : ℕ = number_of bits in
+    let w_is : w ≡ v % 2 ^ 32 = e in
+    let eight : value_from v (bits_of_octet x) ≡ v * 2 ^ 8 + x =
+    value-high (bits_of_octet x) v ∙ (λ i. v * 2 ^ length-low_bits 8 x i + (sym (number-value (bits_of_octet x)) ∙ number_of-octet x small) i) in
+    let longer : number_of (bits ++ bits_of_octet x) ≡ v * 2 ^ 8 + x =
+    number-value (bits ++ bits_of_octet x) ∙ value-append bits (bits_of_octet x) 0 ∙ ap (λ n. value_from n (bits_of_octet x)) (sym (number-value bits)) ∙ eight in
+    slides-octet w x small ∙ rw longer (omega arith)
+
+-- the bits of one more octet
+pub bits-more : (bits : List Bool) (octets : List ℕ) (x : ℕ) → (bits ++ bits_of octets) ++ bits_of_octet x ≡ bits ++ bits_of (octets ++ x ∷ [])
+bits-more bits octets x =
+    append_assoc bits (bits_of octets) (bits_of_octet x)
+    ∙ ap (λ l. bits ++ (bits_of octets ++ l)) (sym (append-nil (bits_of_octet x)))
+    ∙ ap (λ l. bits ++ l) (sym (bits_of-append octets (x ∷ [])))
+
+-- ---- the bits of an octet, one by one
+-- the bit that stands before so many
+abbrev pub bit_of : ℕ → ℕ → Bool
+bit_of left octet = octet / 2 ^ left % 2 == 1
+
+pub masked-bit : (left octet : ℕ) → (bit_and (octet / 2 ^ left) 1 == 1) ≡ bit_of left octet
+masked-bit left octet = ap (λ n. n == 1) (and_mask (octet / 2 ^ left) 1)
+
+pub bits-bit : (front : List Bool) (left octet : ℕ) → 0 < left → bits_of_octet octet ≡ front ++ low_bits left octet
+    → bits_of_octet octet ≡ (front ++ bit_of (left - 1) octet ∷ []) ++ low_bits (left - 1) octet
+bits-bit front zero octet some parts = absurd (omega arith)
+bits-bit front (suc left) octet some parts =
+    let one : suc left - 1 ≡ left = omega arith in
+    parts ∙ ap (λ l. front ++ l) (low_bits-first left octet) ∙ sym (append_assoc front (bit_of left octet ∷ []) (low_bits left octet))
+    ∙ (λ i. (front ++ bit_of (sym one i) octet ∷ []) ++ low_bits (sym one i) octet)
+
+pub bits-all : (front : List Bool) (left octet : ℕ) → left ≡ 0 → bits_of_octet octet ≡ front ++ low_bits left octet → bits_of_octet octet ≡ front
+bits-all front left octet none parts = parts ∙ ap (λ n. front ++ low_bits n octet) none ∙ ap (λ l. front ++ l) (low_bits-zero octet) ∙ append-nil front

@@ -1,7 +1,7 @@
 // The search, bit by bit.
-ghost use Rattle.std.specs.Prelude.{◌≡◌, ◌<◌, ◌≤◌, ◌^◌, ◌+◌, ◌-◌, ◌%◌, ◌↔◌, ℕ, Bool, true, false, List, [], ◌∷◌, ◌++◌, length, IsTrue, IsSome, IfSome, IfNone, Some, None, count_ones, unwrap_or};
+ghost use Rattle.std.specs.Prelude.{◌≡◌, ◌<◌, ◌≤◌, ◌^◌, ◌+◌, ◌-◌, ◌*◌, ◌%◌, ◌↔◌, ℕ, Bool, true, false, List, [], ◌∷◌, ◌++◌, length, IsTrue, IsSome, IfSome, IfNone, Some, None, count_ones, unwrap_or};
 ghost use Rattle.std.specs.Option.{option_map};
-ghost use Rattle.tm_base.specs.Bits.{number_of};
+ghost use Rattle.tm_base.specs.Bits.{number_of, bits_of, bits_of_octet};
 ghost use Rattle.tm_sync.specs.declared.found.Found.{Found};
 ghost use Rattle.tm_sync.specs.declared.found.Before.{Before};
 ghost use Rattle.tm_sync.specs.Places.{Rules, wrong_bits, match_of, place_by, places};
@@ -100,6 +100,60 @@ impl Search {
         }
         self.far = 0;
         self.look_closer();
+    }
+
+    /// Takes the next eight bits of the stream, the most significant bit of `octet` first, as eight calls of `push_bit` do. No
+    /// codeblock may be whole before the last of them: the one under way lacks eight bits or more, and where none is
+    /// under way, a codeblock has eight or more.
+    ///
+    /// The bits given in all are to be below 2^63.
+    pub fn push_octet(&mut self, octet: u8)
+        requires fits { unwrap_or (inside_of self.old) 0 + 8 ≤ self.old.rules.block_bits }
+        ensures rules { self.new.rules ≡ self.old.rules }
+        ensures more { IfSome (inside_of self.old) (λ count. inside_of self.new ≡ Some (count + 8)) }
+        ensures first { IfNone (inside_of self.old) (unwrap_or (inside_of self.new) 0 < 8) }
+        ensures within { unwrap_or (inside_of self.new) 0 ≤ self.new.rules.block_bits }
+        ensures stands { (bits : List Bool) (found : List Found) → length bits + 8 ≤ 2 ^ 63
+            → StandsFor self.old bits found → StandsFor self.new (bits ++ bits_of_octet octet) found }
+    {
+        match self.awaited {
+            Some(_) => self.push_octets(&[octet]),
+            None => self.push_bits(octet),
+        }
+    }
+
+    /// Takes the next octets of a codeblock that is under way and lacks as many bits as they have or more, as `push_octet`
+    /// does one by one.
+    ///
+    /// The bits given in all are to be below 2^63.
+    pub fn push_octets(&mut self, octets: &[u8])
+        requires inside { IsSome (inside_of self.old) }
+        requires fits { unwrap_or (inside_of self.old) 0 + 8 * length octets.now ≤ self.old.rules.block_bits }
+        ensures rules { self.new.rules ≡ self.old.rules }
+        ensures more { inside_of self.new ≡ Some (unwrap_or (inside_of self.old) 0 + 8 * length octets.now) }
+        ensures stands { (bits : List Bool) (found : List Found) → length bits + 8 * length octets.now ≤ 2 ^ 63
+            → StandsFor self.old bits found → StandsFor self.new (bits ++ bits_of octets.now) found }
+    {
+        self.word = last_bits(self.word, octets);
+        let count = 8 * octets.len() as u32;
+        self.pushed = self.pushed.wrapping_add(u64::from(count));
+        self.after += count;
+    }
+
+    // Takes the bits of an octet one by one.
+    fn push_bits(&mut self, octet: u8)
+        requires free { inside_of self.old ≡ None }
+        requires fits { 8 ≤ self.old.rules.block_bits }
+        ensures rules { self.new.rules ≡ self.old.rules }
+        ensures first { unwrap_or (inside_of self.new) 0 < 8 }
+        ensures stands { (bits : List Bool) (found : List Found) → length bits + 8 ≤ 2 ^ 63
+            → StandsFor self.old bits found → StandsFor self.new (bits ++ bits_of_octet octet) found }
+    {
+        let mut left: u32 = 8;
+        while left > 0 {
+            left -= 1;
+            self.push_bit(octet >> left & 1 == 1);
+        }
     }
 
     // Takes the last bit, which is counted and in the last 32 bits, where they may be a place or one is awaited.
@@ -201,6 +255,17 @@ impl Search {
         }
         self.pushed.wrapping_sub(self.start)
     }
+}
+
+// The last 32 bits, where they were `word` before these octets.
+fn last_bits(word: u32, octets: &[u8]) -> u32
+    ensures { (bits : List Bool) → word ≡ number_of bits % 2 ^ 32 → result ≡ number_of (bits ++ bits_of octets.now) % 2 ^ 32 }
+{
+    let mut last = word;
+    for octet in octets {
+        last = (last << 8) | u32::from(*octet);
+    }
+    last
 }
 
 // How many numbers of wrong bits, from one more than the tolerance on, show without a closer look that 32 bits are no

@@ -1,4 +1,6 @@
 // Worked streams, and the search beside a plain reading of the definition over the whole list.
+ghost use Rattle.std.specs.Prelude.{◌≡◌};
+
 use crate::*;
 use std::alloc::{AllocError, Global};
 use std::process::Abort;
@@ -380,4 +382,36 @@ fn search_finds_the_places_of_the_definition(rt: HostRuntime) -> Result<(), Fail
     assert!(rt; bridges > 100);
     assert!(rt; turned > 100);
     Ok(())
+}
+
+// Pushes four octets where no codeblock of 33 bits becomes whole.
+fn push_four(rt: &impl Abort, search: &mut Search, octets: [u8; 4])
+    requires { search.old.rules.block_bits ≡ 33 }
+    ensures { search.new.rules ≡ search.old.rules }
+{
+    assert!(rt; search.inside().unwrap_or(0) <= 25);
+    search.push_octet(octets[0]);
+    assert!(rt; search.inside().unwrap_or(0) <= 25);
+    search.push_octet(octets[1]);
+    assert!(rt; search.inside().unwrap_or(0) <= 25);
+    search.push_octet(octets[2]);
+    assert!(rt; search.inside().unwrap_or(0) <= 25);
+    search.push_octet(octets[3]);
+}
+
+#[test]
+fn octets_are_taken_as_their_bits(rt: HostRuntime) {
+    // Two codeblocks of 33 bits, so that the second marker begins at the second bit of an octet.
+    let mut search = Search::new(0, 0, false, 33);
+    push_four(&rt, &mut search, MARKER);
+    assert_eq!(rt; search.inside(), Some(0));
+    search.push_octets(&[0xFF, 0x00, 0xFF]);
+    search.push_octet(0x00);
+    assert_eq!(rt; search.inside(), Some(32));
+    search.push_bit(true);
+    assert_eq!(rt; search.next(), Some(plain(0, 0)));
+    push_four(&rt, &mut search, [0x0D, 0x67, 0xFE, 0x0E]);
+    assert_eq!(rt; search.inside(), None);
+    search.push_octet(0xD5);
+    assert_eq!(rt; search.inside(), Some(7));
 }
