@@ -19,7 +19,7 @@ pub use gate::{Gate, OpenGate};
 pub use outcome::one_outcome_law;
 pub use schedule::schedule_law;
 pub use seats::Seat;
-pub use tickets::{NoMemory, Tickets};
+pub use tickets::Tickets;
 pub use words::{ErasedWord, Word};
 
 #[cfg(test)]

@@ -6,10 +6,7 @@ use crate::seats::{Seat, View};
 use atomic_table::Table;
 use std::alloc::{AllocError, Global};
 use std::marker::Brand;
-
-/// There was not enough memory.
-#[derive(Clone, Copy, Debug, PartialEq, Eq)]
-pub struct NoMemory;
+use tm_base::NoMemory;
 
 /// The numbers below a limit. Seats draw them, in whatever order and from whatever threads, and each is drawn once.
 /// Only `new` takes memory.
