@@ -1,0 +1,29 @@
+// The laws are functions that do nothing: what they say is proved, and that they can be called is seen here.
+#[test]
+fn laws(_rt: HostRuntime) {
+    tm_rs_code::distance_law();
+    tm_rs_code::systematic_codeword_law();
+    tm_rs_code::nearest_law();
+    tm_rs_code::nearest_erased_law();
+    tm_rs_code::pattern_law();
+    tm_sync::one_polarity_law();
+    tm_sync::polarity_law();
+    tm_sync::marked_law();
+    tm_sync::clean_law();
+    tm_sync::longer_law();
+    tm_viterbi::one_list_law();
+    tm_viterbi::due_law();
+    tm_viterbi::closed_windows_law();
+    tm_viterbi::clean_blocks_law();
+    tm_viterbi::turned_blocks_law();
+    tm_workers::schedule_law();
+    tm_workers::one_outcome_law();
+    tm_inner::inner_law();
+    tm_inner::clean_inner_law();
+    tm_inner::due_bits_law();
+    tm_channel::items_law();
+    tm_channel::due_items_law();
+    tm_channel::clean_law();
+    tm_channel::disturbed_law();
+    tm_channel::polarity_law();
+}
