@@ -4,6 +4,7 @@ ghost use Rattle.tm_conv.specs.Path.{keeps_c1, keeps_c2, sent_c2, step_size};
 ghost use Rattle.tm_conv.specs.Cost.{distance};
 ghost use Rattle.tm_viterbi.specs.Totals.{AreCosts};
 
+use std::simd::prelude::*;
 use tm_conv::{Rate, kept};
 
 pub(crate) fn step_len(rate: Rate, t: u64) -> usize
@@ -44,7 +45,8 @@ fn c2_costs(is_sent: bool, invert: bool, octets: &[u8]) -> (u16, u16)
     }
 }
 
-pub(crate) fn step_costs(rate: Rate, invert: bool, t: u64, octets: &[u8]) -> [u16; 4]
+// They are summed by lanes, so that the lanes of a column are shuffled from them and not set one at a time.
+pub(crate) fn step_costs(rate: Rate, invert: bool, t: u64, octets: &[u8]) -> Simd<u16, 4>
     requires { length octets.now ≡ step_size rate t }
     ensures costs { AreCosts rate invert t octets.now result }
     ensures small { (k : ℕ) → k < 4 → slice_index result k ≤ 510 }
@@ -52,21 +54,19 @@ pub(crate) fn step_costs(rate: Rate, invert: bool, t: u64, octets: &[u8]) -> [u1
     let (sends_first, sends_second) = kept(rate, t);
     let first = c1_costs(sends_first, octets);
     let second = c2_costs(sends_second, invert, octets);
-    [
-        first.0 + second.0,
-        first.0 + second.1,
-        first.1 + second.0,
-        first.1 + second.1,
-    ]
+    let firsts = u16x4::from_array([first.0, first.0, first.1, first.1]);
+    let seconds = u16x4::from_array([second.0, second.1, second.0, second.1]);
+    firsts.strict_add(seconds)
 }
 
-pub(crate) fn wide_costs(costs: [u16; 4]) -> [u32; 4]
+pub(crate) fn wide_costs(costs: Simd<u16, 4>) -> [u32; 4]
     ensures { result ≡ costs }
 {
+    let each = costs.to_array();
     [
-        u32::from(costs[0]),
-        u32::from(costs[1]),
-        u32::from(costs[2]),
-        u32::from(costs[3]),
+        u32::from(each[0]),
+        u32::from(each[1]),
+        u32::from(each[2]),
+        u32::from(each[3]),
     ]
 }

@@ -10,16 +10,16 @@ use crate::lanes::{FAR, NEAR};
 use std::simd::prelude::*;
 use tm_conv::Rate;
 
-fn near_costs(costs: [u16; 4]) -> Simd<u16, 32>
+fn near_costs(costs: Simd<u16, 4>) -> Simd<u16, 32>
     ensures { IsEach result (λ i. slice_index costs (2 * c1 (2 * i) 0 + c2 (2 * i) 0)) }
 {
-    u16x4::from_array(costs).swizzle(NEAR)
+    costs.swizzle(NEAR)
 }
 
-fn far_costs(costs: [u16; 4]) -> Simd<u16, 32>
+fn far_costs(costs: Simd<u16, 4>) -> Simd<u16, 32>
     ensures { IsEach result (λ i. slice_index costs (2 * c1 (2 * i + 1) 0 + c2 (2 * i + 1) 0)) }
 {
-    u16x4::from_array(costs).swizzle(FAR)
+    costs.swizzle(FAR)
 }
 
 // The lesser of two ways, and where the second is strictly less.
@@ -46,7 +46,7 @@ pub(crate) fn lesser(
 pub(crate) fn narrow_column(
     low: Simd<u16, 32>,
     high: Simd<u16, 32>,
-    costs: [u16; 4],
+    costs: Simd<u16, 4>,
 ) -> (Simd<u16, 32>, Simd<u16, 32>, u64)
     requires { (s k : ℕ) → s < 64 → k < 4 → slice_index (low ++ high) s + slice_index costs k < 2 ^ 16 }
     ensures sums { IsNextSums (low ++ high) costs (result.0 ++ result.1) }
@@ -138,17 +138,22 @@ pub(crate) fn least_sum(sums: &[u32; 64]) -> u32
     least
 }
 
+fn greatest_sum(sums: &[u32; 64]) -> u32
+    ensures { (s : ℕ) → s < 64 → slice_index sums.now s ≤ result }
+{
+    let mut greatest = sums[0];
+    for s in 0..64usize {
+        greatest = greatest.max(sums[s]);
+    }
+    greatest
+}
+
 // Whether no sum is far above the least.
 pub(crate) fn are_close(sums: &[u32; 64], least: u32) -> bool
     requires { (s : ℕ) → s < 64 → least ≤ slice_index sums.now s }
     ensures { IsTrue result → (s : ℕ) → s < 64 → slice_index sums.now s ≤ least + 4096 }
 {
-    for s in 0..64usize {
-        if sums[s] - least > 4096 {
-            return false;
-        }
-    }
-    true
+    greatest_sum(sums) - least <= 4096
 }
 
 // The sums less the least of them.
