@@ -1,5 +1,5 @@
 // Worked values, and the decoder beside plain programs that know nothing of columns or windows that are filled.
-ghost use Rattle.std.specs.Prelude.{◌+◌, ◌<◌, ◌^◌, ℕ, slice_index};
+ghost use Rattle.std.specs.Prelude.{◌+◌, ◌<◌, ◌^◌, ℕ, IfSome, slice_index};
 
 mod plain;
 mod takers;
@@ -93,13 +93,32 @@ const DEFAULT: Link = Link {
     ahead: 256,
 };
 
-// Feeds a new decoder pieces of `cut` octets and finishes it: the blocks, and the octets left over. A finished decoder is stopped.
+// The octets of each piece: always so many, or drawn, from none to 69, by a sequence from this number on.
+#[derive(Clone, Copy, Debug)]
+enum Cuts {
+    Even(usize),
+    Drawn(u64),
+}
+
+// The octets of the next piece, and the cuts behind it.
+fn next_cut(cuts: Cuts) -> (usize, Cuts) {
+    match cuts {
+        Cuts::Even(count) => (count, cuts),
+        Cuts::Drawn(seed) => {
+            let (_, next) = drawn(seed);
+            ((next >> 33) as usize % 70, Cuts::Drawn(next))
+        }
+    }
+}
+
+// Feeds a new decoder the octets in pieces, no more of them than octets, and finishes it: the blocks, and the octets left over.
+// A finished decoder is stopped.
 fn decoded(
     rt: &impl Abort,
     alloc: Global,
     link: Link,
     octets: &[u8],
-    cut: usize,
+    cuts: Cuts,
 ) -> Result<(Collector, u8), Fail> {
     assert!(rt; 64 <= link.keep && link.keep <= 65536 && link.ahead <= 4096);
     let mut blocks = Collector::new(alloc, u64::MAX);
@@ -112,8 +131,11 @@ fn decoded(
         link.ahead,
     )?;
     let mut rest = octets;
+    let mut cuts = cuts;
     for _ in 0..octets.len() {
-        let count = rest.len().min(cut.max(1));
+        let (most, behind) = next_cut(cuts);
+        cuts = behind;
+        let count = rest.len().min(most);
         decoder.feed(&rest[..count], &mut blocks)?;
         rest = &rest[count..];
     }
@@ -154,7 +176,7 @@ fn check_decoded(
     wanted: &[Told],
     wanted_left: u8,
 ) -> Result<(), Fail> {
-    let (blocks, left) = decoded(rt, alloc, link, octets, 4096)?;
+    let (blocks, left) = decoded(rt, alloc, link, octets, Cuts::Even(4096))?;
     check_told(rt, blocks.kept(), wanted);
     assert_eq!(rt; left, wanted_left);
     let (blocks, left) = decoded_at_once(rt, alloc, link, octets)?;
@@ -182,11 +204,11 @@ fn short_inputs(rt: HostRuntime) -> Result<(), Fail> {
     check_decoded(&rt, alloc, punctured, &[0; 4], &[row(2, 2, 0)], 1)?;
     check_decoded(&rt, alloc, any, &[0x00, 0x00], &[row(1, 1, 0)], 0)?;
 
-    let (blocks, _) = decoded(&rt, alloc, DEFAULT, &[0x80, 0x00], 1)?;
+    let (blocks, _) = decoded(&rt, alloc, DEFAULT, &[0x80, 0x00], Cuts::Even(1))?;
     assert_eq!(rt; blocks.only(&rt), (0, 1, 32));
-    let (blocks, _) = decoded(&rt, alloc, DEFAULT, &[0x00, 0x00], 1)?;
+    let (blocks, _) = decoded(&rt, alloc, DEFAULT, &[0x00, 0x00], Cuts::Even(1))?;
     assert_eq!(rt; blocks.only(&rt), (0, 0, 0));
-    let (blocks, _) = decoded(&rt, alloc, any, &[0x00, 0x00], 2)?;
+    let (blocks, _) = decoded(&rt, alloc, any, &[0x00, 0x00], Cuts::Even(2))?;
     assert_eq!(rt; blocks.only(&rt), (2, 0, 1));
     Ok(())
 }
@@ -205,7 +227,7 @@ fn windows_of_every_size(rt: HostRuntime) -> Result<(), Fail> {
         &[row(8448, 8192, 0), row(257, 257, 0)],
         0,
     )?;
-    let (blocks, left) = decoded(&rt, alloc, DEFAULT, &long, 1)?;
+    let (blocks, left) = decoded(&rt, alloc, DEFAULT, &long, Cuts::Even(1))?;
     assert_eq!(rt; left, 0);
     assert_eq!(rt; blocks.kept().len(), 2);
     assert_eq!(rt;
@@ -259,6 +281,72 @@ fn columns_of_zeros(rt: HostRuntime) {
     let mut next = [1; 64];
     assert_eq!(rt; lane_column(&sums, &costs, &mut next), 0);
     assert_eq!(rt; next, [0; 64]);
+}
+
+// The least cost of the one step that a pair of octets is at rate 1/2.
+fn cost_of_pair(invert: bool, start: Start, pair: [u8; 2]) -> u64 {
+    least_cost(Rate::R12, invert, start, &pair)
+}
+
+// The least cost of octets that are a whole number of steps at every rate.
+fn cost_at(rate: Rate, invert: bool, start: Start, octets: [u8; 24]) -> u64 {
+    least_cost(rate, invert, start, &octets)
+}
+
+#[test]
+fn least_costs(rt: HostRuntime) -> Result<(), Fail> {
+    assert_eq!(rt; cost_of_pair(true, Start::Zero, [0x80, 0x00]), 127);
+    assert_eq!(rt; cost_of_pair(true, Start::Zero, [0x00, 0x00]), 255);
+    assert_eq!(rt; cost_of_pair(false, Start::Zero, [0x00, 0x00]), 0);
+    assert_eq!(rt; cost_of_pair(true, Start::Any, [0x00, 0x00]), 0);
+    let mut seed = 2000u64;
+    for (rate, steps) in RATES.into_iter().zip([12u32, 16, 18, 20, 21]) {
+        for first in [Some(0), None] {
+            let mut octets = [0; 24];
+            for i in 0..24usize {
+                (octets[i], seed) = drawn(seed);
+            }
+            let wanted = best_walked(rate, true, first, 0, &octets, steps).map(|path| path.cost);
+            let found = cost_at(rate, true, start_of(first), octets);
+            assert_eq!(rt; Some(found), wanted);
+        }
+    }
+    Ok(())
+}
+
+// The sums before the first step of rate 1/2, and behind it.
+fn sums_of_pair(start: Option<u8>, pair: [u8; 2]) -> ([u32; 64], [u32; 64])
+    requires { IfSome start (λ register. register < 64) }
+{
+    let mut sums = Sums::new(Rate::R12, true, 0, start);
+    let before = *sums.column();
+    sums.step(&pair);
+    (before, *sums.column())
+}
+
+// The sums from any register behind step 1 of rate 2/3, which sends its second sum alone.
+fn sums_of_second_sum(octet: u8) -> [u32; 64] {
+    let mut sums = Sums::new(Rate::R23, false, 1, None);
+    sums.step(&[octet]);
+    *sums.column()
+}
+
+#[test]
+fn sums_of_a_step(rt: HostRuntime) {
+    let (before, behind) = sums_of_pair(Some(0), [0x80, 0x00]);
+    for register in 0..64usize {
+        let wanted = if register == 0 { 0 } else { 1 << 30 };
+        assert_eq!(rt; before[register], wanted);
+        if register % 32 != 0 {
+            assert!(rt; (1 << 30) + 127 <= behind[register]);
+            assert!(rt; behind[register] <= (1 << 30) + 128);
+        }
+    }
+    assert_eq!(rt; (behind[0], behind[32]), (0x17F, 0x7F));
+    let (before, behind) = sums_of_pair(None, [0x00, 0x00]);
+    assert_eq!(rt; before, [0; 64]);
+    assert_eq!(rt; (behind[0], behind[1], behind[32]), (255, 0, 255));
+    assert_eq!(rt; sums_of_second_sum(0x80), [127; 64]);
 }
 
 #[test]
@@ -339,7 +427,7 @@ fn best_of_all_candidates(rt: HostRuntime) -> Result<(), Fail> {
                     start: start_of(first),
                     ..DEFAULT
                 };
-                let (blocks, left) = decoded(&rt, rt.alloc(), link, &octets, 2)?;
+                let (blocks, left) = decoded(&rt, rt.alloc(), link, &octets, Cuts::Even(2))?;
                 assert_eq!(rt; left, 0);
                 assert_eq!(rt; blocks.kept().len(), 1);
                 let wanted = best_listed(rate, invert, first, 0, &octets, steps);
@@ -400,9 +488,11 @@ fn windows_in_any_cut(rt: HostRuntime) -> Result<(), Fail> {
             seed = seed.wrapping_add(1);
             let whole = 300;
             let octets = drawn_octets(rt.alloc(), octets_of(rate, 0, whole), seed)?;
-            let (blocks, left) = decoded(&rt, rt.alloc(), link, &octets, cut)?;
-            assert_eq!(rt; left, 0);
-            check_windows(&rt, link, &octets, whole, blocks.kept());
+            for cuts in [Cuts::Even(cut), Cuts::Drawn(seed)] {
+                let (blocks, left) = decoded(&rt, rt.alloc(), link, &octets, cuts)?;
+                assert_eq!(rt; left, 0);
+                check_windows(&rt, link, &octets, whole, blocks.kept());
+            }
         }
     }
     Ok(())
