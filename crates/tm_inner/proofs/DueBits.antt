@@ -22,13 +22,13 @@ abbrev pub StandFirst : Type 0
 StandFirst = (s : Settings) (octets : List ℕ) (first blocks : List WindowBlock) (left : ℕ)
     → AreFirst s octets first → AreBlocksOf s octets blocks left → (rest : List WindowBlock) × (blocks ≡ first ++ rest)
 
-drop-split : {A : Type 0} (n : ℕ) (xs ys : List A) → drop n (xs ++ ys) ≡ drop n xs ++ drop (n - length xs) ys
+pub drop-split : {A : Type 0} (n : ℕ) (xs ys : List A) → drop n (xs ++ ys) ≡ drop n xs ++ drop (n - length xs) ys
 drop-split zero xs ys = (let same : 0 ≡ 0 - length xs = omega arith in ap (λ k. xs ++ drop k ys) same)
 drop-split (suc n) [] ys = (let same : suc n ≡ suc n - 0 = omega arith in ap (λ k. drop k ys) same)
 drop-split (suc n) (x ∷ xs) ys = drop-split n xs ys ∙ (let same : n - length xs ≡ suc n - length (x ∷ xs) = omega arith in ap (λ k. drop n xs ++ drop k ys) same)
 
 -- the soft octets that are decoded of a longer list
-soft-more : (c : Configuration) (phase : ℕ) (octets more : List ℕ)
+pub soft-more : (c : Configuration) (phase : ℕ) (octets more : List ℕ)
     → soft_octets c phase (octets ++ more) ≡ soft_octets c phase octets ++ map (soft_value c) (drop (phase - length (drop c.skip octets)) (drop (c.skip - length octets) more))
 soft-more c phase octets more =
     let back = drop (c.skip - length octets) more in
@@ -36,7 +36,7 @@ soft-more c phase octets more =
     ∙ ap (map (soft_value c)) (drop-split phase (drop c.skip octets) back)
     ∙ map-append (soft_value c) (drop phase (drop c.skip octets)) (drop (phase - length (drop c.skip octets)) back)
 
-kept-append : (first rest : List WindowBlock) → kept_bits (first ++ rest) ≡ kept_bits first ++ kept_bits rest
+pub kept-append : (first rest : List WindowBlock) → kept_bits (first ++ rest) ≡ kept_bits first ++ kept_bits rest
 kept-append [] rest = refl
 kept-append (b ∷ first) rest = ap (λ l. take b.kept b.bits ++ l) (kept-append first rest) ∙ sym (append_assoc (take b.kept b.bits) (kept_bits first) (kept_bits rest))
 

@@ -3,4 +3,7 @@ pub mod Sending
 mod Coding
 pub mod InnerBits
 pub mod DueBits
+pub mod ReceivedBits
+pub mod FewBits
+pub mod GivenPieces
 pub mod WorkedBits

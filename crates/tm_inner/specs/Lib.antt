@@ -1,3 +1,4 @@
 pub mod Symbols
 pub mod Inner
 pub mod Sending
+pub mod Receiving

@@ -7,7 +7,7 @@ use tm_config::Config;
 use tm_conv::{Encoder, Rate};
 
 // The rate of the inner code, or None where there is none.
-fn rate_of(config: &Config) -> Option<Rate>
+pub fn rate_of(config: &Config) -> Option<Rate>
     ensures { result ≡ rate_of config.now.inner }
 {
     match config.inner() {
@@ -21,7 +21,7 @@ fn rate_of(config: &Config) -> Option<Rate>
 }
 
 // Whether each second sum is sent inverted: as it was chosen, and else at rate 1/2 alone.
-fn is_inverted(rate: Rate, chosen: Option<u64>) -> bool
+pub fn is_inverted(rate: Rate, chosen: Option<u64>) -> bool
     ensures { result ≡ is_inverted rate chosen }
 {
     match chosen {

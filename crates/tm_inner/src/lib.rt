@@ -1,10 +1,18 @@
 //! The inner stages: from the octets of marked codeblocks to the symbols that are sent, by the inner code of a configuration
-//! (CCSDS 131.0-B, Convolutional Coding).
+//! (CCSDS 131.0-B, Convolutional Coding), and from soft symbols that are received to blocks of bits.
 #![tactic(auto)]
 
 mod code;
+mod counting;
+mod feeding;
 mod laws;
+mod receiver;
 mod sender;
+#[cfg(test)]
+mod tests;
+mod whole;
 
 pub use laws::{clean_inner_law, due_bits_law, inner_law};
+pub use receiver::{InnerEnd, InnerReceiver};
 pub use sender::{InnerSender, SendError};
+pub use whole::inner_all;

@@ -1,0 +1,181 @@
+-- Octets come to no more bits than they have.
+use Rattle.std.proofs.Common.{ℕ, zero, suc, ◌≡◌, ◌+◌, ◌-◌, ◌*◌, ◌≤◌, ◌<◌, ◌==◌, ◌∙◌, refl, Bool, List, [], ◌∷◌, ◌++◌, length, take, drop, ap, sym, subst, arith, inl, inr, Option, Some, None, length-append, length-drop, length-take}
+use Rattle.std.proofs.lemmas.List.{length-map}
+use Rattle.std.proofs.lemmas.Bool.{cases_lt}
+use Rattle.tm_base.specs.Bits.{bits_of}
+use Rattle.tm_base.proofs.Packing.{length-bits_of}
+use Rattle.tm_config.specs.Configuration.{Configuration}
+use Rattle.tm_conv.specs.declared.rates.Rate.{Rate}
+use Rattle.tm_conv.specs.Path.{steps_size}
+use Rattle.tm_conv.proofs.Sizes.{step_size_pos}
+use Rattle.tm_viterbi.specs.WindowBlock.{WindowBlock}
+use Rattle.tm_viterbi.specs.Clean.{kept_bits}
+use Rattle.tm_viterbi.specs.Due.{Place, Closed, behind, first_place}
+use Rattle.tm_viterbi.specs.Starts.{first_start}
+use Rattle.tm_viterbi.proofs.CleanBlocks.{steps-mono}
+use Rattle.tm_inner.specs.Symbols.{rate_of}
+use Rattle.tm_inner.specs.Inner.{settings_of, soft_octets, BlocksAt, DueAt, bits_at, AreInnerBlocks, AreInnerDue, inner_bits}
+use Rattle.tm_inner.specs.Receiving.{FirstAt, AreInnerFirst}
+use Rattle.tm_inner.proofs.ReceivedBits.{block-bits, kept-le, kept-count, length-soft, steps_size-add}
+use Rattle.tm_inner.proofs.DueBits.{kept-append}
+
+steps-large : (rate : Rate) (t n : ℕ) → n ≤ steps_size rate t n
+unfolding steps_size
+steps-large rate t zero = omega arith
+steps-large rate t (suc n) = omega (arith, steps-large rate (t + 1) n, step_size_pos rate t)
+
+closed-few : (rate : Rate) (invert : Bool) (keep ahead : ℕ) (from to : Place) (blocks : List WindowBlock) → Closed rate invert keep ahead from blocks to
+    → length (kept_bits blocks) ≤ length from.octets
+closed-few rate invert keep ahead from to [] closed = omega arith
+closed-few rate invert keep ahead from to (b ∷ blocks) closed =
+    let n : ℕ = keep + ahead + 1 in
+    let is = closed.0.is_block in
+    let less : b.kept ≤ b.steps = omega (arith, is.kept, is.steps, kept-le keep ahead n) in
+    let most : b.steps ≤ n = omega (arith, is.steps) in
+    let front : length (take b.kept b.bits) ≡ b.kept =
+    omega (arith, length-take b.kept b.bits, block-bits rate invert keep ahead from.starts from.t n from.octets b closed.0.room is) in
+    let behind = closed-few rate invert keep ahead (behind rate from b) to blocks closed.1 in
+    let inside : steps_size rate from.t b.kept ≤ length from.octets = omega (arith, closed.0.room, steps-mono rate from.t b.kept n (omega arith)) in
+    omega (arith, length-append (take b.kept b.bits) (kept_bits blocks), front, behind, inside, length-drop (steps_size rate from.t b.kept) from.octets, steps-large rate from.t b.kept)
+
+few-first : (rate : Option Rate) (c : Configuration) (octets : List ℕ) (blocks : List WindowBlock) → FirstAt rate c 0 octets blocks → length (bits_at rate c octets blocks) ≤ 8 * length octets
+few-first None c octets blocks are = omega (arith, length-drop c.skip (bits_of octets), length-bits_of octets)
+few-first (Some rate) c octets blocks are =
+    let s = settings_of c rate in
+    let few = closed-few rate s.invert s.keep s.ahead (first_place s (soft_octets c 0 octets)) are.0 blocks are.1 in
+    omega (arith, few, length-soft c octets, length-map (kept_bits blocks) (λ bit. bit == 1))
+
+few-whole : (rate : Option Rate) (c : Configuration) (octets : List ℕ) (blocks : List WindowBlock) (left : ℕ) → BlocksAt rate c 0 octets blocks left → length (bits_at rate c octets blocks) ≤ 8 * length octets
+few-whole None c octets blocks left are = omega (arith, length-drop c.skip (bits_of octets), length-bits_of octets)
+few-whole (Some rate) c octets blocks left are =
+    let s = settings_of c rate in
+    let kept = kept-count rate s.invert s.keep s.ahead (first_start s.start) 0 are.count (soft_octets c 0 octets) blocks are.steps.whole are.are in
+    omega (arith, kept, are.steps.whole, steps-large rate 0 are.count, length-soft c octets, length-map (kept_bits blocks) (λ bit. bit == 1))
+
+-- the bits of first blocks, and of all blocks
+pub first-few : (c : Configuration) (octets : List ℕ) (blocks : List WindowBlock) → AreInnerFirst c 0 octets blocks → length (inner_bits c octets blocks) ≤ 8 * length octets
+first-few c = few-first (rate_of c.inner) c
+
+pub whole-few : (c : Configuration) (octets : List ℕ) (blocks : List WindowBlock) (left : ℕ) → AreInnerBlocks c 0 octets blocks left → length (inner_bits c octets blocks) ≤ 8 * length octets
+whole-few c = few-whole (rate_of c.inner) c
+
+-- due blocks are first ones
+due-is-first : (rate : Option Rate) (c : Configuration) (phase : ℕ) (octets : List ℕ) (blocks : List WindowBlock) → DueAt rate c phase octets blocks → FirstAt rate c phase octets blocks
+due-is-first None c phase octets blocks are = are
+due-is-first (Some rate) c phase octets blocks are = (are.to, are.closed)
+
+pub first-of-due : (c : Configuration) (phase : ℕ) (octets : List ℕ) (blocks : List WindowBlock) → AreInnerDue c phase octets blocks → AreInnerFirst c phase octets blocks
+first-of-due c = due-is-first (rate_of c.inner) c
+
+-- ---- the blocks of a window and of so many octets more keep no more bits than these have
+
+-- closed windows take the octets of the steps that they keep
+record Taken (rate : Rate) (from to : Place) (kept : ℕ) : Type 0 where
+  octets : length from.octets ≡ steps_size rate from.t kept + length to.octets
+  step : to.t ≡ from.t + kept
+
+no-steps : (rate : Rate) (t n : ℕ) → n ≡ steps_size rate t 0 + n
+unfolding steps_size
+no-steps rate t n = omega arith
+
+closed-taken : (rate : Rate) (invert : Bool) (keep ahead : ℕ) (from to : Place) (blocks : List WindowBlock) → Closed rate invert keep ahead from blocks to
+    → Taken rate from to (length (kept_bits blocks))
+closed-taken rate invert keep ahead from to [] same = record {
+  octets = subst (λ (p : Place). length from.octets ≡ steps_size rate from.t 0 + length p.octets) same (no-steps rate from.t (length from.octets));
+  step = subst (λ (p : Place). p.t ≡ from.t + 0) same (omega arith);
+}
+closed-taken rate invert keep ahead from to (b ∷ blocks) closed =
+    let n : ℕ = keep + ahead + 1 in
+    let is = closed.0.is_block in
+    let less : b.kept ≤ b.steps = omega (arith, is.kept, is.steps, kept-le keep ahead n) in
+    let most : b.steps ≤ n = omega (arith, is.steps) in
+    let front : length (take b.kept b.bits) ≡ b.kept =
+    omega (arith, length-take b.kept b.bits, block-bits rate invert keep ahead from.starts from.t n from.octets b closed.0.room is) in
+    let inside : steps_size rate from.t b.kept ≤ length from.octets = omega (arith, closed.0.room, steps-mono rate from.t b.kept n (omega arith)) in
+    let rest = closed-taken rate invert keep ahead (behind rate from b) to blocks closed.1 in
+    let m : ℕ = length (kept_bits blocks) in
+    let all : length (kept_bits (b ∷ blocks)) ≡ b.kept + m = length-append (take b.kept b.bits) (kept_bits blocks) ∙ ap (λ k. k + m) front in
+    let sum = steps_size-add rate from.t b.kept m in
+    record {
+      octets = omega (arith, rest.octets, inside, sum, length-drop (steps_size rate from.t b.kept) from.octets, ap (steps_size rate from.t) all);
+      step = omega (arith, rest.step, all);
+    }
+
+-- so many steps further are as many octets at least
+reach : (rate : Rate) (t n m k : ℕ) → steps_size rate t (n + m) < steps_size rate t n + steps_size rate (t + n) (k + 1) → m ≤ k
+reach rate t n m k less = elim (cases_lt k m) as (λ _. m ≤ k) [
+  | inl more ↦ absurd (omega (arith, less, steps_size-add rate t n m, steps-mono rate (t + n) (k + 1) m (omega (arith, more))))
+  | inr there ↦ there
+]
+
+reach_with : (rate : Rate) (t n m k count : ℕ) → steps_size rate t (n + m) < steps_size rate t n + steps_size rate (t + n) (k + 1) + count → m ≤ k + count
+reach_with rate t n m k count less = elim (cases_lt (k + count) m) as (λ _. m ≤ k + count) [
+  | inl more ↦ (
+      let split : m ≡ (k + 1) + (m - (k + 1)) = omega (arith, more) in
+      absurd (omega (arith, less, more, steps_size-add rate t n m, ap (steps_size rate (t + n)) split, steps_size-add rate (t + n) (k + 1) (m - (k + 1)), steps-large rate (t + n + (k + 1)) (m - (k + 1))))
+      )
+  | inr there ↦ there
+]
+
+more-at : (rate : Rate) (c : Configuration) (given octets : List ℕ) (done more : List WindowBlock) → DueAt (Some rate) c 0 given done → FirstAt (Some rate) c 0 (given ++ octets) (done ++ more)
+    → length (kept_bits more) ≤ c.keep + c.ahead + length octets
+more-at rate c given octets done more due first =
+    let s = settings_of c rate in
+    let was = closed-taken rate s.invert s.keep s.ahead (first_place s (soft_octets c 0 given)) due.to done due.closed in
+    let now = closed-taken rate s.invert s.keep s.ahead (first_place s (soft_octets c 0 (given ++ octets))) first.0 (done ++ more) first.1 in
+    let n : ℕ = length (kept_bits done) in
+    let m : ℕ = length (kept_bits more) in
+    let all : length (kept_bits (done ++ more)) ≡ n + m = ap length (kept-append done more) ∙ length-append (kept_bits done) (kept_bits more) in
+    let few : length due.to.octets < steps_size rate (0 + n) (c.keep + c.ahead + 1) = subst (λ (t : ℕ). length due.to.octets < steps_size rate t (c.keep + c.ahead + 1)) was.step due.few in
+    reach_with rate 0 n m (c.keep + c.ahead) (length octets)
+    (omega (arith, was.octets, now.octets, few, length-soft c given, length-soft c (given ++ octets), length-append given octets, ap (steps_size rate 0) all))
+
+last-at : (rate : Rate) (c : Configuration) (given : List ℕ) (done last : List WindowBlock) (left : ℕ) → DueAt (Some rate) c 0 given done → BlocksAt (Some rate) c 0 given (done ++ last) left
+    → length (kept_bits last) ≤ c.keep + c.ahead
+last-at rate c given done last left due are =
+    let s = settings_of c rate in
+    let was = closed-taken rate s.invert s.keep s.ahead (first_place s (soft_octets c 0 given)) due.to done due.closed in
+    let n : ℕ = length (kept_bits done) in
+    let m : ℕ = length (kept_bits last) in
+    let all : n + m ≡ are.count = sym (ap length (kept-append done last) ∙ length-append (kept_bits done) (kept_bits last))
+    ∙ kept-count rate s.invert s.keep s.ahead (first_start s.start) 0 are.count (soft_octets c 0 given) (done ++ last) are.steps.whole are.are in
+    let few : length due.to.octets < steps_size rate (0 + n) (c.keep + c.ahead + 1) = subst (λ (t : ℕ). length due.to.octets < steps_size rate t (c.keep + c.ahead + 1)) was.step due.few in
+    reach rate 0 n m (c.keep + c.ahead) (omega (arith, was.octets, few, are.steps.whole, ap (steps_size rate 0) all))
+
+abbrev with_rate : (P : Option Rate → Type 0) → P None → ((rate : Rate) → P (Some rate)) → (rate : Option Rate) → P rate
+with_rate P none some None = none
+with_rate P none some (Some rate) = some rate
+
+-- the blocks of octets, behind those that are due
+pub more-few : (c : Configuration) (given octets : List ℕ) (done more : List WindowBlock) → AreInnerDue c 0 given done → AreInnerFirst c 0 (given ++ octets) (done ++ more)
+    → length (kept_bits more) ≤ c.keep + c.ahead + length octets
+more-few c given octets done more =
+    with_rate (λ rate. DueAt rate c 0 given done → FirstAt rate c 0 (given ++ octets) (done ++ more) → length (kept_bits more) ≤ c.keep + c.ahead + length octets)
+    (λ due first. none done more first) (λ rate. more-at rate c given octets done more) (rate_of c.inner)
+  where
+    none : (xs ys : List WindowBlock) → xs ++ ys ≡ [] → length (kept_bits ys) ≤ c.keep + c.ahead + length octets
+    none [] ys is = omega (arith, ap (λ (l : List WindowBlock). length (kept_bits l)) is)
+    none (x ∷ xs) ys is = absurd cc
+
+-- the blocks of the end
+pub last-few : (c : Configuration) (given : List ℕ) (done last : List WindowBlock) (left : ℕ) → AreInnerDue c 0 given done → AreInnerBlocks c 0 given (done ++ last) left
+    → length (kept_bits last) ≤ c.keep + c.ahead
+last-few c given done last left =
+    with_rate (λ rate. DueAt rate c 0 given done → BlocksAt rate c 0 given (done ++ last) left → length (kept_bits last) ≤ c.keep + c.ahead)
+    (λ due are. none done last are.0) (λ rate. last-at rate c given done last left) (rate_of c.inner)
+  where
+    none : (xs ys : List WindowBlock) → xs ++ ys ≡ [] → length (kept_bits ys) ≤ c.keep + c.ahead
+    none [] ys is = omega (arith, ap (λ (l : List WindowBlock). length (kept_bits l)) is)
+    none (x ∷ xs) ys is = absurd cc
+
+-- no octets have no blocks that are due
+none-due : (rate : Option Rate) (c : Configuration) → DueAt rate c 0 [] []
+none-due None c = refl
+none-due (Some rate) c = record {
+  to = first_place (settings_of c rate) (soft_octets c 0 []);
+  closed = refl;
+  few = omega (arith, length-soft c [], steps-large rate 0 (c.keep + c.ahead + 1));
+}
+
+pub due-none : (c : Configuration) → AreInnerDue c 0 [] []
+due-none c = none-due (rate_of c.inner) c

@@ -1,0 +1,151 @@
+-- How many bits octets come to.
+use Rattle.std.proofs.Common.{◌≡◌, ℕ, zero, suc, ◌+◌, ◌-◌, ◌*◌, ◌/◌, ◌%◌, ◌<◌, ◌≤◌, ◌==◌, ◌^◌, min, Bool, List, [], ◌∷◌, ◌++◌, length, take, drop, map, refl, sym, ap, ◌∙◌, subst, arith, Option, Some, None, length-append, length-drop, length-take, inl, inr}
+use Rattle.std.proofs.lemmas.List.{length-map}
+use Rattle.std.proofs.lemmas.Bool.{cases_lt}
+use Rattle.std.proofs.lemmas.Bool.Decides.{nat_tests}
+use Rattle.tm_base.specs.Bits.{bits_of}
+use Rattle.tm_base.proofs.Packing.{bits_of-append, length-bits_of}
+use Rattle.tm_config.specs.Configuration.{Configuration}
+use Rattle.tm_conv.specs.declared.rates.Rate.{Rate}
+use Rattle.tm_conv.specs.declared.rates.Rate.TheVariants.{R12, R23, R34, R56, R78}
+use Rattle.tm_conv.specs.Path.{period, steps_size}
+use Rattle.tm_conv.proofs.Paths.{length-path}
+use Rattle.tm_conv.proofs.Sizes.{steps_size-is, same_from_steps_size}
+use Rattle.tm_viterbi.specs.WindowBlock.{WindowBlock}
+use Rattle.tm_viterbi.specs.Blocks.{AreSteps, IsBlock, AreBlocks, AreBlocksOf, kept_steps, window_steps}
+use Rattle.tm_viterbi.specs.Clean.{kept_bits}
+use Rattle.tm_viterbi.specs.Starts.{first_start}
+use Rattle.tm_viterbi.proofs.CleanBlocks.{steps-mono}
+use Rattle.tm_inner.proofs.DueBits.{drop-split}
+use Rattle.tm_inner.specs.Symbols.{rate_of}
+use Rattle.tm_inner.specs.Inner.{settings_of, soft_value, soft_octets, BlocksAt, bits_at, AreInnerBlocks, inner_bits}
+
+-- ---- the whole steps of symbols
+
+pub steps_size-add : (rate : Rate) (t a b : ℕ) → steps_size rate t (a + b) ≡ steps_size rate t a + steps_size rate (t + a) b
+unfolding steps_size
+steps_size-add rate t zero b =
+    let none : 0 + b ≡ b = omega arith in
+    let same : t ≡ t + 0 = omega arith in
+    let both : steps_size rate t (0 + b) ≡ steps_size rate (t + 0) b = ap (steps_size rate t) none ∙ ap (λ u. steps_size rate u b) same in
+    omega (arith, both)
+steps_size-add rate t (suc a) b =
+    let next : suc a + b ≡ suc (a + b) = omega arith in
+    let same : t + 1 + a ≡ t + suc a = omega arith in
+    let rest = steps_size-add rate (t + 1) a b in
+    let behind = ap (λ u. steps_size rate u b) same in
+    ap (steps_size rate t) next ∙ omega (arith, rest, behind)
+
+-- of a period and one more symbol each period has its steps, and behind the whole periods each symbol but the first ends a step
+abbrev steps_of : ℕ → ℕ → ℕ
+steps_of period n = n / (period + 1) * period + (n % (period + 1) - 1)
+
+abbrev AreWhole : Rate → ℕ → ℕ → Type 0
+AreWhole rate n count = (steps_size rate 0 count ≤ n) × (n < steps_size rate 0 (count + 1))
+
+whole-steps : (rate : Rate) (n : ℕ) → AreWhole rate n (steps_of (period rate) n)
+whole-steps R12 n =
+    let m : ℕ = n / 2 * 1 + (n % 2 - 1) in
+    let a : steps_size R12 0 m ≡ m + (m / 1 + min 1 (m % 1)) = steps_size-is R12 m in
+    let b : steps_size R12 0 (m + 1) ≡ m + 1 + ((m + 1) / 1 + min 1 ((m + 1) % 1)) = steps_size-is R12 (m + 1) in
+    (let goal : steps_size R12 0 m ≤ n = omega (arith, a) in goal, let goal : n < steps_size R12 0 (m + 1) = omega (arith, b) in goal)
+whole-steps R23 n =
+    let m : ℕ = n / 3 * 2 + (n % 3 - 1) in
+    let a : steps_size R23 0 m ≡ m + (m / 2 + min 1 (m % 2)) = steps_size-is R23 m in
+    let b : steps_size R23 0 (m + 1) ≡ m + 1 + ((m + 1) / 2 + min 1 ((m + 1) % 2)) = steps_size-is R23 (m + 1) in
+    (let goal : steps_size R23 0 m ≤ n = omega (arith, a) in goal, let goal : n < steps_size R23 0 (m + 1) = omega (arith, b) in goal)
+whole-steps R34 n =
+    let m : ℕ = n / 4 * 3 + (n % 4 - 1) in
+    let a : steps_size R34 0 m ≡ m + (m / 3 + min 1 (m % 3)) = steps_size-is R34 m in
+    let b : steps_size R34 0 (m + 1) ≡ m + 1 + ((m + 1) / 3 + min 1 ((m + 1) % 3)) = steps_size-is R34 (m + 1) in
+    (let goal : steps_size R34 0 m ≤ n = omega (arith, a) in goal, let goal : n < steps_size R34 0 (m + 1) = omega (arith, b) in goal)
+whole-steps R56 n =
+    let m : ℕ = n / 6 * 5 + (n % 6 - 1) in
+    let a : steps_size R56 0 m ≡ m + (m / 5 + min 1 (m % 5)) = steps_size-is R56 m in
+    let b : steps_size R56 0 (m + 1) ≡ m + 1 + ((m + 1) / 5 + min 1 ((m + 1) % 5)) = steps_size-is R56 (m + 1) in
+    (let goal : steps_size R56 0 m ≤ n = omega (arith, a) in goal, let goal : n < steps_size R56 0 (m + 1) = omega (arith, b) in goal)
+whole-steps R78 n =
+    let m : ℕ = n / 8 * 7 + (n % 8 - 1) in
+    let a : steps_size R78 0 m ≡ m + (m / 7 + min 1 (m % 7)) = steps_size-is R78 m in
+    let b : steps_size R78 0 (m + 1) ≡ m + 1 + ((m + 1) / 7 + min 1 ((m + 1) % 7)) = steps_size-is R78 (m + 1) in
+    (let goal : steps_size R78 0 m ≤ n = omega (arith, a) in goal, let goal : n < steps_size R78 0 (m + 1) = omega (arith, b) in goal)
+
+pub whole_steps : (rate : Rate) (n p rest : ℕ) → p ≡ period rate → rest ≡ n % (p + 1) - 1 → AreWhole rate n (n / (p + 1) * p + rest)
+whole_steps rate n p rest same is =
+    subst (λ (r : ℕ). AreWhole rate n (n / (p + 1) * p + r)) (sym is)
+    (subst (λ (q : ℕ). AreWhole rate n (steps_of q n)) (sym same) (whole-steps rate n))
+
+-- octets have one number of whole steps
+one-count : (rate : Rate) (n count other : ℕ) → AreWhole rate n count → AreWhole rate n other → count ≡ other
+one-count rate n count other a b =
+    let up = least rate n count other b.1 a.0 in
+    let down = least rate n other count a.1 b.0 in
+    omega arith
+  where
+    least : (rate : Rate) (n count other : ℕ) → n < steps_size rate 0 (other + 1) → steps_size rate 0 count ≤ n → count ≤ other
+    least rate n count other most le = elim (cases_lt other count) as (λ _. count ≤ other) [
+      | inl less ↦ absurd (omega (arith, most, le, steps-mono rate 0 (other + 1) count (omega arith)))
+      | inr there ↦ there
+    ]
+
+-- ---- blocks keep a bit for each step
+
+pub kept-le : (keep ahead n : ℕ) → kept_steps keep ahead n ≤ window_steps keep ahead n
+kept-le keep ahead n = grind (arith, nat_tests)
+
+-- a block has a bit for each step
+pub block-bits : (rate : Rate) (invert : Bool) (keep ahead : ℕ) (starts : Option ℕ) (t n : ℕ) (octets : List ℕ) (b : WindowBlock) → steps_size rate t n ≤ length octets
+    → IsBlock rate invert keep ahead starts t n octets b → length b.bits ≡ b.steps
+block-bits rate invert keep ahead starts t n octets b whole is =
+    let inside : steps_size rate t b.steps ≤ length octets = omega (arith, whole, steps-mono rate t b.steps n (omega (arith, is.steps))) in
+    let size : steps_size rate t (length b.bits) ≡ steps_size rate t b.steps =
+    sym (length-path rate invert t b.start b.bits) ∙ is.best.candidate.covers ∙ omega (arith, inside, length-take (steps_size rate t b.steps) octets) in
+    same_from_steps_size rate t (length b.bits) b.steps size
+
+pub kept-count : (rate : Rate) (invert : Bool) (keep ahead : ℕ) (starts : Option ℕ) (t n : ℕ) (octets : List ℕ) (blocks : List WindowBlock) → steps_size rate t n ≤ length octets
+    → AreBlocks rate invert keep ahead starts t n octets blocks → length (kept_bits blocks) ≡ n
+kept-count rate invert keep ahead starts t n octets [] whole are = sym are
+kept-count rate invert keep ahead starts t n octets (b ∷ blocks) whole are =
+    let is = are.1 in
+    let less : b.kept ≤ b.steps = omega (arith, is.kept, is.steps, kept-le keep ahead n) in
+    let most : b.steps ≤ n = omega (arith, is.steps) in
+    let sum : b.kept + (n - b.kept) ≡ n = omega arith in
+    let rest : steps_size rate (t + b.kept) (n - b.kept) ≤ length (drop (steps_size rate t b.kept) octets) =
+    omega (arith, whole, length-drop (steps_size rate t b.kept) octets, steps_size-add rate t b.kept (n - b.kept), ap (steps_size rate t) sum) in
+    let behind = kept-count rate invert keep ahead (Some b.end_state) (t + b.kept) (n - b.kept) (drop (steps_size rate t b.kept) octets) blocks rest are.2 in
+    let front : length (take b.kept b.bits) ≡ b.kept = omega (arith, length-take b.kept b.bits, block-bits rate invert keep ahead starts t n octets b whole is) in
+    omega (arith, length-append (take b.kept b.bits) (kept_bits blocks), front, behind)
+
+-- ---- the bits of octets
+
+pub length-soft : (c : Configuration) (given : List ℕ) → length (soft_octets c 0 given) ≡ length given - c.skip
+length-soft c given = length-map (drop 0 (drop c.skip given)) (soft_value c) ∙ length-drop c.skip given
+
+pub bits-coded : (c : Configuration) (rate : Rate) (n m : ℕ) (given : List ℕ) (blocks : List WindowBlock) (left : ℕ) → rate_of c.inner ≡ Some rate → length given ≡ n
+    → AreWhole rate (n - c.skip) m → AreInnerBlocks c 0 given blocks left → m ≡ length (inner_bits c given blocks)
+bits-coded c rate n m given blocks left is long whole are =
+    subst (λ (r : Option Rate). BlocksAt r c 0 given blocks left → m ≡ length (bits_at r c given blocks)) (sym is) counted are
+  where
+    counted : AreBlocksOf (settings_of c rate) (soft_octets c 0 given) blocks left → m ≡ length (map (λ bit. bit == 1) (kept_bits blocks))
+    counted of =
+        let s = settings_of c rate in
+        let size : length (soft_octets c 0 given) ≡ n - c.skip = length-soft c given ∙ ap (λ k. k - c.skip) long in
+        let steps : AreWhole rate (n - c.skip) of.count = (omega (arith, size, of.steps.whole), omega (arith, size, of.steps.most)) in
+        let same : m ≡ of.count = one-count rate (n - c.skip) m of.count whole steps in
+        let kept = kept-count rate s.invert s.keep s.ahead (first_start s.start) 0 of.count (soft_octets c 0 given) blocks of.steps.whole of.are in
+        same ∙ sym kept ∙ sym (length-map (kept_bits blocks) (λ bit. bit == 1))
+
+pub bits-plain : (c : Configuration) (n m : ℕ) (given : List ℕ) (blocks : List WindowBlock) → rate_of c.inner ≡ None → length given ≡ n
+    → m ≡ 8 * n - c.skip → m ≡ length (inner_bits c given blocks)
+bits-plain c n m given blocks none long is =
+    subst (λ (r : Option Rate). m ≡ length (bits_at r c given blocks)) (sym none)
+    (omega (arith, is, long, length-drop c.skip (bits_of given), length-bits_of given))
+
+-- the bits of a longer list, with no inner code
+pub bits-further : (c : Configuration) (given octets : List ℕ) (n : ℕ) → rate_of c.inner ≡ None → n ≡ c.skip - 8 * length given
+    → inner_bits c (given ++ octets) [] ≡ inner_bits c given [] ++ drop n (bits_of octets)
+bits-further c given octets n none is =
+    let same : c.skip - length (bits_of given) ≡ n = omega (arith, is, length-bits_of given) in
+    let plain : drop c.skip (bits_of (given ++ octets)) ≡ drop c.skip (bits_of given) ++ drop n (bits_of octets) =
+    ap (drop c.skip) (bits_of-append given octets) ∙ drop-split c.skip (bits_of given) (bits_of octets) ∙ ap (λ k. drop c.skip (bits_of given) ++ drop k (bits_of octets)) same in
+    subst (λ (r : Option Rate). bits_at r c (given ++ octets) [] ≡ bits_at r c given [] ++ drop n (bits_of octets)) (sym none) plain

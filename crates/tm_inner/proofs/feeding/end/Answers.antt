@@ -1,0 +1,22 @@
+use Rattle.std.proofs.Common.{◌≡◌, ◌∷◌, ◌∙◌, ℕ, [], true, false, refl, sym, subst, arith, Option, Some, Err, IsErrOf, IsTrue}
+use Rattle.std.proofs.lemmas.List.{append-nil}
+use Rattle.tm_viterbi.specs.Decoding.{Decoding}
+use Rattle.tm_viterbi.specs.declared.decoder.FeedError.{FeedError}
+use Rattle.tm_inner.specs.Inner.{soft_octets}
+use Rattle.tm_inner.specs.Receiving.{IsDecoderOf, HasStopped, DecodesFor}
+use Rattle.tm_inner.proofs.GivenPieces.{taker_alone, blocks-of, blocks-none}
+use Rattle.tm_inner.proofs.feeding.end.Goals as goal
+
+pub returns-in-Err-clause-front : goal.returns-in-Err-clause-front
+returns-in-Err-clause-front g c =
+    let d = c.in-Some.decoder in
+    let still : d.has_stopped ≡ false = subst (HasStopped false) c.in-Some.is c.requires in
+    let none : IsTrue d.has_stopped → ⊥ = λ stopped. let both : true ≡ false = sym stopped ∙ still in absurd cc in
+    let last = c.in-Err.ensures.front (taker_alone c.in-Err.field-0 (λ is. none (c.in-Err.ensures.stopped.0 is))) in (
+      last.0,
+      last.1,
+      λ config given done of stood.
+          let decodes = subst (λ (o : Option Decoding). DecodesFor o (soft_octets config 0 given) done) c.in-Some.is stood in
+          let blocks = last.2 (soft_octets config 0 given) done decodes.stands in
+          (blocks.0, blocks-of config d given _ blocks.0 (subst (IsDecoderOf config) c.in-Some.is of) blocks.1),
+    )

@@ -1,0 +1,45 @@
+// How many bits are received.
+ghost use Rattle.std.specs.Prelude.{◌≡◌, ℕ, ◌+◌, ◌^◌, ◌<◌, ◌≤◌, List, length};
+ghost use Rattle.tm_conv.specs.Path.{period, steps_size};
+ghost use Rattle.tm_viterbi.specs.WindowBlock.{WindowBlock};
+ghost use Rattle.tm_inner.specs.Inner.{AreInnerBlocks, inner_bits};
+
+use crate::code::rate_of;
+use tm_config::Config;
+use tm_conv::Rate;
+
+// How many bits are received with so many octets: those of the whole steps of the inner code, or with none all behind
+// the skipped ones.
+pub fn count_bits(config: &Config, octets: u64) -> u64
+    ensures { (given : List ℕ) (blocks : List WindowBlock) (left : ℕ) → length given ≡ octets → length given < 2 ^ 60
+        → AreInnerBlocks config.now 0 given blocks left → result ≡ length (inner_bits config.now given blocks) }
+{
+    match rate_of(config) {
+        Some(rate) => count_steps(rate, octets.saturating_sub(config.skip())),
+        None => octets.saturating_mul(8).saturating_sub(config.skip()),
+    }
+}
+
+// How many whole steps from step 0 on so many symbols have.
+fn count_steps(rate: Rate, symbols: u64) -> u64
+    ensures whole { steps_size rate 0 result ≤ symbols }
+    ensures most { symbols < steps_size rate 0 (result + 1) }
+{
+    // A step has one symbol, and the first of each period one more.
+    let period = period(rate);
+    symbols / (period + 1) * period + (symbols % (period + 1)).saturating_sub(1)
+}
+
+// How many steps the puncture patterns have.
+fn period(rate: Rate) -> u64
+    ensures value { result ≡ period rate }
+    ensures small { (1 ≤ result) × (result ≤ 7) }
+{
+    match rate {
+        Rate::R12 => 1,
+        Rate::R23 => 2,
+        Rate::R34 => 3,
+        Rate::R56 => 5,
+        Rate::R78 => 7,
+    }
+}

@@ -1,0 +1,45 @@
+// Octets received at once.
+ghost use Rattle.std.specs.Prelude.{◌≡◌, ◌≢◌, ◌⊎◌, ℕ, ◌^◌, ◌<◌, ◌≤◌, List, IfOk, IsErrOf, Err, length};
+ghost use Rattle.tm_base.specs.Takers.{HandedOver, HandedPart};
+ghost use Rattle.tm_base.specs.Outside.{Rose};
+ghost use Rattle.tm_viterbi.specs.WindowBlock.{WindowBlock};
+ghost use Rattle.tm_inner.specs.Inner.{AreInnerBlocks, inner_bits};
+ghost use Rattle.tm_inner.specs.Receiving.{AreInnerFirst};
+
+use crate::receiver::{InnerEnd, InnerReceiver};
+use std::alloc::Global;
+use tm_config::Config;
+use tm_viterbi::{AllError, BlockTaker};
+
+/// Hands over the blocks of received octets, fewer than 2^60, and answers how many bits were received and how many octets are
+/// left over. With no inner code no block comes.
+///
+/// `Memory` comes only where there isn't enough of it. `Taker` comes where `blocks` fails; a front of the blocks was then
+/// handed over.
+pub fn inner_all<B: BlockTaker>(
+    alloc: Global,
+    config: &Config,
+    octets: &[u8],
+    blocks: &mut B,
+) -> Result<InnerEnd, AllError>
+    ensures handed { IfOk result (λ end. (all : List WindowBlock) × HandedOver B.took blocks.old all blocks.new
+        × (length octets.now < 2 ^ 60 → AreInnerBlocks config.now 0 octets.now all end.leftover × (end.bits ≡ length (inner_bits config.now octets.now all)))) }
+    ensures front { IsErrOf result AllError.Taker → (tried : List WindowBlock) × HandedPart B.took B.broke blocks.old tried blocks.new
+        × (length octets.now < 2 ^ 60 → AreInnerFirst config.now 0 octets.now tried ⊎ ((left : ℕ) × AreInnerBlocks config.now 0 octets.now tried left)) }
+    ensures left { IfOk result (λ end. end.leftover ≤ 1) }
+    ensures unchanged { IsErrOf result AllError.Memory → blocks.new ≡ blocks.old }
+    ensures later { B.faults blocks.old ≤ B.faults blocks.new }
+    ensures rose { IsErrOf result AllError.Taker → Rose (B.faults blocks.old) (B.faults blocks.new) (B.is_last blocks.new) }
+    ensures same { result ≢ Err AllError.Taker → B.faults blocks.new ≡ B.faults blocks.old }
+{
+    let Ok(mut receiver) = InnerReceiver::open(alloc, config) else {
+        return Err(AllError::Memory);
+    };
+    let Ok(()) = receiver.feed(octets, blocks) else {
+        return Err(AllError::Taker);
+    };
+    match receiver.finish(blocks) {
+        Ok(end) => Ok(end),
+        Err(_) => Err(AllError::Taker),
+    }
+}
