@@ -11,7 +11,8 @@ use Rattle.tm_sync.proofs.Longer.{places-end, places-goes_on}
 use Rattle.tm_viterbi.specs.WindowBlock.{WindowBlock}
 use Rattle.tm_channel.specs.ReceivedCodeblock.{rules_of, codeblock_in, codeblock_at}
 use Rattle.tm_channel.specs.Items.{ItemValue, IsItem, AreItemsOf, AreItems}
-use Rattle.tm_channel.specs.Receive.{Receive, ReceiveDue, in_batches}
+use Rattle.tm_channel.specs.Due.{in_batches}
+use Rattle.tm_channel.specs.Receive.{Receive, ReceiveDue}
 use Rattle.tm_channel.proofs.OnlyItems.{items-same}
 
 -- the places end within so many bits
@@ -56,7 +57,7 @@ within-take c n (suc k) [] within = tt
 within-take c n (suc k) (f ∷ fs) within = (within.0, within-take c n k fs within.1)
 
 -- the items of some of the first places of a front stand first among those of all bits
-first-items : (c : Configuration) (front rest : List Bool) (k : ℕ) (due items : List ItemValue) → IsAccepted c
+pub first-items : (c : Configuration) (front rest : List Bool) (k : ℕ) (due items : List ItemValue) → IsAccepted c
     → AreItemsOf c front (take k (places (rules_of c) front)) due → AreItems c (front ++ rest) items → (others : List ItemValue) × (items ≡ due ++ others)
 first-items c front rest k due items ok first all =
     let fs = places (rules_of c) front in

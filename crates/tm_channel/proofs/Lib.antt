@@ -10,4 +10,16 @@ pub mod OnlyItems
 pub mod ReceivedOctets
 pub mod TurnedOctets
 pub mod DueItems
+pub mod FirstItems
 pub mod WorkedItems
+pub mod Gathered
+pub mod Handing
+pub mod Streaming
+pub mod Stepping
+pub mod Pieces
+pub mod AllBits
+pub mod ReceivedPieces
+pub mod GivenOctets
+pub mod TurnedOver
+pub mod ColumnsRead
+pub mod Repaired

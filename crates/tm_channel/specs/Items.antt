@@ -40,6 +40,12 @@ AreItemsOf c bits [] [] = Unit {0}
 AreItemsOf c bits (f ∷ fs) (item ∷ items) = IsItem c f (codeblock_at c bits f) item × AreItemsOf c bits fs items
 AreItemsOf c bits fs items = ⊥
 
+-- items of the first of these places
+abbrev pub AreFirstItemsOf : Configuration → List Bool → List Found → List ItemValue → Type 0
+AreFirstItemsOf c bits fs [] = Unit {0}
+AreFirstItemsOf c bits [] (item ∷ items) = ⊥
+AreFirstItemsOf c bits (f ∷ fs) (item ∷ items) = IsItem c f (codeblock_at c bits f) item × AreFirstItemsOf c bits fs items
+
 -- the items of received bits
 abbrev pub AreItems : Configuration → List Bool → List ItemValue → Type 0
 AreItems c bits items = AreItemsOf c bits (places (rules_of c) bits) items

@@ -3,7 +3,12 @@ pub mod Cadu
 pub mod Sent
 pub mod ReceivedCodeblock
 pub mod Items
+pub mod Due
 pub mod Receive
 pub mod SentStream
+pub mod Receiving
+pub mod OctetReceiving
+pub mod ColumnWords
+pub mod Storing
 pub mod Sending
 pub mod Steps

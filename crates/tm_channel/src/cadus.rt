@@ -111,7 +111,7 @@ fn column_checks(params: &Params, basis: Basis, word: &[u8], out: &mut [u8])
 }
 
 // The basis of a configuration.
-fn basis_of(config: &Config) -> Basis
+pub fn basis_of(config: &Config) -> Basis
     ensures { result ≡ basis_of config.now.basis }
 {
     if config.basis() == 0 {
@@ -122,7 +122,7 @@ fn basis_of(config: &Config) -> Basis
 }
 
 // The code of a configuration that has one.
-fn params_of(config: &Config) -> Params
+pub fn params_of(config: &Config) -> Params
     requires { 0 < config.now.code }
     ensures e { result.e ≡ config.now.code }
     ensures n { result.n ≡ word_length config.now }

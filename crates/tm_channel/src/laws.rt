@@ -9,11 +9,11 @@ ghost use Rattle.tm_viterbi.specs.Clean.{turned_octets};
 ghost use Rattle.tm_channel.specs.Frames.{whole_frames};
 ghost use Rattle.tm_channel.specs.Sent.{sent};
 ghost use Rattle.tm_channel.specs.Items.{ItemValue, frames_of, turned_item};
-ghost use Rattle.tm_channel.specs.Receive.{Receive, ReceiveDue};
+ghost use Rattle.tm_channel.specs.Receive.{Receive, ReceiveDue, ReceiveFirst, ReceiveFront};
 ghost use Rattle.tm_channel.specs.SentStream.{AreAsSent, AreNear, IsSent, SentUnit, clean_items, unit_frames, unit_places};
 
 use tm_inner::{clean_inner_law, due_bits_law, inner_law};
-use tm_viterbi::turned_blocks_law;
+use tm_viterbi::{closed_windows_law, due_law, turned_blocks_law};
 
 /// Received octets come to one list of items. It does nothing.
 pub fn items_law()
@@ -29,6 +29,19 @@ pub fn due_items_law()
         → ReceiveDue c phase octets due → Receive c phase (octets ++ more) items → (rest : List ItemValue) × (items ≡ due ++ rest) }
 {
     due_bits_law();
+}
+
+/// Items that are first ones for octets stand first among the items of these octets with any others behind, and those that are
+/// first ones at the end of octets among the items of these. It does nothing.
+pub fn first_items_law()
+    ensures feed { (c : Configuration) (phase : ℕ) (octets more : List ℕ) (first items : List ItemValue) → IsAccepted c
+        → ReceiveFirst c phase octets first → Receive c phase (octets ++ more) items → (rest : List ItemValue) × (items ≡ first ++ rest) }
+    ensures finish { (c : Configuration) (phase : ℕ) (octets : List ℕ) (first items : List ItemValue) → IsAccepted c
+        → ReceiveFront c phase octets first → Receive c phase octets items → (rest : List ItemValue) × (items ≡ first ++ rest) }
+{
+    closed_windows_law();
+    due_law();
+    inner_law();
 }
 
 /// However the units of frames were disturbed, with gaps before and behind them, their items stand exactly at their markers,

@@ -3,12 +3,28 @@
 //! and Convolutional Coding).
 #![tactic(auto)]
 
+mod bit_receiver;
 mod cadus;
+mod columns;
+mod gathering;
+mod item;
+mod kept;
 mod laws;
+mod receiver;
+mod repair;
 mod sender;
+mod slot;
+mod store;
+mod stream;
+mod taking;
 
 pub use cadus::cadu;
-pub use laws::{clean_law, disturbed_law, due_items_law, items_law, polarity_law};
+pub use item::{Item, ItemTaker};
+pub use laws::{clean_law, disturbed_law, due_items_law, first_items_law, items_law, polarity_law};
+pub use receiver::{Receiver, RecvError, receive_all};
 pub use sender::Sender;
 pub use tm_config::{Config, ConfigError, Raw};
 pub use tm_inner::{InnerSender, SendError};
+pub use tm_rs_solve::Answer;
+pub use tm_viterbi::AllError;
+pub use tm_workers::{Gate, OpenGate};

@@ -1,0 +1,60 @@
+-- Items that are first ones for octets stay first, whatever octets come.
+use Rattle.std.proofs.Common.{◌≡◌, ◌==◌, ◌-◌, ℕ, Bool, List, [], ◌∷◌, ◌++◌, length, take, drop, map, sym, ap, ◌∙◌, subst, Option, Some, None}
+use Rattle.std.proofs.lemmas.List.{append-nil, map-append}
+use Rattle.tm_base.specs.Bits.{bits_of}
+use Rattle.tm_base.proofs.Packing.{bits_of-append}
+use Rattle.tm_config.specs.Configuration.{Configuration}
+use Rattle.tm_config.specs.Accepted.{IsAccepted}
+use Rattle.tm_conv.specs.declared.rates.Rate.{Rate}
+use Rattle.tm_viterbi.specs.WindowBlock.{WindowBlock}
+use Rattle.tm_viterbi.specs.Blocks.{AreBlocksOf}
+use Rattle.tm_viterbi.specs.Clean.{kept_bits}
+use Rattle.tm_inner.specs.Symbols.{rate_of}
+use Rattle.tm_inner.specs.Inner.{BlocksAt, bits_at, settings_of, soft_octets, Inner, inner_bits}
+use Rattle.tm_inner.specs.Receiving.{FirstAt}
+use Rattle.tm_inner.proofs.DueBits.{StayClosed, StandFirst, drop-split, kept-append, soft-more}
+use Rattle.tm_sync.specs.declared.found.Found.{Found}
+use Rattle.tm_sync.specs.Places.{places}
+use Rattle.tm_channel.specs.ReceivedCodeblock.{rules_of}
+use Rattle.tm_channel.specs.Items.{ItemValue, AreItemsOf, AreFirstItemsOf, AreItems}
+use Rattle.tm_channel.specs.Receive.{Receive, ReceiveFirst, ReceiveFront}
+use Rattle.tm_channel.proofs.DueItems.{first-items}
+
+-- first items are items of as many places
+first-take : (c : Configuration) (bits : List Bool) (fs : List Found) (items : List ItemValue) → AreFirstItemsOf c bits fs items → AreItemsOf c bits (take (length items) fs) items
+first-take c bits fs [] are = tt
+first-take c bits [] (item ∷ items) are = absurd are
+first-take c bits (f ∷ fs) (item ∷ items) are = (are.0, first-take c bits fs items are.1)
+
+-- the bits of first blocks stand first
+bits-first : StayClosed → StandFirst → (rate : Option Rate) (c : Configuration) (phase : ℕ) (octets more : List ℕ) (first blocks : List WindowBlock) (left : ℕ)
+    → FirstAt rate c phase octets first → BlocksAt rate c phase (octets ++ more) blocks left
+    → (rest : List Bool) × (bits_at rate c (octets ++ more) blocks ≡ bits_at rate c octets first ++ rest)
+bits-first stay stand None c phase octets more first blocks left is all =
+    (drop (c.skip - length (bits_of octets)) (bits_of more), ap (drop c.skip) (bits_of-append octets more) ∙ drop-split c.skip (bits_of octets) (bits_of more))
+bits-first stay stand (Some rate) c phase octets more first blocks left is all =
+    let s = settings_of c rate in
+    let longer = soft-more c phase octets more in
+    let split = stand s _ first blocks left (stay s (soft_octets c phase octets) _ first is) (subst (λ (l : List ℕ). AreBlocksOf s l blocks left) longer all) in
+    let is_one : ℕ → Bool = λ bit. bit == 1 in
+    (map is_one (kept_bits split.0), ap (λ l. map is_one (kept_bits l)) split.1 ∙ ap (map is_one) (kept-append first split.0) ∙ map-append is_one (kept_bits first) (kept_bits split.0))
+
+pub first-stand : StayClosed → StandFirst → (c : Configuration) (phase : ℕ) (octets more : List ℕ) (first items : List ItemValue) → IsAccepted c
+    → ReceiveFirst c phase octets first → Receive c phase (octets ++ more) items → (rest : List ItemValue) × (items ≡ first ++ rest)
+first-stand stay stand c phase octets more first items ok front all =
+    let bits = inner_bits c octets front.blocks in
+    let split = bits-first stay stand (rate_of c.inner) c phase octets more front.blocks all.inner.blocks all.inner.left front.are_first all.inner.are_blocks in
+    first-items c bits split.0 (length first) first items ok (first-take c bits (places (rules_of c) bits) first front.are_items)
+    (subst (λ (l : List Bool). AreItems c l items) (all.inner.are_bits ∙ split.1) all.are_items)
+
+-- octets come to one list of bits
+abbrev pub OneList : Type 0
+OneList = (c : Configuration) (phase : ℕ) (octets : List ℕ) (bits others : List Bool) → Inner c phase octets bits → Inner c phase octets others → bits ≡ others
+
+pub front-stand : OneList → (c : Configuration) (phase : ℕ) (octets : List ℕ) (first items : List ItemValue) → IsAccepted c
+    → ReceiveFront c phase octets first → Receive c phase octets items → (rest : List ItemValue) × (items ≡ first ++ rest)
+front-stand one c phase octets first items ok front all =
+    let bits = front.bits in
+    let same : all.bits ≡ bits ++ [] = one c phase octets all.bits bits all.inner front.inner ∙ sym (append-nil bits) in
+    first-items c bits [] (length first) first items ok (first-take c bits (places (rules_of c) bits) first front.are_items)
+    (subst (λ (l : List Bool). AreItems c l items) same all.are_items)

@@ -1,0 +1,72 @@
+-- The bits of one block after another are received.
+use Rattle.std.proofs.Common.{◌≡◌, ◌==◌, Bool, List, [], ◌++◌, map, refl, sym, ap, ◌∙◌, subst, Result, Ok, Err, OnOk}
+use Rattle.std.proofs.lemmas.List.{append-nil, map-append}
+use Rattle.std.proofs.Math.Seq.{drop-length}
+use Rattle.tm_base.proofs.Handing.{HandedOver-append, HandedPart-after}
+use Rattle.tm_config.specs.Configuration.{Configuration}
+use Rattle.tm_sync.specs.declared.found.Found.{Found}
+use Rattle.tm_viterbi.specs.WindowBlock.{WindowBlock}
+use Rattle.tm_viterbi.specs.Clean.{kept_bits}
+use Rattle.tm_inner.proofs.DueBits.{kept-append}
+use Rattle.tm_channel.specs.ReceivedCodeblock.{rules_of}
+use Rattle.tm_channel.specs.Items.{ItemValue, AreItemsOf}
+use Rattle.tm_channel.specs.Due.{due}
+use Rattle.tm_channel.specs.Receiving.{beyond, AreDue, AreFirstDue}
+use Rattle.tm_channel.specs.OctetReceiving.{BitReceiving, StandsForBits, Received, ReceivedPart}
+use Rattle.tm_channel.proofs.Pieces.{goes-then, due-then, first-due-then, first-due-all}
+
+-- what two facts of a good answer give
+pub on_both : {A E : Type 0} {P Q R : Type 0} (r : Result A E) → (P → Q → R) → OnOk r P → OnOk r Q → OnOk r R
+on_both (Ok x) f p q = f p q
+on_both (Err e) f p q = tt
+
+-- no bits
+pub received-none : {T : Type 0} (took : T → ItemValue → T → Type 0) (s : BitReceiving) (taker : T) → Received took s s taker taker []
+received-none took s taker = record {
+  config = refl;
+  stands = λ bits few stood. subst (StandsForBits s) (sym (append-nil bits)) stood;
+  items = [];
+  handed = refl;
+  due = λ bits few stood. subst (λ (fs : List Found). AreItemsOf s.batch.config (bits ++ []) fs [])
+      (sym (ap (λ (l : List Bool). beyond (due (rules_of s.batch.config) bits) (due (rules_of s.batch.config) l)) (append-nil bits) ∙ drop-length (due (rules_of s.batch.config) bits))) tt;
+}
+
+-- bits, and then others
+pub received-then : {T : Type 0} (took : T → ItemValue → T → Type 0) (a b c : BitReceiving) (taker middle now : T) (bits more : List Bool)
+    → Received took a b taker middle bits → Received took b c middle now more → Received took a c taker now (bits ++ more)
+received-then took a b c taker middle now bits more p q = record {
+  config = q.config ∙ p.config;
+  stands = goes-then (StandsForBits a) (StandsForBits b) (StandsForBits c) bits more p.stands q.stands;
+  items = p.items ++ q.items;
+  handed = HandedOver-append took taker middle now p.items q.items p.handed q.handed;
+  due = due-then a.batch.config (StandsForBits a) (StandsForBits b) bits more p.items q.items p.stands p.due
+      (subst (λ (c : Configuration). AreDue c (StandsForBits b) more q.items) p.config q.due);
+}
+
+-- bits, and then others at which the taker fails
+pub part-then : {T : Type 0} (took broke : T → ItemValue → T → Type 0) (a b c : BitReceiving) (taker middle now : T) (bits more : List Bool)
+    → Received took a b taker middle bits → ReceivedPart took broke b c middle now more → ReceivedPart took broke a c taker now (bits ++ more)
+part-then took broke a b c taker middle now bits more p q = record {
+  config = q.config ∙ p.config;
+  tried = p.items ++ q.tried;
+  handed = HandedPart-after took broke taker middle now p.items q.tried p.handed q.handed;
+  first = first-due-then a.batch.config (StandsForBits a) (StandsForBits b) bits more p.items q.tried p.stands p.due
+      (subst (λ (c : Configuration). AreFirstDue c (StandsForBits b) more q.tried) p.config q.first);
+}
+
+-- bits at which the taker fails, with others behind them
+pub part-all : {T : Type 0} (took broke : T → ItemValue → T → Type 0) (a b : BitReceiving) (taker now : T) (bits more : List Bool)
+    → ReceivedPart took broke a b taker now bits → ReceivedPart took broke a b taker now (bits ++ more)
+part-all took broke a b taker now bits more p = record {
+  config = p.config;
+  tried = p.tried;
+  handed = p.handed;
+  first = first-due-all a.batch.config (StandsForBits a) bits more p.tried p.first;
+}
+
+-- the bits that blocks keep
+abbrev pub all_bits : List WindowBlock → List Bool
+all_bits blocks = map (λ bit. bit == 1) (kept_bits blocks)
+
+pub all_bits-append : (xs ys : List WindowBlock) → all_bits (xs ++ ys) ≡ all_bits xs ++ all_bits ys
+all_bits-append xs ys = ap (map (λ bit. bit == 1)) (kept-append xs ys) ∙ map-append _ (kept_bits xs) (kept_bits ys)

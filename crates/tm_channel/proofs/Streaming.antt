@@ -1,0 +1,404 @@
+-- What a receiver keeps and has handed over, one bit on.
+use Rattle.std.proofs.Common.{◌≡◌, ℕ, zero, suc, ◌+◌, ◌-◌, ◌<◌, ◌≤◌, Bool, List, [], ◌∷◌, ◌++◌, length, take, drop, map, refl, sym, ap, ◌∙◌, subst, arith, append_assoc, length-append, length-drop, take-append-drop, Option, None, Some, unwrap_or, inl, inr}
+use Rattle.std.specs.List.{AllByRecursion}
+use Rattle.std.proofs.lemmas.List.{length-map, take-append-le, drop-append-le, drop_at, append-nil, length-take-le, map-append}
+use Rattle.std.proofs.Math.Seq.{drop-length, take-length, drop-append_seam}
+use Rattle.tm_sync.specs.declared.found.Found.{Found}
+use Rattle.tm_sync.specs.Places.{places}
+use Rattle.tm_sync.specs.Searching.{Searching, StandsFor, inside_of}
+use Rattle.tm_sync.proofs.Steps.{places_from-nil}
+use Rattle.tm_sync.proofs.Longer.{EndBefore, places-end, places-append}
+use Rattle.tm_config.specs.Configuration.{Configuration}
+use Rattle.tm_channel.specs.ReceivedCodeblock.{rules_of, codeblock_at}
+use Rattle.tm_channel.specs.Items.{ItemValue, IsItem, AreItemsOf, AreFirstItemsOf}
+use Rattle.tm_channel.specs.Due.{in_batches, due}
+use Rattle.tm_channel.specs.Receiving.{Kept, kept_of, kept_at, beyond, AreItemsFor, AreFurther, Holding, HoldingMore, IsKept}
+
+-- ---- codeblocks stay as the bits go on
+block-same : (c : Configuration) (bits more : List Bool) (f : Found) → f.place + 32 + (rules_of c).block_bits ≤ length bits → kept_at c (bits ++ more) f ≡ kept_at c bits f
+block-same c bits more f ends =
+    let far : take (rules_of c).block_bits (drop (f.place + 32) (bits ++ more)) ≡ take (rules_of c).block_bits (drop (f.place + 32) bits) =
+    ap (take (rules_of c).block_bits) (drop-append-le (f.place + 32) bits more (omega arith))
+    ∙ take-append-le (rules_of c).block_bits (drop (f.place + 32) bits) more (omega (arith, length-drop (f.place + 32) bits)) in
+    λ i. kept_of c f (far i)
+
+pub kept-same : (c : Configuration) (bits more : List Bool) (fs : List Found) → EndBefore (rules_of c) (length bits) fs → map (kept_at c (bits ++ more)) fs ≡ map (kept_at c bits) fs
+kept-same c bits more [] ends = refl
+kept-same c bits more (f ∷ fs) ends = λ i. block-same c bits more f ends.0 i ∷ kept-same c bits more fs ends.1 i
+
+drop-all : {A : Type 0} (P : A → Type 0) (count : ℕ) (xs : List A) → AllByRecursion P xs → AllByRecursion P (drop count xs)
+drop-all P zero xs all = all
+drop-all P (suc count) [] all = tt
+drop-all P (suc count) (x ∷ xs) all = drop-all P count xs all.1
+
+-- a codeblock that ends with the bits
+kept-last : (c : Configuration) (bits front part : List Bool) (f : Found) → bits ≡ front ++ part → length part ≡ (rules_of c).block_bits → f.place + 32 + (rules_of c).block_bits ≡ length bits
+    → kept_at c bits f ≡ kept_of c f part
+kept-last c bits front part f parts size ends =
+    let long : length front ≡ f.place + 32 = omega (arith, ap length parts, length-append front part) in
+    let is : take (rules_of c).block_bits (drop (f.place + 32) bits) ≡ part =
+    ap (λ l. take (rules_of c).block_bits (drop (f.place + 32) l)) parts
+    ∙ ap (take (rules_of c).block_bits) (drop_at front part (f.place + 32) long)
+    ∙ ap (λ n. take n part) (sym size) ∙ take-length part in
+    λ i. kept_of c f (is i)
+
+-- ---- items of kept codeblocks are items of the bits
+pub items-of : (c : Configuration) (bits : List Bool) (fs : List Found) (items : List ItemValue) → AreItemsFor c (map (kept_at c bits) fs) items → AreItemsOf c bits fs items
+items-of c bits [] [] are = tt
+items-of c bits [] (item ∷ items) are = absurd are
+items-of c bits (f ∷ fs) [] are = absurd are
+items-of c bits (f ∷ fs) (item ∷ items) are = (are.0, items-of c bits fs items are.1)
+
+pub take-map' : {A B : Type 0} (f : A → B) (count : ℕ) (xs : List A) → take count (map f xs) ≡ map f (take count xs)
+take-map' f zero xs = refl
+take-map' f (suc count) [] = refl
+take-map' f (suc count) (x ∷ xs) = ap (λ l. f x ∷ l) (take-map' f count xs)
+
+-- ---- one bit on
+-- no codeblock is whole with this bit
+pub stands-none : (c : Configuration) (stands stands' : List Bool → List Found → Type 0) (part part' : List Bool) (kept : List Kept) (bits more longer : List Bool)
+    → Holding c stands part kept bits → places (rules_of c) (bits ++ more) ≡ places (rules_of c) bits → stands' (bits ++ more) (places (rules_of c) bits)
+    → bits ++ more ≡ longer ++ part' → Holding c stands' part' kept (bits ++ more)
+stands-none c stands stands' part part' kept bits more longer h same now parts = record {
+  search = subst (λ (fs : List Found). stands' (bits ++ more) fs) (sym same) now;
+  waiting = h.waiting ∙ sym (kept-same c bits more (drop (in_batches (length (places (rules_of c) bits))) (places (rules_of c) bits))
+      (drop-all (λ (f : Found). f.place + 32 + (rules_of c).block_bits ≤ length bits) (in_batches (length (places (rules_of c) bits))) (places (rules_of c) bits) (places-end (rules_of c) bits)))
+      ∙ ap (λ (fs : List Found). map (kept_at c (bits ++ more)) (drop (in_batches (length fs)) fs)) (sym same);
+  front = longer;
+  parts = parts;
+}
+
+pub due-none : (c : Configuration) (bits more : List Bool) → places (rules_of c) (bits ++ more) ≡ places (rules_of c) bits → beyond (due (rules_of c) bits) (due (rules_of c) (bits ++ more)) ≡ []
+due-none c bits more same =
+    ap (λ (fs : List Found). beyond (due (rules_of c) bits) (take (in_batches (length fs)) fs)) same ∙ drop-length (due (rules_of c) bits)
+
+-- a codeblock is whole with the last of these bits
+pub record Whole (c : Configuration) (bits more : List Bool) (part : List Bool) (f : Found) : Type 0 where
+  pub longer : places (rules_of c) (bits ++ more) ≡ places (rules_of c) bits ++ f ∷ []
+  pub ends : f.place + 32 + (rules_of c).block_bits ≡ length (bits ++ more)
+  pub front : List Bool
+  pub parts : bits ++ more ≡ front ++ part
+  pub size : length part ≡ (rules_of c).block_bits
+
+-- the codeblocks that wait, with the new one
+pub all-kept : (c : Configuration) (stands : List Bool → List Found → Type 0) (old part : List Bool) (kept : List Kept) (bits more : List Bool) (f : Found)
+    → Holding c stands old kept bits → Whole c bits more part f
+    → kept ++ kept_of c f part ∷ [] ≡ map (kept_at c (bits ++ more)) (drop (in_batches (length (places (rules_of c) bits))) (places (rules_of c) bits) ++ f ∷ [])
+all-kept c stands old part kept bits more f h w =
+    let waiting : List Found = drop (in_batches (length (places (rules_of c) bits))) (places (rules_of c) bits) in
+    let was : kept ≡ map (kept_at c (bits ++ more)) waiting = h.waiting ∙ sym (kept-same c bits more waiting
+    (drop-all (λ (f : Found). f.place + 32 + (rules_of c).block_bits ≤ length bits) (in_batches (length (places (rules_of c) bits))) (places (rules_of c) bits) (places-end (rules_of c) bits))) in
+    let one : kept_at c (bits ++ more) f ≡ kept_of c f part = kept-last c (bits ++ more) w.front part f w.parts w.size w.ends in
+    (λ i. was i ++ sym one i ∷ []) ∙ sym (map-append (kept_at c (bits ++ more)) waiting (f ∷ []))
+
+-- how many wait
+pub waiting-count : (c : Configuration) (stands : List Bool → List Found → Type 0) (part : List Bool) (kept : List Kept) (bits : List Bool)
+    → Holding c stands part kept bits → length kept ≡ length (places (rules_of c) bits) - in_batches (length (places (rules_of c) bits))
+waiting-count c stands part kept bits h =
+    let waiting : List Found = drop (in_batches (length (places (rules_of c) bits))) (places (rules_of c) bits) in
+    ap length h.waiting ∙ length-map waiting (kept_at c bits) ∙ length-drop (in_batches (length (places (rules_of c) bits))) (places (rules_of c) bits)
+
+-- the batch is not full
+not_full : (n : ℕ) → n - in_batches n + 1 < 32 → in_batches (n + 1) ≡ in_batches n
+not_full n few = omega arith
+
+full : (n : ℕ) → n - in_batches n + 1 ≡ 32 → in_batches (n + 1) ≡ n + 1
+full n all = omega arith
+
+batches-le : (n : ℕ) → in_batches n ≤ n
+batches-le n = omega arith
+
+-- what waits and what is due of one place more
+push-few : (fs : List Found) (f : Found) → length fs - in_batches (length fs) + 1 < 32
+    → (drop (in_batches (length (fs ++ f ∷ []))) (fs ++ f ∷ []) ≡ drop (in_batches (length fs)) fs ++ f ∷ [])
+    × (take (in_batches (length (fs ++ f ∷ []))) (fs ++ f ∷ []) ≡ take (in_batches (length fs)) fs)
+push-few fs f few =
+    let same : in_batches (length (fs ++ f ∷ [])) ≡ in_batches (length fs) = ap in_batches (length-append fs (f ∷ [])) ∙ not_full (length fs) few in (
+      ap (λ n. drop n (fs ++ f ∷ [])) same ∙ drop-append-le (in_batches (length fs)) fs (f ∷ []) (batches-le (length fs)),
+      ap (λ n. take n (fs ++ f ∷ [])) same ∙ take-append-le (in_batches (length fs)) fs (f ∷ []) (batches-le (length fs)),
+    )
+
+push-full : (fs : List Found) (f : Found) → length fs - in_batches (length fs) + 1 ≡ 32
+    → (drop (in_batches (length (fs ++ f ∷ []))) (fs ++ f ∷ []) ≡ []) × (take (in_batches (length (fs ++ f ∷ []))) (fs ++ f ∷ []) ≡ fs ++ f ∷ [])
+push-full fs f all =
+    let same : in_batches (length (fs ++ f ∷ [])) ≡ length (fs ++ f ∷ []) =
+    ap in_batches (length-append fs (f ∷ [])) ∙ full (length fs) all ∙ sym (length-append fs (f ∷ [])) in
+    (ap (λ n. drop n (fs ++ f ∷ [])) same ∙ drop-length (fs ++ f ∷ []), ap (λ n. take n (fs ++ f ∷ [])) same ∙ take-length (fs ++ f ∷ []))
+
+-- what stands behind the due places of `fs`
+behind-due : (fs : List Found) (f : Found) → drop (length (take (in_batches (length fs)) fs)) (fs ++ f ∷ []) ≡ drop (in_batches (length fs)) fs ++ f ∷ []
+behind-due fs f =
+    ap (λ n. drop n (fs ++ f ∷ [])) (length-take-le (in_batches (length fs)) fs (batches-le (length fs)))
+    ∙ drop-append-le (in_batches (length fs)) fs (f ∷ []) (batches-le (length fs))
+
+-- one more codeblock than waited
+one-more : (kept : List Kept) (k : Kept) → length (kept ++ k ∷ []) ≡ length kept + 1
+one-more kept k = length-append kept (k ∷ [])
+
+pub stands-kept : (c : Configuration) (stands stands' : List Bool → List Found → Type 0) (old part now : List Bool) (kept kept' : List Kept) (bits more : List Bool) (f : Found) (items : List ItemValue)
+    → Holding c stands old kept bits → Whole c bits more part f → IsKept c (kept ++ kept_of c f part ∷ []) kept' items
+    → now ≡ [] → stands' (bits ++ more) (places (rules_of c) bits ++ f ∷ []) → Holding c stands' now kept' (bits ++ more)
+stands-kept c stands stands' old part now kept kept' bits more f items h w is none told = record {
+  search = subst (λ (fs : List Found). stands' (bits ++ more) fs) (sym w.longer) told;
+  waiting = go is;
+  front = bits ++ more;
+  parts = sym (append-nil (bits ++ more)) ∙ ap (λ l. (bits ++ more) ++ l) (sym none);
+}
+  where
+    fs : List Found
+    fs = places (rules_of c) bits
+
+    go : IsKept c (kept ++ kept_of c f part ∷ []) kept' items
+        → kept' ≡ map (kept_at c (bits ++ more)) (drop (in_batches (length (places (rules_of c) (bits ++ more)))) (places (rules_of c) (bits ++ more)))
+    go (inl (few, same, rest)) =
+        same ∙ all-kept c stands old part kept bits more f h w
+        ∙ ap (map (kept_at c (bits ++ more))) (sym (push-few (places (rules_of c) bits) f (omega (arith, one-more kept (kept_of c f part), waiting-count c stands old kept bits h))).0)
+        ∙ ap (λ (fs : List Found). map (kept_at c (bits ++ more)) (drop (in_batches (length fs)) fs)) (sym w.longer)
+    go (inr (many, same, rest)) =
+        same
+        ∙ ap (map (kept_at c (bits ++ more))) (sym (push-full (places (rules_of c) bits) f (omega (arith, one-more kept (kept_of c f part), waiting-count c stands old kept bits h))).0)
+        ∙ ap (λ (fs : List Found). map (kept_at c (bits ++ more)) (drop (in_batches (length fs)) fs)) (sym w.longer)
+
+-- what is due with a batch that this codeblock fills
+due-full : (c : Configuration) (stands : List Bool → List Found → Type 0) (old part : List Bool) (kept : List Kept) (bits more : List Bool) (f : Found)
+    → Holding c stands old kept bits → Whole c bits more part f → length kept ≡ 31
+    → beyond (due (rules_of c) bits) (due (rules_of c) (bits ++ more)) ≡ drop (in_batches (length (places (rules_of c) bits))) (places (rules_of c) bits) ++ f ∷ []
+due-full c stands old part kept bits more f h w many =
+    ap (λ (fs : List Found). beyond (due (rules_of c) bits) (take (in_batches (length fs)) fs)) w.longer
+    ∙ ap (beyond (due (rules_of c) bits)) (push-full (places (rules_of c) bits) f (omega (arith, waiting-count c stands old kept bits h))).1
+    ∙ behind-due (places (rules_of c) bits) f
+
+pub items-kept : (c : Configuration) (stands : List Bool → List Found → Type 0) (old part : List Bool) (kept kept' : List Kept) (bits more : List Bool) (f : Found) (items : List ItemValue)
+    → Holding c stands old kept bits → Whole c bits more part f → IsKept c (kept ++ kept_of c f part ∷ []) kept' items
+    → AreItemsOf c (bits ++ more) (beyond (due (rules_of c) bits) (due (rules_of c) (bits ++ more))) items
+items-kept c stands old part kept kept' bits more f items h w (inl (few, same, none)) =
+    let nothing : beyond (due (rules_of c) bits) (due (rules_of c) (bits ++ more)) ≡ [] =
+    ap (λ (fs : List Found). beyond (due (rules_of c) bits) (take (in_batches (length fs)) fs)) w.longer
+    ∙ ap (beyond (due (rules_of c) bits)) (push-few (places (rules_of c) bits) f (omega (arith, one-more kept (kept_of c f part), waiting-count c stands old kept bits h))).1
+    ∙ drop-length (due (rules_of c) bits) in
+    subst (λ (fs : List Found). AreItemsOf c (bits ++ more) fs items) (sym nothing) (subst (λ (is : List ItemValue). AreItemsOf c (bits ++ more) [] is) (sym none) tt)
+items-kept c stands old part kept kept' bits more f items h w (inr (many, same, are)) =
+    let waiting : List Found = drop (in_batches (length (places (rules_of c) bits))) (places (rules_of c) bits) in
+    subst (λ (fs : List Found). AreItemsOf c (bits ++ more) fs items) (sym (due-full c stands old part kept bits more f h w (omega (arith, one-more kept (kept_of c f part)))))
+    (items-of c (bits ++ more) (waiting ++ f ∷ []) items
+    (subst (λ (ks : List Kept). AreItemsFor c ks items) (all-kept c stands old part kept bits more f h w) are))
+
+pub items-broke : (c : Configuration) (stands : List Bool → List Found → Type 0) (old part : List Bool) (kept : List Kept) (bits more : List Bool) (f : Found) (count : ℕ) (items : List ItemValue)
+    → Holding c stands old kept bits → Whole c bits more part f → length kept ≡ 31
+    → AreItemsFor c (take count (kept ++ kept_of c f part ∷ [])) items
+    → AreItemsOf c (bits ++ more) (take count (beyond (due (rules_of c) bits) (due (rules_of c) (bits ++ more)))) items
+items-broke c stands old part kept bits more f count items h w many are =
+    let waiting : List Found = drop (in_batches (length (places (rules_of c) bits))) (places (rules_of c) bits) in
+    subst (λ (fs : List Found). AreItemsOf c (bits ++ more) (take count fs) items) (sym (due-full c stands old part kept bits more f h w many))
+    (items-of c (bits ++ more) (take count (waiting ++ f ∷ [])) items
+    (subst (λ (ks : List Kept). AreItemsFor c ks items)
+    (ap (take count) (all-kept c stands old part kept bits more f h w) ∙ take-map' (kept_at c (bits ++ more)) count (waiting ++ f ∷ [])) are))
+
+-- ---- items of a front of the places
+pub first-of : (c : Configuration) (bits : List Bool) (count : ℕ) (fs : List Found) (items : List ItemValue) → AreItemsOf c bits (take count fs) items → AreFirstItemsOf c bits fs items
+first-of c bits count fs [] are = tt
+first-of c bits zero fs (item ∷ items) are = absurd are
+first-of c bits (suc count) [] (item ∷ items) are = absurd are
+first-of c bits (suc count) (f ∷ fs) (item ∷ items) are = (are.0, first-of c bits count fs items are.1)
+
+pub first-longer : (c : Configuration) (bits : List Bool) (fs gs : List Found) (items : List ItemValue) → AreFirstItemsOf c bits fs items → AreFirstItemsOf c bits (fs ++ gs) items
+first-longer c bits fs gs [] are = tt
+first-longer c bits [] gs (item ∷ items) are = absurd are
+first-longer c bits (f ∷ fs) gs (item ∷ items) are = (are.0, first-longer c bits fs gs items are.1)
+
+pub items-append : (c : Configuration) (bits : List Bool) (fs gs : List Found) (items others : List ItemValue) → AreItemsOf c bits fs items → AreItemsOf c bits gs others
+    → AreItemsOf c bits (fs ++ gs) (items ++ others)
+items-append c bits [] gs [] others are also = also
+items-append c bits [] gs (item ∷ items) others are also = absurd are
+items-append c bits (f ∷ fs) gs [] others are also = absurd are
+items-append c bits (f ∷ fs) gs (item ∷ items) others are also = (are.0, items-append c bits fs gs items others are.1 also)
+
+pub first-append : (c : Configuration) (bits : List Bool) (fs gs : List Found) (items others : List ItemValue) → AreItemsOf c bits fs items → AreFirstItemsOf c bits gs others
+    → AreFirstItemsOf c bits (fs ++ gs) (items ++ others)
+first-append c bits [] gs [] others are also = also
+first-append c bits [] gs (item ∷ items) others are also = absurd are
+first-append c bits (f ∷ fs) gs [] others are also = absurd are
+first-append c bits (f ∷ fs) gs (item ∷ items) others are also = (are.0, first-append c bits fs gs items others are.1 also)
+
+-- ---- items stay as the bits go on
+item-more : (c : Configuration) (bits more : List Bool) (f : Found) (item : ItemValue) → f.place + 32 + (rules_of c).block_bits ≤ length bits
+    → IsItem c f (codeblock_at c bits f) item → IsItem c f (codeblock_at c (bits ++ more) f) item
+item-more c bits more f item ends is =
+    subst (λ (k : Kept). IsItem c f k.codeblock item) (sym (block-same c bits more f ends)) is
+
+pub items-more : (c : Configuration) (bits more : List Bool) (fs : List Found) (items : List ItemValue) → EndBefore (rules_of c) (length bits) fs → AreItemsOf c bits fs items → AreItemsOf c (bits ++ more) fs items
+items-more c bits more [] [] ends are = tt
+items-more c bits more [] (item ∷ items) ends are = absurd are
+items-more c bits more (f ∷ fs) [] ends are = absurd are
+items-more c bits more (f ∷ fs) (item ∷ items) ends are = (item-more c bits more f item ends.0 are.0, items-more c bits more fs items ends.1 are.1)
+
+pub first-more : (c : Configuration) (bits more : List Bool) (fs : List Found) (items : List ItemValue) → EndBefore (rules_of c) (length bits) fs → AreFirstItemsOf c bits fs items → AreFirstItemsOf c (bits ++ more) fs items
+first-more c bits more fs [] ends are = tt
+first-more c bits more [] (item ∷ items) ends are = absurd are
+first-more c bits more (f ∷ fs) (item ∷ items) ends are = (item-more c bits more f item ends.0 are.0, first-more c bits more fs items ends.1 are.1)
+
+-- ---- what is due goes on
+take-all : {A : Type 0} (P : A → Type 0) (count : ℕ) (xs : List A) → AllByRecursion P xs → AllByRecursion P (take count xs)
+take-all P zero xs all = tt
+take-all P (suc count) [] all = tt
+take-all P (suc count) (x ∷ xs) all = (all.0, take-all P count xs all.1)
+
+pub due-end : (c : Configuration) (bits : List Bool) (count : ℕ) → EndBefore (rules_of c) (length bits) (drop count (due (rules_of c) bits))
+due-end c bits count =
+    let P : Found → Type 0 = λ f. f.place + 32 + (rules_of c).block_bits ≤ length bits in
+    drop-all P count (due (rules_of c) bits) (take-all P (in_batches (length (places (rules_of c) bits))) (places (rules_of c) bits) (places-end (rules_of c) bits))
+
+batches-more : (m n : ℕ) → in_batches m ≤ in_batches (m + n)
+batches-more m n = omega arith
+
+pub due-more : (c : Configuration) (bits more : List Bool) → due (rules_of c) (bits ++ more) ≡ due (rules_of c) bits ++ beyond (due (rules_of c) bits) (due (rules_of c) (bits ++ more))
+due-more c bits more =
+    let go = places-append (rules_of c) bits more in
+    let fs = places (rules_of c) bits in
+    let a : ℕ = in_batches (length fs) in
+    let b : ℕ = in_batches (length (places (rules_of c) (bits ++ more))) in
+    let le : a ≤ b = let grows : length (places (rules_of c) (bits ++ more)) ≡ length fs + length go.rest = ap length go.is ∙ length-append fs go.rest in
+    subst (λ (n : ℕ). a ≤ in_batches n) (sym grows) (batches-more (length fs) (length go.rest)) in
+    let first : take a (due (rules_of c) (bits ++ more)) ≡ due (rules_of c) bits =
+    take-take a b (places (rules_of c) (bits ++ more)) le ∙ ap (take a) go.is ∙ take-append-le a fs go.rest (batches-le (length fs)) in
+    let long : length (due (rules_of c) bits) ≡ a = length-take-le a fs (batches-le (length fs)) in
+    sym (take-append-drop a (due (rules_of c) (bits ++ more))) ∙ (λ i. first i ++ drop (sym long i) (due (rules_of c) (bits ++ more)))
+  where
+    take-take : (a c : ℕ) (xs : List Found) → a ≤ c → take a (take c xs) ≡ take a xs
+    take-take zero c xs le = refl
+    take-take (suc a) zero xs le = absurd (omega arith)
+    take-take (suc a) (suc c) [] le = refl
+    take-take (suc a) (suc c) (x ∷ xs) le = ap (λ l. x ∷ l) (take-take a c xs (omega arith))
+
+-- beyond in two steps
+beyond-twice : (xs ys zs : List Found) → ys ≡ xs ++ beyond xs ys → zs ≡ ys ++ beyond ys zs → beyond xs zs ≡ beyond xs ys ++ beyond ys zs
+beyond-twice xs ys zs first second =
+    ap (drop (length xs)) (second ∙ ap (λ l. l ++ beyond ys zs) first ∙ append_assoc xs (beyond xs ys) (beyond ys zs)) ∙ drop-append_seam xs (beyond xs ys ++ beyond ys zs)
+
+pub due-twice : (c : Configuration) (bits more rest : List Bool) → beyond (due (rules_of c) bits) (due (rules_of c) ((bits ++ more) ++ rest))
+    ≡ beyond (due (rules_of c) bits) (due (rules_of c) (bits ++ more)) ++ beyond (due (rules_of c) (bits ++ more)) (due (rules_of c) ((bits ++ more) ++ rest))
+due-twice c bits more rest = beyond-twice (due (rules_of c) bits) (due (rules_of c) (bits ++ more)) (due (rules_of c) ((bits ++ more) ++ rest)) (due-more c bits more) (due-more c (bits ++ more) rest)
+
+-- a piece, and then another
+pub items-then : (c : Configuration) (bits more rest : List Bool) (items others : List ItemValue)
+    → AreItemsOf c (bits ++ more) (beyond (due (rules_of c) bits) (due (rules_of c) (bits ++ more))) items
+    → AreItemsOf c ((bits ++ more) ++ rest) (beyond (due (rules_of c) (bits ++ more)) (due (rules_of c) ((bits ++ more) ++ rest))) others
+    → AreItemsOf c ((bits ++ more) ++ rest) (beyond (due (rules_of c) bits) (due (rules_of c) ((bits ++ more) ++ rest))) (items ++ others)
+items-then c bits more rest items others are also =
+    let first : List Found = beyond (due (rules_of c) bits) (due (rules_of c) (bits ++ more)) in
+    let second : List Found = beyond (due (rules_of c) (bits ++ more)) (due (rules_of c) ((bits ++ more) ++ rest)) in
+    subst (λ (fs : List Found). AreItemsOf c ((bits ++ more) ++ rest) fs (items ++ others)) (sym (due-twice c bits more rest))
+    (items-append c ((bits ++ more) ++ rest) first second items others
+    (items-more c (bits ++ more) rest first items (due-end c (bits ++ more) (length (due (rules_of c) bits))) are) also)
+
+pub first-then : (c : Configuration) (bits more rest : List Bool) (items others : List ItemValue)
+    → AreItemsOf c (bits ++ more) (beyond (due (rules_of c) bits) (due (rules_of c) (bits ++ more))) items
+    → AreFirstItemsOf c ((bits ++ more) ++ rest) (beyond (due (rules_of c) (bits ++ more)) (due (rules_of c) ((bits ++ more) ++ rest))) others
+    → AreFirstItemsOf c ((bits ++ more) ++ rest) (beyond (due (rules_of c) bits) (due (rules_of c) ((bits ++ more) ++ rest))) (items ++ others)
+first-then c bits more rest items others are also =
+    let first : List Found = beyond (due (rules_of c) bits) (due (rules_of c) (bits ++ more)) in
+    let second : List Found = beyond (due (rules_of c) (bits ++ more)) (due (rules_of c) ((bits ++ more) ++ rest)) in
+    subst (λ (fs : List Found). AreFirstItemsOf c ((bits ++ more) ++ rest) fs (items ++ others)) (sym (due-twice c bits more rest))
+    (first-append c ((bits ++ more) ++ rest) first second items others
+    (items-more c (bits ++ more) rest first items (due-end c (bits ++ more) (length (due (rules_of c) bits))) are) also)
+
+-- what was due of a front is first of what is due of all
+pub first-of-all : (c : Configuration) (bits more rest : List Bool) (items : List ItemValue)
+    → AreFirstItemsOf c (bits ++ more) (beyond (due (rules_of c) bits) (due (rules_of c) (bits ++ more))) items
+    → AreFirstItemsOf c ((bits ++ more) ++ rest) (beyond (due (rules_of c) bits) (due (rules_of c) ((bits ++ more) ++ rest))) items
+first-of-all c bits more rest items are =
+    let first : List Found = beyond (due (rules_of c) bits) (due (rules_of c) (bits ++ more)) in
+    let second : List Found = beyond (due (rules_of c) (bits ++ more)) (due (rules_of c) ((bits ++ more) ++ rest)) in
+    subst (λ (fs : List Found). AreFirstItemsOf c ((bits ++ more) ++ rest) fs items) (sym (due-twice c bits more rest))
+    (first-longer c ((bits ++ more) ++ rest) first second items
+    (first-more c (bits ++ more) rest first items (due-end c (bits ++ more) (length (due (rules_of c) bits))) are))
+
+-- ---- the end
+waiting-last : (c : Configuration) (bits : List Bool) → beyond (due (rules_of c) bits) (places (rules_of c) bits) ≡ drop (in_batches (length (places (rules_of c) bits))) (places (rules_of c) bits)
+waiting-last c bits = ap (λ n. drop n (places (rules_of c) bits)) (length-take-le (in_batches (length (places (rules_of c) bits))) (places (rules_of c) bits) (batches-le (length (places (rules_of c) bits))))
+
+pub items-last : (c : Configuration) (stands : List Bool → List Found → Type 0) (part : List Bool) (kept : List Kept) (bits : List Bool) (items : List ItemValue)
+    → Holding c stands part kept bits → AreItemsFor c kept items → AreItemsOf c bits (beyond (due (rules_of c) bits) (places (rules_of c) bits)) items
+items-last c stands part kept bits items h are =
+    let waiting : List Found = drop (in_batches (length (places (rules_of c) bits))) (places (rules_of c) bits) in
+    subst (λ (fs : List Found). AreItemsOf c bits fs items) (sym (waiting-last c bits))
+    (items-of c bits waiting items (subst (λ (ks : List Kept). AreItemsFor c ks items) h.waiting are))
+
+pub first-last : (c : Configuration) (stands : List Bool → List Found → Type 0) (part : List Bool) (kept : List Kept) (bits : List Bool) (count : ℕ) (items : List ItemValue)
+    → Holding c stands part kept bits → AreItemsFor c (take count kept) items → AreFirstItemsOf c bits (beyond (due (rules_of c) bits) (places (rules_of c) bits)) items
+first-last c stands part kept bits count items h are =
+    let waiting : List Found = drop (in_batches (length (places (rules_of c) bits))) (places (rules_of c) bits) in
+    subst (λ (fs : List Found). AreFirstItemsOf c bits fs items) (sym (waiting-last c bits))
+    (first-of c bits count waiting items (items-of c bits (take count waiting) items
+    (subst (λ (ks : List Kept). AreItemsFor c ks items) (ap (take count) h.waiting ∙ take-map' (kept_at c bits) count waiting) are)))
+
+pub stands-new : (c : Configuration) (stands : List Bool → List Found → Type 0) (part : List Bool) (kept : List Kept) → stands [] [] → part ≡ [] → kept ≡ [] → Holding c stands part kept []
+stands-new c stands part kept told none nothing =
+    let no : places (rules_of c) [] ≡ [] = places_from-nil (rules_of c) 0 0 None in record {
+      search = subst (λ (fs : List Found). stands [] fs) (sym no) told;
+      waiting = nothing ∙ ap (λ (fs : List Found). map (kept_at c []) (drop (in_batches (length fs)) fs)) (sym no);
+      front = [];
+      parts = sym none;
+    }
+
+-- ---- a search is asked for the place that is whole
+-- what is held before further bits, whatever the search and the codeblock under way are
+pub before-more : (c : Configuration) (stands : List Bool → List Found → Type 0) (part : List Bool) (kept : List Kept) (bits more : List Bool)
+    → HoldingMore c stands part kept bits more → Holding c (λ l fs. Unit {0}) bits kept bits
+before-more c stands part kept bits more h = record { search = tt; waiting = h.waiting; front = []; parts = refl }
+
+-- there is none
+pub none-further : (c : Configuration) (s s' : Searching) (part : List Bool) (kept : List Kept) (bits more : List Bool) → s.rules ≡ rules_of c → s' ≡ s
+    → ((l : List Bool) (found : List Found) → StandsFor s l found → places s.rules l ≡ found) → HoldingMore c (StandsFor s) part kept bits more
+    → Holding c (StandsFor s') part kept (bits ++ more) × AreFurther c bits more []
+none-further c s s' part kept bits more rules same told h =
+    let places_are : places (rules_of c) (bits ++ more) ≡ places (rules_of c) bits =
+    ap (λ r. places r (bits ++ more)) (sym rules) ∙ told (bits ++ more) (places (rules_of c) bits) h.search in (
+      stands-none c (λ l fs. Unit {0}) (StandsFor s') bits part kept bits more h.front (before-more c (StandsFor s) part kept bits more h) places_are
+          (subst (λ (v : Searching). StandsFor v (bits ++ more) (places (rules_of c) bits)) (sym same) h.search) h.parts,
+      subst (λ (fs : List Found). AreItemsOf c (bits ++ more) fs []) (sym (due-none c bits more places_are)) tt,
+    )
+
+-- there is one
+pub whole-further : (c : Configuration) (s s' : Searching) (part : List Bool) (kept : List Kept) (f : Found) (bits more : List Bool) → s.rules ≡ rules_of c → length part ≡ unwrap_or (inside_of s) 0
+    → inside_of s ≡ Some s.rules.block_bits
+    → ((l : List Bool) (found : List Found) → StandsFor s l found → StandsFor s' l (found ++ f ∷ []) × (places s.rules l ≡ found ++ f ∷ []) × (f.place + 32 + s.rules.block_bits ≡ length l))
+    → HoldingMore c (StandsFor s) part kept bits more
+    → Whole c bits more part f × StandsFor s' (bits ++ more) (places (rules_of c) bits ++ f ∷ [])
+whole-further c s s' part kept f bits more rules long inside told h =
+    let size : s.rules.block_bits ≡ (rules_of c).block_bits = ap (λ r. r.block_bits) rules in
+    let t = told (bits ++ more) (places (rules_of c) bits) h.search in (
+      record {
+        longer = ap (λ r. places r (bits ++ more)) (sym rules) ∙ t.1;
+        ends = ap (λ n. f.place + 32 + n) (sym size) ∙ t.2;
+        front = h.front;
+        parts = h.parts;
+        size = long ∙ ap (λ (o : Option ℕ). unwrap_or o 0) inside ∙ size;
+      },
+      t.0,
+    )
+
+-- ---- further bits are given
+-- to the codeblock under way
+pub more-inside : (c : Configuration) (stands stands' : List Bool → List Found → Type 0) (part part' : List Bool) (kept kept' : List Kept) (bits more : List Bool) → Holding c stands part kept bits
+    → part' ≡ part ++ more → kept' ≡ kept → stands' (bits ++ more) (places (rules_of c) bits) → HoldingMore c stands' part' kept' bits more
+more-inside c stands stands' part part' kept kept' bits more h grows same told = record {
+  search = told;
+  waiting = same ∙ h.waiting;
+  front = h.front;
+  parts = ap (λ l. l ++ more) h.parts ∙ append_assoc h.front part more ∙ ap (λ l. h.front ++ l) (sym grows);
+}
+
+-- where none is under way
+pub more-outside : (c : Configuration) (stands stands' : List Bool → List Found → Type 0) (part part' : List Bool) (kept kept' : List Kept) (bits more : List Bool) → Holding c stands part kept bits
+    → length part' ≡ 0 → kept' ≡ kept → stands' (bits ++ more) (places (rules_of c) bits) → HoldingMore c stands' part' kept' bits more
+more-outside c stands stands' part part' kept kept' bits more h none same told = record {
+  search = told;
+  waiting = same ∙ h.waiting;
+  front = bits ++ more;
+  parts = sym (append-nil (bits ++ more)) ∙ ap (λ l. (bits ++ more) ++ l) (sym (empty part' none));
+}
+  where
+    empty : (l : List Bool) → length l ≡ 0 → l ≡ []
+    empty [] e = refl
+    empty (b ∷ l) e = absurd (omega arith)

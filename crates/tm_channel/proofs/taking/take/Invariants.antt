@@ -1,0 +1,17 @@
+use Rattle.std.proofs.Common.{◌≡◌, ◌≤◌, ◌-◌, false, take, length}
+use Rattle.tm_channel.specs.OctetReceiving.{Takes}
+use Rattle.tm_channel.proofs.taking.take.Given as goal
+
+abbrev pub invariant-loop-done : goal.invariant-loop-done
+invariant-loop-done g l = record {
+  within : l.done ≤ length l.octets;
+  inner : l.inner.config ≡ l.initial.inner.config;
+  fresh : l.inner.has_stopped ≡ false;
+  room : l.kept.size ≡ l.initial.kept.size;
+  stream : l.stream.batch.config ≡ l.initial.stream.batch.config;
+  faults : g.T.ItemTaker.faults l.taker ≡ g.T.ItemTaker.faults l.initial.taker;
+  handed : Takes g.T.ItemTaker.took l.initial.inner l.inner l.initial.stream l.stream l.initial.taker l.taker (take l.done l.octets);
+}
+
+abbrev pub decreases-loop-done : goal.decreases-loop-done
+decreases-loop-done g l = length l.octets - l.done

@@ -1,0 +1,112 @@
+// The bits of a codeblock, gathered into octets.
+ghost use Rattle.std.specs.Prelude.{◌≡◌, ◌+◌, ◌*◌, ◌%◌, ◌<◌, ◌≤◌, List, [], ◌∷◌, ◌++◌, length};
+ghost use Rattle.tm_base.specs.Bits.{bits_of, bits_of_octet, low_bits};
+
+use std::marker::Model;
+
+/// The bits of a codeblock so far, at most 16,320, as octets whose most significant bit is the first.
+#[derive(Drop)]
+pub struct Gathering {
+    octets: [u8; 2040],
+    whole: usize,
+    // The bits behind the last whole octet are the lowest `extra` ones of this octet.
+    partial: u8,
+    extra: u32,
+}
+
+impl Model for Gathering {
+    ghost use Rattle.std.specs.Prelude.{Bool, List, ◌++◌, take, ◌≤◌, ◌<◌};
+    ghost use Rattle.tm_base.specs.Bits.{bits_of, low_bits};
+
+    ghost Value = { List Bool };
+
+    ghost view = { λ g. bits_of (take g.whole g.octets) ++ low_bits g.extra g.partial };
+
+    ghost invariant = { λ g. (g.whole ≤ 2040) × (g.extra < 8) };
+}
+
+impl Gathering {
+    /// No bits.
+    pub fn new() -> Gathering
+        ensures { result ≡ [] }
+    {
+        Gathering {
+            octets: [0; 2040],
+            whole: 0,
+            partial: 0,
+            extra: 0,
+        }
+    }
+
+    /// Adds a bit.
+    pub fn push_bit(&mut self, bit: bool)
+        requires { length self.old < 16320 }
+        ensures { self.new ≡ self.old ++ bit ∷ [] }
+    {
+        self.partial = (self.partial << 1) | u8::from(bit);
+        self.extra += 1;
+        if self.extra == 8 {
+            self.octets[self.whole] = self.partial;
+            self.whole += 1;
+            self.extra = 0;
+        }
+    }
+
+    /// Adds the eight bits of an octet, the most significant one first.
+    pub fn push_octet(&mut self, octet: u8)
+        requires { length self.old + 8 ≤ 16320 }
+        ensures { self.new ≡ self.old ++ bits_of_octet octet }
+    {
+        self.octets[self.whole] = joined(self.partial, octet, self.extra);
+        self.whole += 1;
+        self.partial = octet;
+    }
+
+    /// Adds the bits of octets.
+    pub fn push_octets(&mut self, octets: &[u8])
+        requires { length self.old + 8 * length octets.now ≤ 16320 }
+        ensures { self.new ≡ self.old ++ bits_of octets.now }
+    {
+        if self.extra == 0 {
+            let end = self.whole + octets.len();
+            self.octets[self.whole..end].copy_from_slice(octets);
+            self.whole = end;
+        } else {
+            for octet in octets {
+                self.push_octet(*octet);
+            }
+        }
+    }
+
+    /// How many bits there are.
+    pub fn count(&self) -> usize
+        ensures { result ≡ length self.now }
+    {
+        self.whole * 8 + self.extra as usize
+    }
+
+    /// Takes all bits away.
+    pub fn clear(&mut self)
+        ensures { self.new ≡ [] }
+    {
+        self.whole = 0;
+        self.extra = 0;
+    }
+
+    /// The octets, where the bits are whole octets.
+    pub fn octets(&self) -> &[u8]
+        requires { length self.now % 8 ≡ 0 }
+        ensures { bits_of result.now ≡ self.now }
+    {
+        &self.octets[..self.whole]
+    }
+}
+
+// The lowest `extra` bits of an octet, and behind them the first ones of the next octet.
+fn joined(partial: u8, next: u8, extra: u32) -> u8
+    requires { extra < 8 }
+    ensures { low_bits 8 result ++ low_bits extra next ≡ low_bits extra partial ++ low_bits 8 next }
+{
+    let both = u32::from(partial) << 8 | u32::from(next);
+    (both >> extra & 0xFF) as u8
+}

@@ -1,0 +1,73 @@
+// What the receiver hands over, and to whom.
+ghost use Rattle.std.specs.Prelude.{ℕ, OnErr, OnOk};
+ghost use Rattle.tm_base.specs.Outside.{HasCause};
+ghost use Rattle.tm_channel.specs.Items.{ItemValue};
+
+use std::marker::Model;
+use tm_base::Failed;
+use tm_rs_solve::Answer;
+
+/// What is said of a codeblock that was found (CCSDS 131.0-B, Frame Synchronization and Reed-Solomon Coding).
+#[derive(Debug, Drop)]
+pub struct Item<'a> {
+    /// How many received bits stand before its marker.
+    pub place: u64,
+    /// How many of the marker's 32 bits are wrong, in the codeblock's polarity.
+    pub distance: u8,
+    /// Whether the marker matches in no way, and its place was taken since it stands right behind a codeblock.
+    pub bridged: bool,
+    /// Whether the codeblock was received inverted.
+    pub inverted: bool,
+    /// What became of each column, at most eight; none with no outer code.
+    pub answers: &'a [Answer],
+    /// The octets of the transfer frame; none where a column is beyond repair.
+    pub frame: &'a [u8],
+}
+
+impl<'a> Model for Item<'a> {
+    ghost use Rattle.std.specs.Prelude.{◌≤◌, length};
+    ghost use Rattle.tm_channel.specs.Items.{ItemValue};
+
+    ghost Value = { ItemValue };
+
+    ghost view = { λ i. record {
+      found = record { place = i.place; distance = i.distance; bridged = i.bridged; inverted = i.inverted };
+      answers = i.answers.now;
+      frame = i.frame.now;
+    } };
+
+    ghost invariant = { λ i. length i.answers.now ≤ 8 };
+}
+
+/// What takes items, one after another. It counts its faults, and the count never falls.
+pub trait ItemTaker {
+    /// How often a call has failed.
+    ghost faults: { Self → ℕ };
+
+    /// The count of faults stands at its last value, so that it can't rise.
+    ghost is_last: { Self → Type 0 };
+
+    /// What taking an item does to the taker.
+    ghost took: { Self → ItemValue → Self → Type 0 };
+
+    /// What an item does at which the taker fails.
+    ghost broke: { Self → ItemValue → Self → Type 0 };
+
+    /// What taking the symbol phase does: how many octets are skipped, and what they cost.
+    ghost took_phase: { Self → ℕ → ℕ → Self → Type 0 };
+
+    /// What a symbol phase does at which the taker fails.
+    ghost broke_phase: { Self → ℕ → ℕ → Self → Type 0 };
+
+    /// Takes the next item. `Failed` comes only where the count of faults rose.
+    fn item(&mut self, item: &Item<'_>) -> Result<(), Failed>
+        ensures ok { OnOk result (took self.old item.now self.new) }
+        ensures err { OnErr result (broke self.old item.now self.new) }
+        ensures cause { HasCause (faults self.old) (faults self.new) (is_last self.new) result };
+
+    /// Takes the symbol phase that was chosen, `skip` octets at this cost. `Failed` comes only where the count of faults rose.
+    fn phase(&mut self, skip: u8, cost: u64) -> Result<(), Failed>
+        ensures ok { OnOk result (took_phase self.old skip cost self.new) }
+        ensures err { OnErr result (broke_phase self.old skip cost self.new) }
+        ensures cause { HasCause (faults self.old) (faults self.new) (is_last self.new) result };
+}

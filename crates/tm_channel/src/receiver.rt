@@ -1,0 +1,213 @@
+// The receiver: octets in, items out.
+ghost use Rattle.std.specs.Prelude.{◌≡◌, ◌≢◌, ◌↔◌, ◌⊎◌, ◌++◌, ℕ, ◌+◌, ◌^◌, ◌<◌, ◌≤◌, Bool, true, false, List, [], length, IfOk, OnOk, IsErrOf, Err, IsTrue};
+ghost use Rattle.tm_base.specs.Outside.{Rose};
+ghost use Rattle.tm_base.specs.Takers.{HandedOver, HandedPart};
+ghost use Rattle.tm_inner.specs.Inner.{Inner};
+ghost use Rattle.tm_channel.specs.Items.{ItemValue, AreItems};
+ghost use Rattle.tm_channel.specs.Receive.{Receive, ReceiveDue, ReceiveFirst, ReceiveFront};
+ghost use Rattle.tm_channel.specs.OctetReceiving.{StandsFor};
+
+use crate::item::ItemTaker;
+use crate::kept::KeptBits;
+use crate::repair::codeblock_size;
+use crate::store::Codeblocks;
+use crate::stream::BitStream;
+use crate::taking::{PIECE, end, take};
+use std::alloc::Global;
+use std::marker::Model;
+use std::thread::Threads;
+use thiserror::Error;
+use tm_base::{Failed, NoMemory};
+use tm_config::Config;
+use tm_inner::InnerReceiver;
+use tm_sync::Search;
+use tm_viterbi::AllError;
+use tm_workers::Gate;
+
+/// Why a receiver refused a call.
+#[derive(Clone, Copy, Debug, PartialEq, Eq, Error)]
+pub enum RecvError {
+    /// The taker of the items failed.
+    #[error("taker")]
+    Taker,
+    /// An earlier call answered `Taker`, or `finish` was called.
+    #[error("stopped")]
+    Stopped,
+}
+
+/// Turns received octets into what is said of each codeblock that is found in them, piece by piece (CCSDS 131.0-B, Convolutional
+/// Coding, Frame Synchronization, Pseudo-Randomizer and Reed-Solomon Coding). Codeblocks are repaired 32 at a time, by the workers of
+/// its configuration. It takes all its memory at `open`.
+#[derive(Drop)]
+pub struct Receiver {
+    config: Config,
+    inner: InnerReceiver,
+    // Room for the bits of a window of the inner code and of a piece of octets.
+    kept: KeptBits,
+    stream: BitStream,
+    has_stopped: bool,
+}
+
+impl Model for Receiver {
+    ghost use Rattle.std.specs.Prelude.{◌≡◌, ◌≤◌, ◌+◌, false};
+    ghost use Rattle.tm_channel.specs.OctetReceiving.{OctetReceiving};
+
+    ghost Value = { OctetReceiving };
+
+    ghost view = { λ r. record { config = r.config; has_stopped = r.has_stopped; inner = r.inner; bits = r.stream } };
+
+    ghost invariant = { λ r. (r.inner.config ≡ r.config) × (r.stream.batch.config ≡ r.config) × (r.has_stopped ≡ false → r.inner.has_stopped ≡ false)
+        × (r.inner.config.keep + r.inner.config.ahead + 4096 ≤ r.kept.size) };
+}
+
+impl Receiver {
+    /// The receiver of a configuration, which was given nothing yet. It fails only where there isn't enough memory.
+    pub fn open(alloc: Global, config: Config) -> Result<Receiver, NoMemory>
+        ensures config { IfOk result (λ r. r.config ≡ config) }
+        ensures fresh { IfOk result (λ r. r.has_stopped ≡ false) }
+        ensures stands { IfOk result (λ r. StandsFor r [] []) }
+    {
+        let Ok(inner) = InnerReceiver::open(alloc, &config) else {
+            return Err(NoMemory);
+        };
+        let Ok(kept) = KeptBits::open(alloc, (config.keep() + config.ahead()) as usize + PIECE)
+        else {
+            return Err(NoMemory);
+        };
+        let Ok(batch) = Codeblocks::open(alloc, config) else {
+            return Err(NoMemory);
+        };
+        let search = Search::new(
+            config.tolerance() as u8,
+            config.fly() as u8,
+            config.polarity() == 1,
+            8 * codeblock_size(&config) as u32,
+        );
+        Ok(Receiver {
+            config,
+            inner,
+            kept,
+            stream: BitStream::new(search, batch),
+            has_stopped: false,
+        })
+    }
+
+    /// Takes the next octets, and hands over the items that are due: those of the codeblocks that lie whole in the bits received,
+    /// 32 of them at a time. With an inner code these are the bits of all windows that are closed.
+    ///
+    /// `Taker` comes where `taker` fails; first items were then handed over. `Stopped` comes where an earlier call answered
+    /// `Taker` or `finish` was called; nothing is handed over then.
+    ///
+    /// The octets given in all are to be below 2^60. Workers enter `gate` before each word that they decode.
+    pub fn feed<R: Threads + Sync, T: ItemTaker, G: Gate + Sync>(
+        &mut self,
+        rt: &R,
+        octets: &[u8],
+        taker: &mut T,
+        gate: &G,
+    ) -> Result<(), RecvError>
+        ensures stopped { IsErrOf result RecvError.Stopped ↔ IsTrue self.old.has_stopped }
+        ensures unchanged { IsErrOf result RecvError.Stopped → (self.new ≡ self.old) × (taker.new ≡ taker.old) }
+        ensures stops { IsTrue self.new.has_stopped ↔ OnOk result ⊥ }
+        ensures config { self.new.config ≡ self.old.config }
+        ensures handed { OnOk result ((more : List ItemValue) × HandedOver T.took taker.old more taker.new
+            × ((given : List ℕ) (done : List ItemValue) → length given + length octets.now < 2 ^ 60 → StandsFor self.old given done
+            → StandsFor self.new (given ++ octets.now) (done ++ more) × ReceiveDue self.old.config 0 (given ++ octets.now) (done ++ more))) }
+        ensures front { IsErrOf result RecvError.Taker → (tried : List ItemValue) × HandedPart T.took T.broke taker.old tried taker.new
+            × ((given : List ℕ) (done : List ItemValue) → length given + length octets.now < 2 ^ 60 → StandsFor self.old given done
+            → ReceiveFirst self.old.config 0 (given ++ octets.now) (done ++ tried)) }
+        ensures later { T.faults taker.old ≤ T.faults taker.new }
+        ensures rose { IsErrOf result RecvError.Taker → Rose (T.faults taker.old) (T.faults taker.new) (T.is_last taker.new) }
+        ensures same { result ≢ Err RecvError.Taker → T.faults taker.new ≡ T.faults taker.old }
+    {
+        if self.has_stopped {
+            return Err(RecvError::Stopped);
+        }
+        match take(
+            &mut self.inner,
+            &mut self.kept,
+            &mut self.stream,
+            rt,
+            octets,
+            taker,
+            gate,
+        ) {
+            Ok(()) => Ok(()),
+            Err(Failed) => {
+                self.has_stopped = true;
+                Err(RecvError::Taker)
+            }
+        }
+    }
+
+    /// Hands over the items that are left, and answers how many bits were received. It is called once, at the end of the octets.
+    ///
+    /// `Taker` comes where `taker` fails; first items were then handed over. `Stopped` comes where an earlier call answered
+    /// `Taker` or `finish` was called; nothing is handed over then.
+    pub fn finish<R: Threads + Sync, T: ItemTaker, G: Gate + Sync>(
+        &mut self,
+        rt: &R,
+        taker: &mut T,
+        gate: &G,
+    ) -> Result<u64, RecvError>
+        ensures stopped { IsErrOf result RecvError.Stopped ↔ IsTrue self.old.has_stopped }
+        ensures unchanged { IsErrOf result RecvError.Stopped → (self.new ≡ self.old) × (taker.new ≡ taker.old) }
+        ensures stops { self.new.has_stopped ≡ true }
+        ensures config { self.new.config ≡ self.old.config }
+        ensures handed { IfOk result (λ count. (last : List ItemValue) × HandedOver T.took taker.old last taker.new
+            × ((given : List ℕ) (done : List ItemValue) → StandsFor self.old given done
+            → (bits : List Bool) × Inner self.old.config 0 given bits × (count ≡ length bits) × AreItems self.old.config bits (done ++ last))) }
+        ensures front { IsErrOf result RecvError.Taker → (tried : List ItemValue) × HandedPart T.took T.broke taker.old tried taker.new
+            × ((given : List ℕ) (done : List ItemValue) → StandsFor self.old given done → ReceiveFront self.old.config 0 given (done ++ tried)) }
+        ensures later { T.faults taker.old ≤ T.faults taker.new }
+        ensures rose { IsErrOf result RecvError.Taker → Rose (T.faults taker.old) (T.faults taker.new) (T.is_last taker.new) }
+        ensures same { result ≢ Err RecvError.Taker → T.faults taker.new ≡ T.faults taker.old }
+    {
+        if self.has_stopped {
+            return Err(RecvError::Stopped);
+        }
+        self.has_stopped = true;
+        let count = end(&mut self.inner, &mut self.kept);
+        match self.stream.take_bits(rt, self.kept.bits(), taker, gate) {
+            Ok(()) => {}
+            Err(Failed) => return Err(RecvError::Taker),
+        }
+        match self.stream.hand_last(rt, taker, gate) {
+            Ok(()) => Ok(count),
+            Err(Failed) => Err(RecvError::Taker),
+        }
+    }
+}
+
+/// Hands over all items of octets, fewer than 2^60, and answers how many bits were received.
+///
+/// `Memory` comes only where there isn't enough of it; nothing is handed over then. `Taker` comes where `taker` fails; first items
+/// were then handed over.
+pub fn receive_all<R: Threads + Sync, T: ItemTaker, G: Gate + Sync>(
+    rt: &R,
+    alloc: Global,
+    config: Config,
+    octets: &[u8],
+    taker: &mut T,
+    gate: &G,
+) -> Result<u64, AllError>
+    ensures handed { IfOk result (λ count. (items : List ItemValue) × HandedOver T.took taker.old items taker.new
+        × (length octets.now < 2 ^ 60 → (bits : List Bool) × Inner config 0 octets.now bits × (count ≡ length bits) × AreItems config bits items)) }
+    ensures front { IsErrOf result AllError.Taker → (tried : List ItemValue) × HandedPart T.took T.broke taker.old tried taker.new
+        × (length octets.now < 2 ^ 60 → ReceiveFirst config 0 octets.now tried ⊎ ReceiveFront config 0 octets.now tried) }
+    ensures unchanged { IsErrOf result AllError.Memory → taker.new ≡ taker.old }
+    ensures later { T.faults taker.old ≤ T.faults taker.new }
+    ensures rose { IsErrOf result AllError.Taker → Rose (T.faults taker.old) (T.faults taker.new) (T.is_last taker.new) }
+    ensures same { result ≢ Err AllError.Taker → T.faults taker.new ≡ T.faults taker.old }
+{
+    let Ok(mut receiver) = Receiver::open(alloc, config) else {
+        return Err(AllError::Memory);
+    };
+    let Ok(()) = receiver.feed(rt, octets, taker, gate) else {
+        return Err(AllError::Taker);
+    };
+    match receiver.finish(rt, taker, gate) {
+        Ok(count) => Ok(count),
+        Err(_) => Err(AllError::Taker),
+    }
+}

@@ -1,0 +1,123 @@
+// A codeblock that is whole, and what came of it.
+ghost use Rattle.std.specs.Prelude.{◌≡◌, ◌<◌, ◌≤◌, length, take};
+ghost use Rattle.tm_base.specs.Bits.{bits_of};
+ghost use Rattle.tm_config.specs.Configuration.{codeblock_length};
+ghost use Rattle.tm_channel.specs.Items.{IsItem, are_fixed};
+ghost use Rattle.tm_channel.specs.Receiving.{kept_of};
+ghost use Rattle.tm_channel.specs.Storing.{IsDecoded, answers_of, column_count, item_in, kept_in};
+
+use crate::columns::{read_codeblock, write_frame};
+use crate::item::Item;
+use tm_config::Config;
+use tm_rs_solve::Answer;
+use tm_sync::Found;
+use tm_workers::Word;
+
+/// A codeblock that is whole, and room for its item.
+#[derive(Clone, Copy)]
+pub struct Slot {
+    pub found: Found,
+    pub octets: [u8; 2040],
+    pub answers: [Answer; 8],
+    pub frame: [u8; 2040],
+}
+
+impl Slot {
+    /// Room for a codeblock.
+    pub fn empty() -> Slot {
+        Slot {
+            found: Found {
+                place: 0,
+                distance: 0,
+                bridged: false,
+                inverted: false,
+            },
+            octets: [0; 2040],
+            answers: [Answer::Beyond; 8],
+            frame: [0; 2040],
+        }
+    }
+
+    /// Writes the codeblock that was received as these octets at this place.
+    pub fn fill(&mut self, config: &Config, found: Found, size: usize, received: &[u8])
+        requires size { length received.now ≡ size }
+        requires most { size ≤ 2040 }
+        ensures { kept_in size self.new ≡ kept_of config.now found (bits_of received.now) }
+    {
+        self.found = found;
+        read_codeblock(config, found.inverted, received, &mut self.octets[..size]);
+    }
+
+    /// Writes the item of the codeblock, whose columns were decoded in these words.
+    pub fn write_item(&mut self, config: &Config, words: &[Word])
+        requires words { length words.now ≡ column_count config.now }
+        requires decoded { IsDecoded config.now (take (codeblock_length config.now) self.old.octets) words.now }
+        ensures found { self.new.found ≡ self.old.found }
+        ensures octets { self.new.octets ≡ self.old.octets }
+        ensures item { IsItem config.now self.old.found (take (codeblock_length config.now) self.old.octets) (item_in config.now self.new) }
+    {
+        let count = column_count(config);
+        let size = config.length() as usize;
+        write_answers(words, &mut self.answers[..count]);
+        if config.code() > 0 {
+            write_frame(config, words, &mut self.frame[..size]);
+        } else {
+            self.frame = self.octets;
+        }
+    }
+
+    /// The item that was written.
+    pub fn item(&self, config: &Config) -> Item<'_>
+        ensures { result ≡ item_in config.now self.now }
+    {
+        let answers = &self.answers[..column_count(config)];
+        let size = if are_fixed(answers) {
+            config.length() as usize
+        } else {
+            0
+        };
+        Item {
+            place: self.found.place,
+            distance: self.found.distance,
+            bridged: self.found.bridged,
+            inverted: self.found.inverted,
+            answers,
+            frame: &self.frame[..size],
+        }
+    }
+}
+
+/// How many columns a codeblock is repaired as: none with no outer code.
+pub fn column_count(config: &Config) -> usize
+    ensures value { result ≡ column_count config.now }
+    ensures most { result ≤ 8 }
+{
+    if config.code() > 0 {
+        config.depth() as usize
+    } else {
+        0
+    }
+}
+
+// Writes the answers that stand in words.
+fn write_answers(words: &[Word], answers: &mut [Answer])
+    requires { length answers.old ≡ length words.now }
+    ensures { answers.new ≡ answers_of words.now }
+{
+    for i in 0..words.len() {
+        answers[i] = words[i].answer.unwrap_or(Answer::Beyond);
+    }
+}
+
+// Whether no answer is `Beyond`.
+fn are_fixed(answers: &[Answer]) -> bool
+    ensures { result ≡ are_fixed answers.now }
+{
+    for answer in answers {
+        match answer {
+            Answer::Fixed(_) => {}
+            Answer::Beyond => return false,
+        }
+    }
+    true
+}

@@ -1,0 +1,162 @@
+// The codeblock under way, and those of a batch that are whole.
+ghost use Rattle.std.specs.Prelude.{◌≡◌, ◌<◌, ◌≤◌, ◌+◌, ◌*◌, [], ◌∷◌, ◌++◌, IfOk, length};
+ghost use Rattle.tm_base.specs.Bits.{bits_of};
+ghost use Rattle.tm_config.specs.Configuration.{codeblock_length};
+ghost use Rattle.tm_channel.specs.Receiving.{AreItemsFor, IsItemAt, kept_of};
+
+use crate::gathering::Gathering;
+use crate::item::Item;
+use crate::repair::{codeblock_size, repair};
+use crate::slot::{Slot, column_count};
+use std::alloc::{AllocError, Global};
+use std::marker::Model;
+use std::thread::Threads;
+use tm_config::Config;
+use tm_gf256::Gf;
+use tm_sync::Found;
+use tm_workers::{Gate, Word};
+
+/// How many codeblocks a batch has.
+pub const BATCH: usize = 32;
+
+/// Room for the codeblock under way and for a batch of whole ones, which are repaired at once.
+#[derive(Drop)]
+pub struct Codeblocks {
+    config: Config,
+    alloc: Global,
+    // The octets of a codeblock.
+    size: usize,
+    gathering: Gathering,
+    slots: Vec<Slot>,
+    count: usize,
+    // The columns of all codeblocks, for their repair.
+    words: Vec<Word>,
+}
+
+impl Model for Codeblocks {
+    ghost use Rattle.std.specs.Prelude.{◌≡◌, ◌≤◌, ◌*◌, take, map, length};
+    ghost use Rattle.tm_config.specs.Configuration.{codeblock_length};
+    ghost use Rattle.tm_channel.specs.Receiving.{Batching};
+    ghost use Rattle.tm_channel.specs.Storing.{column_count, item_in, kept_in};
+
+    ghost Value = { Batching };
+
+    ghost view = { λ s. record {
+      config = s.config;
+      part = s.gathering;
+      kept = map (kept_in s.size) (take s.count s.slots.items);
+      items = map (item_in s.config) (take s.count s.slots.items);
+    } };
+
+    ghost invariant = { λ s. (s.size ≡ codeblock_length s.config) × (s.size ≤ 2040) × (length s.slots.items ≡ 32) × (s.count ≤ 32)
+        × (length s.words.items ≡ 32 * column_count s.config) };
+}
+
+impl Codeblocks {
+    /// Room for codeblocks of this configuration, with none in it. It takes all its memory here.
+    pub fn open(alloc: Global, config: Config) -> Result<Codeblocks, AllocError>
+        ensures { IfOk result (λ codeblocks. codeblocks ≡ record { config = config; part = []; kept = []; items = [] }) }
+    {
+        let word = Word {
+            symbols: [Gf(0); 255],
+            answer: None,
+        };
+        Ok(Codeblocks {
+            config,
+            alloc,
+            size: codeblock_size(&config),
+            gathering: Gathering::new(),
+            slots: vec![in alloc; Slot::empty(); BATCH]?,
+            count: 0,
+            words: vec![in alloc; word; BATCH * column_count(&config)]?,
+        })
+    }
+
+    /// Adds a bit to the codeblock under way.
+    pub fn push_bit(&mut self, bit: bool)
+        requires { length self.old.part < 8 * codeblock_length self.old.config }
+        ensures config { self.new.config ≡ self.old.config }
+        ensures part { self.new.part ≡ self.old.part ++ bit ∷ [] }
+        ensures kept { self.new.kept ≡ self.old.kept }
+    {
+        let _size = self.size;
+        self.gathering.push_bit(bit);
+    }
+
+    /// Adds the bits of octets to it.
+    pub fn push_octets(&mut self, octets: &[u8])
+        requires { length self.old.part + 8 * length octets.now ≤ 8 * codeblock_length self.old.config }
+        ensures config { self.new.config ≡ self.old.config }
+        ensures part { self.new.part ≡ self.old.part ++ bits_of octets.now }
+        ensures kept { self.new.kept ≡ self.old.kept }
+    {
+        let _size = self.size;
+        self.gathering.push_octets(octets);
+    }
+
+    /// Keeps the codeblock under way, which is whole, as that of this place.
+    pub fn keep(&mut self, found: Found)
+        requires room { length self.old.kept < 32 }
+        requires whole { length self.old.part ≡ 8 * codeblock_length self.old.config }
+        ensures config { self.new.config ≡ self.old.config }
+        ensures part { self.new.part ≡ [] }
+        ensures kept { self.new.kept ≡ self.old.kept ++ kept_of self.old.config found self.old.part ∷ [] }
+    {
+        let size = self.size;
+        let received = self.gathering.octets();
+        self.slots[self.count].fill(&self.config, found, size, received);
+        self.gathering.clear();
+        self.count += 1;
+    }
+
+    /// How many bits the codeblock under way lacks.
+    pub fn lacking(&self) -> usize
+        requires { length self.now.part ≤ 8 * codeblock_length self.now.config }
+        ensures { length self.now.part + result ≡ 8 * codeblock_length self.now.config }
+    {
+        8 * self.size - self.gathering.count()
+    }
+
+    /// How many codeblocks are kept.
+    pub fn count(&self) -> usize
+        ensures { result ≡ length self.now.kept }
+    {
+        self.count
+    }
+
+    /// Repairs all codeblocks that are kept, by workers that enter the gate before each word, and writes their items.
+    pub fn repair<R: Threads + Sync, G: Gate + Sync>(&mut self, rt: &R, gate: &G)
+        ensures config { self.new.config ≡ self.old.config }
+        ensures part { self.new.part ≡ self.old.part }
+        ensures kept { self.new.kept ≡ self.old.kept }
+        ensures repaired { AreItemsFor self.new.config self.new.kept self.new.items }
+    {
+        repair(
+            rt,
+            self.alloc,
+            &self.config,
+            self.count,
+            self.slots.as_mut_slice(),
+            self.words.as_mut_slice(),
+            gate,
+        );
+    }
+
+    /// What came of one of them.
+    pub fn item(&self, index: usize) -> Item<'_>
+        requires repaired { AreItemsFor self.now.config self.now.kept self.now.items }
+        requires within { index < length self.now.kept }
+        ensures { IsItemAt self.now.config self.now.kept index result }
+    {
+        self.slots[index].item(&self.config)
+    }
+
+    /// Keeps no codeblock any longer.
+    pub fn clear(&mut self)
+        ensures config { self.new.config ≡ self.old.config }
+        ensures part { self.new.part ≡ self.old.part }
+        ensures kept { self.new.kept ≡ [] }
+    {
+        self.count = 0;
+    }
+}

@@ -1,0 +1,154 @@
+// Octets through both stages of a receiver: the inner code, and the search for codeblocks in its bits.
+ghost use Rattle.std.specs.Prelude.{◌≡◌, ◌+◌, ◌≤◌, ◌==◌, ℕ, Bool, List, false, drop, length, map, OnOk, OnErr, IfOk};
+ghost use Rattle.std.specs.Option.{is_some};
+ghost use Rattle.tm_base.specs.Bits.{bits_of};
+ghost use Rattle.tm_base.specs.Outside.{HasCause};
+ghost use Rattle.tm_inner.specs.Symbols.{rate_of};
+ghost use Rattle.tm_channel.specs.OctetReceiving.{Ends, Grows, Received, ReceivedPart, Takes, TakesPart, received_bits};
+
+use crate::bit_receiver::bits_of_octet;
+use crate::item::ItemTaker;
+use crate::kept::KeptBits;
+use crate::stream::BitStream;
+use std::thread::Threads;
+use tm_base::Failed;
+use tm_inner::InnerReceiver;
+use tm_viterbi::closed_windows_law;
+use tm_workers::Gate;
+
+/// How many octets go through both stages at a time.
+pub const PIECE: usize = 4096;
+
+/// Takes the next octets, and hands over the items that are due with them. There is to be room for the bits of a window and of
+/// `PIECE` octets.
+pub fn take<R: Threads + Sync, T: ItemTaker, G: Gate + Sync>(
+    inner: &mut InnerReceiver,
+    kept: &mut KeptBits,
+    stream: &mut BitStream,
+    rt: &R,
+    octets: &[u8],
+    taker: &mut T,
+    gate: &G,
+) -> Result<(), Failed>
+    requires fresh { inner.old.has_stopped ≡ false }
+    requires room { inner.old.config.keep + inner.old.config.ahead + 4096 ≤ kept.old.size }
+    ensures inner { inner.new.config ≡ inner.old.config }
+    ensures fresh { inner.new.has_stopped ≡ false }
+    ensures room { kept.new.size ≡ kept.old.size }
+    ensures stream { stream.new.batch.config ≡ stream.old.batch.config }
+    ensures handed { OnOk result (Takes T.took inner.old inner.new stream.old stream.new taker.old taker.new octets.now) }
+    ensures front { OnErr result (TakesPart T.took T.broke inner.old stream.old stream.new taker.old taker.new octets.now) }
+    ensures cause { HasCause (T.faults taker.old) (T.faults taker.new) (T.is_last taker.new) result }
+{
+    closed_windows_law();
+    let mut done = 0;
+    while done < octets.len() {
+        let end = done + PIECE.min(octets.len() - done);
+        match take_piece(inner, kept, stream, rt, &octets[done..end], taker, gate) {
+            Ok(()) => {}
+            Err(Failed) => return Err(Failed),
+        }
+        done = end;
+    }
+    Ok(())
+}
+
+// Takes a piece of at most `PIECE` octets.
+fn take_piece<R: Threads + Sync, T: ItemTaker, G: Gate + Sync>(
+    inner: &mut InnerReceiver,
+    kept: &mut KeptBits,
+    stream: &mut BitStream,
+    rt: &R,
+    octets: &[u8],
+    taker: &mut T,
+    gate: &G,
+) -> Result<(), Failed>
+    requires fresh { inner.old.has_stopped ≡ false }
+    requires room { inner.old.config.keep + inner.old.config.ahead + length octets.now ≤ kept.old.size }
+    ensures inner { inner.new.config ≡ inner.old.config }
+    ensures fresh { inner.new.has_stopped ≡ false }
+    ensures room { kept.new.size ≡ kept.old.size }
+    ensures stream { stream.new.batch.config ≡ stream.old.batch.config }
+    ensures handed { OnOk result ((piece : List Bool) × Grows inner.old inner.new octets.now piece × Received T.took stream.old stream.new taker.old taker.new piece) }
+    ensures front { OnErr result ((piece : List Bool) × Grows inner.old inner.new octets.now piece × ReceivedPart T.took T.broke stream.old stream.new taker.old taker.new piece) }
+    ensures cause { HasCause (T.faults taker.old) (T.faults taker.new) (T.is_last taker.new) result }
+{
+    let skip = inner.bits_to_skip();
+    decode(inner, kept, octets);
+    if inner.has_inner_code() {
+        match stream.take_bits(rt, kept.bits(), taker, gate) {
+            Ok(()) => Ok(()),
+            Err(Failed) => Err(Failed),
+        }
+    } else {
+        match take_behind(stream, skip, rt, octets, taker, gate) {
+            Ok(()) => Ok(()),
+            Err(Failed) => Err(Failed),
+        }
+    }
+}
+
+// Gives octets to the first stage, and keeps the bits of its blocks.
+fn decode(inner: &mut InnerReceiver, kept: &mut KeptBits, octets: &[u8])
+    requires fresh { inner.old.has_stopped ≡ false }
+    requires room { inner.old.config.keep + inner.old.config.ahead + length octets.now ≤ kept.old.size }
+    ensures inner { inner.new.config ≡ inner.old.config }
+    ensures fresh { inner.new.has_stopped ≡ false }
+    ensures room { kept.new.size ≡ kept.old.size }
+    ensures grows { Grows inner.old inner.new octets.now (received_bits inner.old kept.new.bits octets.now) }
+{
+    kept.clear();
+    match inner.feed(octets, kept) {
+        Ok(()) => {}
+        Err(_) => {}
+    }
+}
+
+// Ends the first stage, keeps the bits of its last blocks, and answers how many bits were received in all.
+pub fn end(inner: &mut InnerReceiver, kept: &mut KeptBits) -> u64
+    requires fresh { inner.old.has_stopped ≡ false }
+    requires room { inner.old.config.keep + inner.old.config.ahead ≤ kept.old.size }
+    ensures inner { inner.new.config ≡ inner.old.config }
+    ensures room { kept.new.size ≡ kept.old.size }
+    ensures ends { Ends inner.old (map (λ bit. bit == 1) kept.new.bits) result }
+{
+    kept.clear();
+    match inner.finish(kept) {
+        Ok(end) => end.bits,
+        Err(_) => 0,
+    }
+}
+
+// Gives the bits of octets behind the first `skip` ones to the second stage.
+fn take_behind<R: Threads + Sync, T: ItemTaker, G: Gate + Sync>(
+    stream: &mut BitStream,
+    skip: u64,
+    rt: &R,
+    octets: &[u8],
+    taker: &mut T,
+    gate: &G,
+) -> Result<(), Failed>
+    ensures stream { stream.new.batch.config ≡ stream.old.batch.config }
+    ensures handed { OnOk result (Received T.took stream.old stream.new taker.old taker.new (drop skip (bits_of octets.now))) }
+    ensures part { OnErr result (ReceivedPart T.took T.broke stream.old stream.new taker.old taker.new (drop skip (bits_of octets.now))) }
+    ensures cause { HasCause (T.faults taker.old) (T.faults taker.new) (T.is_last taker.new) result }
+{
+    let skipped = (skip / 8).min(octets.len() as u64) as usize;
+    if octets.len() <= skipped {
+        return Ok(());
+    }
+    let rest = &octets[skipped..];
+    match stream.take_bits(
+        rt,
+        &bits_of_octet(rest[0])[(skip % 8) as usize..],
+        taker,
+        gate,
+    ) {
+        Ok(()) => {}
+        Err(Failed) => return Err(Failed),
+    }
+    match stream.take_octets(rt, &rest[1..], taker, gate) {
+        Ok(()) => Ok(()),
+        Err(Failed) => Err(Failed),
+    }
+}
