@@ -1,5 +1,7 @@
 pub mod Reading
 pub mod Lines
+pub mod Report
+pub mod Taken
 pub mod Refusal
 pub mod Output
 pub mod Encoding

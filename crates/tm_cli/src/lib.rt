@@ -3,14 +3,21 @@
 //! command; a command answers how it ended (`Ending`), and `run` the status.
 #![tactic(auto)]
 
+mod counts;
 mod encode;
 mod ending;
+mod ends;
 mod feed;
 mod line;
 mod lines;
 mod refusal;
+mod takers;
 mod top;
 mod turns;
 
+pub use lines::{block_line, blocks_line, frame_line, frames_line, phase_line};
 pub use tm_words::{HexText, Job, JobKind, WordsError, read_words};
 pub use top::run;
+
+#[cfg(test)]
+mod tests;

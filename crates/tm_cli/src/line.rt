@@ -7,10 +7,10 @@ use itoa::Buffer;
 use std::marker::Model;
 use tm_base::{Failed, Sink, put_all};
 
-/// A line of at most 256 octets.
+/// A line of at most 320 octets.
 #[derive(Drop)]
 pub struct Line {
-    room: [u8; 256],
+    room: [u8; 320],
     count: usize,
 }
 
@@ -21,7 +21,7 @@ impl Model for Line {
 
     ghost view = { λ l. take l.count l.room };
 
-    ghost invariant = { λ l. l.count ≤ 256 };
+    ghost invariant = { λ l. l.count ≤ 320 };
 }
 
 impl Line {
@@ -30,14 +30,14 @@ impl Line {
         ensures { result ≡ [] }
     {
         Line {
-            room: [0; 256],
+            room: [0; 320],
             count: 0,
         }
     }
 
     /// Adds a text.
     pub fn text(&mut self, text: &[u8])
-        requires { length self.old + length text.now ≤ 256 }
+        requires { length self.old + length text.now ≤ 320 }
         ensures { self.new ≡ self.old ++ text.now }
     {
         let end = self.count + text.len();
@@ -47,7 +47,7 @@ impl Line {
 
     /// Adds a number in decimal, without leading zeros.
     pub fn number(&mut self, number: u64)
-        requires { length self.old + 20 ≤ 256 }
+        requires { length self.old + 20 ≤ 320 }
         ensures text { self.new ≡ self.old ++ decimal number }
         ensures length { length self.new ≤ length self.old + 20 }
     {
