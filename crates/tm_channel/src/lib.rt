@@ -17,6 +17,8 @@ mod slot;
 mod store;
 mod stream;
 mod taking;
+#[cfg(test)]
+mod tests;
 
 pub use cadus::cadu;
 pub use item::{Item, ItemTaker};

@@ -1,0 +1,93 @@
+// What comes of columns with wrong octets.
+use crate::{Answer, Config, Item, ItemTaker, OpenGate, Raw, receive_all};
+use std::alloc::Global;
+use std::process::Abort;
+use std::test::Fail;
+use std::thread::Threads;
+use tm_base::Failed;
+
+// The sync marker, and the codeblock of the frame 7B: the coefficients of the generator of the code that corrects 16
+// errors, in the dual basis.
+const CADU: [u8; 37] = [
+    0x1A, 0xCF, 0xFC, 0x1D, 0x7B, 0x47, 0x32, 0x5F, 0x86, 0x4A, 0x18, 0xA0, 0x78, 0x83, 0xFA, 0xB9,
+    0x5C, 0x5F, 0x4F, 0xEC, 0xFE, 0xEC, 0x4F, 0x5F, 0x5C, 0xB9, 0xFA, 0x83, 0x78, 0xA0, 0x18, 0x4A,
+    0x86, 0x5F, 0x32, 0x47, 0x7B,
+];
+
+// Keeps how many items came, and of the last one its first answer and its frame's first octet.
+#[derive(Drop)]
+struct Last {
+    count: u64,
+    answer: Option<Answer>,
+    octet: Option<u8>,
+}
+
+impl ItemTaker for Last {
+    ghost faults = { λ last. 0 };
+
+    ghost is_last = { λ last. ⊥ };
+
+    ghost took = { λ before item now. Unit {0} };
+
+    ghost broke = { λ before item now. ⊥ };
+
+    ghost took_phase = { λ before skip cost now. Unit {0} };
+
+    ghost broke_phase = { λ before skip cost now. ⊥ };
+
+    fn item(&mut self, item: &Item<'_>) -> Result<(), Failed> {
+        self.count = self.count.wrapping_add(1);
+        self.answer = item.answers.first().copied();
+        self.octet = item.frame.first().copied();
+        Ok(())
+    }
+
+    fn phase(&mut self, _skip: u8, _cost: u64) -> Result<(), Failed> {
+        Ok(())
+    }
+}
+
+// Receives octets that come to one item: frames of one octet, not randomized.
+fn receive<R: Abort + Threads + Sync>(rt: &R, alloc: Global, octets: &[u8]) -> Result<Last, Fail> {
+    let raw = Raw {
+        length: Some(1),
+        inner: 0,
+        randomize: 0,
+        ..Raw::default()
+    };
+    let config = Config::check(&raw)?;
+    let mut last = Last {
+        count: 0,
+        answer: None,
+        octet: None,
+    };
+    receive_all(rt, alloc, config, octets, &mut last, &OpenGate)?;
+    assert!(rt; last.count == 1);
+    Ok(last)
+}
+
+#[test]
+fn wrong_octets_are_repaired(rt: HostRuntime) -> Result<(), Fail> {
+    let mut octets = CADU;
+    for k in 4..20 {
+        octets[k] ^= 1;
+    }
+    let last = receive(&rt, rt.alloc(), &octets)?;
+    assert!(rt; last.answer == Some(Answer::Fixed(16)));
+    assert!(rt; last.octet == Some(0x7B));
+    Ok(())
+}
+
+// The word lies at distance 17 from the zero codeword and from that of the codeblock, and farther from all others.
+#[test]
+fn beyond_repair_there_is_no_frame(rt: HostRuntime) -> Result<(), Fail> {
+    let mut octets = CADU;
+    for k in 4..20 {
+        octets[k] = 0;
+    }
+    octets[36] = 1;
+    let last = receive(&rt, rt.alloc(), &octets)?;
+    assert!(rt; last.answer == Some(Answer::Beyond));
+    assert!(rt; last.octet == None);
+    Ok(())
+}
