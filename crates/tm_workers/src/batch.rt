@@ -64,8 +64,9 @@ fn decode_drawn<R: Threads + Sync, G: Gate + Sync, W: InPlace + Send + Sync>(
     Ok(())
 }
 
-// Decodes each word in its place.
-fn decode_all<R: Threads + Sync, G: Gate + Sync, W: InPlace + Send + Sync>(
+/// Decodes each word in its place, by workers that draw the words' numbers, or have a part of the words each where
+/// memory is refused.
+pub fn decode_all<R: Threads + Sync, G: Gate + Sync, W: InPlace + Send + Sync>(
     rt: &R,
     alloc: Global,
     params: &Params,

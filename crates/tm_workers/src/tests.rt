@@ -1,5 +1,7 @@
 // Worked batches. G is the codeword of 33 symbols whose information symbol is 1. They hold whatever memory is refused.
+use crate::batch::decode_all;
 use crate::split::split_evenly;
+use crate::words::InPlace;
 use crate::{ErasedWord, Gate, OpenGate, Word, decode_batch, decode_erased_batch};
 use std::sync::atomic::{AtomicU64, Ordering};
 use std::test::Fail;
@@ -106,17 +108,57 @@ impl Gate for Noting {
     }
 }
 
+// A word that tells, once it is decoded, whether its number had entered.
+#[derive(Clone, Copy)]
+struct Watching<'a> {
+    number: u32,
+    gate: &'a Noting,
+    had_entered: bool,
+}
+
+impl<'a> InPlace for Watching<'a> {
+    ghost becomes = { λ _ _ _ _. Unit {0} };
+
+    fn decode(&mut self, _params: &Params, _repair: u8) {
+        let entered = self.gate.entered.load(Ordering::SeqCst);
+        self.had_entered = (entered >> (self.number % 64)) % 2 == 1;
+    }
+}
+
+fn watched(number: u32, gate: &Noting) -> Watching<'_> {
+    Watching {
+        number,
+        gate,
+        had_entered: false,
+    }
+}
+
 #[test]
-fn each_number_enters_once_in_an_even_split(rt: HostRuntime) -> Result<(), Fail> {
+fn each_number_enters_once_and_before_its_word_is_decoded(rt: HostRuntime) -> Result<(), Fail> {
     let Ok(params) = Params::new(16, 33) else {
         panic!(rt; "no code")
     };
-    let gate = Noting {
-        entered: AtomicU64::new(0),
-    };
-    let mut words = [word(1); 6];
-    split_evenly(&rt, &gate, &params, 16, 0, 4, &mut words);
-    assert!(rt; gate.entered.load(Ordering::SeqCst) == 63);
-    assert!(rt; words == [decoded(0, Answer::Fixed(1)); 6]);
+    for is_drawn in [false, true] {
+        let gate = Noting {
+            entered: AtomicU64::new(0),
+        };
+        let mut words = [
+            watched(0, &gate),
+            watched(1, &gate),
+            watched(2, &gate),
+            watched(3, &gate),
+            watched(4, &gate),
+            watched(5, &gate),
+        ];
+        if is_drawn {
+            decode_all(&rt, rt.alloc(), &params, 16, &mut words, 4, &gate);
+        } else {
+            split_evenly(&rt, &gate, &params, 16, 0, 4, &mut words);
+        }
+        for word in &words {
+            assert!(rt; word.had_entered);
+        }
+        assert!(rt; gate.entered.load(Ordering::SeqCst) == 63);
+    }
     Ok(())
 }
