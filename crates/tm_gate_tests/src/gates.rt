@@ -1,6 +1,9 @@
 // Workers that are held. A gate waits for nothing: it turns over an atomic word for a stated number of turns.
 use std::sync::atomic::{AtomicU64, Ordering};
 use std::test::Fail;
+use tm_base::Failed;
+use tm_channel::{Item, ItemTaker, Receiver};
+use tm_config::{Config, Raw};
 use tm_gf256::Gf;
 use tm_rs_code::Params;
 use tm_rs_solve::{Answer, ErasedAnswer};
@@ -90,5 +93,68 @@ fn words_with_erased_places_are_drawn_too(rt: HostRuntime) -> Result<(), Fail> {
     decode_erased_batch(&rt, rt.alloc(), &params, 8, &mut words, 2, &gate);
     assert!(rt; gate.freed.load(Ordering::SeqCst) == 1);
     assert!(rt; words[5].answer == Some(ErasedAnswer::Fixed(0, 0)));
+    Ok(())
+}
+
+// The sync marker, and behind it the codeword of the one data symbol 01 in the dual basis.
+const MARKED: [u8; 37] = [
+    0x1A, 0xCF, 0xFC, 0x1D, 0x7B, 0x47, 0x32, 0x5F, 0x86, 0x4A, 0x18, 0xA0, 0x78, 0x83, 0xFA, 0xB9,
+    0x5C, 0x5F, 0x4F, 0xEC, 0xFE, 0xEC, 0x4F, 0x5F, 0x5C, 0xB9, 0xFA, 0x83, 0x78, 0xA0, 0x18, 0x4A,
+    0x86, 0x5F, 0x32, 0x47, 0x7B,
+];
+
+// Counts the items.
+#[derive(Drop)]
+struct Counting {
+    count: u64,
+}
+
+impl ItemTaker for Counting {
+    ghost faults = { λ c. 0 };
+
+    ghost is_last = { λ c. ⊥ };
+
+    ghost took = { λ before item now. Unit {0} };
+
+    ghost broke = { λ before item now. ⊥ };
+
+    ghost took_phase = { λ before skip cost now. Unit {0} };
+
+    ghost broke_phase = { λ before skip cost now. ⊥ };
+
+    fn item(&mut self, _item: &Item<'_>) -> Result<(), Failed> {
+        self.count = self.count.saturating_add(1);
+        Ok(())
+    }
+
+    fn phase(&mut self, _skip: u8, _cost: u64) -> Result<(), Failed> {
+        Ok(())
+    }
+}
+
+#[test]
+fn a_receiver_decodes_a_batch_by_all_its_workers(rt: HostRuntime) -> Result<(), Fail> {
+    let link = Raw {
+        length: Some(1),
+        inner: 0,
+        randomize: 0,
+        workers: 2,
+        ..Raw::default()
+    };
+    let Ok(config) = Config::check(&link) else {
+        panic!(rt; "refused")
+    };
+    let Ok(mut receiver) = Receiver::open(rt.alloc(), config) else {
+        panic!(rt; "no memory")
+    };
+    let gate = gate_that_holds(0, 7);
+    let mut counting = Counting { count: 0 };
+    for _ in 0..8 {
+        assert!(rt; receiver.feed(&rt, &MARKED, &mut counting, &gate) == Ok(()));
+    }
+    assert!(rt; counting.count == 0);
+    assert!(rt; receiver.finish(&rt, &mut counting, &gate) == Ok(2368));
+    assert!(rt; gate.freed.load(Ordering::SeqCst) == 1);
+    assert!(rt; counting.count == 8);
     Ok(())
 }
