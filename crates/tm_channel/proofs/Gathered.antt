@@ -46,7 +46,7 @@ pushed p b =
     small true = lit< tt
     small false = lit< tt
 
-bit-more : (extra p v byte : ℕ) (b : Bool) → extra < 8 → byte ≡ bool_byte b → v ≡ bit_or (p * 2 % 256) byte → low_bits (extra + 1) v ≡ low_bits extra p ++ b ∷ []
+pub bit-more : (extra p v byte : ℕ) (b : Bool) → extra < 8 → byte ≡ bool_byte b → v ≡ bit_or (p * 2 % 256) byte → low_bits (extra + 1) v ≡ low_bits extra p ++ b ∷ []
 bit-more extra p v byte b few is value =
     let x : ℕ = p * 2 + bit_number b in
     let octet : v ≡ x % 256 = value ∙ ap (bit_or (p * 2 % 256)) (is ∙ bool_byte-bit_number b) ∙ pushed p b in

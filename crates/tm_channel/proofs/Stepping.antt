@@ -1,6 +1,6 @@
 -- A search and a batch, one step on.
-use Rattle.std.proofs.Common.{◌≡◌, ℕ, ◌+◌, ◌-◌, ◌*◌, ◌/◌, ◌<◌, ◌≤◌, ◌⊎◌, inl, inr, zero, suc, min, max, get_or, IsSome, Bool, List, [], ◌∷◌, ◌++◌, length, take, drop, sym, ap, ◌∙◌, subst, arith, Option, Some, unwrap_or, length-append, length-drop, take-append-drop}
-use Rattle.std.proofs.lemmas.List.{append-nil, length-take-le}
+use Rattle.std.proofs.Common.{◌≡◌, ℕ, ◌+◌, ◌-◌, ◌*◌, ◌/◌, ◌<◌, ◌≤◌, ◌==◌, ◌⊎◌, inl, inr, zero, suc, min, max, get_or, IsSome, Bool, List, [], ◌∷◌, ◌++◌, length, take, drop, map, sym, ap, ◌∙◌, subst, arith, Option, Some, unwrap_or, length-append, length-drop, take-append-drop}
+use Rattle.std.proofs.lemmas.List.{append-nil, length-take-le, map-append}
 use Rattle.std.proofs.Math.Seq.{take-add}
 use Rattle.tm_base.specs.Bits.{bits_of, bits_of_octet}
 use Rattle.tm_base.proofs.Packing.{length-bits_of, bits_of-append}
@@ -133,3 +133,18 @@ pub all-bits : (octets : List ℕ) (done count : ℕ) → (bits_of (take done oc
 all-bits octets done count =
     ap (λ l. l ++ bits_of (drop (done + count) octets)) (sym (next-bits octets done count))
     ∙ sym (bits_of-append (take (done + count) octets) (drop (done + count) octets)) ∙ ap bits_of (take-append-drop (done + count) octets)
+
+-- the same of bits that are octets 0 and 1
+abbrev pub ones : List ℕ → List Bool
+ones bits = map (λ bit. bit == 1) bits
+
+pub next-ones : (bits : List ℕ) (done count : ℕ) → ones (take (done + count) bits) ≡ ones (take done bits) ++ ones (next_octets done count bits)
+next-ones bits done count =
+    let same : count ≡ (done + count) - done = omega arith in
+    ap ones (take-add done count bits ∙ ap (λ n. take done bits ++ take n (drop done bits)) same)
+    ∙ map-append (λ bit. bit == 1) (take done bits) (next_octets done count bits)
+
+pub all-ones : (bits : List ℕ) (done count : ℕ) → (ones (take done bits) ++ ones (next_octets done count bits)) ++ ones (drop (done + count) bits) ≡ ones bits
+all-ones bits done count =
+    ap (λ l. l ++ ones (drop (done + count) bits)) (sym (next-ones bits done count))
+    ∙ sym (map-append (λ bit. bit == 1) (take (done + count) bits) (drop (done + count) bits)) ∙ ap ones (take-append-drop (done + count) bits)

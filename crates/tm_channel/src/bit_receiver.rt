@@ -1,6 +1,6 @@
 // Bits in, items out.
-ghost use Rattle.std.specs.Prelude.{◌≡◌, ◌<◌, ◌≤◌, ◌⊎◌, ◌+◌, ◌-◌, ◌*◌, ◌/◌, ◌^◌, ◌==◌, ℕ, Bool, true, false, List, [], ◌∷◌, ◌++◌, length, take, map, OnOk, OnErr, IsSome, None, unwrap_or};
-ghost use Rattle.tm_base.specs.Bits.{bits_of, bits_of_octet};
+ghost use Rattle.std.specs.Prelude.{◌≡◌, ◌<◌, ◌≤◌, ◌⊎◌, ◌+◌, ◌-◌, ◌*◌, ◌/◌, ◌%◌, ◌^◌, ◌==◌, ℕ, Bool, true, false, List, [], ◌∷◌, ◌++◌, length, take, map, OnOk, OnErr, IsSome, None, unwrap_or};
+ghost use Rattle.tm_base.specs.Bits.{bits_of};
 ghost use Rattle.tm_base.specs.Outside.{HasCause};
 ghost use Rattle.tm_base.specs.Takers.{HandedOver, HandedPart};
 ghost use Rattle.tm_sync.specs.Searching.{StandsFor, inside_of};
@@ -9,11 +9,15 @@ ghost use Rattle.tm_channel.specs.Items.{ItemValue, AreItemsOf};
 ghost use Rattle.tm_channel.specs.Receiving.{Agree, AreDue, AreFirstDue, AreFirstFurther, AreFirstLast, AreFurther, AreItemsFor, AreLast, GoesOn, IsKept, IsReady, Stands, StandsMore, kept_of};
 
 use crate::item::ItemTaker;
+use crate::packing::{bits_of_octet, pack};
 use crate::store::{BATCH, Codeblocks};
 use std::thread::Threads;
 use tm_base::Failed;
 use tm_sync::{Found, Search};
 use tm_workers::Gate;
+
+// How many octets bits are packed to at a time.
+const RUN: usize = 256;
 
 // Hands over the items of the codeblocks that are kept.
 fn hand_over<T: ItemTaker>(batch: &Codeblocks, taker: &mut T) -> Result<(), Failed>
@@ -239,6 +243,65 @@ impl BitReceiver {
         Ok(())
     }
 
+    /// Takes bits, each 0 or 1, packed to octets, and hands over the items that are due with them.
+    pub fn take_packed<R: Threads + Sync, T: ItemTaker, G: Gate + Sync>(
+        &mut self,
+        rt: &R,
+        bits: &[u8],
+        taker: &mut T,
+        gate: &G,
+    ) -> Result<(), Failed>
+        requires ready { IsReady self.old.search self.old.batch }
+        ensures ready { IsReady self.new.search self.new.batch }
+        ensures config { self.new.batch.config ≡ self.old.batch.config }
+        ensures stands { OnOk result (GoesOn (Stands self.old.search self.old.batch) (Stands self.new.search self.new.batch) (map (λ bit. bit == 1) bits.now)) }
+        ensures all { OnOk result ((items : List ItemValue) × HandedOver T.took taker.old items taker.new
+            × AreDue self.old.batch.config (Stands self.old.search self.old.batch) (map (λ bit. bit == 1) bits.now) items) }
+        ensures broke { OnErr result ((items : List ItemValue) × HandedPart T.took T.broke taker.old items taker.new
+            × AreFirstDue self.old.batch.config (Stands self.old.search self.old.batch) (map (λ bit. bit == 1) bits.now) items) }
+        ensures cause { HasCause (T.faults taker.old) (T.faults taker.new) (T.is_last taker.new) result }
+    {
+        let mut done = 0;
+        while done < bits.len() {
+            let count = run_length(bits.len() - done);
+            match self.take_run(rt, &bits[done..done + count], taker, gate) {
+                Ok(()) => {}
+                Err(Failed) => return Err(Failed),
+            }
+            done += count;
+        }
+        Ok(())
+    }
+
+    // Takes fewer than eight bits, or those of up to `RUN` octets.
+    fn take_run<R: Threads + Sync, T: ItemTaker, G: Gate + Sync>(
+        &mut self,
+        rt: &R,
+        bits: &[u8],
+        taker: &mut T,
+        gate: &G,
+    ) -> Result<(), Failed>
+        requires whole { (length bits.now < 8) ⊎ (length bits.now % 8 ≡ 0) }
+        requires most { length bits.now ≤ 8 * 256 }
+        requires ready { IsReady self.old.search self.old.batch }
+        ensures ready { IsReady self.new.search self.new.batch }
+        ensures config { self.new.batch.config ≡ self.old.batch.config }
+        ensures stands { OnOk result (GoesOn (Stands self.old.search self.old.batch) (Stands self.new.search self.new.batch) (map (λ bit. bit == 1) bits.now)) }
+        ensures all { OnOk result ((items : List ItemValue) × HandedOver T.took taker.old items taker.new
+            × AreDue self.old.batch.config (Stands self.old.search self.old.batch) (map (λ bit. bit == 1) bits.now) items) }
+        ensures broke { OnErr result ((items : List ItemValue) × HandedPart T.took T.broke taker.old items taker.new
+            × AreFirstDue self.old.batch.config (Stands self.old.search self.old.batch) (map (λ bit. bit == 1) bits.now) items) }
+        ensures cause { HasCause (T.faults taker.old) (T.faults taker.new) (T.is_last taker.new) result }
+    {
+        if bits.len() < 8 {
+            return self.take_bits(rt, bits, taker, gate);
+        }
+        let mut octets = [0; RUN];
+        let octets = &mut octets[..bits.len() / 8];
+        pack(bits, octets);
+        self.take_octets(rt, octets, taker, gate)
+    }
+
     /// Takes the bits of octets, those of the codeblock under way as a whole and others one by one, and hands over the items that
     /// are due with them.
     pub fn take_octets<R: Threads + Sync, T: ItemTaker, G: Gate + Sync>(
@@ -310,18 +373,17 @@ impl BitReceiver {
     }
 }
 
-/// The bits of an octet, the most significant one first, each 0 or 1.
-pub fn bits_of_octet(octet: u8) -> [u8; 8]
-    ensures { map (λ bit. bit == 1) result ≡ bits_of_octet octet }
+// How many of the bits that are left are taken at once: as many as are whole octets, up to `RUN` of them, or fewer than eight.
+fn run_length(left: usize) -> usize
+    requires { 0 < left }
+    ensures some { 0 < result }
+    ensures within { result ≤ left }
+    ensures most { result ≤ 8 * 256 }
+    ensures whole { (result < 8) ⊎ (result % 8 ≡ 0) }
 {
-    [
-        octet >> 7 & 1,
-        octet >> 6 & 1,
-        octet >> 5 & 1,
-        octet >> 4 & 1,
-        octet >> 3 & 1,
-        octet >> 2 & 1,
-        octet >> 1 & 1,
-        octet & 1,
-    ]
+    if left < 8 {
+        left
+    } else {
+        left.min(8 * RUN) / 8 * 8
+    }
 }

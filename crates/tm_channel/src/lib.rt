@@ -10,6 +10,7 @@ mod gathering;
 mod item;
 mod kept;
 mod laws;
+mod packing;
 mod receiver;
 mod repair;
 mod sender;

@@ -61,7 +61,7 @@ impl BitStream {
         ensures part { OnErr result (ReceivedPart T.took T.broke self.old self.new taker.old taker.new (map (λ bit. bit == 1) bits.now)) }
         ensures cause { HasCause (T.faults taker.old) (T.faults taker.new) (T.is_last taker.new) result }
     {
-        self.receiver.take_bits(rt, bits, taker, gate)
+        self.receiver.take_packed(rt, bits, taker, gate)
     }
 
     /// Takes the next bits, those of octets, and hands over the items that are due with them.

@@ -6,9 +6,9 @@ ghost use Rattle.tm_base.specs.Outside.{HasCause};
 ghost use Rattle.tm_inner.specs.Symbols.{rate_of};
 ghost use Rattle.tm_channel.specs.OctetReceiving.{Ends, Grows, Received, ReceivedPart, Takes, TakesPart, received_bits};
 
-use crate::bit_receiver::bits_of_octet;
 use crate::item::ItemTaker;
 use crate::kept::KeptBits;
+use crate::packing::bits_of_octet;
 use crate::stream::BitStream;
 use std::thread::Threads;
 use tm_base::Failed;

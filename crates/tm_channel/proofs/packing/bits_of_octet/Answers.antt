@@ -1,5 +1,5 @@
 use Rattle.tm_channel.proofs.Gathered.{array-bits}
-use Rattle.tm_channel.proofs.bit_receiver.bits_of_octet.Goals as goal
+use Rattle.tm_channel.proofs.packing.bits_of_octet.Goals as goal
 
 pub returns : goal.returns
 returns c = array-bits c.args.octet

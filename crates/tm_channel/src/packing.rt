@@ -1,0 +1,42 @@
+// Octets, and their bits as octets 0 and 1.
+ghost use Rattle.std.specs.Prelude.{◌≡◌, ◌*◌, ◌==◌, length, map};
+ghost use Rattle.tm_base.specs.Bits.{bits_of, bits_of_octet};
+
+/// The bits of an octet, the most significant one first, each 0 or 1.
+pub fn bits_of_octet(octet: u8) -> [u8; 8]
+    ensures { map (λ bit. bit == 1) result ≡ bits_of_octet octet }
+{
+    [
+        octet >> 7 & 1,
+        octet >> 6 & 1,
+        octet >> 5 & 1,
+        octet >> 4 & 1,
+        octet >> 3 & 1,
+        octet >> 2 & 1,
+        octet >> 1 & 1,
+        octet & 1,
+    ]
+}
+
+/// Packs bits, each 0 or 1, to octets, the most significant one first.
+pub fn pack(bits: &[u8], octets: &mut [u8])
+    requires { length bits.now ≡ 8 * length octets.old }
+    ensures bits { bits_of octets.new ≡ map (λ bit. bit == 1) bits.now }
+    ensures length { length octets.new ≡ length octets.old }
+{
+    for k in 0..octets.len() {
+        octets[k] = octet_of(&bits[8 * k..8 * k + 8]);
+    }
+}
+
+// The octet of eight bits.
+fn octet_of(bits: &[u8]) -> u8
+    requires { length bits.now ≡ 8 }
+    ensures { bits_of_octet result ≡ map (λ bit. bit == 1) bits.now }
+{
+    let mut octet = 0;
+    for k in 0..8usize {
+        octet = octet << 1 | u8::from(bits[k] == 1);
+    }
+    octet
+}
