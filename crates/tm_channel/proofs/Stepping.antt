@@ -1,9 +1,9 @@
 -- A search and a batch, one step on.
-use Rattle.std.proofs.Common.{◌≡◌, ℕ, ◌+◌, ◌-◌, ◌*◌, ◌/◌, ◌<◌, ◌≤◌, ◌==◌, ◌⊎◌, inl, inr, zero, suc, min, max, get_or, IsSome, Bool, List, [], ◌∷◌, ◌++◌, length, take, drop, map, sym, ap, ◌∙◌, subst, arith, Option, Some, unwrap_or, length-append, length-drop, take-append-drop}
+use Rattle.std.proofs.Common.{◌≡◌, ℕ, ◌+◌, ◌-◌, ◌*◌, ◌/◌, ◌^◌, ◌<◌, ◌≤◌, ◌==◌, ◌⊎◌, inl, inr, zero, suc, min, max, get_or, IsSome, Bool, List, [], ◌∷◌, ◌++◌, length, take, drop, map, sym, ap, ◌∙◌, subst, arith, Option, Some, unwrap_or, length-append, length-drop, take-append-drop}
 use Rattle.std.proofs.lemmas.List.{append-nil, length-take-le, map-append}
 use Rattle.std.proofs.Math.Seq.{take-add}
-use Rattle.tm_base.specs.Bits.{bits_of, bits_of_octet}
-use Rattle.tm_base.proofs.Packing.{length-bits_of, bits_of-append}
+use Rattle.tm_base.specs.Bits.{bits_of, bits_of_octet, low_bits}
+use Rattle.tm_base.proofs.Packing.{length-low_bits, length-bits_of, bits_of-append}
 use Rattle.tm_config.specs.Configuration.{Configuration}
 use Rattle.tm_sync.specs.declared.found.Found.{Found}
 use Rattle.tm_sync.specs.Places.{places}
@@ -12,7 +12,8 @@ use Rattle.tm_channel.specs.ReceivedCodeblock.{rules_of}
 use Rattle.tm_channel.specs.Items.{ItemValue}
 use Rattle.tm_channel.specs.Due.{due}
 use Rattle.tm_channel.specs.Receiving.{Agree, AreFirstFurther, AreFurther, AreItemsFor, Batching, Holding, HoldingMore, IsKept, Stands, StandsMore, beyond, kept_of}
-use Rattle.tm_channel.proofs.Streaming.{before-more, first-of, items-broke, items-kept, more-inside, more-outside, none-further, stands-kept, whole-further}
+use Rattle.tm_channel.proofs.Gathered.{low_bits-split}
+use Rattle.tm_channel.proofs.Streaming.{before-more, first-of, items-broke, items-kept, more-begun, more-inside, more-outside, none-further, stands-kept, whole-further}
 
 -- bits of the codeblock under way
 pub stands-inside : (s s' : Searching) (b b' : Batching) (bits more : List Bool) → b'.config ≡ b.config → b'.part ≡ b.part ++ more → b'.kept ≡ b.kept
@@ -20,6 +21,30 @@ pub stands-inside : (s s' : Searching) (b b' : Batching) (bits more : List Bool)
 stands-inside s s' b b' bits more config grows same told h =
     subst (λ (k : Configuration). HoldingMore k (StandsFor s') b'.part b'.kept bits more) (sym config)
     (more-inside b.config (StandsFor s) (StandsFor s') b.part b'.part b.kept b'.kept bits more h grows same (told (places (rules_of b.config) bits) h.search))
+
+-- bits where none is under way, of which the last ones begin one
+pub stands-begun : (s s' : Searching) (b b' : Batching) (bits before more : List Bool) → b'.config ≡ b.config → more ≡ before ++ b'.part → b'.kept ≡ b.kept
+    → ((found : List Found) → StandsFor s bits found → StandsFor s' (bits ++ more) found) → Stands s b bits → StandsMore s' b' bits more
+stands-begun s s' b b' bits before more config ends same told h =
+    subst (λ (k : Configuration). HoldingMore k (StandsFor s') b'.part b'.kept bits more) (sym config)
+    (more-begun b.config (StandsFor s) (StandsFor s') b.part b'.part b.kept b'.kept bits before more h ends same (told (places (rules_of b.config) bits) h.search))
+
+pub agree-begun : (s s' : Searching) (b b' : Batching) (octet : ℕ) → Agree s b → s'.rules ≡ s.rules → unwrap_or (inside_of s') 0 ≤ s'.rules.block_bits → b'.config ≡ b.config
+    → b'.part ≡ low_bits (unwrap_or (inside_of s') 0) octet → b'.kept ≡ b.kept → Agree s' b'
+agree-begun s s' b b' octet agree rules within config begins same =
+    let kept : length b'.kept ≡ length b.kept = ap length same in
+    let few = agree.few in
+    record {
+      same = rules ∙ agree.same ∙ ap rules_of (sym config);
+      within = within;
+      long = ap length begins ∙ length-low_bits (unwrap_or (inside_of s') 0) octet;
+      few = omega (arith, kept, few);
+    }
+
+-- an octet ends with its lowest bits
+pub octet-ends : (count octet : ℕ) → count < 8 → bits_of_octet octet ≡ low_bits (8 - count) (octet / 2 ^ count) ++ low_bits count octet
+octet-ends count octet few =
+    let eight : 8 ≡ (8 - count) + count = omega arith in ap (λ n. low_bits n octet) eight ∙ low_bits-split (8 - count) count octet
 
 -- bits where none is under way
 pub stands-outside : (s s' : Searching) (b b' : Batching) (bits more : List Bool) → b'.config ≡ b.config → length b'.part ≡ 0 → b'.kept ≡ b.kept

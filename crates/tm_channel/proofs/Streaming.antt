@@ -389,6 +389,16 @@ more-inside c stands stands' part part' kept kept' bits more h grows same told =
   parts = ap (λ l. l ++ more) h.parts ∙ append_assoc h.front part more ∙ ap (λ l. h.front ++ l) (sym grows);
 }
 
+-- where none is under way, and the last bits begin one
+pub more-begun : (c : Configuration) (stands stands' : List Bool → List Found → Type 0) (part part' : List Bool) (kept kept' : List Kept) (bits before more : List Bool) → Holding c stands part kept bits
+    → more ≡ before ++ part' → kept' ≡ kept → stands' (bits ++ more) (places (rules_of c) bits) → HoldingMore c stands' part' kept' bits more
+more-begun c stands stands' part part' kept kept' bits before more h ends same told = record {
+  search = told;
+  waiting = same ∙ h.waiting;
+  front = bits ++ before;
+  parts = ap (λ l. bits ++ l) ends ∙ sym (append_assoc bits before part');
+}
+
 -- where none is under way
 pub more-outside : (c : Configuration) (stands stands' : List Bool → List Found → Type 0) (part part' : List Bool) (kept kept' : List Kept) (bits more : List Bool) → Holding c stands part kept bits
     → length part' ≡ 0 → kept' ≡ kept → stands' (bits ++ more) (places (rules_of c) bits) → HoldingMore c stands' part' kept' bits more

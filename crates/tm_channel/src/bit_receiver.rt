@@ -1,6 +1,6 @@
 // Bits in, items out.
-ghost use Rattle.std.specs.Prelude.{◌≡◌, ◌<◌, ◌≤◌, ◌⊎◌, ◌+◌, ◌-◌, ◌*◌, ◌/◌, ◌%◌, ◌^◌, ◌==◌, ℕ, Bool, true, false, List, [], ◌∷◌, ◌++◌, length, take, map, OnOk, OnErr, IsSome, None, unwrap_or};
-ghost use Rattle.tm_base.specs.Bits.{bits_of};
+ghost use Rattle.std.specs.Prelude.{◌≡◌, ◌<◌, ◌≤◌, ◌⊎◌, ◌+◌, ◌-◌, ◌*◌, ◌/◌, ◌%◌, ◌^◌, ◌==◌, ℕ, Bool, true, false, List, [], ◌∷◌, ◌++◌, length, take, map, OnOk, OnErr, IsSome, IsTrue, None, unwrap_or};
+ghost use Rattle.tm_base.specs.Bits.{bits_of, bits_of_octet};
 ghost use Rattle.tm_base.specs.Outside.{HasCause};
 ghost use Rattle.tm_base.specs.Takers.{HandedOver, HandedPart};
 ghost use Rattle.tm_sync.specs.Searching.{StandsFor, inside_of};
@@ -165,6 +165,21 @@ impl BitReceiver {
     {
         self.batch.push_octets(octets);
         self.search.push_octets(octets);
+    }
+
+    // Gives an octet to the search where no codeblock is under way, and its bits behind a marker to the codeblock that they begin.
+    fn push_octet(&mut self, octet: u8)
+        requires ready { IsReady self.old.search self.old.batch }
+        requires outside { inside_of self.old.search ≡ None }
+        requires fits { 8 ≤ self.old.search.rules.block_bits }
+        ensures agree { Agree self.new.search self.new.batch }
+        ensures config { self.new.batch.config ≡ self.old.batch.config }
+        ensures stands { (bits : List Bool) → length (bits ++ bits_of_octet octet) < 2 ^ 63 → Stands self.old.search self.old.batch bits
+            → StandsMore self.new.search self.new.batch bits (bits_of_octet octet) }
+    {
+        self.search.push_octet(octet);
+        let begun = self.search.inside().unwrap_or(0) as u32;
+        self.batch.begin(octet, begun);
     }
 
     // Keeps the codeblock that is whole with the last bits, if one is, and hands over the items of a batch that it completes.
@@ -354,10 +369,47 @@ impl BitReceiver {
         ensures cause { HasCause (T.faults taker.old) (T.faults taker.new) (T.is_last taker.new) result }
     {
         if self.whole_octets() < octets.len() {
-            return self.take_bits(rt, &bits_of_octet(octets[0]), taker, gate);
+            return self.take_octet(rt, octets[0], taker, gate);
         }
         self.push_octets(octets);
         self.keep_whole(rt, taker, gate)
+    }
+
+    // Takes an octet: as a whole where no codeblock is under way, and else bit by bit.
+    fn take_octet<R: Threads + Sync, T: ItemTaker, G: Gate + Sync>(
+        &mut self,
+        rt: &R,
+        octet: u8,
+        taker: &mut T,
+        gate: &G,
+    ) -> Result<(), Failed>
+        requires ready { IsReady self.old.search self.old.batch }
+        ensures ready { IsReady self.new.search self.new.batch }
+        ensures config { self.new.batch.config ≡ self.old.batch.config }
+        ensures stands { OnOk result (GoesOn (Stands self.old.search self.old.batch) (Stands self.new.search self.new.batch) (bits_of_octet octet)) }
+        ensures all { OnOk result ((items : List ItemValue) × HandedOver T.took taker.old items taker.new
+            × AreDue self.old.batch.config (Stands self.old.search self.old.batch) (bits_of_octet octet) items) }
+        ensures broke { OnErr result ((items : List ItemValue) × HandedPart T.took T.broke taker.old items taker.new
+            × AreFirstDue self.old.batch.config (Stands self.old.search self.old.batch) (bits_of_octet octet) items) }
+        ensures cause { HasCause (T.faults taker.old) (T.faults taker.new) (T.is_last taker.new) result }
+    {
+        if self.is_outside() {
+            self.push_octet(octet);
+            return self.keep_whole(rt, taker, gate);
+        }
+        self.take_bits(rt, &bits_of_octet(octet), taker, gate)
+    }
+
+    // Whether no codeblock is under way, and one has eight bits or more.
+    fn is_outside(&self) -> bool
+        requires ready { IsReady self.now.search self.now.batch }
+        ensures outside { IsTrue result → inside_of self.now.search ≡ None }
+        ensures fits { IsTrue result → 8 ≤ self.now.search.rules.block_bits }
+    {
+        match self.search.inside() {
+            Some(_) => false,
+            None => self.batch.lacking() >= 8,
+        }
     }
 
     // How many whole octets the codeblock under way lacks; none where none is under way.

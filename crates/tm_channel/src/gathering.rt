@@ -38,6 +38,16 @@ impl Gathering {
         }
     }
 
+    /// The lowest `count` bits of an octet alone.
+    pub fn begin(&mut self, octet: u8, count: u32)
+        requires { count < 8 }
+        ensures { self.new ≡ low_bits count octet }
+    {
+        self.whole = 0;
+        self.partial = octet;
+        self.extra = count;
+    }
+
     /// Adds a bit.
     pub fn push_bit(&mut self, bit: bool)
         requires { length self.old < 16320 }

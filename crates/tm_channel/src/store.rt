@@ -1,6 +1,6 @@
 // The codeblock under way, and those of a batch that are whole.
 ghost use Rattle.std.specs.Prelude.{◌≡◌, ◌<◌, ◌≤◌, ◌+◌, ◌*◌, [], ◌∷◌, ◌++◌, IfOk, length};
-ghost use Rattle.tm_base.specs.Bits.{bits_of};
+ghost use Rattle.tm_base.specs.Bits.{bits_of, low_bits};
 ghost use Rattle.tm_config.specs.Configuration.{codeblock_length};
 ghost use Rattle.tm_channel.specs.Receiving.{AreItemsFor, IsItemAt, kept_of};
 
@@ -70,6 +70,16 @@ impl Codeblocks {
             count: 0,
             words: vec![in alloc; word; BATCH * column_count(&config)]?,
         })
+    }
+
+    /// Begins the codeblock under way with the lowest `count` bits of an octet.
+    pub fn begin(&mut self, octet: u8, count: u32)
+        requires { count < 8 }
+        ensures config { self.new.config ≡ self.old.config }
+        ensures part { self.new.part ≡ low_bits count octet }
+        ensures kept { self.new.kept ≡ self.old.kept }
+    {
+        self.gathering.begin(octet, count);
     }
 
     /// Adds a bit to the codeblock under way.
