@@ -5,7 +5,7 @@ use Rattle.clap.specs.Words.{App, Shape, Rule, Text, new_rule}
 use Rattle.clap.specs.Simple.{new_shape}
 use Rattle.clap.specs.Faults.{fault_of}
 use Rattle.tm_words.specs.declared.job.JobKind.{JobKind}
-use Rattle.tm_words.specs.declared.job.JobKind.TheVariants.{Encode}
+use Rattle.tm_words.specs.declared.job.JobKind.TheVariants.{Encode, Decode, Report, Trace}
 use Rattle.clap.specs.declared.builder.action.ArgAction.TheVariants.{Set}
 
 -- the options of every command
@@ -46,7 +46,7 @@ plain_command name = with_options options (new_shape name)
 
 -- the names of such commands, and what each asks for
 abbrev pub plain_commands : List (Text × JobKind)
-plain_commands = (codes "encode", Encode) ∷ []
+plain_commands = (codes "encode", Encode) ∷ (codes "decode", Decode) ∷ (codes "report", Report) ∷ (codes "trace", Trace) ∷ []
 
 -- the program with its commands: one of them is required, and there is no help or version
 abbrev pub with_commands : List Shape → App

@@ -32,7 +32,12 @@ static OPTIONS: [&str; 19] = [
 ];
 
 // The commands that have the options of every command and no more.
-static PLAIN_COMMANDS: [(&str, JobKind); 1] = [("encode", JobKind::Encode)];
+static PLAIN_COMMANDS: [(&str, JobKind); 4] = [
+    ("encode", JobKind::Encode),
+    ("decode", JobKind::Decode),
+    ("report", JobKind::Report),
+    ("trace", JobKind::Trace),
+];
 
 // An option of one value.
 fn option<'a>(alloc: Global, name: &'a str) -> Arg<'a>

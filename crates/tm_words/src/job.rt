@@ -8,7 +8,14 @@ use tm_config::Raw;
 /// A command.
 #[derive(Clone, Copy, Debug, PartialEq, Eq)]
 pub enum JobKind {
+    /// Frames are sent as symbols.
     Encode,
+    /// Frames are received, and reported.
+    Decode,
+    /// What is received is reported, without frames.
+    Report,
+    /// The windows of the soft decoder are reported.
+    Trace,
 }
 
 /// The bytes of a word that is to be hexadecimal. They are not tested yet.

@@ -221,13 +221,22 @@ fn reads_each_form_of_a_value(rt: HostRuntime) -> Result<(), Fail> {
 
 #[test]
 fn gives_a_whole_job(rt: HostRuntime) -> Result<(), Fail> {
-    match read(rt.alloc(), "any encode")? {
-        Ok(job) => {
-            assert_eq!(rt; job.kind, JobKind::Encode);
-            assert!(rt; job.hex.as_bytes().is_empty());
-            assert_eq!(rt; [job.seed, job.frames, job.hits], [1, 100, 0]);
+    let rows = [
+        ("any encode --skip 3", JobKind::Encode),
+        ("any decode --skip 3", JobKind::Decode),
+        ("any report --skip 3", JobKind::Report),
+        ("any trace --skip 3", JobKind::Trace),
+    ];
+    for (line, kind) in rows {
+        match read(rt.alloc(), line)? {
+            Ok(job) => {
+                assert_eq!(rt; job.kind, kind, "at {line}");
+                assert_eq!(rt; job.raw.skip, 3, "at {line}");
+                assert!(rt; job.hex.as_bytes().is_empty());
+                assert_eq!(rt; [job.seed, job.frames, job.hits], [1, 100, 0]);
+            }
+            Err(error) => assert!(rt; false, "{error} at {line}"),
         }
-        Err(error) => assert!(rt; false, "{error}"),
     }
     Ok(())
 }
@@ -238,6 +247,12 @@ fn refuses_words(rt: HostRuntime) -> Result<(), Fail> {
         "tmchan",
         "tmchan ",
         "tmchan Encode",
+        "tmchan Decode",
+        "tmchan decode report",
+        "tmchan decode --help",
+        "tmchan report frames",
+        "tmchan trace -- trace",
+        "tmchan reports",
         "tmchan enc",
         "tmchan help",
         "tmchan -h",
