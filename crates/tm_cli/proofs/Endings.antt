@@ -12,10 +12,10 @@ use Rattle.tm_channel.specs.Sent.{sent}
 use Rattle.tm_channel.proofs.Sending.{sent-goes_on}
 use Rattle.tm_words.specs.declared.job.JobKind.TheVariants.{Encode}
 use Rattle.tm_cli.specs.Lines.{left_over_text}
-use Rattle.tm_cli.specs.Output.{output_of, left_over, WroteFronts}
+use Rattle.tm_cli.specs.Output.{Output, IsOutput, left_over, WroteFronts, IsInOrder}
 use Rattle.tm_cli.specs.Ending.{Ends}
 use Rattle.tm_cli.specs.declared.ending.Ending.{Ending}
-use Rattle.tm_cli.specs.declared.ending.Ending.TheVariants.{Done, LeftOver, SourceFault, SinkFault, PastLimit}
+use Rattle.tm_cli.specs.declared.ending.Ending.TheVariants.{Done, Bad, LeftOver, SourceFault, SinkFault, PastLimit}
 
 -- nothing was written
 pub wrote-nothing : (known : Option (List ℕ)) → Wrote known known []
@@ -28,6 +28,10 @@ wrote-front before now text wrote = (length text, wrote ∙ ap (append_known bef
 pub wrote-no_front : (known : Option (List ℕ)) (text : List ℕ) → WroteFront known known text
 wrote-no_front known text = (0, wrote-nothing known)
 
+-- what is sent of octets, and what is told of those that are left over
+abbrev pub whole-output : Configuration → List ℕ → Output
+whole-output c octets = record { out = sent c octets; notes = left_over_text (left_over c octets) }
+
 -- where the input was read to its end
 pub ended-by : (e : Ending) (c : Configuration) (octets : List ℕ) (rest : ℕ) (taken taken_now noted noted_now : Option (List ℕ)) (Rose : Type 0)
     → Wrote taken taken_now (sent c octets) → length octets ≤ c.limit → rest ≡ left_over c octets
@@ -35,16 +39,23 @@ pub ended-by : (e : Ending) (c : Configuration) (octets : List ℕ) (rest : ℕ)
     → (e ≡ SinkFault → WroteFront noted noted_now (left_over_text rest) × Rose) → (e ≡ Done) ⊎ (e ≡ LeftOver) ⊎ (e ≡ SinkFault)
     → Ends e Encode c octets taken taken_now noted noted_now
 ended-by Done c octets rest taken taken_now noted noted_now Rose all within is done left fault answers =
-    (record { out = all; notes = subst (λ (n : ℕ). Wrote noted noted_now (left_over_text n)) is (done refl).1 }, within, λ partial. partial (sym is ∙ (done refl).0))
+    ((whole-output c octets, refl, record { out = all; notes = subst (λ (n : ℕ). Wrote noted noted_now (left_over_text n)) is (done refl).1 }), within, λ partial. partial (sym is ∙ (done refl).0), λ bad. bad)
 ended-by LeftOver c octets rest taken taken_now noted noted_now Rose all within is done left fault answers =
-    (record { out = all; notes = subst (λ (n : ℕ). Wrote noted noted_now (left_over_text n)) is (left refl).1 }, within, λ none. (left refl).0 (is ∙ none))
-ended-by SinkFault c octets rest taken taken_now noted noted_now Rose all within is done left fault answers = (
-  subst (λ (os : List ℕ). WroteFronts (output_of Encode c os) taken taken_now noted noted_now) (sym (take_all c.limit octets within)) (record {
-    out = wrote-front taken taken_now (sent c octets) all;
-    notes = subst (λ (n : ℕ). WroteFront noted noted_now (left_over_text n)) is (fault refl).0;
-  }),
-  inr (subst (λ (os : List ℕ). Wrote taken taken_now (sent c os)) (sym (take_all c.limit octets within)) all),
-)
+    ((whole-output c octets, refl, record { out = all; notes = subst (λ (n : ℕ). Wrote noted noted_now (left_over_text n)) is (left refl).1 }), within, λ none. (left refl).0 (is ∙ none))
+ended-by SinkFault c octets rest taken taken_now noted noted_now Rose all within is done left fault answers =
+    λ output outputs.
+    let up_to : output ≡ whole-output c octets = outputs ∙ ap (whole-output c) (take_all c.limit octets within) in
+    subst (λ (o : Output). WroteFronts o taken taken_now noted noted_now × IsInOrder Encode c (take c.limit octets) o taken taken_now noted noted_now) (sym up_to) (
+      record {
+        out = wrote-front taken taken_now (sent c octets) all;
+        notes = subst (λ (n : ℕ). WroteFront noted noted_now (left_over_text n)) is (fault refl).0;
+      },
+      inr all,
+    )
+ended-by Bad c octets rest taken taken_now noted noted_now Rose all within is done left fault answers = elim answers [
+  | inl a ↦ cc a
+  | inr b ↦ elim b [ inl x ↦ cc x | inr y ↦ cc y ]
+]
 ended-by SourceFault c octets rest taken taken_now noted noted_now Rose all within is done left fault answers = elim answers [
   | inl a ↦ cc a
   | inr b ↦ elim b [ inl x ↦ cc x | inr y ↦ cc y ]
@@ -54,10 +65,14 @@ ended-by PastLimit c octets rest taken taken_now noted noted_now Rose all within
   | inr b ↦ elim b [ inl x ↦ cc x | inr y ↦ cc y ]
 ]
 
+-- what is sent of octets before the end of the input is known
+abbrev pub due-output : Configuration → List ℕ → Output
+due-output c octets = record { out = sent c octets; notes = [] }
+
 -- what was sent for the octets so far is a front of what is sent for more
 pub early : (c : Configuration) → IsAccepted c → (octets more : List ℕ) (taken taken_now noted : Option (List ℕ))
-    → Wrote taken taken_now (sent c octets) → WroteFronts (output_of Encode c (octets ++ more)) taken taken_now noted noted
-early c accepted octets more taken taken_now noted all = record {
+    → Wrote taken taken_now (sent c octets) → (output : Output) → IsOutput Encode c (octets ++ more) output → WroteFronts output taken taken_now noted noted
+early c accepted octets more taken taken_now noted all output is = subst (λ (o : Output). WroteFronts o taken taken_now noted noted) (sym is) (record {
   out = (
     length (sent c octets),
     all ∙ ap (append_known taken) (sym (
@@ -65,4 +80,13 @@ early c accepted octets more taken taken_now noted all = record {
         ∙ take_at (sent c octets) (further (sent c) octets more) (length (sent c octets)) refl)),
   );
   notes = wrote-no_front noted (left_over_text (left_over c (octets ++ more)));
-}
+})
+
+-- where the output failed, nothing was told on the notes
+pub cut : (c : Configuration) (octets : List ℕ) (taken taken_now noted : Option (List ℕ)) → WroteFront taken taken_now (sent c (take c.limit octets))
+    → Ends SinkFault Encode c octets taken taken_now noted noted
+cut c octets taken taken_now noted front = λ output is.
+    subst (λ (o : Output). WroteFronts o taken taken_now noted noted × IsInOrder Encode c (take c.limit octets) o taken taken_now noted noted) (sym is) (
+      record { out = front; notes = wrote-no_front noted (left_over_text (left_over c (take c.limit octets))) },
+      inl (wrote-nothing noted),
+    )

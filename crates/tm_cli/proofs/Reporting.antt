@@ -43,7 +43,7 @@ pub broke-after : (a b c : Standing) (last : Type 0) (x text : List ℕ) → Too
 broke-after a b c last x text p q = subst (λ l. BrokeText a c last l text) (append-nil x) (broke-behind a b c last x [] text p q)
 
 -- a front of a text is a front of the text and more
-part-of : (n : ℕ) (text more : List ℕ) → (m : ℕ) × (take n text ≡ take m (text ++ more))
+pub part-of : (n : ℕ) (text more : List ℕ) → (m : ℕ) × (take n text ≡ take m (text ++ more))
 part-of zero text more = (0, refl)
 part-of (suc n) [] more = (0, refl)
 part-of (suc n) (t ∷ ts) more = let r = part-of n ts more in (suc r.0, ap (λ l. t ∷ l) r.1)
@@ -96,7 +96,7 @@ pub part-keeps : {T I K : Type 0} (P B : T → I → T → Type 0) (key : T → 
 part-keeps P B key each last items a b part = last part.middle part.next b part.failed ∙ handed-keeps P key each part.front a part.middle part.handed
 
 -- ---- the text of lists
-frames-append : (xs ys : List ItemValue) → frames_of (xs ++ ys) ≡ frames_of xs ++ frames_of ys
+pub frames-append : (xs ys : List ItemValue) → frames_of (xs ++ ys) ≡ frames_of xs ++ frames_of ys
 frames-append [] ys = refl
 frames-append (x ∷ xs) ys = ap (λ l. x.frame ++ l) (frames-append xs ys) ∙ sym (append_assoc x.frame (frames_of xs) (frames_of ys))
 
@@ -115,10 +115,10 @@ blocks_text-append n (x ∷ xs) ys =
     ap (λ l. block_text n x ++ l) (blocks_text-append (n + 1) xs ys) ∙ sym (append_assoc (block_text n x) (blocks_text (n + 1) xs) (blocks_text (n + 1 + length xs) ys))
     ∙ ap (λ m. blocks_text n (x ∷ xs) ++ blocks_text m ys) (omega arith)
 
-items_text-split : (xs ys : List ItemValue) → items_text 0 (xs ++ ys) ≡ items_text 0 xs ++ items_text (length xs) ys
+pub items_text-split : (xs ys : List ItemValue) → items_text 0 (xs ++ ys) ≡ items_text 0 xs ++ items_text (length xs) ys
 items_text-split xs ys = let n : 0 + length xs ≡ length xs = omega arith in items_text-append 0 xs ys ∙ ap (λ m. items_text 0 xs ++ items_text m ys) n
 
-blocks_text-split : (xs ys : List WindowBlock) → blocks_text 0 (xs ++ ys) ≡ blocks_text 0 xs ++ blocks_text (length xs) ys
+pub blocks_text-split : (xs ys : List WindowBlock) → blocks_text 0 (xs ++ ys) ≡ blocks_text 0 xs ++ blocks_text (length xs) ys
 blocks_text-split xs ys = let n : 0 + length xs ≡ length xs = omega arith in blocks_text-append 0 xs ys ∙ ap (λ m. blocks_text 0 xs ++ blocks_text m ys) n
 
 -- ---- counts

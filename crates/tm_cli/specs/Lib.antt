@@ -5,5 +5,8 @@ pub mod Taken
 pub mod Refusal
 pub mod Output
 pub mod Encoding
+pub mod Receiving
+pub mod Tracing
 pub mod Ending
+pub mod Link
 pub mod Run

@@ -1,11 +1,16 @@
 -- What a command writes.
-use Rattle.std.specs.Prelude.{◌≡◌, ◌⊎◌, ℕ, ◌%◌, List, [], length, Option}
+use Rattle.std.specs.Prelude.{◌≡◌, ◌⊎◌, ℕ, ◌%◌, Bool, List, [], ◌++◌, length, take, Option}
 use Rattle.tm_base.specs.Written.{Wrote, WroteFront}
 use Rattle.tm_config.specs.Configuration.{Configuration}
+use Rattle.tm_viterbi.specs.WindowBlock.{WindowBlock}
+use Rattle.tm_inner.specs.Inner.{Inner, AreInnerBlocks, AreInnerDue, inner_bits}
 use Rattle.tm_channel.specs.Sent.{sent}
+use Rattle.tm_channel.specs.Items.{ItemValue, AreItems, frames_of}
+use Rattle.tm_channel.specs.Receive.{Receive, ReceiveDue}
 use Rattle.tm_words.specs.declared.job.JobKind.{JobKind}
-use Rattle.tm_words.specs.declared.job.JobKind.TheVariants.{Encode}
+use Rattle.tm_words.specs.declared.job.JobKind.TheVariants.{Encode, Decode, Report, Trace}
 use Rattle.tm_cli.specs.Lines.{left_over_text}
+use Rattle.tm_cli.specs.Report.{bad, items_text, report_text, blocks_text, trace_text}
 
 -- the octets for the output and the octets for the notes
 pub record Output : Type 0 where
@@ -16,17 +21,68 @@ pub record Output : Type 0 where
 abbrev pub left_over : Configuration → List ℕ → ℕ
 left_over c octets = length octets % c.frame_length
 
+-- the frames of what was received with these octets, and the report of it
+pub record IsDecoded (c : Configuration) (octets : List ℕ) (frames report : List ℕ) : Type 0 where
+  pub items : List ItemValue
+  pub bits : List Bool
+  pub inner : Inner c 0 octets bits
+  pub are_items : AreItems c bits items
+  pub are_frames : frames ≡ frames_of items
+  pub is_report : report ≡ report_text items (length bits)
+
+-- the frames and the lines of the items that are due for the octets, whatever octets come
+pub record IsDecodedDue (c : Configuration) (octets : List ℕ) (frames lines : List ℕ) : Type 0 where
+  pub items : List ItemValue
+  pub are_due : ReceiveDue c 0 octets items
+  pub are_frames : frames ≡ frames_of items
+  pub are_lines : lines ≡ items_text 0 items
+
+-- the trace of all windows of the octets
+pub record IsTrace (c : Configuration) (octets : List ℕ) (output : Output) : Type 0 where
+  pub blocks : List WindowBlock
+  pub left : ℕ
+  pub are_blocks : AreInnerBlocks c 0 octets blocks left
+  pub out : output.out ≡ trace_text blocks (length (inner_bits c octets blocks)) left
+  pub notes : output.notes ≡ []
+
+-- the lines of the windows that are due for the octets, whatever octets come: of all windows but the last
+pub record IsTraceDue (c : Configuration) (octets : List ℕ) (output : Output) : Type 0 where
+  pub blocks : List WindowBlock
+  pub are_due : AreInnerDue c 0 octets blocks
+  pub out : output.out ≡ blocks_text 0 blocks
+  pub notes : output.notes ≡ []
+
 -- all that a command writes for the octets of its whole input
-abbrev pub output_of : JobKind → Configuration → List ℕ → Output
-output_of Encode c octets = record { out = sent c octets; notes = left_over_text (left_over c octets) }
+abbrev pub IsOutput : JobKind → Configuration → List ℕ → Output → Type 0
+IsOutput Encode c octets output = output ≡ record { out = sent c octets; notes = left_over_text (left_over c octets) }
+IsOutput Decode c octets output = IsDecoded c octets output.out output.notes
+IsOutput Report c octets output = (frames : List ℕ) × IsDecoded c octets frames output.out × (output.notes ≡ [])
+IsOutput Trace c octets output = IsTrace c octets output
 
 -- what a command has to write for the octets so far, before the end of its input is known
-abbrev pub due_of : JobKind → Configuration → List ℕ → Output
-due_of Encode c octets = record { out = sent c octets; notes = [] }
+abbrev pub IsDue : JobKind → Configuration → List ℕ → Output → Type 0
+IsDue Encode c octets output = output ≡ record { out = sent c octets; notes = [] }
+IsDue Decode c octets output = IsDecodedDue c octets output.out output.notes
+IsDue Report c octets output = (frames : List ℕ) × IsDecodedDue c octets frames output.out × (output.notes ≡ [])
+IsDue Trace c octets output = IsTraceDue c octets output
 
--- the octets of a whole input do not end with a whole frame
+-- the octets of a whole input do not end with a whole frame, where frames are read
 abbrev pub IsPartial : JobKind → Configuration → List ℕ → Type 0
 IsPartial Encode c octets = left_over c octets ≡ 0 → ⊥
+IsPartial Decode c octets = ⊥
+IsPartial Report c octets = ⊥
+IsPartial Trace c octets = ⊥
+
+-- a codeblock that was received with these octets has a column beyond repair
+abbrev pub HasBad : Configuration → List ℕ → Type 0
+HasBad c octets = (items : List ItemValue) × Receive c 0 octets items × (bad items ≡ 0 → ⊥)
+
+-- the same of the commands that repair codeblocks
+abbrev pub IsBad : JobKind → Configuration → List ℕ → Type 0
+IsBad Encode c octets = ⊥
+IsBad Decode c octets = HasBad c octets
+IsBad Report c octets = HasBad c octets
+IsBad Trace c octets = ⊥
 
 -- each sink took the whole of its part
 pub record WroteBoth (output : Output) (taken taken_now noted noted_now : Option (List ℕ)) : Type 0 where
@@ -38,6 +94,28 @@ pub record WroteFronts (output : Output) (taken taken_now noted noted_now : Opti
   pub out : WroteFront taken taken_now output.out
   pub notes : WroteFront noted noted_now output.notes
 
--- what `encode` writes on the notes comes last, once the output has taken the whole of its part
-abbrev pub IsInOrder : JobKind → Output → (taken taken_now noted noted_now : Option (List ℕ)) → Type 0
-IsInOrder Encode output taken taken_now noted noted_now = Wrote noted noted_now [] ⊎ Wrote taken taken_now output.out
+-- the whole output of these octets was written
+abbrev pub WroteOutput : JobKind → Configuration → List ℕ → (taken taken_now noted noted_now : Option (List ℕ)) → Type 0
+WroteOutput kind c octets taken taken_now noted noted_now = (output : Output) × IsOutput kind c octets output × WroteBoth output taken taken_now noted noted_now
+
+-- what is due for these octets was written
+abbrev pub WroteDue : JobKind → Configuration → List ℕ → (taken taken_now noted noted_now : Option (List ℕ)) → Type 0
+WroteDue kind c octets taken taken_now noted noted_now = (output : Output) × IsDue kind c octets output × WroteBoth output taken taken_now noted noted_now
+
+-- The output took the frames of the first of these items, and maybe a part of what stands behind them. The notes hold no more than the
+-- lines of these first items, or they are all of them.
+pub record AreInTurn (items : List ItemValue) (taken taken_now noted noted_now : Option (List ℕ)) : Type 0 where
+  pub front : List ItemValue
+  pub rest : List ItemValue
+  pub split : items ≡ front ++ rest
+  pub frames : (count : ℕ) × Wrote taken taken_now (frames_of front ++ take count (frames_of rest))
+  pub lines : WroteFront noted noted_now (items_text 0 front) ⊎ (rest ≡ [])
+
+-- What `encode` writes on the notes comes last, once the output has taken the whole of its part. The line of an item comes behind its
+-- frame. The other commands write no notes.
+abbrev pub IsInOrder : JobKind → Configuration → List ℕ → Output → (taken taken_now noted noted_now : Option (List ℕ)) → Type 0
+IsInOrder Encode c octets output taken taken_now noted noted_now = Wrote noted noted_now [] ⊎ Wrote taken taken_now output.out
+IsInOrder Decode c octets output taken taken_now noted noted_now =
+    (items : List ItemValue) → Receive c 0 octets items → AreInTurn items taken taken_now noted noted_now
+IsInOrder Report c octets output taken taken_now noted noted_now = Wrote noted noted_now []
+IsInOrder Trace c octets output taken taken_now noted noted_now = Wrote noted noted_now []

@@ -3,7 +3,9 @@ use Rattle.std.specs.Prelude.{◌≡◌, ◌⊎◌, ℕ, ◌+◌, ◌≤◌, Lis
 use Rattle.tm_base.specs.Written.{Wrote, WroteFront}
 use Rattle.tm_config.specs.Configuration.{Configuration}
 use Rattle.tm_words.specs.declared.job.JobKind.{JobKind}
+use Rattle.tm_words.specs.declared.job.JobKind.TheVariants.{Decode}
 use Rattle.tm_cli.specs.Ending.{Ends, status_of}
+use Rattle.tm_cli.specs.Link.{KeepsCleanLink, KeepsDisturbedLink}
 use Rattle.tm_cli.specs.Refusal.{reason_of}
 use Rattle.tm_cli.specs.Lines.{refusal_text}
 use Rattle.tm_cli.specs.declared.ending.Ending.{Ending}
@@ -15,6 +17,9 @@ pub record Answers (status : ℕ) (kind : JobKind) (c : Configuration) (octets :
   pub ending : Ending
   pub is : status ≡ status_of ending
   pub ends : Ends ending kind c octets taken taken_now noted noted_now
+  -- where `decode` read its whole input, sent frames come back
+  pub clean : kind ≡ Decode → (status ≡ 0) ⊎ (status ≡ 1) → KeepsCleanLink status c octets taken taken_now noted noted_now
+  pub disturbed : kind ≡ Decode → (status ≡ 0) ⊎ (status ≡ 1) → KeepsDisturbedLink status c octets taken taken_now noted noted_now
 
 -- the line of a refusal was written, or a front of it by notes that failed
 abbrev pub WroteRefusal : Refusal → Option (List ℕ) → Option (List ℕ) → Type 0 → Type 0

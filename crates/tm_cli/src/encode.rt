@@ -112,8 +112,8 @@ pub fn encode<S: Source, O: Sink, N: Sink>(
     ensures ends { (octets : List ℕ) × Gave (S.given source.old) (S.given source.new) (S.left source.old) (S.left source.new) octets
         × (length octets ≤ config.now.limit + 1)
         × Ends result Encode config.now octets (O.taken out.old) (O.taken out.new) (N.taken notes.old) (N.taken notes.new) }
-    ensures ended { (result ≡ Ending.Done) ⊎ (result ≡ Ending.LeftOver) → S.ended source.new ≡ true }
-    ensures at_end { (result ≡ Ending.Done) ⊎ (result ≡ Ending.LeftOver) → IsAtEnd (S.left source.new) }
+    ensures ended { (result ≡ Ending.Done) ⊎ (result ≡ Ending.Bad) ⊎ (result ≡ Ending.LeftOver) → S.ended source.new ≡ true }
+    ensures at_end { (result ≡ Ending.Done) ⊎ (result ≡ Ending.Bad) ⊎ (result ≡ Ending.LeftOver) → IsAtEnd (S.left source.new) }
     ensures unended { (result ≡ Ending.SourceFault) ⊎ (result ≡ Ending.PastLimit) → (S.ended source.new ≡ S.ended source.old) × (notes.new ≡ notes.old) }
     ensures source_fault { result ≡ Ending.SourceFault → Rose (S.faults source.old) (S.faults source.new) (S.is_last source.new) }
     ensures source_later { S.faults source.old ≤ S.faults source.new }

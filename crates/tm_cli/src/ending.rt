@@ -7,7 +7,9 @@ ghost use Rattle.tm_cli.specs.Ending.{status_of};
 pub enum Ending {
     /// The input was read to its end, and all is written.
     Done,
-    /// The same, but the input is not whole frames.
+    /// The same, and a codeblock that was received has a column beyond repair.
+    Bad,
+    /// All is written, but the input is not whole frames.
     LeftOver,
     /// The source failed.
     SourceFault,
@@ -24,6 +26,7 @@ impl Ending {
     {
         match self {
             Ending::Done => 0,
+            Ending::Bad => 1,
             Ending::SourceFault => 3,
             Ending::SinkFault => 4,
             Ending::LeftOver => 6,

@@ -4,15 +4,21 @@
 #![tactic(auto)]
 
 mod counts;
+mod decode;
 mod encode;
 mod ending;
 mod ends;
 mod feed;
 mod line;
 mod lines;
+mod link;
+mod obey;
+mod receiving;
 mod refusal;
+mod report;
 mod takers;
 mod top;
+mod trace;
 mod turns;
 
 pub use lines::{block_line, blocks_line, frame_line, frames_line, phase_line};

@@ -71,7 +71,7 @@ pub enum Asked {
 /// Reads the words and tests the values that they give.
 pub fn ask(alloc: Global, words: &[String]) -> Asked
     ensures command { (kind : JobKind) (config : Configuration) → result ≡ Asked.Command kind config
-        → (job : Job) × IsAsked (map string_bytes words.now) job × (job.kind ≡ kind) × (configuration_of job.raw ≡ config) }
+        → (job : Job) × IsAsked (map string_bytes words.now) job × (job.kind ≡ kind) × (configuration_of job.raw ≡ config) × IsAccepted config }
     ensures refused { (why : Refusal) → result ≡ Asked.Refused why → refusal_of (map string_bytes words.now) ≡ Some why }
 {
     let job = match read_words(alloc, words) {

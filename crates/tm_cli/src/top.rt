@@ -11,20 +11,28 @@ ghost use Rattle.tm_cli.specs.Output.{IsPartial};
 ghost use Rattle.tm_cli.specs.Run.{Answers, WroteRefusal};
 ghost use Rattle.tm_cli.specs.declared.refusal.Refusal.{Refusal};
 
-use crate::encode::encode;
 use crate::lines::refusal_line;
+use crate::link::link_law;
+use crate::obey::obey;
 use crate::refusal::{Asked, ask};
 use std::alloc::Global;
 use std::thread::Threads;
-use tm_base::{Sink, Source};
-use tm_words::JobKind;
+use tm_base::{NoMemory, Sink, Source};
 
-/// Runs the program: reads its words, the first of which is its name and is not looked at, and then does what they ask for.
-/// `encode` sends the transfer frames of the source to `out`, as octets of marked codeblocks or of symbols
-/// (CCSDS 131.0-B). It reads in turns of at most 4,096 octets, never more than one octet past the limit, and nothing
-/// behind the end of the input or a fault. Answers the exit status, of 3, 4 and 7 the one that occurs first:
+/// Runs the program: reads its words, the first of which is its name and is not looked at, and then does what they ask for:
+///
+/// - `encode` sends the transfer frames of the source to `out`, as octets of marked codeblocks or of symbols (CCSDS 131.0-B).
+/// - `decode` receives such octets, a soft one for each symbol: `out` gets the frame of each codeblock that is found and repaired,
+///   and the notes a report, which has a line for each codeblock and one for all.
+/// - `report` does so without the frames, and writes the report to `out`.
+/// - `trace` writes to `out` a line for each window of the soft decoder, and one for all.
+///
+/// The commands read in turns of at most 4,096 octets, never more than one octet past the limit, and nothing behind the end of the
+/// input or a fault. `decode` and `report` repair codeblocks by so many workers as they are asked for. Answers the exit status, of
+/// 3, 4 and 7 the one that occurs first:
 ///
 /// - 0: the source was read to its end, and the whole output is written.
+/// - 1: the same, and a codeblock that `decode` or `report` found has a column beyond repair.
 /// - 2: the words are refused. Nothing is read, and `out` stays as it was; the notes get the line `refused: ` with the first
 ///   reason, or a front of it where they fail.
 /// - 3: the source failed. What is due for the octets before is written, and nothing more.
@@ -34,14 +42,14 @@ use tm_words::JobKind;
 ///   with the number of octets behind them.
 /// - 7: the source gave an octet past the limit. What is due for the octets up to the limit is written.
 pub fn run<R: Threads + Sync, S: Source, O: Sink, N: Sink>(
-    _rt: &R,
+    rt: &R,
     alloc: Global,
     words: &[String],
     source: &mut S,
     out: &mut O,
     notes: &mut N,
 ) -> u8
-    ensures statuses { (result ≡ 0) ⊎ (result ≡ 2) ⊎ (result ≡ 3) ⊎ (result ≡ 4) ⊎ (result ≡ 5) ⊎ (result ≡ 6) ⊎ (result ≡ 7) }
+    ensures statuses { (result ≡ 0) ⊎ (result ≡ 1) ⊎ (result ≡ 2) ⊎ (result ≡ 3) ⊎ (result ≡ 4) ⊎ (result ≡ 5) ⊎ (result ≡ 6) ⊎ (result ≡ 7) }
 
     // The words are refused.
     ensures refused { IsSome (refusal_of (map string_bytes words.now)) → (result ≡ 2) ⊎ (result ≡ 5) }
@@ -55,20 +63,20 @@ pub fn run<R: Threads + Sync, S: Source, O: Sink, N: Sink>(
     ensures answered { (job : Job) → IsAsked (map string_bytes words.now) job → (result ≡ 5 → ⊥) → (octets : List ℕ)
         × Gave (S.given source.old) (S.given source.new) (S.left source.old) (S.left source.new) octets
         × Answers result job.kind (configuration_of job.raw) octets (O.taken out.old) (O.taken out.new) (N.taken notes.old) (N.taken notes.new) }
-    ensures ended { (result ≡ 0) ⊎ (result ≡ 6) → S.ended source.new ≡ true }
-    ensures at_end { (result ≡ 0) ⊎ (result ≡ 6) → IsAtEnd (S.left source.new) }
+    ensures ended { (result ≡ 0) ⊎ (result ≡ 1) ⊎ (result ≡ 6) → S.ended source.new ≡ true }
+    ensures at_end { (result ≡ 0) ⊎ (result ≡ 1) ⊎ (result ≡ 6) → IsAtEnd (S.left source.new) }
     ensures unended { (result ≡ 3) ⊎ (result ≡ 7) → S.ended source.new ≡ S.ended source.old }
     ensures complete { (job : Job) → IsAsked (map string_bytes words.now) job
         → (Rose (S.faults source.old) (S.faults source.new) (S.is_last source.new) → ⊥)
         → (Rose (O.faults out.old) (O.faults out.new) (O.is_last out.new) → ⊥)
         → (Rose (N.faults notes.old) (N.faults notes.new) (N.is_last notes.new) → ⊥)
-        → (result ≡ 0) ⊎ (result ≡ 5) ⊎ (result ≡ 6) ⊎ (result ≡ 7) }
+        → (result ≡ 0) ⊎ (result ≡ 1) ⊎ (result ≡ 5) ⊎ (result ≡ 6) ⊎ (result ≡ 7) }
     ensures whole_input { (job : Job) (input : List ℕ) → IsAsked (map string_bytes words.now) job
         → S.left source.old ≡ Some input → length input ≤ (configuration_of job.raw).limit → (IsPartial job.kind (configuration_of job.raw) input → ⊥)
         → (Rose (S.faults source.old) (S.faults source.new) (S.is_last source.new) → ⊥)
         → (Rose (O.faults out.old) (O.faults out.new) (O.is_last out.new) → ⊥)
         → (Rose (N.faults notes.old) (N.faults notes.new) (N.is_last notes.new) → ⊥)
-        → (result ≡ 0) ⊎ (result ≡ 5) }
+        → (result ≡ 0) ⊎ (result ≡ 1) ⊎ (result ≡ 5) }
 
     // Faults have their causes.
     ensures read_fault { result ≡ 3 → Rose (S.faults source.old) (S.faults source.new) (S.is_last source.new) }
@@ -84,8 +92,12 @@ pub fn run<R: Threads + Sync, S: Source, O: Sink, N: Sink>(
     ensures notes_later { N.faults notes.old ≤ N.faults notes.new }
     ensures notes_same { (result ≡ 4 → ⊥) → (result ≡ 2 → ⊥) → N.faults notes.new ≡ N.faults notes.old }
 {
+    link_law();
     match ask(alloc, words) {
-        Asked::Command(JobKind::Encode, config) => encode(&config, source, out, notes).status(),
+        Asked::Command(kind, config) => match obey(rt, alloc, kind, &config, source, out, notes) {
+            Ok(ending) => ending.status(),
+            Err(NoMemory) => 5,
+        },
         Asked::Refused(why) => {
             let _ = refusal_line(notes, why);
             2

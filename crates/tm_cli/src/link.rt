@@ -1,0 +1,27 @@
+// What `decode` makes of octets in which transfer frames were sent.
+ghost use Rattle.std.specs.Prelude.{◌≡◌, ◌⊎◌, ℕ, List, Option};
+ghost use Rattle.tm_config.specs.Accepted.{IsAccepted};
+ghost use Rattle.tm_config.specs.Configuration.{Configuration};
+ghost use Rattle.tm_words.specs.declared.job.JobKind.TheVariants.{Decode};
+ghost use Rattle.tm_cli.specs.declared.ending.Ending.{Ending};
+ghost use Rattle.tm_cli.specs.Ending.{Ends, status_of};
+ghost use Rattle.tm_cli.specs.Link.{KeepsCleanLink, KeepsDisturbedLink};
+
+use tm_channel::{clean_law, disturbed_law, items_law};
+use tm_inner::{clean_inner_law, inner_law};
+
+/// Where `decode` reads its whole input, sent frames come back, as far as they were not disturbed too much. It does nothing.
+pub fn link_law()
+    ensures clean { (ending : Ending) (status : ℕ) (c : Configuration) (octets : List ℕ) (taken taken_now noted noted_now : Option (List ℕ))
+        → IsAccepted c → status ≡ status_of ending → Ends ending Decode c octets taken taken_now noted noted_now → (status ≡ 0) ⊎ (status ≡ 1)
+        → KeepsCleanLink status c octets taken taken_now noted noted_now }
+    ensures disturbed { (ending : Ending) (status : ℕ) (c : Configuration) (octets : List ℕ) (taken taken_now noted noted_now : Option (List ℕ))
+        → IsAccepted c → status ≡ status_of ending → Ends ending Decode c octets taken taken_now noted noted_now → (status ≡ 0) ⊎ (status ≡ 1)
+        → KeepsDisturbedLink status c octets taken taken_now noted noted_now }
+{
+    items_law();
+    clean_law();
+    disturbed_law();
+    inner_law();
+    clean_inner_law();
+}
