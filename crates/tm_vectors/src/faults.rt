@@ -1,6 +1,6 @@
 // A source or a sink that fails.
-use crate::runs::{CUTS, Given, joined, run_over};
-use crate::values::{G, M};
+use crate::runs::{CUTS, Given, check_call, joined, run_over};
+use crate::values::{A, G, M};
 use std::alloc::Global;
 use std::process::Abort;
 use std::test::Fail;
@@ -12,7 +12,8 @@ struct Row<'a> {
     /// What the row shows.
     name: &'a str,
     line: &'a str,
-    input: &'a [u8],
+    /// What is read, in parts.
+    input: &'a [&'a [u8]],
     failing_read: Option<usize>,
     failing_write: Option<usize>,
     out_room: usize,
@@ -23,11 +24,11 @@ struct Row<'a> {
     notes: &'a str,
 }
 
-static ROWS: [Row; 8] = [
+static ROWS: [Row; 13] = [
     Row {
         name: "out has room for ten octets",
         line: "tmchan encode --inner none --randomize off --length 1",
-        input: &[0x7B],
+        input: &[&[0x7B]],
         failing_read: None,
         failing_write: None,
         out_room: 10,
@@ -39,7 +40,7 @@ static ROWS: [Row; 8] = [
     Row {
         name: "out has room for ten octets, in the polynomial basis",
         line: POLY,
-        input: &[1],
+        input: &[&[1]],
         failing_read: None,
         failing_write: None,
         out_room: 10,
@@ -51,7 +52,7 @@ static ROWS: [Row; 8] = [
     Row {
         name: "the first write fails",
         line: POLY,
-        input: &[1],
+        input: &[&[1]],
         failing_read: None,
         failing_write: Some(0),
         out_room: 256,
@@ -63,7 +64,7 @@ static ROWS: [Row; 8] = [
     Row {
         name: "the first read fails",
         line: POLY,
-        input: &[1],
+        input: &[&[1]],
         failing_read: Some(0),
         failing_write: None,
         out_room: 256,
@@ -87,7 +88,7 @@ static ROWS: [Row; 8] = [
     Row {
         name: "out fails before the limit is passed",
         line: "tmchan encode --inner none --basis poly --randomize off --length 1 --limit 1",
-        input: &[1, 1],
+        input: &[&[1, 1]],
         failing_read: None,
         failing_write: None,
         out_room: 0,
@@ -99,7 +100,7 @@ static ROWS: [Row; 8] = [
     Row {
         name: "notes have room for half a refusal",
         line: "tmchan encode --depth 6 --inner none",
-        input: &[1],
+        input: &[&[1]],
         failing_read: None,
         failing_write: None,
         out_room: 256,
@@ -111,13 +112,73 @@ static ROWS: [Row; 8] = [
     Row {
         name: "notes have no room for what is left over",
         line: "tmchan encode --inner none --basis poly --randomize off",
-        input: &[0; 224],
+        input: &[&[0; 224]],
         failing_read: None,
         failing_write: None,
         out_room: 259,
         notes_room: 0,
         status: 4,
         out: &[&M, &[0; 255]],
+        notes: "",
+    },
+    Row {
+        name: "the first read of received octets fails",
+        line: "tmchan decode --length 1 --inner none --randomize off",
+        input: &[&M, &A],
+        failing_read: Some(0),
+        failing_write: None,
+        out_room: 256,
+        notes_room: 256,
+        status: 3,
+        out: &[],
+        notes: "",
+    },
+    Row {
+        name: "out has room for one of two frames",
+        line: "tmchan decode --length 1 --inner none --randomize off",
+        input: &[&M, &A, &M, &A],
+        failing_read: None,
+        failing_write: None,
+        out_room: 1,
+        notes_room: 256,
+        status: 4,
+        out: &[&[0x7B]],
+        notes: "frame 0 at 0 marker 0 words 0\n",
+    },
+    Row {
+        name: "notes have room for one of two lines",
+        line: "tmchan decode --length 1 --inner none --randomize off",
+        input: &[&M, &A, &M, &A],
+        failing_read: None,
+        failing_write: None,
+        out_room: 256,
+        notes_room: 40,
+        status: 4,
+        out: &[&[0x7B, 0x7B]],
+        notes: "frame 0 at 0 marker 0 words 0\nframe 1 at",
+    },
+    Row {
+        name: "out has room for half a report",
+        line: "tmchan report --length 1 --inner none --randomize off",
+        input: &[&M, &A, &M, &A],
+        failing_read: None,
+        failing_write: None,
+        out_room: 40,
+        notes_room: 256,
+        status: 4,
+        out: &[b"frame 0 at 0 marker 0 words 0\n", b"frame 1 at"],
+        notes: "",
+    },
+    Row {
+        name: "out has room for half a trace",
+        line: "tmchan trace",
+        input: &[&[0x80, 0]],
+        failing_read: None,
+        failing_write: None,
+        out_room: 10,
+        notes_room: 256,
+        status: 4,
+        out: &[b"block 0 st"],
         notes: "",
     },
 ];
@@ -128,30 +189,17 @@ fn check_row(
     row: &Row,
     cut: usize,
 ) -> Result<(), Fail> {
+    let input = joined(alloc, row.input)?;
     let given = Given {
         line: row.line,
-        input: row.input,
+        input: input.as_slice(),
         cut,
         failing_read: row.failing_read,
         failing_write: row.failing_write,
         out_room: row.out_room,
         notes_room: row.notes_room,
     };
-    let outcome = run_over(rt, alloc, &given)?;
-    let wanted = joined(alloc, row.out)?;
-    let name = row.name;
-    assert_eq!(rt; outcome.status, row.status, "{name}, cut {cut}");
-    assert_eq!(rt;
-        outcome.out.octets(),
-        wanted.as_slice(),
-        "{name}, cut {cut}"
-    );
-    assert_eq!(rt;
-        outcome.notes.octets(),
-        row.notes.as_bytes(),
-        "{name}, cut {cut}"
-    );
-    Ok(())
+    check_call(rt, alloc, row.name, &given, row.status, row.out, row.notes)
 }
 
 #[test]

@@ -1,5 +1,6 @@
 // The program's top call over a source and sinks in memory.
 use std::alloc::{AllocError, Global};
+use std::process::Abort;
 use std::test::Fail;
 use std::thread::Threads;
 use tm_base::{MemSink, MemSource};
@@ -103,4 +104,60 @@ pub fn run_over(rt: &(impl Threads + Sync), alloc: Global, given: &Given) -> Res
         out,
         notes,
     })
+}
+
+/// What a call does that meets no fault.
+pub struct Row<'a> {
+    /// What the row shows.
+    pub name: &'a str,
+    pub line: &'a str,
+    /// What is read, in parts.
+    pub input: &'a [&'a [u8]],
+    pub status: u8,
+    /// What is written, in parts.
+    pub out: &'a [&'a [u8]],
+    pub notes: &'a str,
+}
+
+/// Makes the call, which ends with this status, and writes just these parts and these notes.
+pub fn check_call(
+    rt: &(impl Abort + Threads + Sync),
+    alloc: Global,
+    name: &str,
+    given: &Given,
+    status: u8,
+    out: &[&[u8]],
+    notes: &str,
+) -> Result<(), Fail> {
+    let outcome = run_over(rt, alloc, given)?;
+    let wanted = joined(alloc, out)?;
+    let cut = given.cut;
+    assert_eq!(rt; outcome.status, status, "{name}, cut {cut}");
+    assert_eq!(rt;
+        outcome.out.octets(),
+        wanted.as_slice(),
+        "{name}, cut {cut}"
+    );
+    assert_eq!(rt;
+        outcome.notes.octets(),
+        notes.as_bytes(),
+        "{name}, cut {cut}"
+    );
+    Ok(())
+}
+
+/// Makes the call of each row with each cut.
+pub fn check_rows(
+    rt: &(impl Abort + Threads + Sync),
+    alloc: Global,
+    rows: &[Row],
+) -> Result<(), Fail> {
+    for row in rows {
+        let input = joined(alloc, row.input)?;
+        for cut in CUTS {
+            let given = Given::new(row.line, input.as_slice(), cut);
+            check_call(rt, alloc, row.name, &given, row.status, row.out, row.notes)?;
+        }
+    }
+    Ok(())
 }

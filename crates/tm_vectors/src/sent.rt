@@ -1,27 +1,13 @@
 // Frames that are sent, octet by octet.
-use crate::runs::{CUTS, Given, joined, run_over};
+use crate::runs::{Row, check_rows};
 use crate::values::{A, A_AND_ZEROS, G, M, SEQUENCE};
-use std::alloc::Global;
-use std::process::Abort;
 use std::test::Fail;
-use std::thread::Threads;
-
-struct Row<'a> {
-    /// What the row shows.
-    name: &'a str,
-    line: &'a str,
-    input: &'a [u8],
-    status: u8,
-    /// What is written, in parts.
-    out: &'a [&'a [u8]],
-    notes: &'a str,
-}
 
 static ROWS: [Row; 16] = [
     Row {
         name: "data of zeros have check symbols of zeros",
         line: "tmchan encode --inner none --randomize off",
-        input: &[0; 223],
+        input: &[&[0; 223]],
         status: 0,
         out: &[&M, &[0; 255]],
         notes: "",
@@ -29,7 +15,7 @@ static ROWS: [Row; 16] = [
     Row {
         name: "and so in the polynomial basis",
         line: "tmchan encode --inner none --basis poly --randomize off",
-        input: &[0; 223],
+        input: &[&[0; 223]],
         status: 0,
         out: &[&M, &[0; 255]],
         notes: "",
@@ -37,7 +23,7 @@ static ROWS: [Row; 16] = [
     Row {
         name: "the generator polynomial in the dual basis",
         line: "tmchan encode --inner none --randomize off --length 1",
-        input: &[0x7B],
+        input: &[&[0x7B]],
         status: 0,
         out: &[&M, &A],
         notes: "",
@@ -45,7 +31,7 @@ static ROWS: [Row; 16] = [
     Row {
         name: "the generator polynomial in the polynomial basis",
         line: "tmchan encode --inner none --basis poly --randomize off --length 1",
-        input: &[1],
+        input: &[&[1]],
         status: 0,
         out: &[&M, &G],
         notes: "",
@@ -53,7 +39,7 @@ static ROWS: [Row; 16] = [
     Row {
         name: "two columns are interleaved",
         line: "tmchan encode --inner none --randomize off --depth 2 --length 2",
-        input: &[0x7B, 0],
+        input: &[&[0x7B, 0]],
         status: 0,
         out: &[&M, &A_AND_ZEROS],
         notes: "",
@@ -61,7 +47,7 @@ static ROWS: [Row; 16] = [
     Row {
         name: "the (255,239) code has 16 check symbols",
         line: "tmchan encode --inner none --randomize off --length 1 --code rs8",
-        input: &[0],
+        input: &[&[0]],
         status: 0,
         out: &[&M, &[0; 17]],
         notes: "",
@@ -85,7 +71,7 @@ static ROWS: [Row; 16] = [
     Row {
         name: "an octet behind the frames is left over",
         line: "tmchan encode --inner none --basis poly --randomize off",
-        input: &[0; 224],
+        input: &[&[0; 224]],
         status: 6,
         out: &[&M, &[0; 255]],
         notes: "left over 1\n",
@@ -93,7 +79,7 @@ static ROWS: [Row; 16] = [
     Row {
         name: "less than a frame is left over",
         line: "tmchan encode --inner none",
-        input: &[0; 222],
+        input: &[&[0; 222]],
         status: 6,
         out: &[],
         notes: "left over 222\n",
@@ -101,7 +87,7 @@ static ROWS: [Row; 16] = [
     Row {
         name: "an octet past the limit",
         line: "tmchan encode --inner none --basis poly --randomize off --length 1 --limit 1",
-        input: &[1, 1],
+        input: &[&[1, 1]],
         status: 7,
         out: &[&M, &G],
         notes: "",
@@ -109,7 +95,7 @@ static ROWS: [Row; 16] = [
     Row {
         name: "as many octets as the limit",
         line: "tmchan encode --inner none --basis poly --randomize off --length 1 --limit 2",
-        input: &[1, 1],
+        input: &[&[1, 1]],
         status: 0,
         out: &[&M, &G, &M, &G],
         notes: "",
@@ -117,7 +103,7 @@ static ROWS: [Row; 16] = [
     Row {
         name: "no octet is left over past the limit",
         line: "tmchan encode --inner none --code none --randomize off --length 2 --limit 3",
-        input: &[1, 2, 3, 4],
+        input: &[&[1, 2, 3, 4]],
         status: 7,
         out: &[&M, &[1, 2]],
         notes: "",
@@ -125,7 +111,7 @@ static ROWS: [Row; 16] = [
     Row {
         name: "without the outer code the frame is the codeblock",
         line: "tmchan encode --code none --inner none --randomize off --length 2",
-        input: &[1, 2],
+        input: &[&[1, 2]],
         status: 0,
         out: &[&M, &[1, 2]],
         notes: "",
@@ -133,7 +119,7 @@ static ROWS: [Row; 16] = [
     Row {
         name: "the randomizer begins anew behind each marker",
         line: "tmchan encode --code none --inner none --length 5",
-        input: &[0; 10],
+        input: &[&[0; 10]],
         status: 0,
         out: &[&M, &SEQUENCE, &M, &SEQUENCE],
         notes: "",
@@ -141,43 +127,14 @@ static ROWS: [Row; 16] = [
     Row {
         name: "a number may have twenty digits",
         line: "tmchan encode --inner none --randomize off --length=00000000000000000001 --skip 007",
-        input: &[0x7B],
+        input: &[&[0x7B]],
         status: 0,
         out: &[&M, &A],
         notes: "",
     },
 ];
 
-fn check_row(
-    rt: &(impl Abort + Threads + Sync),
-    alloc: Global,
-    row: &Row,
-    cut: usize,
-) -> Result<(), Fail> {
-    let given = Given::new(row.line, row.input, cut);
-    let outcome = run_over(rt, alloc, &given)?;
-    let wanted = joined(alloc, row.out)?;
-    let name = row.name;
-    assert_eq!(rt; outcome.status, row.status, "{name}, cut {cut}");
-    assert_eq!(rt;
-        outcome.out.octets(),
-        wanted.as_slice(),
-        "{name}, cut {cut}"
-    );
-    assert_eq!(rt;
-        outcome.notes.octets(),
-        row.notes.as_bytes(),
-        "{name}, cut {cut}"
-    );
-    Ok(())
-}
-
 #[test]
 fn frames_are_sent(rt: HostRuntime) -> Result<(), Fail> {
-    for row in &ROWS {
-        for cut in CUTS {
-            check_row(&rt, rt.alloc(), row, cut)?;
-        }
-    }
-    Ok(())
+    check_rows(&rt, rt.alloc(), &ROWS)
 }
