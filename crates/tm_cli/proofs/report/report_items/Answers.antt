@@ -1,4 +1,4 @@
-use Rattle.std.proofs.Common.{rules, ◌≡◌, refl}
+use Rattle.std.proofs.Common.{rules, ◌≡◌}
 use Rattle.tm_cli.specs.Receiving.{ReceivedUpTo}
 use Rattle.tm_cli.specs.Taken.{standing, no_counts, ReportedAll, ReportBroke}
 use Rattle.tm_cli.specs.declared.takers.Report.{Report}
