@@ -15,6 +15,7 @@ pub mod Forney
 pub mod Division
 pub mod Corrections
 pub mod OnlyNearest
+pub mod HasNearest
 pub mod Covering
 pub mod ErasedPlaces
 pub mod ErasedPatterns

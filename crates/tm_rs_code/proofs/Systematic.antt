@@ -136,6 +136,19 @@ find_passes P test (w ∷ ws) h e =
       | inr t ↦ let e' = rw t at e in rw t (find_passes P test ws h.1 e')
     ]
 
+-- a word of n elements that passes, or none does
+abbrev pub PassesOrNone : ℕ → (List ℕ → Bool) → Type 0
+PassesOrNone n test =
+    ((c : List ℕ) × (length c ≡ n) × AreElements c × (test c ≡ true)) ⊎ ((c : List ℕ) → length c ≡ n → AreElements c → test c ≡ true → ⊥)
+
+pub search_words : (n : ℕ) (test : List ℕ → Bool) → PassesOrNone n test
+search_words n test = elim (yes_or_no (list_any test (all_words n))) [
+  | inl some ↦ (let h = find_passes (AreWords n) test (all_words n) (Each-all_words n) some in inl (unwrap_or (find test (all_words n)) [], h.0.0, h.0.1, h.1))
+  | inr none ↦ inr (λ c long elements passes.
+      let among : list_any test (all_words n) ≡ true = ap (λ (k : ℕ). list_any test (all_words k)) (sym long) ∙ any-all_words c test elements passes in
+      absurd cc)
+]
+
 -- ---- the shift register finds a codeword
 
 -- the register after some symbols

@@ -22,13 +22,15 @@ pub fn systematic_codeword_law()
 
 /// A word has just one nearest codeword within a bound of at most e, or none.
 pub fn nearest_law()
-    ensures { (e bound : ℕ) (w : List ℕ) (a b : Nearest) → bound ≤ e → length w ≤ 255
+    ensures exists { (e bound : ℕ) (w : List ℕ) → (a : Nearest) × IsNearest e bound w a }
+    ensures one { (e bound : ℕ) (w : List ℕ) (a b : Nearest) → bound ≤ e → length w ≤ 255
         → IsNearest e bound w a → IsNearest e bound w b → a ≡ b }
 {}
 
 /// A word with erased places has just one nearest codeword within the bounds, or none.
 pub fn nearest_erased_law()
-    ensures { (e bound : ℕ) (erased : List Bool) (w : List ℕ) (a b : NearestErased)
+    ensures exists { (e bound : ℕ) (erased : List Bool) (w : List ℕ) → (a : NearestErased) × IsNearestErased e bound erased w a }
+    ensures one { (e bound : ℕ) (erased : List Bool) (w : List ℕ) (a b : NearestErased)
         → length erased ≡ length w → length w ≤ 255
         → IsNearestErased e bound erased w a → IsNearestErased e bound erased w b → a ≡ b }
 {}

@@ -1,5 +1,9 @@
+use Rattle.tm_rs_code.proofs.HasNearest.{has_nearest}
 use Rattle.tm_rs_code.proofs.OnlyNearest.{nearest_only}
 use Rattle.tm_rs_code.proofs.laws.nearest_law.Goals as goal
 
-pub returns : goal.returns
-returns c e bound w a b within short h l = nearest_only e bound w a b within short h l
+pub returns-clause-exists : goal.returns-clause-exists
+returns-clause-exists c e bound w = has_nearest e bound w
+
+pub returns-clause-one : goal.returns-clause-one
+returns-clause-one c e bound w a b within short h l = nearest_only e bound w a b within short h l

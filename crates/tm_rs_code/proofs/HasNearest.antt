@@ -1,0 +1,61 @@
+-- A word has a nearest codeword within a bound, or none, with erased places and without.
+use Rattle.std.proofs.Common.{◌+◌, ◌*◌, ◌&&◌, ℕ, Bool, leb, List, length, refl, inl, inr}
+use Rattle.std.proofs.lemmas.Bool.{cases_lt, and_parts, and_from, leb-true, le-leb}
+use Rattle.tm_rs_code.specs.Code.{distance, is_codeword}
+use Rattle.tm_rs_code.specs.Nearest.{IsNearest, Nearest}
+use Rattle.tm_rs_code.specs.Nearest.Nearest.{Fixed, Beyond}
+use Rattle.tm_rs_code.specs.Erasures.{IsNearestErased, NearestErased, count_erased, outside, inside}
+use Rattle.tm_rs_code.specs.Erasures.NearestErased.{Fixed as FixedErased, Beyond as BeyondErased}
+use Rattle.tm_rs_code.proofs.Systematic.{PassesOrNone, search_words, is_codeword_tells, is_codeword_holds}
+
+-- whether a word is a codeword within the bound
+abbrev is_near : ℕ → ℕ → List ℕ → List ℕ → Bool
+is_near e bound w c = is_codeword e c && leb (distance c w) bound
+
+nearest_of : (e bound : ℕ) (w : List ℕ) → PassesOrNone (length w) (is_near e bound w) → (a : Nearest) × IsNearest e bound w a
+nearest_of e bound w (inl (c, long, elements, passes)) =
+    let both = and_parts (is_codeword e c) (leb (distance c w) bound) passes in
+    (Fixed c (distance c w), (record { size = long; elements = elements; codeword = is_codeword_tells e c both.0 }, refl, leb-true (distance c w) bound both.1))
+nearest_of e bound w (inr none) = (
+  Beyond,
+  λ c code. elim (cases_lt bound (distance c w)) [
+    | inl far ↦ far
+    | inr near ↦ absurd (none c code.size code.elements (and_from (is_codeword e c) (leb (distance c w) bound) (is_codeword_holds e c code.codeword) (le-leb (distance c w) bound near)))
+  ],
+)
+
+pub has_nearest : (e bound : ℕ) (w : List ℕ) → (a : Nearest) × IsNearest e bound w a
+has_nearest e bound w = nearest_of e bound w (search_words (length w) (is_near e bound w))
+
+-- ---- erased places
+
+-- at how many places that are not erased two words differ
+abbrev differing : List Bool → List ℕ → List ℕ → ℕ
+differing erased w c = distance (outside erased c) (outside erased w)
+
+abbrev is_few : ℕ → ℕ → List Bool → List ℕ → List ℕ → Bool
+is_few e bound erased w c = leb (differing erased w c) bound && leb (2 * differing erased w c + count_erased erased) (2 * e)
+
+nearest_erased_of : (e bound : ℕ) (erased : List Bool) (w : List ℕ) → PassesOrNone (length w) (λ c. is_codeword e c && is_few e bound erased w c)
+    → (a : NearestErased) × IsNearestErased e bound erased w a
+nearest_erased_of e bound erased w (inl (c, long, elements, passes)) =
+    let code = and_parts (is_codeword e c) (is_few e bound erased w c) passes in
+    let few = and_parts (leb (differing erased w c) bound) (leb (2 * differing erased w c + count_erased erased) (2 * e)) code.1 in (
+      FixedErased c (differing erased w c) (distance (inside erased c) (inside erased w)),
+      (
+        record { size = long; elements = elements; codeword = is_codeword_tells e c code.0 },
+        record { bounded = leb-true (differing erased w c) bound few.0; few = leb-true (2 * differing erased w c + count_erased erased) (2 * e) few.1 },
+        refl,
+        refl,
+      ),
+    )
+nearest_erased_of e bound erased w (inr none) = (
+  BeyondErased,
+  λ c code within. none c code.size code.elements
+      (and_from (is_codeword e c) (is_few e bound erased w c) (is_codeword_holds e c code.codeword)
+      (and_from (leb (differing erased w c) bound) (leb (2 * differing erased w c + count_erased erased) (2 * e)) (le-leb (differing erased w c) bound within.bounded)
+      (le-leb (2 * differing erased w c + count_erased erased) (2 * e) within.few))),
+)
+
+pub has_nearest_erased : (e bound : ℕ) (erased : List Bool) (w : List ℕ) → (a : NearestErased) × IsNearestErased e bound erased w a
+has_nearest_erased e bound erased w = nearest_erased_of e bound erased w (search_words (length w) (λ c. is_codeword e c && is_few e bound erased w c))
