@@ -1,6 +1,8 @@
 pub mod Sizes
 pub mod Paths
+pub mod Words
 mod Unique
+mod HasBest
 pub mod Clean
 mod Starts
 mod Complement

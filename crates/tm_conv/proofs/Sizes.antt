@@ -1,5 +1,5 @@
 -- How many symbols steps send.
-use Rattle.std.proofs.Common.{◌≡◌, ℕ, ◌+◌, ◌/◌, ◌%◌, ◌<◌, ◌-◌, min, sym, ap, ◌∙◌, arith, length, List, [], ◌∷◌, zero, suc, refl, Bool, true, false, cond, eqb, ◌||◌, ◌&&◌, get_or}
+use Rattle.std.proofs.Common.{◌≡◌, ℕ, ◌+◌, ◌/◌, ◌%◌, ◌<◌, ◌≤◌, ◌-◌, min, sym, ap, ◌∙◌, arith, length, List, [], ◌∷◌, zero, suc, refl, Bool, true, false, cond, eqb, ◌||◌, ◌&&◌, get_or}
 use Rattle.tm_conv.specs.declared.rates.Rate.{Rate}
 use Rattle.tm_conv.specs.declared.rates.Rate.TheVariants.{R12, R23, R34, R56, R78}
 use Rattle.tm_conv.specs.Path.{period, step_size, steps_size, c1_pattern, c2_pattern}
@@ -35,6 +35,11 @@ step_size_pos R23 t = sends_at (c1_pattern R23) (c2_pattern R23) (t % 2) refl (o
 step_size_pos R34 t = sends_at (c1_pattern R34) (c2_pattern R34) (t % 3) refl (omega arith)
 step_size_pos R56 t = sends_at (c1_pattern R56) (c2_pattern R56) (t % 5) refl (omega arith)
 step_size_pos R78 t = sends_at (c1_pattern R78) (c2_pattern R78) (t % 7) refl (omega arith)
+
+pub steps_size_ge : (rate : Rate) (t n : ℕ) → n ≤ steps_size rate t n
+unfolding steps_size
+steps_size_ge rate t zero = omega arith
+steps_size_ge rate t (suc n) = omega (arith, steps_size_ge rate (t + 1) n, step_size_pos rate t)
 
 pub same_from_steps_size : (rate : Rate) (t n m : ℕ) → steps_size rate t n ≡ steps_size rate t m → n ≡ m
 unfolding steps_size

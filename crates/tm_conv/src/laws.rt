@@ -1,8 +1,8 @@
 // What holds of the code's paths, over the definitions alone.
-ghost use Rattle.std.specs.Prelude.{◌≡◌, ℕ, ◌-◌, ◌<◌, ◌≤◌, Bool, List, length};
+ghost use Rattle.std.specs.Prelude.{◌≡◌, ℕ, ◌-◌, ◌<◌, ◌≤◌, Bool, IsTrue, List, length};
 ghost use Rattle.tm_conv.specs.declared.rates.Rate.{Rate};
 ghost use Rattle.tm_conv.specs.declared.rates.Rate.TheVariants.{R12};
-ghost use Rattle.tm_conv.specs.Path.{AreBits, complement, path};
+ghost use Rattle.tm_conv.specs.Path.{AreBits, complement, path, steps_size};
 ghost use Rattle.tm_conv.specs.Best.{IsBest};
 
 /// From a known register, symbols that were not disturbed fix the bits, at every rate. It does nothing.
@@ -23,8 +23,11 @@ pub fn six_pairs_law()
         → 6 ≤ length bits → path R12 invert t register bits ≡ path R12 invert t other others → (register ≡ other) × (bits ≡ others) }
 {}
 
-/// There is one best path. It does nothing.
+/// Octets of whole steps have one best path, where a path may start from some register. It does nothing.
 pub fn best_path_law()
-    ensures { (starts : ℕ → Bool) (rate : Rate) (invert : Bool) (t : ℕ) (octets : List ℕ) (register other : ℕ) (bits others : List ℕ)
+    ensures exists { (starts : ℕ → Bool) (rate : Rate) (invert : Bool) (t steps start : ℕ) (octets : List ℕ)
+        → IsTrue (starts start) → start < 64 → length octets ≡ steps_size rate t steps
+        → (register : ℕ) × (bits : List ℕ) × IsBest starts rate invert t octets register bits }
+    ensures one { (starts : ℕ → Bool) (rate : Rate) (invert : Bool) (t : ℕ) (octets : List ℕ) (register other : ℕ) (bits others : List ℕ)
         → IsBest starts rate invert t octets register bits → IsBest starts rate invert t octets other others → (register ≡ other) × (bits ≡ others) }
 {}

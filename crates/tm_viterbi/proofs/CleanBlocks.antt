@@ -26,7 +26,7 @@ bits_of-digits : (xs : List ℕ) → AreDigits xs → AreBits xs
 bits_of-digits [] p = All-nil (λ b. b < 2)
 bits_of-digits (x ∷ xs) p = All-cons (λ b. b < 2) x xs p.0 (bits_of-digits xs p.1)
 
-digits-take : (count : ℕ) (xs : List ℕ) → AreDigits xs → AreDigits (take count xs)
+pub digits-take : (count : ℕ) (xs : List ℕ) → AreDigits xs → AreDigits (take count xs)
 digits-take zero xs p = tt
 digits-take (suc count) [] p = tt
 digits-take (suc count) (x ∷ xs) p = (p.0, digits-take count xs p.1)
@@ -36,7 +36,7 @@ digits-drop zero xs p = p
 digits-drop (suc count) [] p = tt
 digits-drop (suc count) (x ∷ xs) p = digits-drop count xs p.1
 
-register-small : (r : ℕ) (bits : List ℕ) → r < 64 → AreDigits bits → register_after r bits < 64
+pub register-small : (r : ℕ) (bits : List ℕ) → r < 64 → AreDigits bits → register_after r bits < 64
 register-small r [] small p = small
 register-small r (b ∷ bits) small p = let bit = p.0 in register-small (next_register r b) bits (omega arith) p.1
 

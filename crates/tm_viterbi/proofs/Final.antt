@@ -2,7 +2,7 @@
 use Rattle.std.proofs.Common.{◌≡◌, ℕ, ◌+◌, ◌*◌, ◌^◌, ◌<◌, ◌≤◌, inl, inr, ◌∙◌, sym, ap, subst, arith, length, List, [], ◌∷◌, ◌++◌, suc, refl, Bool, true, false, cond, get_or, slice_index, IsTrue}
 use Rattle.std.specs.List.{All}
 use Rattle.std.proofs.lemmas.List.{length-reverse, reverse-reverse}
-use Rattle.std.proofs.lemmas.List.Elements.{All-head, All-tail, All-same, All-push}
+use Rattle.std.proofs.lemmas.List.Elements.{All-head, All-tail}
 use Rattle.std.proofs.lemmas.Bool.{cases_order}
 use Rattle.std.proofs.lemmas.Bool.Decides.{nat_tests}
 use mathlib.Core.List.{reverse}
@@ -17,7 +17,7 @@ use Rattle.tm_viterbi.specs.Totals.{total_of, AreFirsts, IsFirstLeast}
 use Rattle.tm_viterbi.proofs.Walk.{rank_lt, register_back_lt}
 use Rattle.tm_viterbi.proofs.Totals.{IsLexLe-from_rank}
 use Rattle.tm_conv.proofs.Paths.{length-path}
-use Rattle.tm_viterbi.proofs.Back.{reverse_cons}
+use Rattle.tm_conv.proofs.Words.{All-reverse}
 
 -- ---- costs are small
 
@@ -32,12 +32,6 @@ cost_le (x ∷ xs) (y ∷ ys) each =
     goal
 
 -- ---- the best of all
-
-pub All-reverse : (xs : List ℕ) → All (λ b. b < 2) xs → All (λ b. b < 2) (reverse xs)
-All-reverse [] each = each
-All-reverse (x ∷ xs) each =
-    All-same (λ b. b < 2) (reverse (x ∷ xs)) (reverse xs ++ x ∷ []) (reverse_cons x xs)
-    (All-push (λ b. b < 2) (reverse xs) x (All-reverse xs (All-tail (λ b. b < 2) x xs each)) (All-head (λ b. b < 2) x xs each))
 
 -- no path to any register is better than the best path to the least register of least sum
 best_of_all : (total : ℕ → List ℕ → ℕ) (n s : ℕ) (sums columns : List ℕ) → AreBest total n sums columns → IsFirstLeast sums s

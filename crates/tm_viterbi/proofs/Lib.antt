@@ -21,4 +21,5 @@ mod Feeding
 mod LeastCost
 mod OneList
 pub mod CleanBlocks
+pub mod HasBlocks
 mod ClosedFront

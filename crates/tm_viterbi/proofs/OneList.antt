@@ -54,7 +54,7 @@ many rate t n m size most le = elim (cases_lt n m) as (λ _. m ≤ n) [
   | inl lt ↦ absurd (omega (arith, most, le, steps_size-le rate t (n + 1) m (omega arith)))
 ]
 
-steps_behind : (rate : Rate) (t n kept : ℕ) (octets : List ℕ) → kept ≤ n → AreSteps rate t octets n
+pub steps_behind : (rate : Rate) (t n kept : ℕ) (octets : List ℕ) → kept ≤ n → AreSteps rate t octets n
     → AreSteps rate (t + kept) (drop (steps_size rate t kept) octets) (n - kept)
 steps_behind rate t n kept octets le h =
     let sum : kept + (n - kept) ≡ n = omega arith in

@@ -1,5 +1,5 @@
 // What holds of the blocks of soft octets, over the definitions alone.
-ghost use Rattle.std.specs.Prelude.{◌≡◌, ◌⊎◌, ℕ, List, [], ◌∷◌, ◌++◌};
+ghost use Rattle.std.specs.Prelude.{◌≡◌, ◌<◌, ◌⊎◌, ℕ, List, [], ◌∷◌, ◌++◌};
 ghost use Rattle.tm_viterbi.specs.WindowBlock.{WindowBlock};
 ghost use Rattle.tm_viterbi.specs.Settings.{Settings};
 ghost use Rattle.tm_viterbi.specs.Blocks.{AreBlocksOf};
@@ -7,9 +7,11 @@ ghost use Rattle.tm_viterbi.specs.Due.{AreDue, AreFirst};
 
 use tm_conv::best_path_law;
 
-/// Octets have one list of blocks, and one number of octets left over. No octets have no blocks. It does nothing.
+/// Octets have one list of blocks, and one number of octets left over, where each window keeps a step or more. No octets have no
+/// blocks. It does nothing.
 pub fn one_list_law()
     ensures none { (s : Settings) → AreBlocksOf s [] [] 0 }
+    ensures exists { (s : Settings) (octets : List ℕ) → 0 < s.keep → (blocks : List WindowBlock) × (left : ℕ) × AreBlocksOf s octets blocks left }
     ensures one { (s : Settings) (octets : List ℕ) (blocks others : List WindowBlock) (left right : ℕ)
         → AreBlocksOf s octets blocks left → AreBlocksOf s octets others right → (blocks ≡ others) × (left ≡ right) }
 {

@@ -9,7 +9,8 @@ use Rattle.tm_viterbi.specs.Walk.{past_of, start_of}
 use Rattle.tm_viterbi.specs.Starts.{starts_from}
 use Rattle.tm_viterbi.proofs.Walk.{past_of_small}
 use Rattle.tm_viterbi.proofs.PassSteps.{steps_size-small}
-use Rattle.tm_viterbi.proofs.Final.{IsBest-from_columns, All-reverse}
+use Rattle.tm_conv.proofs.Words.{All-reverse}
+use Rattle.tm_viterbi.proofs.Final.{IsBest-from_columns}
 use Rattle.tm_viterbi.proofs.filling.Window.find.Goals as goal
 
 pub register_behind-end_state-requires-clause-bits : goal.register_behind-end_state-requires-clause-bits
