@@ -12,7 +12,7 @@ mod rates;
 pub use encoder::{Encoder, Symbols};
 pub use laws::{best_path_law, clean_symbols_law, complement_law, six_pairs_law};
 pub use plain::plain_encode;
-pub use rates::{Rate, kept, symbols_of};
+pub use rates::{Rate, kept, step_len, symbols_of};
 
 #[cfg(test)]
 mod worked_values;

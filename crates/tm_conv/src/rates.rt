@@ -1,6 +1,6 @@
 // The rates, and which symbols their steps keep.
 ghost use Rattle.std.specs.Prelude.{◌≡◌, ◌+◌, ◌/◌, ◌<◌, ◌≤◌, ◌^◌, length};
-ghost use Rattle.tm_conv.specs.Path.{c1_pattern, c2_pattern, keeps_c1, keeps_c2, period, steps_size};
+ghost use Rattle.tm_conv.specs.Path.{c1_pattern, c2_pattern, keeps_c1, keeps_c2, period, step_size, steps_size};
 
 /// The rate of the code: that of the code itself, or of one of its puncture patterns (CCSDS 131.0-B, Convolutional Coding).
 #[derive(Clone, Copy, Debug, PartialEq, Eq)]
@@ -52,6 +52,14 @@ pub fn kept(rate: Rate, t: u64) -> (bool, bool)
     let keeps_first = first[(t % first.len() as u64) as usize] == 1;
     let keeps_second = second[(t % second.len() as u64) as usize] == 1;
     (keeps_first, keeps_second)
+}
+
+/// How many symbols step `t`, counted from the stream's first bit, sends: one or two.
+pub fn step_len(rate: Rate, t: u64) -> usize
+    ensures { result ≡ step_size rate t }
+{
+    let (first, second) = kept(rate, t);
+    usize::from(first) + usize::from(second)
 }
 
 /// How many steps the puncture pattern of a rate has.

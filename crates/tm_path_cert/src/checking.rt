@@ -6,10 +6,10 @@ ghost use Rattle.tm_path_cert.specs.Claim.{AreRegisters, is_start, path_cost};
 ghost use Rattle.tm_path_cert.specs.Tests.{HoldsAt, IsFirstFailing, first_place};
 
 use crate::columns::{first_less, first_start_wrong, first_undercut};
-use crate::steps::{Step, path_sum, step_len};
+use crate::steps::{Step, path_sum};
 use crate::verdicts::{Starts, Verdict};
 use std::marker::Model;
-use tm_conv::Rate;
+use tm_conv::{Rate, step_len};
 
 /// Checks a path and its metric by columns of sums, which are given one after another. It keeps the last column alone.
 #[derive(Drop)]

@@ -3,7 +3,7 @@ ghost use Rattle.std.specs.Prelude.{◌≡◌, ◌≤◌, ◌<◌, ◌^◌, leng
 ghost use Rattle.tm_conv.specs.Path.{c1, c2, sent_c2, step_size, step_symbols, steps_size, AreBits, path};
 ghost use Rattle.tm_conv.specs.Cost as metric;
 
-use tm_conv::{Rate, kept};
+use tm_conv::{Rate, kept, step_len};
 
 // How far a soft octet is from a symbol.
 fn distance(symbol: u8, octet: u8) -> u32
@@ -29,14 +29,6 @@ fn second_sum(invert: bool, register: u8, bit: u8) -> u8
 {
     let sum = (bit + register / 16 + register / 8 + register / 2 + register) % 2;
     if invert { 1 - sum } else { sum }
-}
-
-// How many symbols step `t` sends.
-pub(crate) fn step_len(rate: Rate, t: u64) -> usize
-    ensures { result ≡ step_size rate t }
-{
-    let (first, second) = kept(rate, t);
-    usize::from(first) + usize::from(second)
 }
 
 // A step and its soft octets.

@@ -7,13 +7,6 @@ ghost use Rattle.tm_viterbi.specs.Totals.{AreCosts};
 use std::simd::prelude::*;
 use tm_conv::{Rate, kept};
 
-pub(crate) fn step_len(rate: Rate, t: u64) -> usize
-    ensures { result ≡ step_size rate t }
-{
-    let (first, second) = kept(rate, t);
-    usize::from(first) + usize::from(second)
-}
-
 // What the first octet is from a 0 and from a 1, or nothing where c1 is not sent.
 fn c1_costs(is_sent: bool, octets: &[u8]) -> (u16, u16)
     requires { IsTrue is_sent → 0 < length octets.now }

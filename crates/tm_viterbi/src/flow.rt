@@ -3,11 +3,10 @@ ghost use Rattle.std.specs.Prelude.{◌≡◌, IfOk, IsTrue, ℕ, ◌+◌, ◌-�
 ghost use Rattle.tm_conv.specs.Path.{steps_size};
 ghost use Rattle.tm_viterbi.specs.Starts.{starts_from};
 
-use crate::costs::step_len;
 use crate::filling::{Found, Window};
 use crate::tail::Tail;
 use std::alloc::{AllocError, Global};
-use tm_conv::Rate;
+use tm_conv::{Rate, step_len};
 
 // How many symbols so many steps from step t on send.
 fn span(rate: Rate, t: u64, count: usize) -> usize

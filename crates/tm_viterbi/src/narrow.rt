@@ -5,10 +5,10 @@ ghost use Rattle.tm_viterbi.specs.Column.{IsEach, sum_via, IsNextSums, AreSurviv
 ghost use Rattle.tm_viterbi.specs.Totals.{StepsTo, AreAtMost};
 ghost use Rattle.tm_viterbi.specs.Carries.{Carries, lifted};
 
-use crate::costs::{step_costs, step_len};
+use crate::costs::step_costs;
 use crate::lanes::{FAR, NEAR};
 use std::simd::prelude::*;
-use tm_conv::Rate;
+use tm_conv::{Rate, step_len};
 
 fn near_costs(costs: Simd<u16, 4>) -> Simd<u16, 32>
     ensures { IsEach result (λ i. slice_index costs (2 * c1 (2 * i) 0 + c2 (2 * i) 0)) }

@@ -4,10 +4,10 @@ ghost use Rattle.tm_conv.specs.Path.{step_size, steps_size};
 ghost use Rattle.tm_viterbi.specs.Totals.{StepsTo, AreAtMost};
 ghost use Rattle.tm_viterbi.specs.Carries.{Carries};
 
-use crate::costs::{step_costs, step_len, wide_costs};
+use crate::costs::{step_costs, wide_costs};
 use crate::lanes::lane_column;
 use crate::narrow::{are_close, halves_of, least_sum, less_least, narrow_at, with_least};
-use tm_conv::Rate;
+use tm_conv::{Rate, step_len};
 
 pub(crate) fn step(
     rate: Rate,

@@ -8,12 +8,11 @@ ghost use Rattle.tm_viterbi.specs.Starts.{starts_from, first_start};
 ghost use Rattle.tm_viterbi.specs.WindowBlock.{WindowBlock};
 
 use crate::block::{Block, BlockTaker, Start};
-use crate::costs::step_len;
 use crate::filling::Found;
 use crate::flow::Flow;
 use std::alloc::{AllocError, Global};
 use tm_base::Failed;
-use tm_conv::Rate;
+use tm_conv::{Rate, step_len};
 
 /// The window that is being filled, and the octet that waits for the rest of its step.
 #[derive(Drop)]
