@@ -16,7 +16,7 @@ use Rattle.tm_viterbi.specs.Settings.{Settings}
 use Rattle.tm_viterbi.specs.WindowBlock.{WindowBlock}
 use Rattle.tm_viterbi.specs.Blocks.{AreBlocksOf}
 use Rattle.tm_viterbi.specs.Clean.{IsFixed, AreClean, sure_symbols}
-use Rattle.tm_inner.specs.Inner.{IsStartKnown, settings_of, soft_value, soft_octets, BlocksAt, bits_at, Inner}
+use Rattle.tm_inner.specs.Inner.{IsStartKnown, settings_of, soft_value, soft_octets, BlocksAt, AreInnerBlocks, bits_at, inner_bits, Inner}
 use Rattle.tm_inner.specs.Symbols.{rate_of, is_inverted, low_level, symbols_by, symbols_of_octets}
 
 -- ---- one list of bits
@@ -33,6 +33,26 @@ same-blocks one (Some rate) c phase octets blocks others left rest p q = (one (s
 pub only_bits : OneBlocks → (c : Configuration) (phase : ℕ) (octets : List ℕ) (bits others : List Bool) → Inner c phase octets bits → Inner c phase octets others → bits ≡ others
 only_bits one c phase octets bits others p q =
     p.are_bits ∙ ap (bits_at (rate_of c.inner) c octets) (same-blocks one (rate_of c.inner) c phase octets p.blocks q.blocks p.left q.left p.are_blocks q.are_blocks) ∙ sym q.are_bits
+
+-- ---- some list of bits
+
+-- octets have blocks
+abbrev pub HasBlocks : Type 0
+HasBlocks = (s : Settings) (octets : List ℕ) → 0 < s.keep → (blocks : List WindowBlock) × (left : ℕ) × AreBlocksOf s octets blocks left
+
+blocks-at : HasBlocks → (rate : Option Rate) (c : Configuration) (phase : ℕ) (octets : List ℕ) → 0 < c.keep
+    → (blocks : List WindowBlock) × (left : ℕ) × BlocksAt rate c phase octets blocks left
+blocks-at exists None c phase octets some = ([], 0, (refl, refl))
+blocks-at exists (Some rate) c phase octets some = exists (settings_of c rate) (soft_octets c phase octets) some
+
+pub has_blocks : HasBlocks → (c : Configuration) (phase : ℕ) (octets : List ℕ) → IsAccepted c
+    → (blocks : List WindowBlock) × (left : ℕ) × AreInnerBlocks c phase octets blocks left
+has_blocks exists c phase octets ok = blocks-at exists (rate_of c.inner) c phase octets (let keep = ok.some_keep in omega arith)
+
+pub has_bits : HasBlocks → (c : Configuration) (phase : ℕ) (octets : List ℕ) → IsAccepted c → (bits : List Bool) × Inner c phase octets bits
+has_bits exists c phase octets ok =
+    let h = has_blocks exists c phase octets ok in
+    (inner_bits c octets h.0, record { blocks = h.0; left = h.1; are_blocks = h.2; are_bits = refl })
 
 -- ---- octets that were sent
 

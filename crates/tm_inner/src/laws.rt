@@ -11,7 +11,8 @@ use tm_viterbi::{clean_blocks_law, closed_windows_law, due_law, one_list_law};
 
 /// Received octets come to one list of bits. It does nothing.
 pub fn inner_law()
-    ensures { (c : Configuration) (phase : ℕ) (octets : List ℕ) (bits others : List Bool)
+    ensures exists { (c : Configuration) (phase : ℕ) (octets : List ℕ) → IsAccepted c → (bits : List Bool) × Inner c phase octets bits }
+    ensures one { (c : Configuration) (phase : ℕ) (octets : List ℕ) (bits others : List Bool)
         → Inner c phase octets bits → Inner c phase octets others → bits ≡ others }
 {
     one_list_law();

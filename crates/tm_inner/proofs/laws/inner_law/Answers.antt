@@ -1,5 +1,8 @@
-use Rattle.tm_inner.proofs.InnerBits.{only_bits}
+use Rattle.tm_inner.proofs.InnerBits.{has_bits, only_bits}
 use Rattle.tm_inner.proofs.laws.inner_law.Goals as goal
 
-pub returns : goal.returns
-returns c = only_bits c.one_list_law.ensures.one
+pub returns-clause-exists : goal.returns-clause-exists
+returns-clause-exists c = has_bits c.one_list_law.ensures.exists
+
+pub returns-clause-one : goal.returns-clause-one
+returns-clause-one c = only_bits c.one_list_law.ensures.one
