@@ -1,5 +1,5 @@
 -- Octets come to no more bits than they have.
-use Rattle.std.proofs.Common.{ℕ, zero, suc, ◌≡◌, ◌+◌, ◌-◌, ◌*◌, ◌≤◌, ◌<◌, ◌==◌, ◌∙◌, refl, Bool, List, [], ◌∷◌, ◌++◌, length, take, drop, ap, sym, subst, arith, inl, inr, Option, Some, None, length-append, length-drop, length-take}
+use Rattle.std.proofs.Common.{ℕ, ◌≡◌, ◌+◌, ◌-◌, ◌*◌, ◌≤◌, ◌<◌, ◌==◌, ◌∙◌, refl, Bool, List, [], ◌∷◌, ◌++◌, length, take, ap, sym, subst, arith, inl, inr, Option, Some, None, length-append, length-drop, length-take}
 use Rattle.std.proofs.lemmas.List.{length-map}
 use Rattle.std.proofs.lemmas.Bool.{cases_lt}
 use Rattle.tm_base.specs.Bits.{bits_of}
@@ -7,7 +7,7 @@ use Rattle.tm_base.proofs.Packing.{length-bits_of}
 use Rattle.tm_config.specs.Configuration.{Configuration}
 use Rattle.tm_conv.specs.declared.rates.Rate.{Rate}
 use Rattle.tm_conv.specs.Path.{steps_size}
-use Rattle.tm_conv.proofs.Sizes.{step_size_pos}
+use Rattle.tm_conv.proofs.Sizes.{steps_size_ge}
 use Rattle.tm_viterbi.specs.WindowBlock.{WindowBlock}
 use Rattle.tm_viterbi.specs.Clean.{kept_bits}
 use Rattle.tm_viterbi.specs.Due.{Place, Closed, behind, first_place}
@@ -18,11 +18,6 @@ use Rattle.tm_inner.specs.Inner.{settings_of, soft_octets, BlocksAt, DueAt, bits
 use Rattle.tm_inner.specs.Receiving.{FirstAt, AreInnerFirst}
 use Rattle.tm_inner.proofs.ReceivedBits.{block-bits, kept-le, kept-count, length-soft, steps_size-add}
 use Rattle.tm_inner.proofs.DueBits.{kept-append}
-
-steps-large : (rate : Rate) (t n : ℕ) → n ≤ steps_size rate t n
-unfolding steps_size
-steps-large rate t zero = omega arith
-steps-large rate t (suc n) = omega (arith, steps-large rate (t + 1) n, step_size_pos rate t)
 
 closed-few : (rate : Rate) (invert : Bool) (keep ahead : ℕ) (from to : Place) (blocks : List WindowBlock) → Closed rate invert keep ahead from blocks to
     → length (kept_bits blocks) ≤ length from.octets
@@ -36,7 +31,7 @@ closed-few rate invert keep ahead from to (b ∷ blocks) closed =
     omega (arith, length-take b.kept b.bits, block-bits rate invert keep ahead from.starts from.t n from.octets b closed.0.room is) in
     let behind = closed-few rate invert keep ahead (behind rate from b) to blocks closed.1 in
     let inside : steps_size rate from.t b.kept ≤ length from.octets = omega (arith, closed.0.room, steps-mono rate from.t b.kept n (omega arith)) in
-    omega (arith, length-append (take b.kept b.bits) (kept_bits blocks), front, behind, inside, length-drop (steps_size rate from.t b.kept) from.octets, steps-large rate from.t b.kept)
+    omega (arith, length-append (take b.kept b.bits) (kept_bits blocks), front, behind, inside, length-drop (steps_size rate from.t b.kept) from.octets, steps_size_ge rate from.t b.kept)
 
 few-first : (rate : Option Rate) (c : Configuration) (octets : List ℕ) (blocks : List WindowBlock) → FirstAt rate c 0 octets blocks → length (bits_at rate c octets blocks) ≤ 8 * length octets
 few-first None c octets blocks are = omega (arith, length-drop c.skip (bits_of octets), length-bits_of octets)
@@ -50,7 +45,7 @@ few-whole None c octets blocks left are = omega (arith, length-drop c.skip (bits
 few-whole (Some rate) c octets blocks left are =
     let s = settings_of c rate in
     let kept = kept-count rate s.invert s.keep s.ahead (first_start s.start) 0 are.count (soft_octets c 0 octets) blocks are.steps.whole are.are in
-    omega (arith, kept, are.steps.whole, steps-large rate 0 are.count, length-soft c octets, length-map (kept_bits blocks) (λ bit. bit == 1))
+    omega (arith, kept, are.steps.whole, steps_size_ge rate 0 are.count, length-soft c octets, length-map (kept_bits blocks) (λ bit. bit == 1))
 
 -- the bits of first blocks, and of all blocks
 pub first-few : (c : Configuration) (octets : List ℕ) (blocks : List WindowBlock) → AreInnerFirst c 0 octets blocks → length (inner_bits c octets blocks) ≤ 8 * length octets
@@ -112,7 +107,7 @@ reach_with : (rate : Rate) (t n m k count : ℕ) → steps_size rate t (n + m) <
 reach_with rate t n m k count less = elim (cases_lt (k + count) m) as (λ _. m ≤ k + count) [
   | inl more ↦ (
       let split : m ≡ (k + 1) + (m - (k + 1)) = omega (arith, more) in
-      absurd (omega (arith, less, more, steps_size-add rate t n m, ap (steps_size rate (t + n)) split, steps_size-add rate (t + n) (k + 1) (m - (k + 1)), steps-large rate (t + n + (k + 1)) (m - (k + 1))))
+      absurd (omega (arith, less, more, steps_size-add rate t n m, ap (steps_size rate (t + n)) split, steps_size-add rate (t + n) (k + 1) (m - (k + 1)), steps_size_ge rate (t + n + (k + 1)) (m - (k + 1))))
       )
   | inr there ↦ there
 ]
@@ -174,7 +169,7 @@ none-due None c = refl
 none-due (Some rate) c = record {
   to = first_place (settings_of c rate) (soft_octets c 0 []);
   closed = refl;
-  few = omega (arith, length-soft c [], steps-large rate 0 (c.keep + c.ahead + 1));
+  few = omega (arith, length-soft c [], steps_size_ge rate 0 (c.keep + c.ahead + 1));
 }
 
 pub due-none : (c : Configuration) → AreInnerDue c 0 [] []

@@ -14,7 +14,7 @@ use Rattle.tm_viterbi.specs.Decoding.{Decoding}
 use Rattle.tm_viterbi.specs.declared.decoder.FeedError.{FeedError}
 use Rattle.tm_viterbi.specs.declared.decoder.FeedError.TheVariants.{Taker, Stopped}
 use Rattle.tm_inner.specs.Symbols.{rate_of}
-use Rattle.tm_inner.specs.Inner.{settings_of, soft_value, soft_octets, BlocksAt, DueAt, AreInnerBlocks, AreInnerDue}
+use Rattle.tm_inner.specs.Inner.{soft_value, soft_octets, BlocksAt, DueAt, AreInnerBlocks, AreInnerDue}
 use Rattle.tm_inner.specs.Receiving.{IsDecoderOf, Decodes, DecodesFor, FindsFirst, FirstAt, AreInnerFirst, Hands, HandsFront, InnerReceiving, StandsFor, from_form}
 use Rattle.tm_inner.proofs.DueBits.{drop-split}
 

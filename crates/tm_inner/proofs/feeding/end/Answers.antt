@@ -1,10 +1,8 @@
-use Rattle.std.proofs.Common.{◌≡◌, ◌∷◌, ◌∙◌, ℕ, [], true, false, refl, sym, subst, arith, Option, Some, Err, IsErrOf, IsTrue}
-use Rattle.std.proofs.lemmas.List.{append-nil}
+use Rattle.std.proofs.Common.{◌≡◌, ◌∙◌, true, false, sym, subst, Option, IsTrue}
 use Rattle.tm_viterbi.specs.Decoding.{Decoding}
-use Rattle.tm_viterbi.specs.declared.decoder.FeedError.{FeedError}
 use Rattle.tm_inner.specs.Inner.{soft_octets}
 use Rattle.tm_inner.specs.Receiving.{IsDecoderOf, HasStopped, DecodesFor}
-use Rattle.tm_inner.proofs.GivenPieces.{taker_alone, blocks-of, blocks-none}
+use Rattle.tm_inner.proofs.GivenPieces.{taker_alone, blocks-of}
 use Rattle.tm_inner.proofs.feeding.end.Goals as goal
 
 pub returns-in-Err-clause-front : goal.returns-in-Err-clause-front

@@ -1,4 +1,4 @@
-use Rattle.std.proofs.Common.{arith, ap, ℕ}
+use Rattle.std.proofs.Common.{arith, ap}
 use Rattle.tm_inner.specs.Receiving.{InnerReceiving}
 use Rattle.tm_inner.proofs.ReceivedBits.{bits-further}
 use Rattle.tm_inner.proofs.receiver.InnerReceiver.bits_to_skip.Goals as goal

@@ -1,6 +1,5 @@
-use Rattle.std.proofs.Common.{◌≡◌, ◌++◌, ◌==◌, not, ℕ, List, Bool, refl, sym, ap, subst, arith}
+use Rattle.std.proofs.Common.{◌++◌, ◌==◌, not, ℕ, List, Bool, refl, sym, ap, subst, arith}
 use Rattle.std.proofs.lemmas.List.{take_rest}
-use Rattle.tm_config.specs.Configuration.{Configuration}
 use Rattle.tm_inner.specs.Inner.{AreInnerDue}
 use Rattle.tm_inner.specs.Receiving.{InnerReceiving, StandsFor, AreInnerFirst, HasStopped, DecodesFor, FindsFirst, Hands, HandsFront, from_form}
 use Rattle.tm_inner.proofs.GivenPieces.{stands-further, front-further}
