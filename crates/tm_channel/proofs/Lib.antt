@@ -7,6 +7,7 @@ pub mod Repairs
 pub mod CleanStreams
 pub mod Polarity
 pub mod OnlyItems
+mod HasItems
 pub mod ReceivedOctets
 pub mod TurnedOctets
 pub mod DueItems

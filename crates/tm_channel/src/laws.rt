@@ -17,7 +17,8 @@ use tm_viterbi::{closed_windows_law, due_law, turned_blocks_law};
 
 /// Received octets come to one list of items. It does nothing.
 pub fn items_law()
-    ensures { (c : Configuration) (phase : ℕ) (octets : List ℕ) (items others : List ItemValue) → IsAccepted c
+    ensures exists { (c : Configuration) (phase : ℕ) (octets : List ℕ) → IsAccepted c → (items : List ItemValue) × Receive c phase octets items }
+    ensures one { (c : Configuration) (phase : ℕ) (octets : List ℕ) (items others : List ItemValue) → IsAccepted c
         → Receive c phase octets items → Receive c phase octets others → items ≡ others }
 {
     inner_law();

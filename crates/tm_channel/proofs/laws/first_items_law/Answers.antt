@@ -5,4 +5,4 @@ pub returns-clause-feed : goal.returns-clause-feed
 returns-clause-feed c = first-stand c.closed_windows_law.ensures c.due_law.ensures.first
 
 pub returns-clause-finish : goal.returns-clause-finish
-returns-clause-finish c = front-stand c.inner_law.ensures
+returns-clause-finish c = front-stand c.inner_law.ensures.one

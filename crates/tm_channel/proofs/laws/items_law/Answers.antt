@@ -1,5 +1,9 @@
+use Rattle.tm_channel.proofs.HasItems.{has-items}
 use Rattle.tm_channel.proofs.ReceivedOctets.{received-only}
 use Rattle.tm_channel.proofs.laws.items_law.Goals as goal
 
-pub returns : goal.returns
-returns c = received-only c.inner_law.ensures
+pub returns-clause-exists : goal.returns-clause-exists
+returns-clause-exists c = has-items c.inner_law.ensures.exists
+
+pub returns-clause-one : goal.returns-clause-one
+returns-clause-one c = received-only c.inner_law.ensures.one
