@@ -110,7 +110,7 @@ fn column_checks(params: &Params, basis: Basis, word: &[u8], out: &mut [u8])
     basis.elements_to_octets(symbols, out);
 }
 
-// The basis of a configuration.
+/// The basis of a configuration.
 pub fn basis_of(config: &Config) -> Basis
     ensures { result ≡ basis_of config.now.basis }
 {
