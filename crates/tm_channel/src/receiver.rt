@@ -22,7 +22,7 @@ use tm_config::Config;
 use tm_inner::InnerReceiver;
 use tm_sync::Search;
 use tm_viterbi::AllError;
-use tm_workers::Gate;
+use tm_workers::{Gate, OpenGate};
 
 /// Why a receiver refused a call.
 #[derive(Clone, Copy, Debug, PartialEq, Eq, Error)]
@@ -182,14 +182,13 @@ impl Receiver {
 /// Hands over all items of octets, fewer than 2^60, and answers how many bits were received.
 ///
 /// `Memory` comes only where there isn't enough of it; nothing is handed over then. `Taker` comes where `taker` fails; first items
-/// were then handed over.
-pub fn receive_all<R: Threads + Sync, T: ItemTaker, G: Gate + Sync>(
+/// were then handed over. Workers enter `OpenGate`.
+pub fn receive_all<R: Threads + Sync, T: ItemTaker>(
     rt: &R,
     alloc: Global,
     config: Config,
     octets: &[u8],
     taker: &mut T,
-    gate: &G,
 ) -> Result<u64, AllError>
     ensures handed { IfOk result (λ count. (items : List ItemValue) × HandedOver T.took taker.old items taker.new
         × (length octets.now < 2 ^ 60 → (bits : List Bool) × Inner config 0 octets.now bits × (count ≡ length bits) × AreItems config bits items)) }
@@ -203,10 +202,10 @@ pub fn receive_all<R: Threads + Sync, T: ItemTaker, G: Gate + Sync>(
     let Ok(mut receiver) = Receiver::open(alloc, config) else {
         return Err(AllError::Memory);
     };
-    let Ok(()) = receiver.feed(rt, octets, taker, gate) else {
+    let Ok(()) = receiver.feed(rt, octets, taker, &OpenGate) else {
         return Err(AllError::Taker);
     };
-    match receiver.finish(rt, taker, gate) {
+    match receiver.finish(rt, taker, &OpenGate) {
         Ok(count) => Ok(count),
         Err(_) => Err(AllError::Taker),
     }

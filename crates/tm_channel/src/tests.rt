@@ -1,5 +1,5 @@
 // What comes of columns with wrong octets.
-use crate::{Answer, Config, Item, ItemTaker, OpenGate, Raw, receive_all};
+use crate::{Answer, Config, Item, ItemTaker, Raw, receive_all};
 use std::alloc::Global;
 use std::process::Abort;
 use std::test::Fail;
@@ -61,7 +61,7 @@ fn receive<R: Abort + Threads + Sync>(rt: &R, alloc: Global, octets: &[u8]) -> R
         answer: None,
         octet: None,
     };
-    receive_all(rt, alloc, config, octets, &mut last, &OpenGate)?;
+    receive_all(rt, alloc, config, octets, &mut last)?;
     assert!(rt; last.count == 1);
     Ok(last)
 }

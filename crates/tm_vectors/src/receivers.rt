@@ -115,7 +115,7 @@ fn received(
 ) -> Result<(Vec<Kept>, Result<u64, AllError>), Fail> {
     let config = Config::check(&link(skip))?;
     let mut taker = Collector::new(alloc, room);
-    let end = receive_all(rt, alloc, config, octets, &mut taker, &OpenGate);
+    let end = receive_all(rt, alloc, config, octets, &mut taker);
     Ok((taker.kept, end))
 }
 
