@@ -5,5 +5,6 @@ pub mod InnerBits
 pub mod DueBits
 pub mod ReceivedBits
 pub mod FewBits
+mod Metrics
 pub mod GivenPieces
 pub mod WorkedBits

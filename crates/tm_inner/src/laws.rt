@@ -1,6 +1,7 @@
 // What holds of received octets, over the definitions alone.
-ghost use Rattle.std.specs.Prelude.{◌≡◌, ◌++◌, ℕ, Bool, List};
-ghost use Rattle.tm_base.specs.Bits.{bits_of};
+ghost use Rattle.std.specs.Prelude.{◌≡◌, ◌≤◌, ◌++◌, ◌+◌, ◌*◌, ℕ, Bool, List};
+ghost use Rattle.std.specs.List.{All};
+ghost use Rattle.tm_base.specs.Bits.{AreOctets, bits_of};
 ghost use Rattle.tm_config.specs.Accepted.{IsAccepted};
 ghost use Rattle.tm_config.specs.Configuration.{Configuration};
 ghost use Rattle.tm_inner.specs.Inner.{IsStartKnown, AreInnerBlocks, AreInnerDue, Inner, inner_bits};
@@ -36,3 +37,11 @@ pub fn due_bits_law()
     closed_windows_law();
     due_law();
 }
+
+/// A block has at most keep+ahead steps, and costs at most 510 for each of them, since a step sends two symbols at most: no metric is
+/// above 35,512,320. It does nothing.
+pub fn metric_law()
+    ensures { (c : Configuration) (phase : ℕ) (octets : List ℕ) (blocks : List WindowBlock) (left : ℕ) → IsAccepted c → AreOctets octets
+        → AreInnerBlocks c phase octets blocks left
+        → All (λ block. (block.steps ≤ c.keep + c.ahead) × (block.metric ≤ 510 * block.steps) × (block.metric ≤ 35512320)) blocks }
+{}

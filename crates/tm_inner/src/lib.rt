@@ -12,7 +12,7 @@ mod sender;
 mod tests;
 mod whole;
 
-pub use laws::{clean_inner_law, due_bits_law, inner_law};
+pub use laws::{clean_inner_law, due_bits_law, inner_law, metric_law};
 pub use receiver::{InnerEnd, InnerReceiver};
 pub use sender::{InnerSender, SendError};
 pub use whole::inner_all;
