@@ -7,7 +7,8 @@ use std::marker::Model;
 use tm_base::Failed;
 use tm_rs_solve::Answer;
 
-/// What is said of a codeblock that was found (CCSDS 131.0-B, Frame Synchronization and Reed-Solomon Coding).
+/// What is said of a codeblock that was found (CCSDS 131.0-B, Frame Synchronization and Reed-Solomon Coding). It has at most eight
+/// answers.
 #[derive(Debug, Drop)]
 pub struct Item<'a> {
     /// How many received bits stand before its marker.
@@ -18,7 +19,7 @@ pub struct Item<'a> {
     pub bridged: bool,
     /// Whether the codeblock was received inverted.
     pub inverted: bool,
-    /// What became of each column, at most eight; none with no outer code.
+    /// What became of each column; none with no outer code.
     pub answers: &'a [Answer],
     /// The octets of the transfer frame; none where a column is beyond repair.
     pub frame: &'a [u8],
