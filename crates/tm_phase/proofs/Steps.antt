@@ -1,0 +1,50 @@
+-- How many symbols whole steps send.
+use Rattle.std.proofs.Common.{◌≡◌, ℕ, ◌+◌, ◌-◌, ◌*◌, ◌/◌, ◌%◌, ◌<◌, ◌≤◌, min, arith}
+use Rattle.tm_conv.specs.declared.rates.Rate.{Rate}
+use Rattle.tm_conv.specs.declared.rates.Rate.TheVariants.{R12, R23, R34, R56, R78}
+use Rattle.tm_conv.specs.Path.{period, steps_size}
+use Rattle.tm_conv.proofs.Sizes.{steps_size-is}
+
+-- so many symbols have `count` whole steps, which send `size` of them
+pub record AreWhole (rate : Rate) (symbols count size : ℕ) : Type 0 where
+  pub is : steps_size rate 0 count ≡ size
+  pub fits : size ≤ symbols
+  pub most : symbols < steps_size rate 0 (count + 1)
+
+-- one symbol is left over where it stands alone behind whole periods, and else none
+abbrev pub left_over : ℕ → ℕ → ℕ
+left_over period symbols = min 1 (symbols % (period + 1)) - min 1 (symbols % (period + 1) - 1)
+
+pub whole_steps : (rate : Rate) (n size : ℕ) → size + left_over (period rate) n ≡ n → (count : ℕ) × AreWhole rate n count size
+whole_steps R12 n size h =
+    let m : ℕ = n / 2 * 1 + (n % 2 - 1) in
+    let a : steps_size R12 0 m ≡ m + (m / 1 + min 1 (m % 1)) = steps_size-is R12 m in
+    let b : steps_size R12 0 (m + 1) ≡ m + 1 + ((m + 1) / 1 + min 1 ((m + 1) % 1)) = steps_size-is R12 (m + 1) in
+    (m, record { is = omega (arith, a); fits = omega arith; most = omega (arith, b) })
+whole_steps R23 n size h =
+    let m : ℕ = n / 3 * 2 + (n % 3 - 1) in
+    let a : steps_size R23 0 m ≡ m + (m / 2 + min 1 (m % 2)) = steps_size-is R23 m in
+    let b : steps_size R23 0 (m + 1) ≡ m + 1 + ((m + 1) / 2 + min 1 ((m + 1) % 2)) = steps_size-is R23 (m + 1) in
+    (m, record { is = omega (arith, a); fits = omega arith; most = omega (arith, b) })
+whole_steps R34 n size h =
+    let m : ℕ = n / 4 * 3 + (n % 4 - 1) in
+    let a : steps_size R34 0 m ≡ m + (m / 3 + min 1 (m % 3)) = steps_size-is R34 m in
+    let b : steps_size R34 0 (m + 1) ≡ m + 1 + ((m + 1) / 3 + min 1 ((m + 1) % 3)) = steps_size-is R34 (m + 1) in
+    (m, record { is = omega (arith, a); fits = omega arith; most = omega (arith, b) })
+whole_steps R56 n size h =
+    let m : ℕ = n / 6 * 5 + (n % 6 - 1) in
+    let a : steps_size R56 0 m ≡ m + (m / 5 + min 1 (m % 5)) = steps_size-is R56 m in
+    let b : steps_size R56 0 (m + 1) ≡ m + 1 + ((m + 1) / 5 + min 1 ((m + 1) % 5)) = steps_size-is R56 (m + 1) in
+    (m, record { is = omega (arith, a); fits = omega arith; most = omega (arith, b) })
+whole_steps R78 n size h =
+    let m : ℕ = n / 8 * 7 + (n % 8 - 1) in
+    let a : steps_size R78 0 m ≡ m + (m / 7 + min 1 (m % 7)) = steps_size-is R78 m in
+    let b : steps_size R78 0 (m + 1) ≡ m + 1 + ((m + 1) / 7 + min 1 ((m + 1) % 7)) = steps_size-is R78 (m + 1) in
+    (m, record { is = omega (arith, a); fits = omega arith; most = omega (arith, b) })
+
+pub steps_size-few : (rate : Rate) (n : ℕ) → steps_size rate 0 n ≤ 2 * n
+steps_size-few R12 n = let a : steps_size R12 0 n ≡ n + (n / 1 + min 1 (n % 1)) = steps_size-is R12 n in omega (arith, a)
+steps_size-few R23 n = let a : steps_size R23 0 n ≡ n + (n / 2 + min 1 (n % 2)) = steps_size-is R23 n in omega (arith, a)
+steps_size-few R34 n = let a : steps_size R34 0 n ≡ n + (n / 3 + min 1 (n % 3)) = steps_size-is R34 n in omega (arith, a)
+steps_size-few R56 n = let a : steps_size R56 0 n ≡ n + (n / 5 + min 1 (n % 5)) = steps_size-is R56 n in omega (arith, a)
+steps_size-few R78 n = let a : steps_size R78 0 n ≡ n + (n / 7 + min 1 (n % 7)) = steps_size-is R78 n in omega (arith, a)

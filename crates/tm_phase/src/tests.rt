@@ -1,0 +1,101 @@
+// Worked values, and values from a program outside that walks each candidate's trellis with numbers of its own.
+use super::*;
+use tm_conv::Rate;
+
+// The symbols of the marker 1A CF FC 1D at rate 1/2, the second of each pair inverted.
+const MARKER_SYMBOLS: u64 = 0x56081C971AA73D3E;
+
+// The octets that cases are fronts of: the high octet of each next number of a sequence.
+fn drawn(seed: u64) -> [u8; 48] {
+    let mut now = seed;
+    let mut octets = [0; 48];
+    for octet in octets.iter_mut() {
+        now = now
+            .wrapping_mul(6364136223846793005)
+            .wrapping_add(1442695040888963407);
+        *octet = (now >> 56) as u8;
+    }
+    octets
+}
+
+// One octet before undisturbed symbols.
+#[test]
+fn symbols_behind_an_octet(rt: HostRuntime) {
+    let mut octets = [0; 65];
+    for i in 0..64 {
+        octets[1 + i] = if MARKER_SYMBOLS >> (63 - i) & 1 == 1 {
+            0xFF
+        } else {
+            0x00
+        };
+    }
+    let wanted = Chosen { skip: 1, cost: 0 };
+    assert_eq!(rt; choose(Rate::R12, true, 8448, &octets), wanted);
+}
+
+// Both phases cost nothing.
+#[test]
+fn tie(rt: HostRuntime) {
+    let octets = [0xFF, 0x00, 0xFF, 0x00, 0xFF, 0x00, 0xFF];
+    let wanted = Chosen { skip: 0, cost: 0 };
+    assert_eq!(rt; choose(Rate::R12, true, 8448, &octets), wanted);
+    assert_eq!(rt; choose(Rate::R12, true, 8448, &[]), wanted);
+}
+
+#[test]
+fn drawn_octets(rt: HostRuntime) {
+    let rows = [
+        (Rate::R12, true, 8448, 48, 2, 0, 3108),
+        (Rate::R12, false, 8448, 48, 1, 1, 3470),
+        (Rate::R12, false, 1, 3, 7, 1, 34),
+        (Rate::R12, true, 69632, 2, 3, 0, 0),
+        (Rate::R23, false, 9, 30, 4, 1, 588),
+        (Rate::R23, true, 8448, 48, 1, 2, 3247),
+        (Rate::R23, false, 8448, 3, 9, 0, 0),
+        (Rate::R23, false, 4, 8, 11, 2, 236),
+        (Rate::R34, false, 69632, 31, 2, 1, 1539),
+        (Rate::R34, true, 9, 30, 4, 2, 460),
+        (Rate::R34, false, 8448, 48, 1, 3, 3119),
+        (Rate::R56, false, 8448, 48, 5, 1, 2142),
+        (Rate::R56, false, 9, 30, 1, 4, 781),
+        (Rate::R56, true, 35, 48, 3, 5, 3045),
+        (Rate::R78, false, 20, 48, 6, 2, 1393),
+        (Rate::R78, true, 20, 48, 2, 6, 1162),
+        (Rate::R78, false, 8448, 48, 1, 7, 2667),
+        (Rate::R78, false, 1, 8, 5, 0, 0),
+        (Rate::R78, false, 1, 9, 5, 1, 80),
+    ];
+    for (rate, invert, window, count, seed, skip, cost) in rows {
+        let octets = drawn(seed);
+        assert!(rt; count <= octets.len());
+        assert!(rt; 1 <= window && window <= 69_632);
+        let chosen = choose(rate, invert, window, &octets[..count]);
+        assert_eq!(rt;
+            chosen,
+            Chosen { skip, cost },
+            "{rate:?}, {count} octets from {seed}"
+        );
+    }
+}
+
+#[test]
+fn octets_for_a_window(rt: HostRuntime) {
+    let rows = [
+        (Rate::R12, 3, 16_897, 139_265),
+        (Rate::R23, 4, 12_674, 104_450),
+        (Rate::R34, 5, 11_267, 92_846),
+        (Rate::R56, 7, 10_143, 83_564),
+        (Rate::R78, 9, 9_662, 79_587),
+    ];
+    for (rate, one, default, most) in rows {
+        assert_eq!(rt; octets_needed(rate, 1), one);
+        assert_eq!(rt; octets_needed(rate, 8_448), default);
+        assert_eq!(rt; octets_needed(rate, 69_632), most);
+    }
+}
+
+#[test]
+fn laws(_rt: HostRuntime) {
+    phase_law();
+    whole_window_law();
+}
