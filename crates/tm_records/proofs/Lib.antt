@@ -1,0 +1,2 @@
+pub mod NearestRecords
+pub mod ReadRecords

@@ -1,0 +1,42 @@
+-- What contracts see of a batch of records, and what its room holds.
+use Rattle.std.specs.Prelude.{◌≡◌, ℕ, ◌*◌, ◌<◌, ◌≤◌, List, [], ◌∷◌, map, take, drop, unwrap_or}
+use Rattle.tm_gf256.specs.Poly.{numbers}
+use Rattle.tm_rs_code.specs.Erasures.{NearestErased}
+use Rattle.tm_rs_solve.specs.Answers.{found_erased}
+use Rattle.tm_rs_solve.specs.declared.answers.ErasedAnswer.TheVariants.{Beyond}
+use Rattle.tm_workers.specs.declared.words.ErasedWord.{ErasedWord}
+use Rattle.tm_records.specs.declared.coding.Coding.{Coding}
+use Rattle.tm_records.specs.Records.{first_erased, first_word, record_size}
+
+-- the octets of a batch that were taken so far, and what was found nearest to the words of its records when they were decoded
+pub record Batch : Type 0 where
+  pub coding : Coding
+  pub octets : List ℕ
+  pub nearest : List NearestErased
+
+-- there is room for 256 records of this size: so many octets are taken, and so many records were decoded
+pub record HasRoom (c : Coding) (size octets words taken decoded : ℕ) : Type 0 where
+  pub is_size : size ≡ record_size c
+  pub some : 0 < size
+  pub most : size ≤ 510
+  pub room : octets ≡ 256 * size
+  pub count : words ≡ 256
+  pub few_octets : taken ≤ octets
+  pub few_words : decoded ≤ words
+
+-- the word holds the first record of these octets
+pub record IsRead (c : Coding) (octets : List ℕ) (w : ErasedWord) : Type 0 where
+  pub symbols : numbers (take c.params.n w.symbols) ≡ first_word c octets
+  pub erased : take c.params.n w.erased ≡ first_erased c octets
+
+-- the words hold the first records, one behind the other
+abbrev pub AreRead : Coding → List ℕ → List ErasedWord → Type 0
+AreRead c octets [] = Unit {0}
+AreRead c octets (w ∷ words) = IsRead c octets w × AreRead c (drop (record_size c) octets) words
+
+-- what a word says that was decoded
+abbrev pub nearest_in : Coding → ErasedWord → NearestErased
+nearest_in c w = found_erased (unwrap_or w.answer Beyond) (numbers (take c.params.n w.symbols))
+
+abbrev pub all_nearest : Coding → List ErasedWord → List NearestErased
+all_nearest c words = map (nearest_in c) words

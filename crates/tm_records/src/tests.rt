@@ -1,0 +1,92 @@
+// Worked records.
+ghost use Rattle.std.specs.Prelude.{◌≡◌, ◌<◌, ◌≤◌};
+
+use crate::{Coding, ErasedAnswer, Records, nearest_records_law};
+use std::alloc::Global;
+use std::process::Abort;
+use std::test::Fail;
+use tm_dual::Basis;
+use tm_rs_code::Params;
+
+// The codeword of 33 symbols whose information symbol is 1, in the dual basis.
+const A: [u8; 33] = [
+    0x7B, 0x47, 0x32, 0x5F, 0x86, 0x4A, 0x18, 0xA0, 0x78, 0x83, 0xFA, 0xB9, 0x5C, 0x5F, 0x4F, 0xEC,
+    0xFE, 0xEC, 0x4F, 0x5F, 0x5C, 0xB9, 0xFA, 0x83, 0x78, 0xA0, 0x18, 0x4A, 0x86, 0x5F, 0x32, 0x47,
+    0x7B,
+];
+
+// A batch of records of the words of A's code.
+fn open(rt: &impl Abort, alloc: Global, workers: u8) -> Records
+    requires { (0 < workers) × (workers ≤ 64) }
+    ensures { result.coding.params.n ≡ 33 }
+{
+    let params = Params::new(16, 33).expect(rt, "a code");
+    let coding = Coding {
+        params,
+        basis: Basis::Dual,
+        repair: 16,
+    };
+    Records::open(alloc, coding, workers).expect(rt, "memory")
+}
+
+// A with its first symbols made 0, of which the first are erased.
+fn record_of(zeros: usize, erased: usize) -> [u8; 66] {
+    let mut octets = [0; 66];
+    for i in 0..33 {
+        octets[i] = if i < zeros { 0 } else { A[i] };
+        octets[33 + i] = if i < erased { 0xF0 } else { 0 };
+    }
+    octets
+}
+
+#[test]
+fn erased_symbols_are_filled_in(rt: HostRuntime) -> Result<(), Fail> {
+    let mut records = open(&rt, rt.alloc(), 1);
+    let mut piece = [0; 66];
+    piece[0] = 0x7B;
+    piece[34..].fill(1);
+    assert_eq!(rt; records.take(&piece), 66);
+    assert_eq!(rt; records.take(&record_of(17, 2)), 66);
+    assert_eq!(rt; records.take(&record_of(17, 1)), 66);
+    assert_eq!(rt; records.take(&piece[..65]), 65);
+    assert!(rt; !records.is_full());
+    records.decode(&rt);
+    assert_eq!(rt; records.count(), 3);
+    assert_eq!(rt; records.left_over(), 65);
+    for (index, answer) in [ErasedAnswer::Fixed(0, 32), ErasedAnswer::Fixed(15, 2)]
+        .iter()
+        .enumerate()
+    {
+        let mut octets = [0; 33];
+        assert_eq!(rt; records.answer(index, &mut octets), *answer);
+        assert_eq!(rt; octets, A);
+    }
+    assert_eq!(rt; records.answer(2, &mut [0; 33]), ErasedAnswer::Beyond);
+    records.clear();
+    assert_eq!(rt; records.left_over(), 0);
+    Ok(())
+}
+
+#[test]
+fn a_batch_has_256_records(rt: HostRuntime) -> Result<(), Fail> {
+    nearest_records_law();
+    let mut piece = Vec::new(rt.alloc());
+    for _ in 0..257 {
+        piece.extend_from_slice(&record_of(4, 3))?;
+    }
+    let mut records = open(&rt, rt.alloc(), 7);
+    assert_eq!(rt; records.take(&piece), 256 * 66);
+    assert!(rt; records.is_full());
+    assert_eq!(rt; records.take(&piece), 0);
+    records.decode(&rt);
+    assert_eq!(rt; records.count(), 256);
+    let mut octets = [0; 33];
+    for index in 0..256 {
+        assert_eq!(rt;
+            records.answer(index, &mut octets),
+            ErasedAnswer::Fixed(1, 3)
+        );
+        assert_eq!(rt; octets, A);
+    }
+    Ok(())
+}
