@@ -5,7 +5,7 @@ use Rattle.clap.specs.Words.{App, Shape, Rule, Text, new_rule}
 use Rattle.clap.specs.Simple.{new_shape}
 use Rattle.clap.specs.Faults.{fault_of}
 use Rattle.tm_words.specs.declared.job.JobKind.{JobKind}
-use Rattle.tm_words.specs.declared.job.JobKind.TheVariants.{Encode, Decode, Report, Trace}
+use Rattle.tm_words.specs.declared.job.JobKind.TheVariants.{Encode, Decode, Report, Trace, Word, Soak, Erased}
 use Rattle.clap.specs.declared.builder.action.ArgAction.TheVariants.{Set}
 
 -- the options of every command
@@ -36,17 +36,39 @@ options =
 abbrev pub option_rule : Text → Rule
 option_rule name = record (new_rule name) { long = Some name; action = Some Set }
 
--- the same with more options
+-- a word that is required
+abbrev pub word_rule : Text → Rule
+word_rule name = record (new_rule name) { required = true; action = Some Set }
+
+-- a command with more options
 abbrev pub with_options : List Text → Shape → Shape
 with_options names shape = record shape { rules = shape.rules ++ map option_rule names }
+
+-- a command with one more word
+abbrev pub with_word : Text → Shape → Shape
+with_word name shape = record shape { rules = shape.rules ++ word_rule name ∷ [] }
 
 -- a command that has the options of every command and no more
 abbrev pub plain_command : Text → Shape
 plain_command name = with_options options (new_shape name)
 
--- the names of such commands, and what each asks for
-abbrev pub plain_commands : List (Text × JobKind)
-plain_commands = (codes "encode", Encode) ∷ (codes "decode", Decode) ∷ (codes "report", Report) ∷ (codes "trace", Trace) ∷ []
+-- a command of a name with what it has: `word` a word, and `soak` options of its own
+abbrev pub command_shape : Text → JobKind → Shape
+command_shape name Word = with_word (codes "hex") (plain_command name)
+command_shape name Soak = with_options (codes "seed" ∷ codes "frames" ∷ codes "hits" ∷ []) (plain_command name)
+command_shape name _ = plain_command name
+
+-- the names of the commands, and what each asks for
+abbrev pub commands : List (Text × JobKind)
+commands =
+    (codes "encode", Encode)
+    ∷ (codes "decode", Decode)
+    ∷ (codes "report", Report)
+    ∷ (codes "trace", Trace)
+    ∷ (codes "word", Word)
+    ∷ (codes "soak", Soak)
+    ∷ (codes "erased", Erased)
+    ∷ []
 
 -- the program with its commands: one of them is required, and there is no help or version
 abbrev pub with_commands : List Shape → App
@@ -63,15 +85,15 @@ with_commands commands = record {
 
 -- the command line
 abbrev pub command_line : App
-command_line = with_commands (map (λ command. plain_command command.0) plain_commands)
+command_line = with_commands (map (λ command. command_shape command.0 command.1) commands)
 
 -- what the command of a name asks for; clap's rule takes no name but the commands'
 abbrev pub kind_among : List (Text × JobKind) → Text → JobKind
 kind_among [] name = Encode
-kind_among ((command, kind) ∷ commands) name = if bytes_eq name command then kind else kind_among commands name
+kind_among ((command, kind) ∷ rest) name = if bytes_eq name command then kind else kind_among rest name
 
 abbrev pub kind_of_name : Text → JobKind
-kind_of_name = kind_among plain_commands
+kind_of_name = kind_among commands
 
 -- clap's rule for the command line takes the words, the first of which is the program's name
 abbrev pub AreTaken : List Text → Type 0

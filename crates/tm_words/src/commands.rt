@@ -3,7 +3,7 @@ ghost use Rattle.std.specs.Prelude.{◌≡◌, [], map, IfOk, false};
 ghost use Rattle.clap.specs.Words.{app_of, shape_of, rule_of};
 ghost use Rattle.clap.specs.Simple.{on_top};
 ghost use Rattle.clap.specs.declared.builder.command.Command.TheViews.{out-Command as fields_of};
-ghost use Rattle.tm_words.specs.CommandLine.{option_rule, with_options, plain_command, with_commands, command_line, kind_among, kind_of_name};
+ghost use Rattle.tm_words.specs.CommandLine.{option_rule, word_rule, with_options, plain_command, command_shape, with_commands, command_line, kind_among, kind_of_name};
 
 use crate::JobKind;
 use clap::{Arg, ArgAction, Command};
@@ -31,12 +31,17 @@ static OPTIONS: [&str; 19] = [
     "polarity",
 ];
 
-// The commands that have the options of every command and no more.
-static PLAIN_COMMANDS: [(&str, JobKind); 4] = [
+// The options that `soak` has besides.
+static SOAK_OPTIONS: [&str; 3] = ["seed", "frames", "hits"];
+
+static COMMANDS: [(&str, JobKind); 7] = [
     ("encode", JobKind::Encode),
     ("decode", JobKind::Decode),
     ("report", JobKind::Report),
     ("trace", JobKind::Trace),
+    ("word", JobKind::Word),
+    ("soak", JobKind::Soak),
+    ("erased", JobKind::Erased),
 ];
 
 // An option of one value.
@@ -45,6 +50,14 @@ fn option<'a>(alloc: Global, name: &'a str) -> Arg<'a>
     ensures local { result.global ≡ false }
 {
     Arg::new(alloc, name).long(name).action(ArgAction::Set)
+}
+
+// A word that is required.
+fn word<'a>(alloc: Global, name: &'a str) -> Arg<'a>
+    ensures rule { rule_of result ≡ word_rule name.entry.now }
+    ensures local { result.global ≡ false }
+{
+    Arg::new(alloc, name).required(true).action(ArgAction::Set)
 }
 
 // Adds an option for each name.
@@ -72,6 +85,19 @@ fn plain_command<'a>(alloc: Global, name: &'a str) -> Result<Command<'a>, AllocE
     add_options(alloc, Command::new(alloc, name), OPTIONS.as_slice())
 }
 
+// A command with the options and the word that it has.
+fn command<'a>(alloc: Global, name: &'a str, kind: JobKind) -> Result<Command<'a>, AllocError>
+    ensures shape { IfOk result (λ c. shape_of c ≡ command_shape name.entry.now kind) }
+    ensures local { IfOk result (λ c. (fields_of c).has_globals ≡ false) }
+{
+    let plain = plain_command(alloc, name)?;
+    match kind {
+        JobKind::Word => plain.arg(word(alloc, "hex")),
+        JobKind::Soak => add_options(alloc, plain, SOAK_OPTIONS.as_slice()),
+        _ => Ok(plain),
+    }
+}
+
 // The program's own level: a command is required, and there is no help or version.
 fn program<'a>(alloc: Global) -> Command<'a>
     ensures app { app_of result ≡ with_commands [] }
@@ -84,17 +110,17 @@ fn program<'a>(alloc: Global) -> Command<'a>
         .subcommand_required(true)
 }
 
-// The program with plain commands of these names.
+// The program with these commands.
 fn with_commands<'a>(
     alloc: Global,
     commands: &'a [(&'a str, JobKind)],
 ) -> Result<Command<'a>, AllocError>
-    ensures app { IfOk result (λ c. app_of c ≡ with_commands (map (λ command. plain_command command.0.now) commands.entry.now)) }
+    ensures app { IfOk result (λ c. app_of c ≡ with_commands (map (λ command. command_shape command.0.now command.1) commands.entry.now)) }
     ensures local { IfOk result (λ c. (fields_of c).has_globals ≡ false) }
 {
     let mut line = program(alloc);
-    for (name, _) in commands {
-        let command = plain_command(alloc, *name)?;
+    for (name, kind) in commands {
+        let command = command(alloc, *name, *kind)?;
         line = line.subcommand(command)?;
     }
     Ok(line)
@@ -104,14 +130,14 @@ fn with_commands<'a>(
 pub fn command_line<'a>(alloc: Global) -> Result<Command<'a>, AllocError>
     ensures app { IfOk result (λ c. app_of c ≡ command_line) }
 {
-    with_commands(alloc, PLAIN_COMMANDS.as_slice())
+    with_commands(alloc, COMMANDS.as_slice())
 }
 
 /// The command of a name that clap has taken.
 pub fn kind_of_name(name: &str) -> JobKind
     ensures { result ≡ kind_of_name name.now }
 {
-    kind_among(PLAIN_COMMANDS.as_slice(), name)
+    kind_among(COMMANDS.as_slice(), name)
 }
 
 fn kind_among(commands: &[(&str, JobKind)], name: &str) -> JobKind

@@ -1,7 +1,7 @@
 // What the words ask for.
-ghost use Rattle.std.specs.Prelude.{◌≡◌, []};
+ghost use Rattle.std.specs.Prelude.{◌≡◌, [], IfOk};
 
-use std::alloc::Global;
+use std::alloc::{AllocError, Global};
 use std::marker::Model;
 use tm_config::Raw;
 
@@ -16,6 +16,12 @@ pub enum JobKind {
     Report,
     /// The windows of the soft decoder are reported.
     Trace,
+    /// One word is repaired.
+    Word,
+    /// Generated frames are sent, disturbed and received.
+    Soak,
+    /// Words with erased symbols are repaired.
+    Erased,
 }
 
 /// The bytes of a word that is to be hexadecimal. They are not tested yet.
@@ -40,6 +46,15 @@ impl HexText {
         HexText {
             bytes: Vec::new(alloc),
         }
+    }
+
+    /// The bytes of a text. It fails only for want of memory.
+    pub fn new(alloc: Global, text: &str) -> Result<HexText, AllocError>
+        ensures { IfOk result (λ hex. hex ≡ text.now) }
+    {
+        Ok(HexText {
+            bytes: Vec::from_slice(alloc, text.as_bytes())?,
+        })
     }
 
     /// The bytes.

@@ -1,5 +1,5 @@
 // The values of the options, from their texts to numbers.
-ghost use Rattle.std.specs.Prelude.{◌≡◌, map, option_map, unwrap_or};
+ghost use Rattle.std.specs.Prelude.{◌≡◌, [], map, option_map, unwrap_or};
 ghost use Rattle.clap.specs.Words.{first_of, rows_of, found_of};
 ghost use Rattle.tm_words.specs.Options.{number_of, number_of_word, number_given, word_given, raw_of};
 
@@ -79,10 +79,18 @@ fn number_if_given(matches: &ArgMatches, option: &str) -> Option<u64>
     }
 }
 
-fn number_or(matches: &ArgMatches, option: &str, default: u64) -> u64
+/// The number that was given for an option, or its default.
+pub fn number_or(matches: &ArgMatches, option: &str, default: u64) -> u64
     ensures { result ≡ unwrap_or (number_given option.now (rows_of (found_of matches.now))) default }
 {
     number_if_given(matches, option).unwrap_or(default)
+}
+
+/// The text that was given for a word, or none.
+pub fn text_or_empty<'a>(matches: &ArgMatches<'a>, word: &str) -> &'a str
+    ensures { result.now ≡ unwrap_or (first_of word.now (rows_of (found_of matches.now))) [] }
+{
+    given(matches, word).unwrap_or("")
 }
 
 // The number of the word that was given for an option, if one was.

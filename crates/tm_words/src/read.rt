@@ -1,15 +1,15 @@
 // Reads the words.
 ghost use Rattle.std.specs.Prelude.{◌≡◌, ◌≢◌, map, string_bytes, IsErrOf, IfOk, OnOk, Some, true};
-ghost use Rattle.clap.specs.Words.{subcommand_of, subcommand_rows_of, has_subcommand, kind_of};
+ghost use Rattle.clap.specs.Words.{subcommand_of, subcommand_rows_of, has_subcommand, kind_of, rows_of, found_of};
 ghost use Rattle.tm_words.specs.CommandLine.{AreTaken, command_line};
-ghost use Rattle.tm_words.specs.Job.{job_of_words};
+ghost use Rattle.tm_words.specs.Job.{job_of, job_of_words};
 
 use crate::commands::{command_line, kind_of_name};
-use crate::job::{HexText, Job};
-use crate::options::raw;
+use crate::job::{HexText, Job, JobKind};
+use crate::options::{number_or, raw, text_or_empty};
 use clap::ArgMatches;
 use clap::error::ErrorKind;
-use std::alloc::Global;
+use std::alloc::{AllocError, Global};
 use thiserror::Error;
 
 /// Why no job was read from the words.
@@ -48,6 +48,30 @@ fn parse<'a>(alloc: Global, words: &'a [String]) -> Result<ArgMatches<'a>, Words
     }
 }
 
+// The job of a command with these matches. It fails only for want of memory.
+fn job_of(alloc: Global, kind: JobKind, matches: &ArgMatches) -> Result<Job, AllocError>
+    ensures { IfOk result (λ job. job ≡ job_of kind (rows_of (found_of matches.now))) }
+{
+    let mut job = Job {
+        kind,
+        raw: raw(matches),
+        hex: HexText::empty(alloc),
+        seed: 1,
+        frames: 100,
+        hits: 0,
+    };
+    match kind {
+        JobKind::Word => job.hex = HexText::new(alloc, text_or_empty(matches, "hex"))?,
+        JobKind::Soak => {
+            job.seed = number_or(matches, "seed", job.seed);
+            job.frames = number_or(matches, "frames", job.frames);
+            job.hits = number_or(matches, "hits", job.hits);
+        }
+        _ => {}
+    }
+    Ok(job)
+}
+
 /// Reads the words of a command line, the first of which is the program's name and is not read.
 ///
 /// `Words` comes exactly where clap's rule for the command line does not take the words (an empty list among them),
@@ -61,14 +85,10 @@ pub fn read_words(alloc: Global, words: &[String]) -> Result<Job, WordsError>
     match parse(alloc, words) {
         Ok(matches) => {
             let (name, options) = matches.subcommand().unwrap();
-            Ok(Job {
-                kind: kind_of_name(name),
-                raw: raw(options),
-                hex: HexText::empty(alloc),
-                seed: 1,
-                frames: 100,
-                hits: 0,
-            })
+            match job_of(alloc, kind_of_name(name), options) {
+                Ok(job) => Ok(job),
+                Err(AllocError) => Err(WordsError::Memory),
+            }
         }
         Err(error) => Err(error),
     }

@@ -226,6 +226,7 @@ fn gives_a_whole_job(rt: HostRuntime) -> Result<(), Fail> {
         ("any decode --skip 3", JobKind::Decode),
         ("any report --skip 3", JobKind::Report),
         ("any trace --skip 3", JobKind::Trace),
+        ("any erased --skip 3", JobKind::Erased),
     ];
     for (line, kind) in rows {
         match read(rt.alloc(), line)? {
@@ -234,6 +235,57 @@ fn gives_a_whole_job(rt: HostRuntime) -> Result<(), Fail> {
                 assert_eq!(rt; job.raw.skip, 3, "at {line}");
                 assert!(rt; job.hex.as_bytes().is_empty());
                 assert_eq!(rt; [job.seed, job.frames, job.hits], [1, 100, 0]);
+            }
+            Err(error) => assert!(rt; false, "{error} at {line}"),
+        }
+    }
+    Ok(())
+}
+
+#[test]
+fn gives_the_word(rt: HostRuntime) -> Result<(), Fail> {
+    let rows = [
+        ("tmchan word 7B47 --skip 3", "7B47"),
+        ("tmchan word --skip 3 7b", "7b"),
+        ("tmchan word --skip=3 -- --00", "--00"),
+        ("tmchan word --skip 3 é", "é"),
+        ("tmchan word --skip 3 word", "word"),
+        ("tmchan word --skip 3 ", ""),
+    ];
+    for (line, wanted) in rows {
+        match read(rt.alloc(), line)? {
+            Ok(job) => {
+                assert_eq!(rt; job.kind, JobKind::Word, "at {line}");
+                assert_eq!(rt; job.raw.skip, 3, "at {line}");
+                assert_eq!(rt; job.hex.as_bytes(), wanted.as_bytes(), "at {line}");
+                assert_eq!(rt; [job.seed, job.frames, job.hits], [1, 100, 0]);
+            }
+            Err(error) => assert!(rt; false, "{error} at {line}"),
+        }
+    }
+    Ok(())
+}
+
+#[test]
+fn gives_the_values_of_soak(rt: HostRuntime) -> Result<(), Fail> {
+    let rows = [
+        ("", [1, 100, 0]),
+        (" --seed 7 --frames 0 --hits 33", [7, 0, 33]),
+        (" --frames=1000001", [1, 1_000_001, 0]),
+        (" --seed 9223372036854775808", [1 << 63, 100, 0]),
+        (" --seed 007 --hits x", [7, 100, NONE]),
+        (" --seed= --frames 18446744073709551615", [NONE, NONE, 0]),
+        (" --hits 000000000000000000001", [1, 100, NONE]),
+    ];
+    let alloc = rt.alloc();
+    for (options, wanted) in rows {
+        let line = format!(in alloc; "tmchan soak --skip 3{options}")?;
+        match read(alloc, &line)? {
+            Ok(job) => {
+                assert_eq!(rt; job.kind, JobKind::Soak, "at {line}");
+                assert_eq!(rt; job.raw.skip, 3, "at {line}");
+                assert!(rt; job.hex.as_bytes().is_empty(), "at {line}");
+                assert_eq!(rt; [job.seed, job.frames, job.hits], wanted, "at {line}");
             }
             Err(error) => assert!(rt; false, "{error} at {line}"),
         }
@@ -276,6 +328,17 @@ fn refuses_words(rt: HostRuntime) -> Result<(), Fail> {
         "tmchan encode --seed 1",
         "tmchan encode --frames 1",
         "tmchan encode --hits 1",
+        "tmchan report --hits 1",
+        "tmchan word",
+        "tmchan word --skip 1",
+        "tmchan word 00 00",
+        "tmchan word --00",
+        "tmchan word 00 --seed 1",
+        "tmchan soak 1",
+        "tmchan soak --seed 1 --seed 1",
+        "tmchan soak --seed",
+        "tmchan erased 00",
+        "tmchan erased --hits 1",
     ];
     let alloc = rt.alloc();
     for line in lines {
