@@ -1,0 +1,71 @@
+-- How many octets are sent for octets: sixteen for one at most.
+use Rattle.std.proofs.Common.{◌≡◌, ℕ, zero, suc, ◌+◌, ◌*◌, ◌/◌, ◌≤◌, Bool, true, false, cond, List, ◌++◌, length, Option, Some, None, sym, ap, ◌∙◌, arith, length-append}
+use Rattle.std.proofs.lemmas.List.{length-map}
+use Rattle.tm_base.specs.Bits.{bits_of}
+use Rattle.tm_base.specs.Pieces.{further}
+use Rattle.tm_base.proofs.Packing.{length-bits_of, length-octets_of}
+use Rattle.tm_config.specs.Configuration.{Configuration}
+use Rattle.tm_conv.specs.declared.rates.Rate.{Rate}
+use Rattle.tm_conv.specs.Encoding.{bit_numbers}
+use Rattle.tm_conv.specs.Path.{path, step_size, steps_size, keeps_c1, keeps_c2}
+use Rattle.tm_conv.proofs.Paths.{length-path}
+use Rattle.tm_inner.specs.Symbols.{rate_of, is_inverted, symbols_by, symbols_of_octets}
+use Rattle.tm_inner.proofs.ReceivedBits.{steps_size-add}
+use Rattle.tm_inner.proofs.Symbols.{symbols-go_on}
+
+at_most_two : (k l : Bool) → cond k 1 0 + cond l 1 0 ≤ 2
+at_most_two true true = omega arith
+at_most_two true false = omega arith
+at_most_two false true = omega arith
+at_most_two false false = omega arith
+
+steps_size-few : (rate : Rate) (t n : ℕ) → steps_size rate t n ≤ 2 * n
+unfolding steps_size
+steps_size-few rate t zero = omega arith
+steps_size-few rate t (suc n) =
+    let one : step_size rate t ≤ 2 = at_most_two (keeps_c1 rate t) (keeps_c2 rate t) in
+    let rest : steps_size rate (t + 1) n ≤ 2 * n = steps_size-few rate (t + 1) n in
+    let goal : step_size rate t + steps_size rate (t + 1) n ≤ 2 * suc n = omega (arith, one, rest) in
+    goal
+
+-- how many octets are sent for bits
+size_of : Option Rate → ℕ → ℕ
+size_of None bits = bits / 8
+size_of (Some rate) bits = steps_size rate 0 bits
+
+length-symbols_by : (rate : Option Rate) (c : Configuration) (octets : List ℕ) → length (symbols_by rate c (bits_of octets)) ≡ size_of rate (8 * length octets)
+unfolding size_of
+length-symbols_by None c octets = length-octets_of (bits_of octets) ∙ ap (λ (n : ℕ). n / 8) (length-bits_of octets)
+length-symbols_by (Some rate) c octets =
+    length-map (path rate (is_inverted rate c.invert) 0 0 (bit_numbers (bits_of octets))) _
+    ∙ length-path rate (is_inverted rate c.invert) 0 0 (bit_numbers (bits_of octets))
+    ∙ ap (steps_size rate 0) (length-map (bits_of octets) _ ∙ length-bits_of octets)
+
+size_of-more : (rate : Option Rate) (a b : ℕ) → size_of rate (8 * (a + b)) ≤ size_of rate (8 * a) + 16 * b
+unfolding size_of
+size_of-more None a b = omega arith
+size_of-more (Some rate) a b =
+    let sum : 8 * (a + b) ≡ 8 * a + 8 * b = omega arith in
+    let parts : steps_size rate 0 (8 * (a + b)) ≡ steps_size rate 0 (8 * a) + steps_size rate (0 + 8 * a) (8 * b) = ap (steps_size rate 0) sum ∙ steps_size-add rate 0 (8 * a) (8 * b) in
+    let few : steps_size rate (0 + 8 * a) (8 * b) ≤ 2 * (8 * b) = steps_size-few rate (0 + 8 * a) (8 * b) in
+    omega (arith, parts, few)
+
+size_of-few : (rate : Option Rate) (n : ℕ) → size_of rate (8 * n) ≤ 16 * n
+unfolding size_of
+size_of-few None n = omega arith
+size_of-few (Some rate) n = omega (arith, steps_size-few rate 0 (8 * n))
+
+-- of all octets
+pub length-symbols : (c : Configuration) (octets : List ℕ) → length (symbols_of_octets c octets) ≤ 16 * length octets
+length-symbols c octets = omega (arith, length-symbols_by (rate_of c.inner) c octets, size_of-few (rate_of c.inner) (length octets))
+
+-- and of those behind others
+pub length-further : (c : Configuration) (given piece : List ℕ) → length (further (symbols_of_octets c) given piece) ≤ 16 * length piece
+length-further c given piece =
+    let both : size_of (rate_of c.inner) (8 * length (given ++ piece)) ≡ length (symbols_of_octets c given) + length (further (symbols_of_octets c) given piece) =
+    sym (length-symbols_by (rate_of c.inner) c (given ++ piece)) ∙ ap length (symbols-go_on c given piece) ∙ length-append (symbols_of_octets c given) (further (symbols_of_octets c) given piece) in
+    let front : length (symbols_of_octets c given) ≡ size_of (rate_of c.inner) (8 * length given) = length-symbols_by (rate_of c.inner) c given in
+    let long : size_of (rate_of c.inner) (8 * length (given ++ piece)) ≡ size_of (rate_of c.inner) (8 * (length given + length piece)) =
+    ap (λ (n : ℕ). size_of (rate_of c.inner) (8 * n)) (length-append given piece) in
+    let most = size_of-more (rate_of c.inner) (length given) (length piece) in
+    omega (arith, both, front, long, most)

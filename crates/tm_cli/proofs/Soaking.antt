@@ -1,0 +1,148 @@
+-- What `soak` counts of the items that it receives.
+use Rattle.std.proofs.Common.{◌≡◌, inl, inr, ℕ, ◌+◌, ◌*◌, ◌<◌, ◌≤◌, ◌^◌, Bool, true, false, cond, List, [], ◌++◌, length, take, Some, None, Result, Ok, Err, IsErrOf, IsOk, IsTrue, refl, sym, ap, ◌∙◌, subst, arith, length-append, length-take}
+use Rattle.rand_pcg.specs.Lcg.{Lcg}
+use Rattle.tm_base.specs.Outside.{Rose}
+use Rattle.tm_base.specs.Pieces.{further}
+use Rattle.tm_base.specs.Takers.{HandedOver}
+use Rattle.tm_base.specs.Written.{Wrote, WroteFront}
+use Rattle.tm_config.specs.Configuration.{Configuration}
+use Rattle.tm_inner.specs.Inner.{Inner}
+use Rattle.tm_inner.specs.Sending.{InnerSending, SendsFront, Sends, StandsFor as SenderStandsFor}
+use Rattle.tm_inner.specs.declared.sender.SendError.{SendError}
+use Rattle.tm_inner.specs.declared.sender.SendError.TheVariants.{Sink, Stopped}
+use Rattle.tm_inner.specs.Symbols.{symbols_of_octets}
+use Rattle.tm_inner.proofs.Symbols.{symbols-go_on, symbols-none}
+use Rattle.tm_channel.specs.Items.{ItemValue, AreItems}
+use Rattle.tm_channel.specs.Receive.{ReceiveDue}
+use Rattle.tm_channel.specs.OctetReceiving.{OctetReceiving, StandsFor}
+use Rattle.tm_cli.specs.Generated.{drawn, draw_count, generated_unit, generated_units, generated}
+use Rattle.tm_cli.specs.HeldSymbols.{HeldSymbols}
+use Rattle.tm_cli.specs.Lines.{report_end_text}
+use Rattle.tm_cli.specs.Receiving.{AreAll, HandedDue}
+use Rattle.tm_cli.specs.Report.{good, bad, fixed}
+use Rattle.tm_cli.specs.Soak.{Counted, counts_of, IsSoakLine}
+use Rattle.tm_cli.specs.Taken.{Standing, no_counts, Reported}
+use Rattle.tm_cli.specs.declared.counts.Counts.{Counts}
+use Rattle.tm_cli.proofs.FewSymbols.{length-further}
+use Rattle.tm_cli.proofs.Generating.{units-none, units-more}
+use Rattle.tm_cli.proofs.Received.{due-more, few-all, all-handed}
+use Rattle.tm_cli.proofs.Reporting.{handed-along, report-wrote}
+
+-- ---- one unit
+
+-- what a sink that tells its octets has taken of what is due for a unit is less than its room
+pub symbols-fit : (c : Configuration) (given unit octets : List ℕ) → length unit ≤ 2044 → WroteFront (Some []) (Some octets) (further (symbols_of_octets c) given unit)
+    → length octets ≡ 32768 → ⊥
+symbols-fit c given unit octets small wrote full =
+    let text = further (symbols_of_octets c) given unit in
+    let taken : octets ≡ take wrote.0 text = cc (wrote.1) in
+    let long : length octets ≡ length (take wrote.0 text) = ap length taken in
+    absurd (omega (arith, small, full, long, length-take wrote.0 text, length-further c given unit))
+
+-- the octets that it has taken are what is due
+pub symbols-are : (c : Configuration) (given unit octets : List ℕ) → Wrote (Some []) (Some octets) (further (symbols_of_octets c) given unit)
+    → symbols_of_octets c given ++ octets ≡ symbols_of_octets c (given ++ unit)
+symbols-are c given unit octets wrote =
+    let same : octets ≡ further (symbols_of_octets c) given unit = cc wrote in
+    ap (λ (l : List ℕ). symbols_of_octets c given ++ l) same ∙ sym (symbols-go_on c given unit)
+
+-- a unit's symbols have room in the sink, so that the sender goes on
+no-room-left : (full : Bool) → Rose 0 (cond full 1 0) (full ≡ true) → full ≡ true
+no-room-left true rose = refl
+no-room-left false rose = elim rose [ inl more ↦ absurd (omega (arith, more)) | inr is ↦ is ]
+
+pub unit-sent : (sender : InnerSending) (given unit : List ℕ) (result : Result (Unit {0}) SendError) (before now : HeldSymbols)
+    → before ≡ record { octets = []; is_full = false } → length unit ≤ 2044 → SenderStandsFor sender given → sender.has_failed ≡ false
+    → (IsErrOf result Stopped → IsTrue sender.has_failed) → (IsErrOf result Sink → SendsFront sender (Some before.octets) (Some now.octets) unit)
+    → (IsErrOf result Sink → Rose (cond before.is_full 1 0) (cond now.is_full 1 0) (now.is_full ≡ true)) → (now.is_full ≡ true → length now.octets ≡ 32768)
+    → IsOk result
+unit-sent sender given unit (Ok x) before now new small stands fresh stopped front rose full = refl
+unit-sent sender given unit (Err Sink) before now new small stands fresh stopped front rose full =
+    let is_full : now.is_full ≡ true =
+    no-room-left now.is_full (subst (λ (b : HeldSymbols). Rose (cond b.is_full 1 0) (cond now.is_full 1 0) (now.is_full ≡ true)) new (rose refl)) in
+    let wrote = subst (λ (b : HeldSymbols). WroteFront (Some b.octets) (Some now.octets) (further (symbols_of_octets sender.config) given unit)) new ((front refl).front given stands) in
+    absurd (symbols-fit sender.config given unit now.octets small wrote (full is_full))
+unit-sent sender given unit (Err Stopped) before now new small stands fresh stopped front rose full = cc (stopped refl, fresh)
+
+-- and what is due for it is received
+pub unit-received : (c : Configuration) (sender sender_now : InnerSending) (receiver receiver_now : OctetReceiving) (start counts counts_now : Counts) (given unit octets : List ℕ)
+    (before now : HeldSymbols) (more : List ItemValue) → before ≡ record { octets = []; is_full = false } → octets ≡ now.octets
+    → Sends sender sender_now (Some before.octets) (Some now.octets) unit → SenderStandsFor sender given
+    → receiver_now.config ≡ receiver.config → HandedOver Counted counts more counts_now
+    → ((given : List ℕ) (done : List ItemValue) → length given + length octets < 2 ^ 60 → StandsFor receiver given done
+    → StandsFor receiver_now (given ++ octets) (done ++ more) × ReceiveDue receiver.config 0 (given ++ octets) (done ++ more))
+    → HandedDue c receiver (λ items. HandedOver Counted start items counts) (symbols_of_octets sender.config given)
+    → HandedDue c receiver_now (λ items. HandedOver Counted start items counts_now) (symbols_of_octets sender.config (given ++ unit))
+unit-received c sender sender_now receiver receiver_now start counts counts_now given unit octets before now more new is sends stands same handed goes_on was =
+    let fed = due-more Counted c receiver receiver_now start counts counts_now (symbols_of_octets sender.config given) octets more same handed goes_on was in
+    let wrote = subst (λ (b : HeldSymbols). Wrote (Some b.octets) (Some now.octets) (further (symbols_of_octets sender.config) given unit)) new (sends.fed.written given stands) in
+    let all = ap (λ (l : List ℕ). symbols_of_octets sender.config given ++ l) is ∙ symbols-are sender.config given unit now.octets wrote in
+    subst (HandedDue c receiver_now (λ items. HandedOver Counted start items counts_now)) all fed
+
+-- ---- all units
+
+pub handed-none : (c : Configuration) (hits : ℕ) (receiver : OctetReceiving) → receiver.config ≡ c → StandsFor receiver [] []
+    → (g : _) → HandedDue c receiver (λ items. HandedOver Counted no_counts items no_counts) (symbols_of_octets c (generated_units c 0 hits g))
+handed-none c hits receiver same stands g =
+    let none : [] ≡ symbols_of_octets c (generated_units c 0 hits g) = sym (ap (symbols_of_octets c) (units-none c hits g) ∙ symbols-none c) in
+    subst (HandedDue c receiver (λ items. HandedOver Counted no_counts items no_counts)) none (record { items = []; config = same; stands = λ _. stands; holds = refl })
+
+-- one more, for a sender of the same configuration
+pub handed-more : (c : Configuration) (hits frame : ℕ) (g at : Lcg) (sender : InnerSending) (receiver receiver_now : OctetReceiving) (counts counts_now : Counts) (unit : List ℕ)
+    → sender.config ≡ c → at ≡ drawn (frame * draw_count c hits) g → unit ≡ generated_unit c hits at
+    → HandedDue c receiver (λ items. HandedOver Counted no_counts items counts) (symbols_of_octets c (generated_units c frame hits g))
+    → (HandedDue c receiver (λ items. HandedOver Counted no_counts items counts) (symbols_of_octets sender.config (generated_units c frame hits g))
+    → HandedDue c receiver_now (λ items. HandedOver Counted no_counts items counts_now) (symbols_of_octets sender.config (generated_units c frame hits g ++ unit)))
+    → HandedDue c receiver_now (λ items. HandedOver Counted no_counts items counts_now) (symbols_of_octets c (generated_units c (frame + 1) hits g))
+handed-more c hits frame g at sender receiver receiver_now counts counts_now unit same stand is was goes_on =
+    let before = subst (λ (k : Configuration). HandedDue c receiver (λ items. HandedOver Counted no_counts items counts) (symbols_of_octets k (generated_units c frame hits g))) (sym same) was in
+    let all : symbols_of_octets sender.config (generated_units c frame hits g ++ unit) ≡ symbols_of_octets c (generated_units c (frame + 1) hits g) =
+    ap (λ (k : Configuration). symbols_of_octets k (generated_units c frame hits g ++ unit)) same
+    ∙ ap (λ (l : List ℕ). symbols_of_octets c (generated_units c frame hits g ++ l)) is
+    ∙ ap (symbols_of_octets c) (units-more c frame hits g at stand) in
+    subst (HandedDue c receiver_now (λ items. HandedOver Counted no_counts items counts_now)) all (goes_on before)
+
+-- units are so long
+pub units-long : (c : Configuration) (frame hits : ℕ) (g at : Lcg) (unit : List ℕ) → at ≡ drawn (frame * draw_count c hits) g → unit ≡ generated_unit c hits at → length unit ≤ 2044
+    → length (generated_units c frame hits g) ≤ 2044 * frame → length (generated_units c (frame + 1) hits g) ≤ 2044 * (frame + 1)
+units-long c frame hits g at unit stand is small few =
+    let both : length (generated_units c frame hits g ++ unit) ≡ length (generated_units c (frame + 1) hits g) =
+    ap (λ (l : List ℕ). length (generated_units c frame hits g ++ l)) is ∙ ap length (units-more c frame hits g at stand) in
+    omega (arith, both, small, few, length-append (generated_units c frame hits g) unit)
+
+-- ---- counts
+
+-- a sink that tells nothing
+abbrev untold : Counts → Standing
+untold _ = record { taken = None; faults = 0 }
+
+reported : (a : Counts) (item : ItemValue) (b : Counts) → Counted a item b → (tt {0} ≡ tt {0}) × Reported (untold a) (untold b) a b item
+reported a item b one = (refl, record { line = record { written = refl; same = refl }; counted = one.counted; few = one.few })
+
+pub counted-all : (items : List ItemValue) (counts : Counts) → length items < 2 ^ 53 → HandedOver Counted no_counts items counts → counts ≡ counts_of items
+counted-all items counts few handed =
+    let all = (report-wrote (λ (_ : Counts). tt {0}) untold (λ (k : Counts). k) items no_counts counts refl few
+    (handed-along Counted (λ a item b. (tt {0} ≡ tt {0}) × Reported (untold a) (untold b) a b item) reported items no_counts counts handed)).1 in
+    let goods : counts.good ≡ good items = all.good ∙ omega arith in
+    let bads : counts.bad ≡ bad items = all.bad ∙ omega arith in
+    let fixeds : counts.fixed ≡ fixed items = all.fixed ∙ omega arith in
+    ap (λ (n : ℕ). record { good = n; bad = counts.bad; fixed = counts.fixed }) goods
+    ∙ ap (λ (n : ℕ). record { good = good items; bad = n; fixed = counts.fixed }) bads
+    ∙ ap (λ (n : ℕ). record { good = good items; bad = bad items; fixed = n }) fixeds
+
+-- at the end all items of the octets are counted
+pub all-counted : (c : Configuration) (receiver : OctetReceiving) (counts now : Counts) (octets : List ℕ) (last : List ItemValue) (bits : ℕ) → length octets < 2 ^ 40
+    → HandedDue c receiver (λ items. HandedOver Counted no_counts items counts) octets → HandedOver Counted counts last now
+    → ((given : List ℕ) (done : List ItemValue) → StandsFor receiver given done
+    → (found : List Bool) × Inner receiver.config 0 given found × (bits ≡ length found) × AreItems receiver.config found (done ++ last))
+    → (items : List ItemValue) × AreAll c bits octets items × (now ≡ counts_of items)
+all-counted c receiver counts now octets last bits few handed more finish =
+    let all = all-handed Counted c receiver no_counts counts now octets last bits (omega (arith, few)) handed more finish in
+    (all.0, all.1, counted-all all.0 now (omega (arith, few, few-all c bits octets all.0 all.1)) all.2)
+
+-- ---- the line
+
+pub counted-line : (c : Configuration) (seed frames hits bits : ℕ) (counts : Counts) → ((items : List ItemValue) × AreAll c bits (generated c seed frames hits) items × (counts ≡ counts_of items))
+    → IsSoakLine c seed frames hits (report_end_text counts.good counts.bad counts.fixed bits)
+counted-line c seed frames hits bits counts counted =
+    record { items = counted.0; bits = bits; are_all = counted.1; is_line = ap (λ (k : Counts). report_end_text k.good k.bad k.fixed bits) counted.2 }

@@ -1,0 +1,39 @@
+-- The command `soak`: generated frames, and what is received of them.
+use Rattle.std.specs.Prelude.{◌≡◌, ℕ, ◌*◌, ◌^◌, ◌≤◌, if◌then◌else◌, nat_le, nat_lt, List, codes, Option, Some, None}
+use Rattle.tm_config.specs.Configuration.{Configuration}
+use Rattle.tm_channel.specs.Items.{ItemValue}
+use Rattle.tm_cli.specs.Generated.{generated}
+use Rattle.tm_cli.specs.Lines.{report_end_text}
+use Rattle.tm_cli.specs.Receiving.{AreAll}
+use Rattle.tm_cli.specs.Report.{good, bad, fixed, fixed_of}
+use Rattle.tm_cli.specs.Taken.{counts_after}
+use Rattle.tm_cli.specs.declared.counts.Counts.{Counts}
+use Rattle.tm_cli.specs.declared.soak_refusal.SoakRefusal.{SoakRefusal}
+use Rattle.tm_cli.specs.declared.soak_refusal.SoakRefusal.TheVariants.{Seed, Frames, Hits}
+
+-- the first value that is outside its range, or none; no more symbols of a codeword are changed than it has check symbols
+abbrev pub soak_refusal : Configuration → (seed frames hits : ℕ) → Option SoakRefusal
+soak_refusal c seed frames hits =
+    if nat_lt seed (2 ^ 63) then if nat_le frames 1000000 then if nat_le hits (2 * c.code) then None else Some Hits else Some Frames else Some Seed
+
+-- the reason that the line gives
+abbrev pub soak_reason : SoakRefusal → List ℕ
+soak_reason Seed = codes "seed"
+soak_reason Frames = codes "frames"
+soak_reason Hits = codes "hits"
+
+-- an item was counted
+pub record Counted (was : Counts) (item : ItemValue) (counts : Counts) : Type 0 where
+  pub counted : counts ≡ counts_after was item.answers
+  pub few : fixed_of item.answers ≤ 2040
+
+-- what is counted of items
+abbrev pub counts_of : List ItemValue → Counts
+counts_of items = record { good = good items; bad = bad items; fixed = fixed items }
+
+-- the end of the report of all items that are received of the generated frames
+pub record IsSoakLine (c : Configuration) (seed frames hits : ℕ) (line : List ℕ) : Type 0 where
+  pub items : List ItemValue
+  pub bits : ℕ
+  pub are_all : AreAll c bits (generated c seed frames hits) items
+  pub is_line : line ≡ report_end_text (good items) (bad items) (fixed items) bits
