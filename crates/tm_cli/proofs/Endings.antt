@@ -10,10 +10,10 @@ use Rattle.tm_config.specs.Configuration.{Configuration}
 use Rattle.tm_config.specs.Accepted.{IsAccepted}
 use Rattle.tm_channel.specs.Sent.{sent}
 use Rattle.tm_channel.proofs.Sending.{sent-goes_on}
-use Rattle.tm_words.specs.declared.job.JobKind.TheVariants.{Encode}
+use Rattle.tm_cli.specs.Command.Command.{Encode}
 use Rattle.tm_cli.specs.Lines.{left_over_text}
-use Rattle.tm_cli.specs.Output.{Output, IsOutput, left_over, WroteFronts, IsInOrder}
-use Rattle.tm_cli.specs.Ending.{Ends}
+use Rattle.tm_cli.specs.Output.{Output, left_over}
+use Rattle.tm_cli.specs.Ending.{Ends, WroteEarly}
 use Rattle.tm_cli.specs.declared.ending.Ending.{Ending}
 use Rattle.tm_cli.specs.declared.ending.Ending.TheVariants.{Done, Bad, LeftOver, SourceFault, SinkFault, PastLimit}
 
@@ -42,16 +42,15 @@ ended-by Done c octets rest taken taken_now noted noted_now Rose all within is d
     ((whole-output c octets, refl, record { out = all; notes = subst (λ (n : ℕ). Wrote noted noted_now (left_over_text n)) is (done refl).1 }), within, λ partial. partial (sym is ∙ (done refl).0), λ bad. bad)
 ended-by LeftOver c octets rest taken taken_now noted noted_now Rose all within is done left fault answers =
     ((whole-output c octets, refl, record { out = all; notes = subst (λ (n : ℕ). Wrote noted noted_now (left_over_text n)) is (left refl).1 }), within, λ none. (left refl).0 (is ∙ none))
-ended-by SinkFault c octets rest taken taken_now noted noted_now Rose all within is done left fault answers =
-    λ output outputs.
-    let up_to : output ≡ whole-output c octets = outputs ∙ ap (whole-output c) (take_all c.limit octets within) in
-    subst (λ (o : Output). WroteFronts o taken taken_now noted noted_now × IsInOrder Encode c (take c.limit octets) o taken taken_now noted noted_now) (sym up_to) (
-      record {
-        out = wrote-front taken taken_now (sent c octets) all;
-        notes = subst (λ (n : ℕ). WroteFront noted noted_now (left_over_text n)) is (fault refl).0;
-      },
-      inr all,
-    )
+ended-by SinkFault c octets rest taken taken_now noted noted_now Rose all within is done left fault answers = (
+  whole-output c octets,
+  ap (whole-output c) (sym (take_all c.limit octets within)),
+  record {
+    out = wrote-front taken taken_now (sent c octets) all;
+    notes = subst (λ (n : ℕ). WroteFront noted noted_now (left_over_text n)) is (fault refl).0;
+  },
+  inr all,
+)
 ended-by Bad c octets rest taken taken_now noted noted_now Rose all within is done left fault answers = elim answers [
   | inl a ↦ cc a
   | inr b ↦ elim b [ inl x ↦ cc x | inr y ↦ cc y ]
@@ -66,27 +65,35 @@ ended-by PastLimit c octets rest taken taken_now noted noted_now Rose all within
 ]
 
 -- what is sent of octets before the end of the input is known
-abbrev pub due-output : Configuration → List ℕ → Output
+abbrev due-output : Configuration → List ℕ → Output
 due-output c octets = record { out = sent c octets; notes = [] }
 
--- what was sent for the octets so far is a front of what is sent for more
-pub early : (c : Configuration) → IsAccepted c → (octets more : List ℕ) (taken taken_now noted : Option (List ℕ))
-    → Wrote taken taken_now (sent c octets) → (output : Output) → IsOutput Encode c (octets ++ more) output → WroteFronts output taken taken_now noted noted
-early c accepted octets more taken taken_now noted all output is = subst (λ (o : Output). WroteFronts o taken taken_now noted noted) (sym is) (record {
-  out = (
-    length (sent c octets),
-    all ∙ ap (append_known taken) (sym (
-        ap (take (length (sent c octets))) (sent-goes_on c (omega (arith, accepted.some_data)) octets more)
-        ∙ take_at (sent c octets) (further (sent c) octets more) (length (sent c octets)) refl)),
-  );
-  notes = wrote-no_front noted (left_over_text (left_over c (octets ++ more)));
-})
+-- what was sent for the octets so far is due, and a front of what is sent for more
+pub early : (c : Configuration) → IsAccepted c → (octets : List ℕ) (taken taken_now noted : Option (List ℕ))
+    → Wrote taken taken_now (sent c octets) → WroteEarly Encode c octets taken taken_now noted noted
+early c accepted octets taken taken_now noted all = (
+  (due-output c octets, refl, record { out = all; notes = wrote-nothing noted }),
+  λ more. (
+    whole-output c (octets ++ more),
+    refl,
+    record {
+      out = (
+        length (sent c octets),
+        all ∙ ap (append_known taken) (sym (
+            ap (take (length (sent c octets))) (sent-goes_on c (omega (arith, accepted.some_data)) octets more)
+            ∙ take_at (sent c octets) (further (sent c) octets more) (length (sent c octets)) refl)),
+      );
+      notes = wrote-no_front noted (left_over_text (left_over c (octets ++ more)));
+    },
+  ),
+)
 
 -- where the output failed, nothing was told on the notes
 pub cut : (c : Configuration) (octets : List ℕ) (taken taken_now noted : Option (List ℕ)) → WroteFront taken taken_now (sent c (take c.limit octets))
     → Ends SinkFault Encode c octets taken taken_now noted noted
-cut c octets taken taken_now noted front = λ output is.
-    subst (λ (o : Output). WroteFronts o taken taken_now noted noted × IsInOrder Encode c (take c.limit octets) o taken taken_now noted noted) (sym is) (
-      record { out = front; notes = wrote-no_front noted (left_over_text (left_over c (take c.limit octets))) },
-      inl (wrote-nothing noted),
-    )
+cut c octets taken taken_now noted front = (
+  whole-output c (take c.limit octets),
+  refl,
+  record { out = front; notes = wrote-no_front noted (left_over_text (left_over c (take c.limit octets))) },
+  inl (wrote-nothing noted),
+)

@@ -17,7 +17,7 @@ use Rattle.tm_channel.specs.ReceivedCodeblock.{received_columns}
 use Rattle.tm_channel.specs.Items.{ItemValue, are_fixed, frames_of}
 use Rattle.tm_channel.specs.Receive.{Receive}
 use Rattle.tm_channel.specs.SentStream.{SentUnit, IsSent, AreRepaired, AreWithin, AreAsSent, AreNear, sent_columns, unit_codeblock, unit_frames, unit_places, clean_answers, clean_items}
-use Rattle.tm_words.specs.declared.job.JobKind.TheVariants.{Decode}
+use Rattle.tm_cli.specs.Command.Command.{Decode}
 use Rattle.tm_cli.specs.Report.{bad, report_text}
 use Rattle.tm_cli.specs.Output.{IsDecoded, HasBad, WroteOutput}
 use Rattle.tm_cli.specs.Ending.{Ends, status_of}

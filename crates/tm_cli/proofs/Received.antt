@@ -87,13 +87,13 @@ due-handed c receiver took octets accepted within p =
     subst (λ (k : Configuration). ReceiveDue k 0 octets p.items) p.config (record { blocks = s.blocks; are_due = s.are_due; are_items = s.are_items })
 
 pub all-handed : {T : Type 0} (took : T → ItemValue → T → Type 0) (c : Configuration) (receiver : OctetReceiving) (start taker taker_now : T) (octets : List ℕ) (last : List ItemValue) (count : ℕ)
-    → IsAccepted c → length octets ≤ c.limit → HandedDue c receiver (λ items. HandedOver took start items taker) octets → HandedOver took taker last taker_now
+    → length octets < 2 ^ 60 → HandedDue c receiver (λ items. HandedOver took start items taker) octets → HandedOver took taker last taker_now
     → ((given : List ℕ) (done : List ItemValue) → StandsFor receiver given done
     → (bits : List Bool) × Inner receiver.config 0 given bits × (count ≡ length bits) × AreItems receiver.config bits (done ++ last))
     → (items : List ItemValue) × AreAll c count octets items × HandedOver took start items taker_now
-all-handed took c receiver start taker taker_now octets last count accepted within p handed finish =
+all-handed took c receiver start taker taker_now octets last count small p handed finish =
     let items = p.items ++ last in
-    let all = finish octets p.items (p.stands (few c octets accepted within)) in (
+    let all = finish octets p.items (p.stands small) in (
       items,
       subst (λ (k : Configuration). AreAll k count octets items) p.config (record { bits = all.0; inner = all.1; counted = all.2; are_items = all.3 }),
       HandedOver-append took start taker taker_now p.items last p.holds handed,
@@ -156,7 +156,7 @@ few-front : (c : Configuration) (octets : List ℕ) (items : List ItemValue) →
 few-front c octets items r =
     omega (arith, first-count c r.bits (places (rules_of c) r.bits) items r.are_items, places-count (rules_of c) r.bits, few-bits c octets r.bits r.inner)
 
-few-all : (c : Configuration) (count : ℕ) (octets : List ℕ) (items : List ItemValue) → AreAll c count octets items → length items ≤ 8 * length octets
+pub few-all : (c : Configuration) (count : ℕ) (octets : List ℕ) (items : List ItemValue) → AreAll c count octets items → length items ≤ 8 * length octets
 few-all c count octets items r =
     omega (arith, all-count c r.bits (places (rules_of c) r.bits) items r.are_items, places-count (rules_of c) r.bits, few-bits c octets r.bits r.inner)
 

@@ -1,19 +1,18 @@
 -- What is written of items that were received, and how the commands that receive end.
-use Rattle.std.proofs.Common.{◌≡◌, ◌⊎◌, inl, inr, ℕ, ◌+◌, ◌≤◌, List, [], ◌∷◌, ◌++◌, length, take, refl, sym, ap, ◌∙◌, subst, append_assoc, arith, Option, Bool}
+use Rattle.std.proofs.Common.{◌≡◌, ◌⊎◌, inl, inr, ℕ, ◌≤◌, List, [], ◌∷◌, ◌++◌, length, take, refl, sym, ap, ◌∙◌, subst, append_assoc, arith, Option}
 use Rattle.std.proofs.lemmas.List.{append-nil, take_all}
 use Rattle.std.specs.Io.KnownBytes.{append_known}
 use Rattle.tm_base.specs.Takers.{HandedOver, HandedPart}
 use Rattle.tm_base.specs.Written.{WroteFront}
 use Rattle.tm_config.specs.Accepted.{IsAccepted}
 use Rattle.tm_config.specs.Configuration.{Configuration}
-use Rattle.tm_inner.specs.Inner.{Inner}
 use Rattle.tm_channel.specs.Items.{ItemValue, frames_of}
 use Rattle.tm_channel.specs.Receive.{Receive, ReceiveDue, ReceiveFirst, ReceiveFront}
-use Rattle.tm_words.specs.declared.job.JobKind.TheVariants as kind
+use Rattle.tm_cli.specs.Command.Command.{Decode, Report}
 use Rattle.tm_cli.specs.Lines.{item_text, report_end_text}
 use Rattle.tm_cli.specs.Report.{good, bad, fixed, items_text, report_text}
-use Rattle.tm_cli.specs.Output.{Output, IsDecoded, IsDecodedDue, HasBad, AreInTurn, WroteFronts}
-use Rattle.tm_cli.specs.Ending.{Ends}
+use Rattle.tm_cli.specs.Output.{Output, IsOutput, IsDecoded, IsDecodedDue, HasBad, AreInTurn, WroteFronts}
+use Rattle.tm_cli.specs.Ending.{Ends, WroteEarly}
 use Rattle.tm_cli.specs.Receiving.{AreAll, ReceivedUpTo, DecodedAll, DecodingFaults, ToldEnd}
 use Rattle.tm_cli.specs.Taken.{Standing, TookText, BrokeText, no_counts, number_of, Reported, ReportedAll, ReportBroke, DecodingBroke}
 use Rattle.tm_cli.specs.declared.counts.Counts.{Counts}
@@ -118,11 +117,11 @@ decode-faults Past out out_now out_last notes notes_now notes_last counts c octe
 
 -- ---- the items of a whole input
 
--- octets come to one list of bits
-abbrev pub OneBits : Type 0
-OneBits = (c : Configuration) (phase : ℕ) (octets : List ℕ) (bits others : List Bool) → Inner c phase octets bits → Inner c phase octets others → bits ≡ others
+-- octets have a list of items
+abbrev pub HasItems : Type 0
+HasItems = (c : Configuration) (phase : ℕ) (octets : List ℕ) → IsAccepted c → (items : List ItemValue) × Receive c phase octets items
 
--- and have one list of items
+-- and only one
 abbrev pub OneList : Type 0
 OneList = (c : Configuration) (phase : ℕ) (octets : List ℕ) (items others : List ItemValue) → IsAccepted c
     → Receive c phase octets items → Receive c phase octets others → items ≡ others
@@ -165,6 +164,18 @@ decoded : (c : Configuration) (count : ℕ) (octets : List ℕ) (items : List It
 decoded c count octets items all =
     record { items = items; bits = all.bits; inner = all.inner; are_items = all.are_items; are_frames = refl; is_report = ap (report_text items) all.counted }
 
+-- what `decode` writes, and what `report` writes
+decode-output : HasItems → (c : Configuration) (octets : List ℕ) → IsAccepted c → (output : Output) × IsOutput Decode c octets output
+decode-output exists c octets accepted =
+    let h = exists c 0 octets accepted in
+    let all : AreAll c (length h.1.bits) octets h.0 = record { bits = h.1.bits; inner = h.1.inner; counted = refl; are_items = h.1.are_items } in
+    (record { out = frames_of h.0; notes = report_text h.0 (length h.1.bits) }, decoded c (length h.1.bits) octets h.0 all)
+
+report-output : HasItems → (c : Configuration) (octets : List ℕ) → IsAccepted c → (output : Output) × IsOutput Report c octets output
+report-output exists c octets accepted =
+    let h = decode-output exists c octets accepted in
+    (record { out = h.0.notes; notes = [] }, (h.0.out, h.1, refl))
+
 decoded-due : (c : Configuration) (octets : List ℕ) (items : List ItemValue) → ReceiveDue c 0 octets items → IsDecodedDue c octets (frames_of items) (items_text 0 items)
 decoded-due c octets items due = record { items = items; are_due = due; are_frames = refl; are_lines = refl }
 
@@ -188,10 +199,10 @@ begin c octets first frames report stand d =
     }
 
 -- whether there is a bad one is told by any list of them
-is_bad : (c : Configuration) (count : ℕ) (octets : List ℕ) (items : List ItemValue) → AreAll c count octets items → (bad items ≡ 0 → ⊥) → HasBad c octets
+pub is_bad : (c : Configuration) (count : ℕ) (octets : List ℕ) (items : List ItemValue) → AreAll c count octets items → (bad items ≡ 0 → ⊥) → HasBad c octets
 is_bad c count octets items all some = (items, all-received c count octets items all, some)
 
-not_bad : OneList → (c : Configuration) (count : ℕ) (octets : List ℕ) (items : List ItemValue) → IsAccepted c → AreAll c count octets items → bad items ≡ 0 → HasBad c octets → ⊥
+pub not_bad : OneList → (c : Configuration) (count : ℕ) (octets : List ℕ) (items : List ItemValue) → IsAccepted c → AreAll c count octets items → bad items ≡ 0 → HasBad c octets → ⊥
 not_bad one c count octets items accepted all none has =
     has.2 (ap bad (one c 0 octets has.0 items accepted has.1 (all-received c count octets items all)) ∙ none)
 
@@ -206,39 +217,30 @@ report-fronts c octets first taken taken_now noted output stand wrote is =
       notes = wrote-no_front noted output.notes;
     }
 
-pub report-source : DueFirst → (c : Configuration) (octets : List ℕ) (items : List ItemValue) (before now : Standing) (counts : Counts) (noted : Option (List ℕ)) → IsAccepted c
-    → ReceiveDue c 0 octets items → ReportedAll before now no_counts counts items → length octets ≤ c.limit → Ends SourceFault kind.Report c octets before.taken now.taken noted noted
-report-source stand c octets items before now counts noted accepted due all within =
+pub report-early : HasItems → DueFirst → (c : Configuration) (octets : List ℕ) (items : List ItemValue) (before now : Standing) (counts : Counts) (noted : Option (List ℕ)) → IsAccepted c
+    → ReceiveDue c 0 octets items → ReportedAll before now no_counts counts items → WroteEarly Report c octets before.taken now.taken noted noted
+report-early exists stand c octets items before now counts noted accepted due all =
     let output : Output = record { out = items_text 0 items; notes = [] } in (
       (output, (frames_of items, decoded-due c octets items due, refl), record { out = all.lines.written; notes = wrote-nothing noted }),
-      within,
-      λ more output is. report-fronts c (octets ++ more) items before.taken now.taken noted output (λ all. stand c 0 octets more items all accepted due)
-          (wrote-front before.taken now.taken (items_text 0 items) all.lines.written) is,
+      λ more. let whole = report-output exists c (octets ++ more) accepted in (
+        whole.0,
+        whole.1,
+        report-fronts c (octets ++ more) items before.taken now.taken noted whole.0 (λ received. stand c 0 octets more items received accepted due)
+            (wrote-front before.taken now.taken (items_text 0 items) all.lines.written) whole.1,
+      ),
     )
 
-pub report-past : (c : Configuration) (octets : List ℕ) (items : List ItemValue) (before now : Standing) (counts : Counts) (noted : Option (List ℕ))
-    → ReceiveDue c 0 (take c.limit octets) items → ReportedAll before now no_counts counts items → length octets ≡ c.limit + 1
-    → Ends PastLimit kind.Report c octets before.taken now.taken noted noted
-report-past c octets items before now counts noted due all past =
-    let output : Output = record { out = items_text 0 items; notes = [] } in
-    ((output, (frames_of items, decoded-due c (take c.limit octets) items due, refl), record { out = all.lines.written; notes = wrote-nothing noted }), past)
-
-pub report-failed : FirstGo → FirstEnd → (c : Configuration) (octets : List ℕ) (items : List ItemValue) (before now : Standing) (last : Type 0) (noted : Option (List ℕ)) → IsAccepted c
+pub report-failed : HasItems → FirstGo → FirstEnd → (c : Configuration) (octets : List ℕ) (items : List ItemValue) (before now : Standing) (last : Type 0) (noted : Option (List ℕ)) → IsAccepted c
     → ReceiveFirst c 0 (take c.limit octets) items ⊎ ReceiveFront c 0 (take c.limit octets) items → ReportBroke before now last items
-    → Ends SinkFault kind.Report c octets before.taken now.taken noted noted
-report-failed go end c octets items before now last noted accepted are broke = λ output is. (
-  report-fronts c (take c.limit octets) items before.taken now.taken noted output (some-first go end c (take c.limit octets) items accepted are)
-      (report-front before now last items broke) is,
-  wrote-nothing noted,
-)
-
--- all items of octets have one report
-one-report : OneBits → OneList → (c : Configuration) (count : ℕ) (octets : List ℕ) (items : List ItemValue) (frames report : List ℕ) → IsAccepted c
-    → AreAll c count octets items → IsDecoded c octets frames report → (frames ≡ frames_of items) × (report ≡ report_text items count)
-one-report bits one c count octets items frames report accepted all d =
-    let same : d.items ≡ items = one c 0 octets d.items items accepted (decoded-received c octets frames report d) (all-received c count octets items all) in
-    let long : length d.bits ≡ count = ap length (bits c 0 octets d.bits all.bits d.inner all.inner) ∙ sym all.counted in
-    (d.are_frames ∙ ap frames_of same, d.is_report ∙ ap (λ l. report_text l (length d.bits)) same ∙ ap (report_text items) long)
+    → Ends SinkFault Report c octets before.taken now.taken noted noted
+report-failed exists go end c octets items before now last noted accepted are broke =
+    let whole = report-output exists c (take c.limit octets) accepted in (
+      whole.0,
+      whole.1,
+      report-fronts c (take c.limit octets) items before.taken now.taken noted whole.0 (some-first go end c (take c.limit octets) items accepted are)
+          (report-front before now last items broke) whole.1,
+      wrote-nothing noted,
+    )
 
 told-front : (before now : Standing) (last : Type 0) (items : List ItemValue) (count : ℕ)
     → BrokeText before now last (items_text 0 items) (report_end_text (good items) (bad items) (fixed items) count) → WroteFront before.taken now.taken (report_text items count)
@@ -246,30 +248,32 @@ told-front before now last items count broke =
     let end = report_end_text (good items) (bad items) (fixed items) count in
     subst (λ l. WroteFront before.taken now.taken (items_text 0 items ++ l)) (append-nil end) (broke-front before now last (items_text 0 items) end [] broke)
 
-pub report-told : OneBits → OneList → (e : Ending) (c : Configuration) (count : ℕ) (octets : List ℕ) (items : List ItemValue) (before now : Standing) (last : Type 0) (noted : Option (List ℕ)) → IsAccepted c
-    → AreAll c count octets items → length octets ≤ c.limit → ToldEnd e items count before now last → Ends e kind.Report c octets before.taken now.taken noted noted
-report-told bits one Done c count octets items before now last noted accepted all within told =
+pub report-told : OneList → (e : Ending) (c : Configuration) (count : ℕ) (octets : List ℕ) (items : List ItemValue) (before now : Standing) (last : Type 0) (noted : Option (List ℕ)) → IsAccepted c
+    → AreAll c count octets items → length octets ≤ c.limit → ToldEnd e items count before now last → Ends e Report c octets before.taken now.taken noted noted
+report-told one Done c count octets items before now last noted accepted all within told =
     let output : Output = record { out = report_text items count; notes = [] } in (
       (output, (frames_of items, decoded c count octets items all, refl), record { out = told.0.written; notes = wrote-nothing noted }),
       within,
       λ none. none,
       not_bad one c count octets items accepted all told.1,
     )
-report-told bits one Bad c count octets items before now last noted accepted all within told =
+report-told one Bad c count octets items before now last noted accepted all within told =
     let output : Output = record { out = report_text items count; notes = [] } in (
       (output, (frames_of items, decoded c count octets items all, refl), record { out = told.0.written; notes = wrote-nothing noted }),
       within,
       is_bad c count octets items all told.1,
     )
-report-told bits one SinkFault c count octets items before now last noted accepted all within told = λ output is.
-    let d : IsDecoded c octets is.0 output.out = subst (λ (l : List ℕ). IsDecoded c l is.0 output.out) (take_all c.limit octets within) is.1 in
-    let same = one-report bits one c count octets items is.0 output.out accepted all d in (
-      record { out = subst (WroteFront before.taken now.taken) (sym same.1) (told-front before now last items count told); notes = wrote-no_front noted output.notes },
+report-told one SinkFault c count octets items before now last noted accepted all within told =
+    let text = report_text items count in
+    let output : Output = record { out = text; notes = [] } in (
+      output,
+      (frames_of items, subst (λ (l : List ℕ). IsDecoded c l (frames_of items) text) (sym (take_all c.limit octets within)) (decoded c count octets items all), refl),
+      record { out = told-front before now last items count told; notes = wrote-no_front noted [] },
       wrote-nothing noted,
     )
-report-told bits one LeftOver c count octets items before now last noted accepted all within told = absurd told
-report-told bits one SourceFault c count octets items before now last noted accepted all within told = absurd told
-report-told bits one PastLimit c count octets items before now last noted accepted all within told = absurd told
+report-told one LeftOver c count octets items before now last noted accepted all within told = absurd told
+report-told one SourceFault c count octets items before now last noted accepted all within told = absurd told
+report-told one PastLimit c count octets items before now last noted accepted all within told = absurd told
 
 -- ---- how `decode` ends
 
@@ -283,23 +287,19 @@ decode-fronts c octets first taken taken_now noted noted_now output stand out no
       notes = subst (WroteFront noted noted_now) (sym b.report_is) (front-of noted noted_now (items_text 0 first) b.more notes);
     }
 
-pub decode-source : DueFirst → (c : Configuration) (octets : List ℕ) (items : List ItemValue) (out out_now notes notes_now : Standing) (counts : Counts) → IsAccepted c
-    → ReceiveDue c 0 octets items → DecodedAll out out_now notes notes_now counts items → length octets ≤ c.limit
-    → Ends SourceFault kind.Decode c octets out.taken out_now.taken notes.taken notes_now.taken
-decode-source stand c octets items out out_now notes notes_now counts accepted due all within =
+pub decode-early : HasItems → DueFirst → (c : Configuration) (octets : List ℕ) (items : List ItemValue) (out out_now notes notes_now : Standing) (counts : Counts) → IsAccepted c
+    → ReceiveDue c 0 octets items → DecodedAll out out_now notes notes_now counts items
+    → WroteEarly Decode c octets out.taken out_now.taken notes.taken notes_now.taken
+decode-early exists stand c octets items out out_now notes notes_now counts accepted due all =
     let output : Output = record { out = frames_of items; notes = items_text 0 items } in (
       (output, decoded-due c octets items due, record { out = all.0.written; notes = all.1.lines.written }),
-      within,
-      λ more output is. decode-fronts c (octets ++ more) items out.taken out_now.taken notes.taken notes_now.taken output (λ received. stand c 0 octets more items received accepted due)
-          (wrote-front out.taken out_now.taken (frames_of items) all.0.written) (wrote-front notes.taken notes_now.taken (items_text 0 items) all.1.lines.written) is,
+      λ more. let whole = decode-output exists c (octets ++ more) accepted in (
+        whole.0,
+        whole.1,
+        decode-fronts c (octets ++ more) items out.taken out_now.taken notes.taken notes_now.taken whole.0 (λ received. stand c 0 octets more items received accepted due)
+            (wrote-front out.taken out_now.taken (frames_of items) all.0.written) (wrote-front notes.taken notes_now.taken (items_text 0 items) all.1.lines.written) whole.1,
+      ),
     )
-
-pub decode-past : (c : Configuration) (octets : List ℕ) (items : List ItemValue) (out out_now notes notes_now : Standing) (counts : Counts)
-    → ReceiveDue c 0 (take c.limit octets) items → DecodedAll out out_now notes notes_now counts items → length octets ≡ c.limit + 1
-    → Ends PastLimit kind.Decode c octets out.taken out_now.taken notes.taken notes_now.taken
-decode-past c octets items out out_now notes notes_now counts due all past =
-    let output : Output = record { out = frames_of items; notes = items_text 0 items } in
-    ((output, decoded-due c (take c.limit octets) items due, record { out = all.0.written; notes = all.1.lines.written }), past)
 
 -- where a sink failed at one of the first items, the line of each item came behind its frame
 in_turn : (items first behind : List ItemValue) (out out_now : Standing) (out_last : Type 0) (notes notes_now : Standing) (notes_last : Type 0) → items ≡ first ++ behind
@@ -333,48 +333,58 @@ in_turn items first behind out out_now out_last notes notes_now notes_last split
           )
     ]
 
-pub decode-failed : FirstGo → FirstEnd → (c : Configuration) (octets : List ℕ) (items : List ItemValue) (out out_now : Standing) (out_last : Type 0) (notes notes_now : Standing) (notes_last : Type 0) → IsAccepted c
+pub decode-failed : HasItems → FirstGo → FirstEnd → (c : Configuration) (octets : List ℕ) (items : List ItemValue) (out out_now : Standing) (out_last : Type 0) (notes notes_now : Standing) (notes_last : Type 0) → IsAccepted c
     → ReceiveFirst c 0 (take c.limit octets) items ⊎ ReceiveFront c 0 (take c.limit octets) items → DecodingBroke out out_now out_last notes notes_now notes_last items
-    → Ends SinkFault kind.Decode c octets out.taken out_now.taken notes.taken notes_now.taken
-decode-failed go end c octets items out out_now out_last notes notes_now notes_last accepted are broke = λ output is.
-    let first = some-first go end c (take c.limit octets) items accepted are in
-    let fronts = decoding-fronts out out_now out_last notes notes_now notes_last items broke in (
-      decode-fronts c (take c.limit octets) items out.taken out_now.taken notes.taken notes_now.taken output first fronts.0 fronts.1 is,
-      λ all received. let split = first all received in in_turn all items split.0 out out_now out_last notes notes_now notes_last split.1 broke,
+    → Ends SinkFault Decode c octets out.taken out_now.taken notes.taken notes_now.taken
+decode-failed exists go end c octets items out out_now out_last notes notes_now notes_last accepted are broke =
+    let front = take c.limit octets in
+    let whole = decode-output exists c front accepted in
+    let first = some-first go end c front items accepted are in
+    let fronts = decoding-fronts out out_now out_last notes notes_now notes_last items broke in
+    let all = whole.1.items in
+    let received = decoded-received c front whole.0.out whole.0.notes whole.1 in
+    let split = first all received in (
+      whole.0,
+      whole.1,
+      decode-fronts c front items out.taken out_now.taken notes.taken notes_now.taken whole.0 first fronts.0 fronts.1 whole.1,
+      (all, received, in_turn all items split.0 out out_now out_last notes notes_now notes_last split.1 broke),
     )
 
-pub decode-told : OneBits → OneList → (e : Ending) (c : Configuration) (count : ℕ) (octets : List ℕ) (items : List ItemValue) (out out_now notes notes_now : Standing) (last : Type 0) → IsAccepted c
+pub decode-told : OneList → (e : Ending) (c : Configuration) (count : ℕ) (octets : List ℕ) (items : List ItemValue) (out out_now notes notes_now : Standing) (last : Type 0) → IsAccepted c
     → AreAll c count octets items → length octets ≤ c.limit → TookText out out_now (frames_of items) → ToldEnd e items count notes notes_now last
-    → Ends e kind.Decode c octets out.taken out_now.taken notes.taken notes_now.taken
-decode-told bits one Done c count octets items out out_now notes notes_now last accepted all within frames told =
+    → Ends e Decode c octets out.taken out_now.taken notes.taken notes_now.taken
+decode-told one Done c count octets items out out_now notes notes_now last accepted all within frames told =
     let output : Output = record { out = frames_of items; notes = report_text items count } in (
       (output, decoded c count octets items all, record { out = frames.written; notes = told.0.written }),
       within,
       λ none. none,
       not_bad one c count octets items accepted all told.1,
     )
-decode-told bits one Bad c count octets items out out_now notes notes_now last accepted all within frames told =
+decode-told one Bad c count octets items out out_now notes notes_now last accepted all within frames told =
     let output : Output = record { out = frames_of items; notes = report_text items count } in (
       (output, decoded c count octets items all, record { out = frames.written; notes = told.0.written }),
       within,
       is_bad c count octets items all told.1,
     )
-decode-told bits one SinkFault c count octets items out out_now notes notes_now last accepted all within frames told = λ output is.
-    let up_to : take c.limit octets ≡ octets = take_all c.limit octets within in
-    let d : IsDecoded c octets output.out output.notes = subst (λ (l : List ℕ). IsDecoded c l output.out output.notes) up_to is in
-    let same = one-report bits one c count octets items output.out output.notes accepted all d in (
-      record {
-        out = subst (WroteFront out.taken out_now.taken) (sym same.0) (wrote-front out.taken out_now.taken (frames_of items) frames.written);
-        notes = subst (WroteFront notes.taken notes_now.taken) (sym same.1) (told-front notes notes_now last items count told);
-      },
-      λ others received. record {
-        front = items;
-        rest = [];
-        split = one c 0 octets others items accepted (subst (λ (l : List ℕ). Receive c 0 l others) up_to received) (all-received c count octets items all) ∙ sym (append-nil items);
-        frames = (0, frames.written ∙ ap (append_known out.taken) (sym (append-nil (frames_of items))));
-        lines = inr refl;
-      },
+decode-told one SinkFault c count octets items out out_now notes notes_now last accepted all within frames told =
+    let text = report_text items count in
+    let output : Output = record { out = frames_of items; notes = text } in
+    let up_to : octets ≡ take c.limit octets = sym (take_all c.limit octets within) in (
+      output,
+      subst (λ (l : List ℕ). IsDecoded c l (frames_of items) text) up_to (decoded c count octets items all),
+      record { out = wrote-front out.taken out_now.taken (frames_of items) frames.written; notes = told-front notes notes_now last items count told },
+      (
+        items,
+        subst (λ (l : List ℕ). Receive c 0 l items) up_to (all-received c count octets items all),
+        record {
+          front = items;
+          rest = [];
+          split = sym (append-nil items);
+          frames = (0, frames.written ∙ ap (append_known out.taken) (sym (append-nil (frames_of items))));
+          lines = inr refl;
+        },
+      ),
     )
-decode-told bits one LeftOver c count octets items out out_now notes notes_now last accepted all within frames told = absurd told
-decode-told bits one SourceFault c count octets items out out_now notes notes_now last accepted all within frames told = absurd told
-decode-told bits one PastLimit c count octets items out out_now notes notes_now last accepted all within frames told = absurd told
+decode-told one LeftOver c count octets items out out_now notes notes_now last accepted all within frames told = absurd told
+decode-told one SourceFault c count octets items out out_now notes notes_now last accepted all within frames told = absurd told
+decode-told one PastLimit c count octets items out out_now notes notes_now last accepted all within frames told = absurd told

@@ -1,7 +1,6 @@
 -- What tracing has written, from what an inner receiver handed over.
-use Rattle.std.proofs.Common.{◌≡◌, ℕ, zero, suc, ◌+◌, ◌-◌, ◌<◌, ◌≤◌, ◌^◌, Bool, List, [], ◌∷◌, ◌++◌, length, take, drop, map, refl, sym, ap, ◌∙◌, subst, arith, append_assoc, Option, Some, None, length-append, length-drop, length-take}
+use Rattle.std.proofs.Common.{◌≡◌, ℕ, ◌+◌, ◌-◌, ◌<◌, ◌≤◌, ◌^◌, Bool, List, [], ◌∷◌, ◌++◌, length, take, drop, map, refl, sym, ap, ◌∙◌, subst, arith, append_assoc, Option, Some, None, length-append, length-drop, length-take}
 use Rattle.std.proofs.Math.Seq.{drop-nil}
-use Rattle.std.proofs.lemmas.Bool.Decides.{nat_tests}
 use Rattle.std.proofs.lemmas.List.{append-nil, take_all}
 use Rattle.std.specs.Io.KnownBytes.{append_known}
 use Rattle.tm_base.specs.Written.{WroteFront}
@@ -10,24 +9,26 @@ use Rattle.tm_config.specs.Configuration.{Configuration}
 use Rattle.tm_config.specs.Accepted.{IsAccepted}
 use Rattle.tm_conv.specs.declared.rates.Rate.{Rate}
 use Rattle.tm_conv.specs.Path.{steps_size}
-use Rattle.tm_conv.proofs.Sizes.{step_size_pos}
+use Rattle.tm_conv.proofs.Sizes.{steps_size_ge}
 use Rattle.tm_viterbi.specs.Settings.{Settings}
 use Rattle.tm_viterbi.specs.WindowBlock.{WindowBlock}
-use Rattle.tm_viterbi.specs.Blocks.{AreBlocks, AreBlocksOf, kept_steps}
+use Rattle.tm_viterbi.specs.Blocks.{AreBlocks, AreBlocksOf}
 use Rattle.tm_viterbi.specs.Due.{Place, Closed, behind, first_place, AreDue}
 use Rattle.tm_viterbi.specs.Starts.{first_start}
 use Rattle.tm_viterbi.proofs.CleanBlocks.{steps-mono}
+use Rattle.tm_viterbi.proofs.HasBlocks.{some_kept}
 use Rattle.tm_inner.specs.Symbols.{rate_of}
 use Rattle.tm_inner.specs.Inner.{settings_of, soft_value, soft_octets, BlocksAt, DueAt, AreInnerBlocks, AreInnerDue, inner_bits}
 use Rattle.tm_inner.specs.Receiving.{InnerReceiving, StandsFor, FirstAt, AreInnerFirst, Hands, HandsFront}
 use Rattle.tm_inner.proofs.DueBits.{StayClosed, StandFirst}
+use Rattle.tm_inner.proofs.InnerBits.{HasBlocks, has_blocks}
 use Rattle.tm_inner.proofs.ReceivedBits.{length-soft}
 use Rattle.tm_inner.proofs.FewBits.{first-of-due}
 use Rattle.tm_inner.proofs.GivenPieces.{soft-further}
-use Rattle.tm_words.specs.declared.job.JobKind.TheVariants as kind
+use Rattle.tm_cli.specs.Command.Command.{Trace}
 use Rattle.tm_cli.specs.Lines.{block_text, trace_end_text}
 use Rattle.tm_cli.specs.Output.{Output, IsTrace, WroteFronts, WroteDue}
-use Rattle.tm_cli.specs.Ending.{Ends}
+use Rattle.tm_cli.specs.Ending.{Ends, WroteEarly}
 use Rattle.tm_cli.specs.declared.ending.Ending.TheVariants as ending
 use Rattle.tm_cli.specs.Reading.{FedUpTo}
 use Rattle.tm_cli.specs.Report.{blocks_text, trace_text}
@@ -40,29 +41,21 @@ use Rattle.tm_cli.proofs.Endings.{wrote-nothing, wrote-front}
 
 -- ---- windows are at most as many as octets
 
-steps-large : (rate : Rate) (t n : ℕ) → n ≤ steps_size rate t n
-unfolding steps_size
-steps-large rate t zero = omega arith
-steps-large rate t (suc n) = omega (arith, steps-large rate (t + 1) n, step_size_pos rate t)
-
-some-kept : (keep ahead n : ℕ) → 0 < keep → 0 < n → (0 < kept_steps keep ahead n) × (kept_steps keep ahead n ≤ n)
-some-kept keep ahead n some more = (grind (arith, nat_tests), grind (arith, nat_tests))
-
 closed-few : (rate : Rate) (invert : Bool) (keep ahead : ℕ) (from to : Place) (blocks : List WindowBlock) → 0 < keep → Closed rate invert keep ahead from blocks to
     → length blocks ≤ length from.octets
 closed-few rate invert keep ahead from to [] some closed = omega arith
 closed-few rate invert keep ahead from to (b ∷ blocks) some closed =
     let n : ℕ = keep + ahead + 1 in
-    let kept = some-kept keep ahead n some (omega arith) in
+    let kept = some_kept keep ahead n some (omega arith) in
     let rest = closed-few rate invert keep ahead (behind rate from b) to blocks some closed.1 in
     let inside = steps-mono rate from.t b.kept n (omega (arith, kept, closed.0.is_block.kept)) in
-    omega (arith, kept, closed.0.is_block.kept, closed.0.room, rest, inside, length-drop (steps_size rate from.t b.kept) from.octets, steps-large rate from.t b.kept)
+    omega (arith, kept, closed.0.is_block.kept, closed.0.room, rest, inside, length-drop (steps_size rate from.t b.kept) from.octets, steps_size_ge rate from.t b.kept)
 
 whole-few : (rate : Rate) (invert : Bool) (keep ahead : ℕ) (starts : Option ℕ) (t n : ℕ) (octets : List ℕ) (blocks : List WindowBlock) → 0 < keep
     → AreBlocks rate invert keep ahead starts t n octets blocks → length blocks ≤ n
 whole-few rate invert keep ahead starts t n octets [] some are = omega arith
 whole-few rate invert keep ahead starts t n octets (b ∷ blocks) some are =
-    let kept = some-kept keep ahead n some are.0 in
+    let kept = some_kept keep ahead n some are.0 in
     let rest = whole-few rate invert keep ahead (Some b.end_state) (t + b.kept) (n - b.kept) (drop (steps_size rate t b.kept) octets) blocks some are.2 in
     omega (arith, kept, are.1.kept, rest)
 
@@ -76,7 +69,7 @@ few-at : (rate : Option Rate) (c : Configuration) (octets : List ℕ) (blocks : 
 few-at None c octets blocks left some are = let none = ap length are.0 in omega arith
 few-at (Some rate) c octets blocks left some are =
     let s = settings_of c rate in
-    omega (arith, whole-few rate s.invert s.keep s.ahead (first_start s.start) 0 are.count (soft_octets c 0 octets) blocks some are.are, are.steps.whole, steps-large rate 0 are.count, length-soft c octets)
+    omega (arith, whole-few rate s.invert s.keep s.ahead (first_start s.start) 0 are.count (soft_octets c 0 octets) blocks some are.are, are.steps.whole, steps_size_ge rate 0 are.count, length-soft c octets)
 
 few-first : (c : Configuration) (octets : List ℕ) (blocks : List WindowBlock) → IsAccepted c → AreInnerFirst c 0 octets blocks → length blocks ≤ length octets
 few-first c octets blocks accepted = few-first-at (rate_of c.inner) c octets blocks (let keep = accepted.some_keep in omega arith)
@@ -241,14 +234,13 @@ stands-new none r stands = (stands, no-due none (rate_of r.config.inner) r.confi
 
 -- ---- how tracing ends
 
-abbrev OneList : Type 0
-OneList = (s : Settings) (octets : List ℕ) (blocks others : List WindowBlock) (left right : ℕ)
-    → AreBlocksOf s octets blocks left → AreBlocksOf s octets others right → (blocks ≡ others) × (left ≡ right)
-
-one-at : OneList → (rate : Option Rate) (c : Configuration) (octets : List ℕ) (blocks others : List WindowBlock) (left right : ℕ)
-    → BlocksAt rate c 0 octets blocks left → BlocksAt rate c 0 octets others right → (blocks ≡ others) × (left ≡ right)
-one-at one None c octets blocks others left right are also = (are.0 ∙ sym also.0, are.1 ∙ sym also.1)
-one-at one (Some rate) c octets blocks others left right are also = one (settings_of c rate) (soft_octets c 0 octets) blocks others left right are also
+-- the trace of octets
+trace-output : HasBlocks → (c : Configuration) (octets : List ℕ) → IsAccepted c → (output : Output) × IsTrace c octets output
+trace-output exists c octets accepted =
+    let h = has_blocks exists c 0 octets accepted in (
+      record { out = trace_text h.0 (length (inner_bits c octets h.0)) h.1; notes = [] },
+      record { blocks = h.0; left = h.1; are_blocks = h.2; out = refl; notes = refl },
+    )
 
 first-at : StayClosed → StandFirst → (rate : Option Rate) (c : Configuration) (octets more : List ℕ) (first blocks : List WindowBlock) (left : ℕ)
     → FirstAt rate c 0 octets first → BlocksAt rate c 0 (octets ++ more) blocks left → (rest : List WindowBlock) × (blocks ≡ first ++ rest)
@@ -279,7 +271,7 @@ fronts-by stay stands c octets more first taken taken_now noted output are wrote
     }
 
 pub ends-done : (c : Configuration) (octets : List ℕ) (before now : Standing) (noted : Option (List ℕ)) → WroteTrace c before now octets → length octets ≤ c.limit
-    → Ends ending.Done kind.Trace c octets before.taken now.taken noted noted
+    → Ends ending.Done Trace c octets before.taken now.taken noted noted
 ends-done c octets before now noted w within =
     let text = trace_text w.blocks (length (inner_bits c octets w.blocks)) w.left in
     let output : Output = record { out = text; notes = [] } in (
@@ -294,7 +286,7 @@ ends-done c octets before now noted w within =
     )
 
 due-written : (c : Configuration) (r : InnerReceiving) (count : ℕ) (octets : List ℕ) (before now : Standing) (noted : Option (List ℕ)) → Traces c r count before now octets
-    → WroteDue kind.Trace c octets before.taken now.taken noted noted
+    → WroteDue Trace c octets before.taken now.taken noted noted
 due-written c r count octets before now noted t =
     let output : Output = record { out = blocks_text 0 t.blocks; notes = [] } in (
       output,
@@ -302,34 +294,37 @@ due-written c r count octets before now noted t =
       record { out = t.lines.lines.written; notes = wrote-nothing noted },
     )
 
-pub ends-source : StayClosed → StandFirst → (c : Configuration) (r : InnerReceiving) (count : ℕ) (octets : List ℕ) (before now : Standing) (noted : Option (List ℕ))
-    → Traces c r count before now octets → length octets ≤ c.limit → Ends ending.SourceFault kind.Trace c octets before.taken now.taken noted noted
-ends-source stay stands c r count octets before now noted t within = (
+pub ends-early : HasBlocks → StayClosed → StandFirst → (c : Configuration) (r : InnerReceiving) (count : ℕ) (octets : List ℕ) (before now : Standing) (noted : Option (List ℕ))
+    → IsAccepted c → Traces c r count before now octets → WroteEarly Trace c octets before.taken now.taken noted noted
+ends-early exists stay stands c r count octets before now noted accepted t = (
   due-written c r count octets before now noted t,
-  within,
-  λ more output is. fronts-by stay stands c octets more t.blocks before.taken now.taken noted output
-      (first-of-due c 0 octets t.blocks (subst (λ (k : Configuration). AreInnerDue k 0 octets t.blocks) t.config t.stands.1))
-      (wrote-front before.taken now.taken (blocks_text 0 t.blocks) t.lines.lines.written) is,
+  λ more. let all = trace-output exists c (octets ++ more) accepted in (
+    all.0,
+    all.1,
+    fronts-by stay stands c octets more t.blocks before.taken now.taken noted all.0
+        (first-of-due c 0 octets t.blocks (subst (λ (k : Configuration). AreInnerDue k 0 octets t.blocks) t.config t.stands.1))
+        (wrote-front before.taken now.taken (blocks_text 0 t.blocks) t.lines.lines.written) all.1,
+  ),
 )
 
-pub ends-past : (c : Configuration) (r : InnerReceiving) (count : ℕ) (octets : List ℕ) (before now : Standing) (noted : Option (List ℕ))
-    → Traces c r count before now (take c.limit octets) → length octets ≡ c.limit + 1 → Ends ending.PastLimit kind.Trace c octets before.taken now.taken noted noted
-ends-past c r count octets before now noted t past = (due-written c r count (take c.limit octets) before now noted t, past)
+pub ends-fed : HasBlocks → StayClosed → StandFirst → (c : Configuration) (octets : List ℕ) (before now : Standing) (is_last : Type 0) (noted : Option (List ℕ))
+    → IsAccepted c → TraceFails c before now is_last (take c.limit octets) → Ends ending.SinkFault Trace c octets before.taken now.taken noted noted
+ends-fed exists stay stands c octets before now is_last noted accepted t =
+    let all = trace-output exists c (take c.limit octets) accepted in (
+      all.0,
+      all.1,
+      fronts-by stay stands c (take c.limit octets) [] t.blocks before.taken now.taken noted all.0 t.are_first
+          (trace-front before now is_last t.blocks t.broke) (subst (λ (l : List ℕ). IsTrace c l all.0) (sym (append-nil (take c.limit octets))) all.1),
+      wrote-nothing noted,
+    )
 
-pub ends-fed : StayClosed → StandFirst → (c : Configuration) (octets : List ℕ) (before now : Standing) (is_last : Type 0) (noted : Option (List ℕ))
-    → TraceFails c before now is_last (take c.limit octets) → Ends ending.SinkFault kind.Trace c octets before.taken now.taken noted noted
-ends-fed stay stands c octets before now is_last noted t = λ output is. (
-  fronts-by stay stands c (take c.limit octets) [] t.blocks before.taken now.taken noted output t.are_first
-      (trace-front before now is_last t.blocks t.broke) (subst (λ (l : List ℕ). IsTrace c l output) (sym (append-nil (take c.limit octets))) is),
-  wrote-nothing noted,
-)
-
-pub ends-cut : OneList → (c : Configuration) (octets : List ℕ) (before now : Standing) (noted : Option (List ℕ)) → WroteTraceFront c before now octets
-    → length octets ≤ c.limit → Ends ending.SinkFault kind.Trace c octets before.taken now.taken noted noted
-ends-cut one c octets before now noted w within = λ output outputs.
-    let is = subst (λ (l : List ℕ). IsTrace c l output) (take_all c.limit octets within) outputs in
-    let same = one-at one (rate_of c.inner) c octets w.blocks is.blocks w.left is.left w.are_blocks is.are_blocks in
-    let text : trace_text w.blocks (length (inner_bits c octets w.blocks)) w.left ≡ output.out =
-    ap (λ (l : List WindowBlock). trace_text l (length (inner_bits c octets l)) w.left) same.0
-    ∙ ap (trace_text is.blocks (length (inner_bits c octets is.blocks))) same.1 ∙ sym is.out in
-    (record { out = subst (WroteFront before.taken now.taken) text w.written; notes = (0, wrote-nothing noted) }, wrote-nothing noted)
+pub ends-cut : (c : Configuration) (octets : List ℕ) (before now : Standing) (noted : Option (List ℕ)) → WroteTraceFront c before now octets
+    → length octets ≤ c.limit → Ends ending.SinkFault Trace c octets before.taken now.taken noted noted
+ends-cut c octets before now noted w within =
+    let output : Output = record { out = trace_text w.blocks (length (inner_bits c octets w.blocks)) w.left; notes = [] } in
+    let is : IsTrace c octets output = record { blocks = w.blocks; left = w.left; are_blocks = w.are_blocks; out = refl; notes = refl } in (
+      output,
+      subst (λ (l : List ℕ). IsTrace c l output) (sym (take_all c.limit octets within)) is,
+      record { out = w.written; notes = (0, wrote-nothing noted) },
+      wrote-nothing noted,
+    )

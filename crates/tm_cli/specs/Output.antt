@@ -7,10 +7,14 @@ use Rattle.tm_inner.specs.Inner.{Inner, AreInnerBlocks, AreInnerDue, inner_bits}
 use Rattle.tm_channel.specs.Sent.{sent}
 use Rattle.tm_channel.specs.Items.{ItemValue, AreItems, frames_of}
 use Rattle.tm_channel.specs.Receive.{Receive, ReceiveDue}
-use Rattle.tm_words.specs.declared.job.JobKind.{JobKind}
-use Rattle.tm_words.specs.declared.job.JobKind.TheVariants.{Encode, Decode, Report, Trace}
+use Rattle.tm_cli.specs.Command.{Command}
+use Rattle.tm_cli.specs.Command.Command.{Encode, Decode, Report, Trace, Word, Soak, Erased}
+use Rattle.tm_cli.specs.Erased.{AreLines, AreLinesDue, HasBeyond, record_rest}
+use Rattle.tm_cli.specs.Generated.{generated}
 use Rattle.tm_cli.specs.Lines.{left_over_text}
 use Rattle.tm_cli.specs.Report.{bad, items_text, report_text, blocks_text, trace_text}
+use Rattle.tm_cli.specs.Soak.{IsSoakLine}
+use Rattle.tm_cli.specs.Word.{IsWordLine, IsBeyond}
 
 -- the octets for the output and the octets for the notes
 pub record Output : Type 0 where
@@ -52,37 +56,50 @@ pub record IsTraceDue (c : Configuration) (octets : List ℕ) (output : Output) 
   pub out : output.out ≡ blocks_text 0 blocks
   pub notes : output.notes ≡ []
 
--- all that a command writes for the octets of its whole input
-abbrev pub IsOutput : JobKind → Configuration → List ℕ → Output → Type 0
+-- all that a command writes for the octets of its whole input, of which there are none where it does not read
+abbrev pub IsOutput : Command → Configuration → List ℕ → Output → Type 0
 IsOutput Encode c octets output = output ≡ record { out = sent c octets; notes = left_over_text (left_over c octets) }
 IsOutput Decode c octets output = IsDecoded c octets output.out output.notes
 IsOutput Report c octets output = (frames : List ℕ) × IsDecoded c octets frames output.out × (output.notes ≡ [])
 IsOutput Trace c octets output = IsTrace c octets output
+IsOutput (Word text) c octets output = IsWordLine c text output.out × (output.notes ≡ [])
+IsOutput (Soak seed frames hits) c octets output = IsSoakLine c seed frames hits output.out × (output.notes ≡ [])
+IsOutput Erased c octets output = AreLines c octets output.out × (output.notes ≡ left_over_text (record_rest c octets))
 
--- what a command has to write for the octets so far, before the end of its input is known
-abbrev pub IsDue : JobKind → Configuration → List ℕ → Output → Type 0
+-- what a command that reads has to write for the octets so far, before the end of its input is known
+abbrev pub IsDue : Command → Configuration → List ℕ → Output → Type 0
 IsDue Encode c octets output = output ≡ record { out = sent c octets; notes = [] }
 IsDue Decode c octets output = IsDecodedDue c octets output.out output.notes
 IsDue Report c octets output = (frames : List ℕ) × IsDecodedDue c octets frames output.out × (output.notes ≡ [])
 IsDue Trace c octets output = IsTraceDue c octets output
+IsDue (Word text) c octets output = ⊥
+IsDue (Soak seed frames hits) c octets output = ⊥
+IsDue Erased c octets output = AreLinesDue c octets output.out × (output.notes ≡ [])
 
--- the octets of a whole input do not end with a whole frame, where frames are read
-abbrev pub IsPartial : JobKind → Configuration → List ℕ → Type 0
+-- the octets of a whole input do not end with a whole frame or record, where frames or records are read
+abbrev pub IsPartial : Command → Configuration → List ℕ → Type 0
 IsPartial Encode c octets = left_over c octets ≡ 0 → ⊥
 IsPartial Decode c octets = ⊥
 IsPartial Report c octets = ⊥
 IsPartial Trace c octets = ⊥
+IsPartial (Word text) c octets = ⊥
+IsPartial (Soak seed frames hits) c octets = ⊥
+IsPartial Erased c octets = record_rest c octets ≡ 0 → ⊥
 
 -- a codeblock that was received with these octets has a column beyond repair
 abbrev pub HasBad : Configuration → List ℕ → Type 0
 HasBad c octets = (items : List ItemValue) × Receive c 0 octets items × (bad items ≡ 0 → ⊥)
 
--- the same of the commands that repair codeblocks
-abbrev pub IsBad : JobKind → Configuration → List ℕ → Type 0
+-- the same of the commands that repair codeblocks, those of generated frames too; a word, or that of a record where all are whole, is
+-- beyond repair
+abbrev pub IsBad : Command → Configuration → List ℕ → Type 0
 IsBad Encode c octets = ⊥
 IsBad Decode c octets = HasBad c octets
 IsBad Report c octets = HasBad c octets
 IsBad Trace c octets = ⊥
+IsBad (Word text) c octets = IsBeyond c text
+IsBad (Soak seed frames hits) c octets = HasBad c (generated c seed frames hits)
+IsBad Erased c octets = (record_rest c octets ≡ 0) × HasBeyond c octets
 
 -- each sink took the whole of its part
 pub record WroteBoth (output : Output) (taken taken_now noted noted_now : Option (List ℕ)) : Type 0 where
@@ -95,12 +112,12 @@ pub record WroteFronts (output : Output) (taken taken_now noted noted_now : Opti
   pub notes : WroteFront noted noted_now output.notes
 
 -- the whole output of these octets was written
-abbrev pub WroteOutput : JobKind → Configuration → List ℕ → (taken taken_now noted noted_now : Option (List ℕ)) → Type 0
-WroteOutput kind c octets taken taken_now noted noted_now = (output : Output) × IsOutput kind c octets output × WroteBoth output taken taken_now noted noted_now
+abbrev pub WroteOutput : Command → Configuration → List ℕ → (taken taken_now noted noted_now : Option (List ℕ)) → Type 0
+WroteOutput command c octets taken taken_now noted noted_now = (output : Output) × IsOutput command c octets output × WroteBoth output taken taken_now noted noted_now
 
 -- what is due for these octets was written
-abbrev pub WroteDue : JobKind → Configuration → List ℕ → (taken taken_now noted noted_now : Option (List ℕ)) → Type 0
-WroteDue kind c octets taken taken_now noted noted_now = (output : Output) × IsDue kind c octets output × WroteBoth output taken taken_now noted noted_now
+abbrev pub WroteDue : Command → Configuration → List ℕ → (taken taken_now noted noted_now : Option (List ℕ)) → Type 0
+WroteDue command c octets taken taken_now noted noted_now = (output : Output) × IsDue command c octets output × WroteBoth output taken taken_now noted noted_now
 
 -- The output took the frames of the first of these items, and maybe a part of what stands behind them. The notes hold no more than the
 -- lines of these first items, or they are all of them.
@@ -111,11 +128,14 @@ pub record AreInTurn (items : List ItemValue) (taken taken_now noted noted_now :
   pub frames : (count : ℕ) × Wrote taken taken_now (frames_of front ++ take count (frames_of rest))
   pub lines : WroteFront noted noted_now (items_text 0 front) ⊎ (rest ≡ [])
 
--- What `encode` writes on the notes comes last, once the output has taken the whole of its part. The line of an item comes behind its
+-- What `encode` and `erased` write on the notes comes last, once the output has taken the whole of its part. The line of an item comes behind its
 -- frame. The other commands write no notes.
-abbrev pub IsInOrder : JobKind → Configuration → List ℕ → Output → (taken taken_now noted noted_now : Option (List ℕ)) → Type 0
+abbrev pub IsInOrder : Command → Configuration → List ℕ → Output → (taken taken_now noted noted_now : Option (List ℕ)) → Type 0
 IsInOrder Encode c octets output taken taken_now noted noted_now = Wrote noted noted_now [] ⊎ Wrote taken taken_now output.out
 IsInOrder Decode c octets output taken taken_now noted noted_now =
-    (items : List ItemValue) → Receive c 0 octets items → AreInTurn items taken taken_now noted noted_now
+    (items : List ItemValue) × Receive c 0 octets items × AreInTurn items taken taken_now noted noted_now
 IsInOrder Report c octets output taken taken_now noted noted_now = Wrote noted noted_now []
 IsInOrder Trace c octets output taken taken_now noted noted_now = Wrote noted noted_now []
+IsInOrder (Word text) c octets output taken taken_now noted noted_now = Wrote noted noted_now []
+IsInOrder (Soak seed frames hits) c octets output taken taken_now noted noted_now = Wrote noted noted_now []
+IsInOrder Erased c octets output taken taken_now noted noted_now = Wrote noted noted_now [] ⊎ Wrote taken taken_now output.out

@@ -4,7 +4,7 @@ ghost use Rattle.std.specs.Io.KnownBytes.{IsAtEnd};
 ghost use Rattle.tm_base.specs.Outside.{Rose};
 ghost use Rattle.tm_base.specs.Written.{Gave};
 ghost use Rattle.tm_config.specs.Accepted.{IsAccepted};
-ghost use Rattle.tm_words.specs.declared.job.JobKind.TheVariants as kind;
+ghost use Rattle.tm_cli.specs.Command.Command.{Decode};
 ghost use Rattle.tm_cli.specs.Ending.{Ends};
 ghost use Rattle.tm_cli.specs.Receiving.{ReceivedUpTo, DecodedAll, DecodingFaults};
 ghost use Rattle.tm_cli.specs.Taken.{standing, DecodingBroke};
@@ -18,7 +18,6 @@ use std::alloc::Global;
 use std::thread::Threads;
 use tm_base::{NoMemory, Sink, Source};
 use tm_channel::{Config, due_items_law, first_items_law, items_law};
-use tm_inner::inner_law;
 
 // Writes the frame of each item of what the source gives, up to the limit, and behind it its line on the notes. Answers how
 // receiving ended, and what was counted.
@@ -76,7 +75,7 @@ pub fn decode<R: Threads + Sync, S: Source, O: Sink, N: Sink>(
 ) -> Result<Ending, NoMemory>
     ensures ends { IfOk result (λ ending. (octets : List ℕ) × Gave (S.given source.old) (S.given source.new) (S.left source.old) (S.left source.new) octets
         × (length octets ≤ config.now.limit + 1)
-        × Ends ending kind.Decode config.now octets (O.taken out.old) (O.taken out.new) (N.taken notes.old) (N.taken notes.new)) }
+        × Ends ending Decode config.now octets (O.taken out.old) (O.taken out.new) (N.taken notes.old) (N.taken notes.new)) }
     ensures memory { OnErr result ((source.new ≡ source.old) × (out.new ≡ out.old) × (notes.new ≡ notes.old)) }
     ensures whole { IfOk result (λ ending. ending ≡ Ending.LeftOver → ⊥) }
     ensures ended { IfOk result (λ ending. (ending ≡ Ending.Done) ⊎ (ending ≡ Ending.Bad) → S.ended source.new ≡ true) }
@@ -92,7 +91,6 @@ pub fn decode<R: Threads + Sync, S: Source, O: Sink, N: Sink>(
     ensures out_same { IfOk result (λ ending. (ending ≡ Ending.SinkFault → ⊥) → O.faults out.new ≡ O.faults out.old) }
     ensures notes_same { IfOk result (λ ending. (ending ≡ Ending.SinkFault → ⊥) → N.faults notes.new ≡ N.faults notes.old) }
 {
-    inner_law();
     items_law();
     due_items_law();
     first_items_law();

@@ -4,7 +4,7 @@ ghost use Rattle.std.specs.Io.KnownBytes.{IsAtEnd};
 ghost use Rattle.tm_base.specs.Outside.{Rose};
 ghost use Rattle.tm_base.specs.Written.{Gave, Wrote, WroteFront};
 ghost use Rattle.tm_config.specs.Accepted.{IsAccepted};
-ghost use Rattle.tm_words.specs.declared.job.JobKind.TheVariants.{Encode};
+ghost use Rattle.tm_cli.specs.Command.Command.{Encode};
 ghost use Rattle.tm_cli.specs.Encoding.{SentUpTo};
 ghost use Rattle.tm_cli.specs.Ending.{Ends};
 ghost use Rattle.tm_cli.specs.Lines.{left_over_text};
@@ -84,8 +84,8 @@ fn send_input<S: Source, O: Sink>(config: &Config, source: &mut S, out: &mut O) 
     (end, sender.finish())
 }
 
-// Tells how many octets are left over, and how encoding has ended by that.
-fn tell_rest<N: Sink>(notes: &mut N, rest: u32) -> Ending
+/// Tells how many octets are left over, and how a command has ended by that which has written all else.
+pub fn tell_rest<N: Sink>(notes: &mut N, rest: u32) -> Ending
     ensures done { result ≡ Ending.Done → (rest ≡ 0) × Wrote (N.taken notes.old) (N.taken notes.new) (left_over_text rest) }
     ensures left { result ≡ Ending.LeftOver → (rest ≢ 0) × Wrote (N.taken notes.old) (N.taken notes.new) (left_over_text rest) }
     ensures fault { result ≡ Ending.SinkFault → WroteFront (N.taken notes.old) (N.taken notes.new) (left_over_text rest)

@@ -1,13 +1,13 @@
-// How a command that reads ended.
+// How a command ended.
 ghost use Rattle.std.specs.Prelude.{◌≡◌};
 ghost use Rattle.tm_cli.specs.Ending.{status_of};
 
-/// How a command that reads its input ended.
+/// How a command ended.
 #[derive(Clone, Copy, Debug, PartialEq, Eq)]
 pub enum Ending {
-    /// The input was read to its end, and all is written.
+    /// The input, where the command has one, was read to its end, and all is written.
     Done,
-    /// The same, and a codeblock that was received has a column beyond repair.
+    /// The same, and a word, or a column of a codeblock that was received, is beyond repair.
     Bad,
     /// All is written, but the input is not whole frames.
     LeftOver,

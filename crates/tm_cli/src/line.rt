@@ -7,10 +7,10 @@ use itoa::Buffer;
 use std::marker::Model;
 use tm_base::{Failed, Sink, put_all};
 
-/// A line of at most 320 octets.
+/// A line of at most 560 octets.
 #[derive(Drop)]
 pub struct Line {
-    room: [u8; 320],
+    room: [u8; 560],
     count: usize,
 }
 
@@ -21,7 +21,7 @@ impl Model for Line {
 
     ghost view = { λ l. take l.count l.room };
 
-    ghost invariant = { λ l. l.count ≤ 320 };
+    ghost invariant = { λ l. l.count ≤ 560 };
 }
 
 impl Line {
@@ -30,14 +30,14 @@ impl Line {
         ensures { result ≡ [] }
     {
         Line {
-            room: [0; 320],
+            room: [0; 560],
             count: 0,
         }
     }
 
     /// Adds a text.
     pub fn text(&mut self, text: &[u8])
-        requires { length self.old + length text.now ≤ 320 }
+        requires { length self.old + length text.now ≤ 560 }
         ensures { self.new ≡ self.old ++ text.now }
     {
         let end = self.count + text.len();
@@ -47,7 +47,7 @@ impl Line {
 
     /// Adds a number in decimal, without leading zeros.
     pub fn number(&mut self, number: u64)
-        requires { length self.old + 20 ≤ 320 }
+        requires { length self.old + 20 ≤ 560 }
         ensures text { self.new ≡ self.old ++ decimal number }
         ensures length { length self.new ≤ length self.old + 20 }
     {

@@ -2,7 +2,7 @@
 ghost use Rattle.std.specs.Prelude.{◌≡◌, ◌⊎◌, ℕ, List, Option};
 ghost use Rattle.tm_config.specs.Accepted.{IsAccepted};
 ghost use Rattle.tm_config.specs.Configuration.{Configuration};
-ghost use Rattle.tm_words.specs.declared.job.JobKind.TheVariants.{Decode};
+ghost use Rattle.tm_cli.specs.Command.Command.{Decode};
 ghost use Rattle.tm_cli.specs.declared.ending.Ending.{Ending};
 ghost use Rattle.tm_cli.specs.Ending.{Ends, status_of};
 ghost use Rattle.tm_cli.specs.Link.{KeepsCleanLink, KeepsDisturbedLink};

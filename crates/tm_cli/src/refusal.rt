@@ -1,21 +1,28 @@
 // Why the words are refused, and what they ask for.
-ghost use Rattle.std.specs.Prelude.{◌≡◌, ◌≤◌, length, map, string_bytes, Some, ℕ};
+ghost use Rattle.std.specs.Prelude.{◌≡◌, ◌≤◌, length, map, string_bytes, Some, None, ℕ};
 ghost use Rattle.tm_config.specs.Configuration.{configuration_of, Configuration};
 ghost use Rattle.tm_config.specs.Accepted.{IsAccepted};
 ghost use Rattle.tm_words.specs.declared.job.Job.{Job};
-ghost use Rattle.tm_cli.specs.Refusal.{reason_of, reason_of_value, refusal_of, IsAsked};
+ghost use Rattle.tm_cli.specs.Command.{command_of};
+ghost use Rattle.tm_cli.specs.Refusal.{reason_of, reason_of_value, refusal_of, refusal_of_command, IsAsked};
 
+use crate::soak_refusal::{SoakRefusal, test_soak};
+use crate::word::{WordRefusal, test_word};
 use std::alloc::Global;
 use tm_channel::{Config, ConfigError};
-use tm_words::{JobKind, WordsError, read_words};
+use tm_words::{Job, JobKind, WordsError, read_words};
 
 /// Why the words are refused.
 #[derive(Clone, Copy, Debug, PartialEq, Eq)]
 pub enum Refusal {
     /// They are not a command with its options.
     Words,
-    /// A value is outside its list or range.
+    /// A value of the configuration is outside its list or range.
     Value(ConfigError),
+    /// The word of `word` is none.
+    OfWord(WordRefusal),
+    /// A value that `soak` alone has is outside its range.
+    OfSoak(SoakRefusal),
 }
 
 impl Refusal {
@@ -27,6 +34,8 @@ impl Refusal {
         match self {
             Refusal::Words => b"words",
             Refusal::Value(error) => reason_of_value(error),
+            Refusal::OfWord(refusal) => refusal.reason(),
+            Refusal::OfSoak(refusal) => refusal.reason(),
         }
     }
 }
@@ -60,18 +69,37 @@ fn reason_of_value(error: ConfigError) -> &'static [u8]
 /// What the words ask for, or why they are refused.
 #[derive(Drop)]
 pub enum Asked {
-    /// A command, with its configuration.
-    Command(JobKind, Config),
+    /// A command with the values of its options, and the configuration that these give.
+    Command(Job, Config),
     /// The words are refused.
     Refused(Refusal),
     /// There was not enough memory to read them.
     NoMemory,
 }
 
+// Tests what a command alone has.
+fn test_command(job: &Job, config: &Config) -> Option<Refusal>
+    ensures { result ≡ refusal_of_command config.now (command_of job.now) }
+{
+    match job.kind {
+        JobKind::Word => match test_word(config, job.hex.as_bytes()) {
+            Some(refusal) => Some(Refusal::OfWord(refusal)),
+            None => None,
+        },
+        JobKind::Soak => match test_soak(config, job.seed, job.frames, job.hits) {
+            Some(refusal) => Some(Refusal::OfSoak(refusal)),
+            None => None,
+        },
+        JobKind::Erased if config.code() == 0 => Some(Refusal::Value(ConfigError::Code)),
+        _ => None,
+    }
+}
+
 /// Reads the words and tests the values that they give.
 pub fn ask(alloc: Global, words: &[String]) -> Asked
-    ensures command { (kind : JobKind) (config : Configuration) → result ≡ Asked.Command kind config
-        → (job : Job) × IsAsked (map string_bytes words.now) job × (job.kind ≡ kind) × (configuration_of job.raw ≡ config) × IsAccepted config }
+    ensures command { (job : Job) (config : Configuration) → result ≡ Asked.Command job config
+        → IsAsked (map string_bytes words.now) job × (configuration_of job.raw ≡ config) × IsAccepted config
+        × (refusal_of_command config (command_of job) ≡ None) }
     ensures refused { (why : Refusal) → result ≡ Asked.Refused why → refusal_of (map string_bytes words.now) ≡ Some why }
 {
     let job = match read_words(alloc, words) {
@@ -79,8 +107,12 @@ pub fn ask(alloc: Global, words: &[String]) -> Asked
         Err(WordsError::Words) => return Asked::Refused(Refusal::Words),
         Err(WordsError::Memory) => return Asked::NoMemory,
     };
-    match Config::check(&job.raw) {
-        Ok(config) => Asked::Command(job.kind, config),
-        Err(error) => Asked::Refused(Refusal::Value(error)),
+    let config = match Config::check(&job.raw) {
+        Ok(config) => config,
+        Err(error) => return Asked::Refused(Refusal::Value(error)),
+    };
+    match test_command(&job, &config) {
+        None => Asked::Command(job, config),
+        Some(why) => Asked::Refused(why),
     }
 }

@@ -4,7 +4,7 @@ ghost use Rattle.std.specs.Io.KnownBytes.{IsAtEnd};
 ghost use Rattle.tm_base.specs.Outside.{Rose};
 ghost use Rattle.tm_base.specs.Written.{Gave};
 ghost use Rattle.tm_config.specs.Accepted.{IsAccepted};
-ghost use Rattle.tm_words.specs.declared.job.JobKind.TheVariants as kind;
+ghost use Rattle.tm_cli.specs.Command.Command.{Report as ReportCommand};
 ghost use Rattle.tm_channel.specs.Items.{ItemValue};
 ghost use Rattle.tm_cli.specs.Ending.{Ends};
 ghost use Rattle.tm_cli.specs.Receiving.{ReceivedUpTo, ToldEnd};
@@ -19,7 +19,6 @@ use std::alloc::Global;
 use std::thread::Threads;
 use tm_base::{Failed, NoMemory, Sink, Source};
 use tm_channel::{Config, due_items_law, first_items_law, items_law};
-use tm_inner::inner_law;
 
 // Writes a line for each item of what the source gives, up to the limit. Answers how receiving ended, and what was counted.
 fn report_items<R: Threads + Sync, S: Source, O: Sink>(
@@ -86,7 +85,7 @@ pub fn report<R: Threads + Sync, S: Source, O: Sink>(
 ) -> Result<Ending, NoMemory>
     ensures ends { IfOk result (λ ending. (octets : List ℕ) × Gave (S.given source.old) (S.given source.new) (S.left source.old) (S.left source.new) octets
         × (length octets ≤ config.now.limit + 1)
-        × ((noted : Option (List ℕ)) → Ends ending kind.Report config.now octets (O.taken out.old) (O.taken out.new) noted noted)) }
+        × ((noted : Option (List ℕ)) → Ends ending ReportCommand config.now octets (O.taken out.old) (O.taken out.new) noted noted)) }
     ensures memory { OnErr result ((source.new ≡ source.old) × (out.new ≡ out.old)) }
     ensures whole { IfOk result (λ ending. ending ≡ Ending.LeftOver → ⊥) }
     ensures ended { IfOk result (λ ending. (ending ≡ Ending.Done) ⊎ (ending ≡ Ending.Bad) → S.ended source.new ≡ true) }
@@ -99,7 +98,6 @@ pub fn report<R: Threads + Sync, S: Source, O: Sink>(
     ensures out_later { O.faults out.old ≤ O.faults out.new }
     ensures out_same { IfOk result (λ ending. (ending ≡ Ending.SinkFault → ⊥) → O.faults out.new ≡ O.faults out.old) }
 {
-    inner_law();
     items_law();
     due_items_law();
     first_items_law();

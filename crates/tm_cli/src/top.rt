@@ -1,11 +1,12 @@
 // The top call.
-ghost use Rattle.std.specs.Prelude.{◌≡◌, ◌⊎◌, ℕ, ◌≤◌, List, length, map, string_bytes, Some, IsSome, true};
+ghost use Rattle.std.specs.Prelude.{◌≡◌, ◌⊎◌, ℕ, ◌≤◌, List, length, map, string_bytes, Some, IsSome, true, false};
 ghost use Rattle.std.specs.Io.KnownBytes.{IsAtEnd};
 ghost use Rattle.tm_base.specs.Outside.{Rose};
 ghost use Rattle.tm_base.specs.Written.{Gave};
 ghost use Rattle.tm_config.specs.Configuration.{configuration_of};
 ghost use Rattle.tm_words.specs.declared.job.Job.{Job};
 ghost use Rattle.tm_words.specs.declared.job.JobKind.TheVariants.{Encode};
+ghost use Rattle.tm_cli.specs.Command.{command_of, reads};
 ghost use Rattle.tm_cli.specs.Refusal.{refusal_of, IsAsked};
 ghost use Rattle.tm_cli.specs.Output.{IsPartial};
 ghost use Rattle.tm_cli.specs.Run.{Answers, WroteRefusal};
@@ -26,20 +27,26 @@ use tm_base::{NoMemory, Sink, Source};
 ///   and the notes a report, which has a line for each codeblock and one for all.
 /// - `report` does so without the frames, and writes the report to `out`.
 /// - `trace` writes to `out` a line for each window of the soft decoder, and one for all.
+/// - `erased` repairs words with erased symbols, each an octet a symbol and a flag for each behind them, and writes a line for each
+///   to `out`: `fixed A B HEX`, or `beyond`.
+/// - `word` repairs one word, which stands in its words in hexadecimal, and writes it to `out`: `fixed D HEX`, or `beyond`.
+/// - `soak` sends frames that it generates, changes some symbols of each codeword on the way, receives them, and writes the end of the
+///   report to `out`.
 ///
-/// The commands read in turns of at most 4,096 octets, never more than one octet past the limit, and nothing behind the end of the
-/// input or a fault. `decode` and `report` repair codeblocks by so many workers as they are asked for. Answers the exit status, of
-/// 3, 4 and 7 the one that occurs first:
+/// The last two read nothing and write no notes. The others read in turns of at most 4,096 octets, never more than one octet past the
+/// limit, and nothing behind the end of the input or a fault. Words are repaired by so many workers as they are asked for. Answers the
+/// exit status, of 3, 4 and 7 the one that occurs first:
 ///
-/// - 0: the source was read to its end, and the whole output is written.
-/// - 1: the same, and a codeblock that `decode` or `report` found has a column beyond repair.
+/// - 0: the source was read to its end by a command that reads, and the whole output is written.
+/// - 1: the same, and a codeblock that `decode`, `report` or `soak` found has a column beyond repair, or the word of `word` or of a
+///   record is.
 /// - 2: the words are refused. Nothing is read, and `out` stays as it was; the notes get the line `refused: ` with the first
 ///   reason, or a front of it where they fail.
 /// - 3: the source failed. What is due for the octets before is written, and nothing more.
 /// - 4: `out` or `notes` failed, and nothing more is read or written. What was written is a front of the output.
 /// - 5: there was not enough memory. Nothing is read or written.
-/// - 6: the input of `encode` is not whole frames. All whole frames are written, and the notes get the line `left over `
-///   with the number of octets behind them.
+/// - 6: the input of `encode` is not whole frames, or that of `erased` not whole records. All is written for those that are, and the
+///   notes get the line `left over ` with the number of octets behind them.
 /// - 7: the source gave an octet past the limit. What is due for the octets up to the limit is written.
 pub fn run<R: Threads + Sync, S: Source, O: Sink, N: Sink>(
     rt: &R,
@@ -55,16 +62,21 @@ pub fn run<R: Threads + Sync, S: Source, O: Sink, N: Sink>(
     ensures refused { IsSome (refusal_of (map string_bytes words.now)) → (result ≡ 2) ⊎ (result ≡ 5) }
     ensures refused_only { result ≡ 2 → IsSome (refusal_of (map string_bytes words.now)) }
     ensures refusal_line { (why : Refusal) → refusal_of (map string_bytes words.now) ≡ Some why → result ≡ 2
-        → WroteRefusal why (N.taken notes.old) (N.taken notes.new) (Rose (N.faults notes.old) (N.faults notes.new) (N.is_last notes.new)) }
+        → WroteRefusal why (N.taken notes.old) (N.taken notes.new) (N.faults notes.new ≡ N.faults notes.old)
+        (Rose (N.faults notes.old) (N.faults notes.new) (N.is_last notes.new)) }
     ensures unread { (result ≡ 2) ⊎ (result ≡ 5) → (source.new ≡ source.old) × (out.new ≡ out.old) }
     ensures memory { result ≡ 5 → notes.new ≡ notes.old }
 
     // The words are accepted: by the octets that were read, and, where the source tells its input, by all of it.
     ensures answered { (job : Job) → IsAsked (map string_bytes words.now) job → (result ≡ 5 → ⊥) → (octets : List ℕ)
         × Gave (S.given source.old) (S.given source.new) (S.left source.old) (S.left source.new) octets
-        × Answers result job.kind (configuration_of job.raw) octets (O.taken out.old) (O.taken out.new) (N.taken notes.old) (N.taken notes.new) }
-    ensures ended { (result ≡ 0) ⊎ (result ≡ 1) ⊎ (result ≡ 6) → S.ended source.new ≡ true }
-    ensures at_end { (result ≡ 0) ⊎ (result ≡ 1) ⊎ (result ≡ 6) → IsAtEnd (S.left source.new) }
+        × Answers result (command_of job) (configuration_of job.raw) octets (O.taken out.old) (O.taken out.new) (N.taken notes.old) (N.taken notes.new) }
+    ensures only_words { (job : Job) → IsAsked (map string_bytes words.now) job → reads (command_of job) ≡ false
+        → (source.new ≡ source.old) × (notes.new ≡ notes.old) }
+    ensures ended { (job : Job) → IsAsked (map string_bytes words.now) job → reads (command_of job) ≡ true
+        → (result ≡ 0) ⊎ (result ≡ 1) ⊎ (result ≡ 6) → S.ended source.new ≡ true }
+    ensures at_end { (job : Job) → IsAsked (map string_bytes words.now) job → reads (command_of job) ≡ true
+        → (result ≡ 0) ⊎ (result ≡ 1) ⊎ (result ≡ 6) → IsAtEnd (S.left source.new) }
     ensures unended { (result ≡ 3) ⊎ (result ≡ 7) → S.ended source.new ≡ S.ended source.old }
     ensures complete { (job : Job) → IsAsked (map string_bytes words.now) job
         → (Rose (S.faults source.old) (S.faults source.new) (S.is_last source.new) → ⊥)
@@ -72,7 +84,7 @@ pub fn run<R: Threads + Sync, S: Source, O: Sink, N: Sink>(
         → (Rose (N.faults notes.old) (N.faults notes.new) (N.is_last notes.new) → ⊥)
         → (result ≡ 0) ⊎ (result ≡ 1) ⊎ (result ≡ 5) ⊎ (result ≡ 6) ⊎ (result ≡ 7) }
     ensures whole_input { (job : Job) (input : List ℕ) → IsAsked (map string_bytes words.now) job
-        → S.left source.old ≡ Some input → length input ≤ (configuration_of job.raw).limit → (IsPartial job.kind (configuration_of job.raw) input → ⊥)
+        → S.left source.old ≡ Some input → length input ≤ (configuration_of job.raw).limit → (IsPartial (command_of job) (configuration_of job.raw) input → ⊥)
         → (Rose (S.faults source.old) (S.faults source.new) (S.is_last source.new) → ⊥)
         → (Rose (O.faults out.old) (O.faults out.new) (O.is_last out.new) → ⊥)
         → (Rose (N.faults notes.old) (N.faults notes.new) (N.is_last notes.new) → ⊥)
@@ -94,7 +106,7 @@ pub fn run<R: Threads + Sync, S: Source, O: Sink, N: Sink>(
 {
     link_law();
     match ask(alloc, words) {
-        Asked::Command(kind, config) => match obey(rt, alloc, kind, &config, source, out, notes) {
+        Asked::Command(job, config) => match obey(rt, alloc, &job, &config, source, out, notes) {
             Ok(ending) => ending.status(),
             Err(NoMemory) => 5,
         },

@@ -5,7 +5,7 @@ ghost use Rattle.tm_base.specs.Outside.{HasCause, Rose};
 ghost use Rattle.tm_base.specs.Written.{Gave};
 ghost use Rattle.tm_config.specs.Accepted.{IsAccepted};
 ghost use Rattle.tm_config.specs.Configuration.{Configuration};
-ghost use Rattle.tm_words.specs.declared.job.JobKind.TheVariants as kind;
+ghost use Rattle.tm_cli.specs.Command.Command.{Trace as TraceCommand};
 ghost use Rattle.tm_cli.specs.Ending.{Ends};
 ghost use Rattle.tm_cli.specs.Reading.{FedUpTo};
 ghost use Rattle.tm_cli.specs.Taken.{Standing, standing};
@@ -168,7 +168,7 @@ fn trace_input<S: Source, O: Sink>(
     requires new { StandsAt receiver.old [] [] }
     ensures ends { (octets : List ℕ) × Gave (S.given source.old) (S.given source.new) (S.left source.old) (S.left source.new) octets
         × (length octets ≤ config.now.limit + 1)
-        × ((noted : Option (List ℕ)) → Ends result kind.Trace config.now octets (O.taken out.old) (O.taken out.new) noted noted) }
+        × ((noted : Option (List ℕ)) → Ends result TraceCommand config.now octets (O.taken out.old) (O.taken out.new) noted noted) }
     ensures ended { (result ≡ Ending.Done) ⊎ (result ≡ Ending.Bad) ⊎ (result ≡ Ending.LeftOver) → S.ended source.new ≡ true }
     ensures at_end { (result ≡ Ending.Done) ⊎ (result ≡ Ending.Bad) ⊎ (result ≡ Ending.LeftOver) → IsAtEnd (S.left source.new) }
     ensures unended { (result ≡ Ending.SourceFault) ⊎ (result ≡ Ending.PastLimit) → S.ended source.new ≡ S.ended source.old }
@@ -204,7 +204,7 @@ pub fn trace<S: Source, O: Sink>(
 ) -> Result<Ending, NoMemory>
     ensures ends { IfOk result (λ ending. (octets : List ℕ) × Gave (S.given source.old) (S.given source.new) (S.left source.old) (S.left source.new) octets
         × (length octets ≤ config.now.limit + 1)
-        × ((noted : Option (List ℕ)) → Ends ending kind.Trace config.now octets (O.taken out.old) (O.taken out.new) noted noted)) }
+        × ((noted : Option (List ℕ)) → Ends ending TraceCommand config.now octets (O.taken out.old) (O.taken out.new) noted noted)) }
     ensures memory { OnErr result ((source.new ≡ source.old) × (out.new ≡ out.old)) }
     ensures ended { IfOk result (λ ending. (ending ≡ Ending.Done) ⊎ (ending ≡ Ending.Bad) ⊎ (ending ≡ Ending.LeftOver) → S.ended source.new ≡ true) }
     ensures at_end { IfOk result (λ ending. (ending ≡ Ending.Done) ⊎ (ending ≡ Ending.Bad) ⊎ (ending ≡ Ending.LeftOver) → IsAtEnd (S.left source.new)) }

@@ -1,9 +1,9 @@
-use Rattle.std.proofs.Common.{subst, refl}
+use Rattle.std.proofs.Common.{subst, take}
 use Rattle.tm_base.specs.Outside.{Rose}
 use Rattle.tm_cli.specs.declared.turns.Pumped.{Pumped}
-use Rattle.tm_cli.specs.declared.turns.Pumped.TheVariants.{Ended, SourceFault, FeedFault}
+use Rattle.tm_cli.specs.declared.turns.Pumped.TheVariants.{Ended, SourceFault, FeedFault, PastLimit}
 use Rattle.tm_cli.specs.Encoding.{SentUpTo}
-use Rattle.tm_cli.proofs.Endings.{ended-by, early, cut, due-output, wrote-nothing}
+use Rattle.tm_cli.proofs.Endings.{ended-by, early, cut}
 use Rattle.tm_cli.proofs.encode.encode.Goals as goal
 
 pub returns-in-Ended-clause-ends : goal.returns-in-Ended-clause-ends
@@ -33,11 +33,21 @@ returns-in-SourceFault-clause-ends g c =
       h.0,
       h.1,
       h.2,
-      (
-        (due-output c.args.config.now h.0, refl, record { out = sent.0; notes = wrote-nothing noted }),
-        sent.1,
-        λ more. early c.args.config.now c.send_input-end.ensures.accepted h.0 more taken now noted sent.0,
-      ),
+      (early c.args.config.now c.send_input-end.ensures.accepted h.0 taken now noted sent.0, sent.1),
+    )
+
+pub returns-in-PastLimit-clause-ends : goal.returns-in-PastLimit-clause-ends
+returns-in-PastLimit-clause-ends g c =
+    let h = c.send_input-end.ensures.sent in
+    let taken = g.O.Sink.taken c.args.out.now in
+    let now = g.O.Sink.taken c.send_input-end.new.out in
+    let noted = g.N.Sink.taken c.args.notes.now in
+    let sent : SentUpTo c.args.config.now PastLimit c.send_input-end.result.1 h.0 taken now =
+    subst (λ (end : Pumped). SentUpTo c.args.config.now end c.send_input-end.result.1 h.0 taken now) c.in-PastLimit.is h.3 in (
+      h.0,
+      h.1,
+      h.2,
+      (early c.args.config.now c.send_input-end.ensures.accepted (take c.args.config.now.limit h.0) taken now noted sent.0, sent.1),
     )
 
 pub returns-in-FeedFault-clause-ends : goal.returns-in-FeedFault-clause-ends

@@ -19,7 +19,7 @@ returns-in-Ok-clause-received g c =
     let so = subst (λ (end : Pumped). FedUpTo (HandedDue config c.receive_pieces.new.receiver (λ items. HandedOver took start items now))
     (HandedFirst config (λ items. HandedPart took broke start items now)) config.limit end h.0) c.in-Ended.is h.3 in
     let f = c.in-Ok.ensures.handed in
-    let all = all-handed took config c.receive_pieces.new.receiver start now c.finish.new.taker h.0 f.0 c.in-Ok.count c.receive_pieces.ensures.accepted so.1 so.0 f.1 f.2 in
+    let all = all-handed took config c.receive_pieces.new.receiver start now c.finish.new.taker h.0 f.0 c.in-Ok.count (few config h.0 c.receive_pieces.ensures.accepted so.1) so.0 f.1 f.2 in
     (h.0, h.1, h.2, (all.0, all.1, all.2, so.1))
 
 pub returns-in-Err-clause-received : goal.returns-in-Err-clause-received

@@ -1,0 +1,35 @@
+-- A command, with what its words give beside the configuration.
+use Rattle.std.specs.Prelude.{ℕ, Bool, true, false, List}
+use Rattle.tm_words.specs.declared.job.Job.{Job}
+use Rattle.tm_words.specs.declared.job.JobKind.{JobKind}
+use Rattle.tm_words.specs.declared.job.JobKind.TheVariants as kind
+
+pub data Command : Type 0 where
+  Encode : Command
+  Decode : Command
+  Report : Command
+  Trace : Command
+  -- the text of a word
+  Word : (text : List ℕ) → Command
+  -- the seed, how many frames are generated, and how many symbols of each codeword are changed
+  Soak : (seed frames hits : ℕ) → Command
+  Erased : Command
+
+abbrev pub command_by : JobKind → Job → Command
+command_by kind.Encode job = Encode
+command_by kind.Decode job = Decode
+command_by kind.Report job = Report
+command_by kind.Trace job = Trace
+command_by kind.Word job = Word job.hex
+command_by kind.Soak job = Soak job.seed job.frames job.hits
+command_by kind.Erased job = Erased
+
+-- the command that a job asks for
+abbrev pub command_of : Job → Command
+command_of job = command_by job.kind job
+
+-- the command reads its input; the others have what they need in their words
+abbrev pub reads : Command → Bool
+reads (Word text) = false
+reads (Soak seed frames hits) = false
+reads command = true
