@@ -7,7 +7,11 @@
 #[cfg(test)]
 mod coded;
 #[cfg(test)]
+mod erased;
+#[cfg(test)]
 mod faults;
+#[cfg(test)]
+mod hostile;
 #[cfg(test)]
 mod laws;
 #[cfg(test)]
@@ -27,8 +31,12 @@ mod runs;
 #[cfg(test)]
 mod sent;
 #[cfg(test)]
+mod soak;
+#[cfg(test)]
 mod streams;
 #[cfg(test)]
 mod traced;
 #[cfg(test)]
 mod values;
+#[cfg(test)]
+mod word;

@@ -191,6 +191,102 @@ static VALUES: [(&str, &str, &str); 23] = [
     ),
 ];
 
+// The same of commands that read nothing.
+static UNREAD: [(&str, &str, &str); 24] = [
+    ("no text for a word", "tmchan word", "words"),
+    ("two texts", "tmchan word 00 00", "words"),
+    ("a text where none belongs", "tmchan soak 00", "words"),
+    (
+        "hits of a word",
+        "tmchan word 7b47325f864a18a07883fab95c5f4fecfeec4f5f5cb9fa8378a0184a865f32477b --hits 1",
+        "words",
+    ),
+    (
+        "a value before the word",
+        "tmchan word 7b --depth 6",
+        "depth",
+    ),
+    (
+        "a word without a code",
+        "tmchan word 00 --code none --inner none --randomize off",
+        "code",
+    ),
+    (
+        "records without a code",
+        "tmchan erased --code none --inner none --randomize off",
+        "code",
+    ),
+    (
+        "records without a code, and a value before it",
+        "tmchan erased --code none --inner none --workers 0",
+        "workers",
+    ),
+    ("too short a word", "tmchan word 7b", "word"),
+    (
+        "half an octet too much",
+        "tmchan word 7b47325f864a18a07883fab95c5f4fecfeec4f5f5cb9fa8378a0184a865f32477b0",
+        "word",
+    ),
+    (
+        "an octet too few for the lesser code",
+        "tmchan word 00000000000000000000000000000000 --code rs8",
+        "word",
+    ),
+    (
+        "a last byte that is no digit",
+        "tmchan word 7b47325f864a18a07883fab95c5f4fecfeec4f5f5cb9fa8378a0184a865f32477:",
+        "hex",
+    ),
+    (
+        "no digit",
+        "tmchan word gB47325F864A18A07883FAB95C5F4FECFEEC4F5F5CB9FA8378A0184A865F32477B",
+        "hex",
+    ),
+    (
+        "no digits behind the options",
+        "tmchan word -- --47325f864a18a07883fab95c5f4fecfeec4f5f5cb9fa8378a0184a865f32477b",
+        "hex",
+    ),
+    (
+        "letters of two octets each",
+        "tmchan word ééééééééééééééééééééééééééééééééé",
+        "hex",
+    ),
+    (
+        "a value before the seed",
+        "tmchan soak --polarity maybe --seed 9223372036854775808",
+        "polarity",
+    ),
+    (
+        "too great a seed",
+        "tmchan soak --seed 9223372036854775808",
+        "seed",
+    ),
+    ("a seed that is no number", "tmchan soak --seed=-1", "seed"),
+    (
+        "the seed before frames and hits",
+        "tmchan soak --hits 33 --frames 1000001 --seed 9223372036854775808",
+        "seed",
+    ),
+    ("too many frames", "tmchan soak --frames 1000001", "frames"),
+    (
+        "frames before hits",
+        "tmchan soak --hits 33 --frames 1000001",
+        "frames",
+    ),
+    ("too many hits", "tmchan soak --hits 33", "hits"),
+    (
+        "too many hits for the lesser code",
+        "tmchan soak --code rs8 --hits 17",
+        "hits",
+    ),
+    (
+        "a hit without a code",
+        "tmchan soak --code none --hits 1",
+        "hits",
+    ),
+];
+
 // A wrong value of each option beside the inner code, in the order of the reasons.
 static WRONG: [(&str, &str); 17] = [
     ("--code rs17", "code"),
@@ -240,6 +336,14 @@ fn words_are_refused(rt: HostRuntime) -> Result<(), Fail> {
 #[test]
 fn values_are_refused(rt: HostRuntime) -> Result<(), Fail> {
     for (name, line, reason) in &VALUES {
+        check_refusal(&rt, rt.alloc(), *name, *line, *reason)?;
+    }
+    Ok(())
+}
+
+#[test]
+fn words_and_soaks_are_refused(rt: HostRuntime) -> Result<(), Fail> {
+    for (name, line, reason) in &UNREAD {
         check_refusal(&rt, rt.alloc(), *name, *line, *reason)?;
     }
     Ok(())

@@ -161,3 +161,20 @@ pub fn check_rows(
     }
     Ok(())
 }
+
+/// Makes the call of a command that reads nothing, which ends with this status and writes just this text, and no notes.
+pub fn check_unread(
+    rt: &(impl Abort + Threads + Sync),
+    alloc: Global,
+    name: &str,
+    line: &str,
+    status: u8,
+    out: &str,
+) -> Result<(), Fail> {
+    let outcome = run_over(rt, alloc, &Given::new(line, &[1, 2], 1))?;
+    assert_eq!(rt; outcome.status, status, "{name}");
+    assert_eq!(rt; outcome.out.octets(), out.as_bytes(), "{name}");
+    assert!(rt; outcome.notes.octets().is_empty(), "{name}");
+    assert_eq!(rt; outcome.reads, 0, "{name}");
+    Ok(())
+}
