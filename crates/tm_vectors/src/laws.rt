@@ -21,8 +21,10 @@ fn laws(_rt: HostRuntime) {
     tm_inner::inner_law();
     tm_inner::clean_inner_law();
     tm_inner::due_bits_law();
+    tm_inner::metric_law();
     tm_channel::items_law();
     tm_channel::due_items_law();
+    tm_channel::first_items_law();
     tm_channel::clean_law();
     tm_channel::disturbed_law();
     tm_channel::polarity_law();

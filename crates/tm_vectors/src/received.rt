@@ -3,7 +3,7 @@ use crate::runs::{Row, check_rows};
 use crate::values::{A, A_WITH_ERRORS, G, G_WITH_ERROR, M};
 use std::test::Fail;
 
-static ROWS: [Row; 30] = [
+static ROWS: [Row; 34] = [
     Row {
         name: "no input, no frames",
         line: "tmchan decode",
@@ -106,6 +106,42 @@ static ROWS: [Row; 30] = [
     Row {
         name: "a marker with as many wrong bits as are tolerated",
         line: "tmchan decode --length 1 --inner none --randomize off --tolerance 1",
+        input: &[&[0x1A, 0xCF, 0xFC, 0x1C], &A],
+        status: 0,
+        out: &[&[0x7B]],
+        notes: "frame 0 at 0 marker 1 words 0\nframes 1 bad 0 fixed 0 bits 296\n",
+    },
+    Row {
+        name: "a codeword in the dual basis without repair",
+        line: "tmchan decode --length 1 --inner none --randomize off --repair 0",
+        input: &[&M, &A],
+        status: 0,
+        out: &[&[0x7B]],
+        notes: "frame 0 at 0 marker 0 words 0\nframes 1 bad 0 fixed 0 bits 296\n",
+    },
+    Row {
+        name: "a marker at the third bit, in the dual basis without repair",
+        line: "tmchan decode --length 1 --inner none --randomize off --repair 0",
+        input: &[&[
+            0x03, 0x59, 0xFF, 0x83, 0xAF, 0x68, 0xE6, 0x4B, 0xF0, 0xC9, 0x43, 0x14, 0x0F, 0x10,
+            0x7F, 0x57, 0x2B, 0x8B, 0xE9, 0xFD, 0x9F, 0xDD, 0x89, 0xEB, 0xEB, 0x97, 0x3F, 0x50,
+            0x6F, 0x14, 0x03, 0x09, 0x50, 0xCB, 0xE6, 0x48, 0xEF, 0x60,
+        ]],
+        status: 0,
+        out: &[&[0x7B]],
+        notes: "frame 0 at 3 marker 0 words 0\nframes 1 bad 0 fixed 0 bits 304\n",
+    },
+    Row {
+        name: "a marker with a wrong bit, in the dual basis without repair",
+        line: "tmchan decode --length 1 --inner none --randomize off --repair 0",
+        input: &[&[0x1A, 0xCF, 0xFC, 0x1C], &A],
+        status: 0,
+        out: &[],
+        notes: "frames 0 bad 0 fixed 0 bits 296\n",
+    },
+    Row {
+        name: "a marker with a wrong bit is tolerated without repair",
+        line: "tmchan decode --length 1 --inner none --randomize off --repair 0 --tolerance 1",
         input: &[&[0x1A, 0xCF, 0xFC, 0x1C], &A],
         status: 0,
         out: &[&[0x7B]],

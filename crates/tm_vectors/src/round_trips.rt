@@ -15,10 +15,16 @@ struct Row<'a> {
     notes: &'a str,
 }
 
-static ROWS: [Row; 9] = [
+static ROWS: [Row; 10] = [
     Row {
         name: "all defaults",
         options: "",
+        frames: &[0; 223],
+        notes: "frame 0 at 0 marker 0 words 0\nframes 1 bad 0 fixed 0 bits 2072\n",
+    },
+    Row {
+        name: "nothing is repaired",
+        options: "--repair 0",
         frames: &[0; 223],
         notes: "frame 0 at 0 marker 0 words 0\nframes 1 bad 0 fixed 0 bits 2072\n",
     },
