@@ -5,3 +5,4 @@ pub mod Packing
 pub mod InMemory
 pub mod BitsLeft
 pub mod Handing
+pub mod HandedItems

@@ -2,6 +2,7 @@ pub mod Outside
 pub mod Written
 pub mod Pieces
 pub mod Takers
+pub mod Handed
 pub mod Bits
 pub mod Marker
 pub mod Count
