@@ -33,7 +33,7 @@ pub record AllPass (raw : Raw) : Type 0 where
   pub fly : nat_le raw.fly 15 ≡ true
   pub keep : is_within 64 65536 raw.keep ≡ true
   pub ahead : nat_le raw.ahead 4096 ≡ true
-  pub phase : (raw.phase == 0) ≡ true
+  pub phase : nat_le raw.phase 1 ≡ true
   pub polarity : nat_le raw.polarity 1 ≡ true
 
 pub all_pass : (raw : Raw) → refusal_of raw ≡ None → AllPass raw
@@ -55,7 +55,7 @@ all_pass raw none =
     let p14 = passes (nat_le raw.fly 15) Fly _ p13.1 in
     let p15 = passes (is_within 64 65536 raw.keep) Keep _ p14.1 in
     let p16 = passes (nat_le raw.ahead 4096) Ahead _ p15.1 in
-    let p17 = passes (raw.phase == 0) Phase _ p16.1 in
+    let p17 = passes (nat_le raw.phase 1) Phase _ p16.1 in
     let p18 = passes (nat_le raw.polarity 1) Polarity _ p17.1 in
     record {
       code = p1.0;
@@ -193,6 +193,6 @@ configuration_is_accepted raw none =
       some_keep = (within 64 65536 raw.keep pass.keep).0;
       keep = (within 64 65536 raw.keep pass.keep).1;
       ahead = at_most raw.ahead 4096 pass.ahead;
-      phase = is_number raw.phase 0 pass.phase;
+      phase = at_most raw.phase 1 pass.phase;
       polarity = at_most raw.polarity 1 pass.polarity;
     }

@@ -30,6 +30,5 @@ pub record IsAccepted (c : Configuration) : Type 0 where
   pub some_keep : 64 ≤ c.keep
   pub keep : c.keep ≤ 65536
   pub ahead : c.ahead ≤ 4096
-  -- until the search for the phase stands, the phase is given
-  pub phase : c.phase ≡ 0
+  pub phase : c.phase ≤ 1
   pub polarity : c.polarity ≤ 1

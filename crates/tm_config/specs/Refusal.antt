@@ -62,8 +62,7 @@ tests raw =
     ∷ (nat_le raw.fly 15, Fly)
     ∷ (is_within 64 65536 raw.keep, Keep)
     ∷ (nat_le raw.ahead 4096, Ahead)
-    -- until the search for the phase stands, the phase is given
-    ∷ (raw.phase == 0, Phase)
+    ∷ (nat_le raw.phase 1, Phase)
     ∷ (nat_le raw.polarity 1, Polarity)
     ∷ []
 

@@ -108,8 +108,7 @@ pub fn refusal(raw: &Raw) -> Option<ConfigError>
         (raw.fly <= 15, ConfigError::Fly),
         (is_within(64, 65_536, raw.keep), ConfigError::Keep),
         (raw.ahead <= 4096, ConfigError::Ahead),
-        // Until the search for the phase stands, the phase is given.
-        (raw.phase == 0, ConfigError::Phase),
+        (raw.phase <= 1, ConfigError::Phase),
         (raw.polarity <= 1, ConfigError::Polarity),
     ])
 }

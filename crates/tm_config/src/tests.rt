@@ -195,7 +195,7 @@ fn refuses_the_first_value_out_of_range(rt: HostRuntime) {
         ),
         (
             Raw {
-                phase: 1,
+                phase: 2,
                 polarity: 2,
                 ..plain()
             },
@@ -286,7 +286,7 @@ fn tells_each_value(rt: HostRuntime) {
         fly: 15,
         keep: 65_536,
         ahead: 4096,
-        phase: 0,
+        phase: 1,
         polarity: 1,
     };
     match Config::check(&raw) {
@@ -327,7 +327,7 @@ fn tells_each_value(rt: HostRuntime) {
                     config.phase(),
                     config.polarity()
                 ],
-                [65_536, 4096, 0, 1]
+                [65_536, 4096, 1, 1]
             );
         }
         Err(error) => assert!(rt; false, "{error}"),
