@@ -19,7 +19,7 @@ use Rattle.tm_inner.specs.Receiving.{FirstAt, AreInnerFirst}
 use Rattle.tm_inner.proofs.ReceivedBits.{block-bits, kept-le, kept-count, length-soft, steps_size-add}
 use Rattle.tm_inner.proofs.DueBits.{kept-append}
 
-closed-few : (rate : Rate) (invert : Bool) (keep ahead : ℕ) (from to : Place) (blocks : List WindowBlock) → Closed rate invert keep ahead from blocks to
+pub closed-few : (rate : Rate) (invert : Bool) (keep ahead : ℕ) (from to : Place) (blocks : List WindowBlock) → Closed rate invert keep ahead from blocks to
     → length (kept_bits blocks) ≤ length from.octets
 closed-few rate invert keep ahead from to [] closed = omega arith
 closed-few rate invert keep ahead from to (b ∷ blocks) closed =
@@ -33,25 +33,28 @@ closed-few rate invert keep ahead from to (b ∷ blocks) closed =
     let inside : steps_size rate from.t b.kept ≤ length from.octets = omega (arith, closed.0.room, steps-mono rate from.t b.kept n (omega arith)) in
     omega (arith, length-append (take b.kept b.bits) (kept_bits blocks), front, behind, inside, length-drop (steps_size rate from.t b.kept) from.octets, steps_size_ge rate from.t b.kept)
 
-few-first : (rate : Option Rate) (c : Configuration) (octets : List ℕ) (blocks : List WindowBlock) → FirstAt rate c 0 octets blocks → length (bits_at rate c octets blocks) ≤ 8 * length octets
-few-first None c octets blocks are = omega (arith, length-drop c.skip (bits_of octets), length-bits_of octets)
-few-first (Some rate) c octets blocks are =
+few-first : (rate : Option Rate) (c : Configuration) (phase : ℕ) (octets : List ℕ) (blocks : List WindowBlock) → FirstAt rate c phase octets blocks
+    → length (bits_at rate c octets blocks) ≤ 8 * length octets
+few-first None c phase octets blocks are = omega (arith, length-drop c.skip (bits_of octets), length-bits_of octets)
+few-first (Some rate) c phase octets blocks are =
     let s = settings_of c rate in
-    let few = closed-few rate s.invert s.keep s.ahead (first_place s (soft_octets c 0 octets)) are.0 blocks are.1 in
-    omega (arith, few, length-soft c octets, length-map (kept_bits blocks) (λ bit. bit == 1))
+    let few = closed-few rate s.invert s.keep s.ahead (first_place s (soft_octets c phase octets)) are.0 blocks are.1 in
+    omega (arith, few, length-soft c phase octets, length-map (kept_bits blocks) (λ bit. bit == 1))
 
-few-whole : (rate : Option Rate) (c : Configuration) (octets : List ℕ) (blocks : List WindowBlock) (left : ℕ) → BlocksAt rate c 0 octets blocks left → length (bits_at rate c octets blocks) ≤ 8 * length octets
-few-whole None c octets blocks left are = omega (arith, length-drop c.skip (bits_of octets), length-bits_of octets)
-few-whole (Some rate) c octets blocks left are =
+few-whole : (rate : Option Rate) (c : Configuration) (phase : ℕ) (octets : List ℕ) (blocks : List WindowBlock) (left : ℕ) → BlocksAt rate c phase octets blocks left
+    → length (bits_at rate c octets blocks) ≤ 8 * length octets
+few-whole None c phase octets blocks left are = omega (arith, length-drop c.skip (bits_of octets), length-bits_of octets)
+few-whole (Some rate) c phase octets blocks left are =
     let s = settings_of c rate in
-    let kept = kept-count rate s.invert s.keep s.ahead (first_start s.start) 0 are.count (soft_octets c 0 octets) blocks are.steps.whole are.are in
-    omega (arith, kept, are.steps.whole, steps_size_ge rate 0 are.count, length-soft c octets, length-map (kept_bits blocks) (λ bit. bit == 1))
+    let kept = kept-count rate s.invert s.keep s.ahead (first_start s.start) 0 are.count (soft_octets c phase octets) blocks are.steps.whole are.are in
+    omega (arith, kept, are.steps.whole, steps_size_ge rate 0 are.count, length-soft c phase octets, length-map (kept_bits blocks) (λ bit. bit == 1))
 
 -- the bits of first blocks, and of all blocks
-pub first-few : (c : Configuration) (octets : List ℕ) (blocks : List WindowBlock) → AreInnerFirst c 0 octets blocks → length (inner_bits c octets blocks) ≤ 8 * length octets
+pub first-few : (c : Configuration) (phase : ℕ) (octets : List ℕ) (blocks : List WindowBlock) → AreInnerFirst c phase octets blocks → length (inner_bits c octets blocks) ≤ 8 * length octets
 first-few c = few-first (rate_of c.inner) c
 
-pub whole-few : (c : Configuration) (octets : List ℕ) (blocks : List WindowBlock) (left : ℕ) → AreInnerBlocks c 0 octets blocks left → length (inner_bits c octets blocks) ≤ 8 * length octets
+pub whole-few : (c : Configuration) (phase : ℕ) (octets : List ℕ) (blocks : List WindowBlock) (left : ℕ) → AreInnerBlocks c phase octets blocks left
+    → length (inner_bits c octets blocks) ≤ 8 * length octets
 whole-few c = few-whole (rate_of c.inner) c
 
 -- due blocks are first ones
@@ -112,28 +115,28 @@ reach_with rate t n m k count less = elim (cases_lt (k + count) m) as (λ _. m �
   | inr there ↦ there
 ]
 
-more-at : (rate : Rate) (c : Configuration) (given octets : List ℕ) (done more : List WindowBlock) → DueAt (Some rate) c 0 given done → FirstAt (Some rate) c 0 (given ++ octets) (done ++ more)
+more-at : (rate : Rate) (c : Configuration) (phase : ℕ) (given octets : List ℕ) (done more : List WindowBlock) → DueAt (Some rate) c phase given done → FirstAt (Some rate) c phase (given ++ octets) (done ++ more)
     → length (kept_bits more) ≤ c.keep + c.ahead + length octets
-more-at rate c given octets done more due first =
+more-at rate c phase given octets done more due first =
     let s = settings_of c rate in
-    let was = closed-taken rate s.invert s.keep s.ahead (first_place s (soft_octets c 0 given)) due.to done due.closed in
-    let now = closed-taken rate s.invert s.keep s.ahead (first_place s (soft_octets c 0 (given ++ octets))) first.0 (done ++ more) first.1 in
+    let was = closed-taken rate s.invert s.keep s.ahead (first_place s (soft_octets c phase given)) due.to done due.closed in
+    let now = closed-taken rate s.invert s.keep s.ahead (first_place s (soft_octets c phase (given ++ octets))) first.0 (done ++ more) first.1 in
     let n : ℕ = length (kept_bits done) in
     let m : ℕ = length (kept_bits more) in
     let all : length (kept_bits (done ++ more)) ≡ n + m = ap length (kept-append done more) ∙ length-append (kept_bits done) (kept_bits more) in
     let few : length due.to.octets < steps_size rate (0 + n) (c.keep + c.ahead + 1) = subst (λ (t : ℕ). length due.to.octets < steps_size rate t (c.keep + c.ahead + 1)) was.step due.few in
     reach_with rate 0 n m (c.keep + c.ahead) (length octets)
-    (omega (arith, was.octets, now.octets, few, length-soft c given, length-soft c (given ++ octets), length-append given octets, ap (steps_size rate 0) all))
+    (omega (arith, was.octets, now.octets, few, length-soft c phase given, length-soft c phase (given ++ octets), length-append given octets, ap (steps_size rate 0) all))
 
-last-at : (rate : Rate) (c : Configuration) (given : List ℕ) (done last : List WindowBlock) (left : ℕ) → DueAt (Some rate) c 0 given done → BlocksAt (Some rate) c 0 given (done ++ last) left
+last-at : (rate : Rate) (c : Configuration) (phase : ℕ) (given : List ℕ) (done last : List WindowBlock) (left : ℕ) → DueAt (Some rate) c phase given done → BlocksAt (Some rate) c phase given (done ++ last) left
     → length (kept_bits last) ≤ c.keep + c.ahead
-last-at rate c given done last left due are =
+last-at rate c phase given done last left due are =
     let s = settings_of c rate in
-    let was = closed-taken rate s.invert s.keep s.ahead (first_place s (soft_octets c 0 given)) due.to done due.closed in
+    let was = closed-taken rate s.invert s.keep s.ahead (first_place s (soft_octets c phase given)) due.to done due.closed in
     let n : ℕ = length (kept_bits done) in
     let m : ℕ = length (kept_bits last) in
     let all : n + m ≡ are.count = sym (ap length (kept-append done last) ∙ length-append (kept_bits done) (kept_bits last))
-    ∙ kept-count rate s.invert s.keep s.ahead (first_start s.start) 0 are.count (soft_octets c 0 given) (done ++ last) are.steps.whole are.are in
+    ∙ kept-count rate s.invert s.keep s.ahead (first_start s.start) 0 are.count (soft_octets c phase given) (done ++ last) are.steps.whole are.are in
     let few : length due.to.octets < steps_size rate (0 + n) (c.keep + c.ahead + 1) = subst (λ (t : ℕ). length due.to.octets < steps_size rate t (c.keep + c.ahead + 1)) was.step due.few in
     reach rate 0 n m (c.keep + c.ahead) (omega (arith, was.octets, few, are.steps.whole, ap (steps_size rate 0) all))
 
@@ -142,22 +145,22 @@ with_rate P none some None = none
 with_rate P none some (Some rate) = some rate
 
 -- the blocks of octets, behind those that are due
-pub more-few : (c : Configuration) (given octets : List ℕ) (done more : List WindowBlock) → AreInnerDue c 0 given done → AreInnerFirst c 0 (given ++ octets) (done ++ more)
+pub more-few : (c : Configuration) (phase : ℕ) (given octets : List ℕ) (done more : List WindowBlock) → AreInnerDue c phase given done → AreInnerFirst c phase (given ++ octets) (done ++ more)
     → length (kept_bits more) ≤ c.keep + c.ahead + length octets
-more-few c given octets done more =
-    with_rate (λ rate. DueAt rate c 0 given done → FirstAt rate c 0 (given ++ octets) (done ++ more) → length (kept_bits more) ≤ c.keep + c.ahead + length octets)
-    (λ due first. none done more first) (λ rate. more-at rate c given octets done more) (rate_of c.inner)
+more-few c phase given octets done more =
+    with_rate (λ rate. DueAt rate c phase given done → FirstAt rate c phase (given ++ octets) (done ++ more) → length (kept_bits more) ≤ c.keep + c.ahead + length octets)
+    (λ due first. none done more first) (λ rate. more-at rate c phase given octets done more) (rate_of c.inner)
   where
     none : (xs ys : List WindowBlock) → xs ++ ys ≡ [] → length (kept_bits ys) ≤ c.keep + c.ahead + length octets
     none [] ys is = omega (arith, ap (λ (l : List WindowBlock). length (kept_bits l)) is)
     none (x ∷ xs) ys is = absurd cc
 
 -- the blocks of the end
-pub last-few : (c : Configuration) (given : List ℕ) (done last : List WindowBlock) (left : ℕ) → AreInnerDue c 0 given done → AreInnerBlocks c 0 given (done ++ last) left
+pub last-few : (c : Configuration) (phase : ℕ) (given : List ℕ) (done last : List WindowBlock) (left : ℕ) → AreInnerDue c phase given done → AreInnerBlocks c phase given (done ++ last) left
     → length (kept_bits last) ≤ c.keep + c.ahead
-last-few c given done last left =
-    with_rate (λ rate. DueAt rate c 0 given done → BlocksAt rate c 0 given (done ++ last) left → length (kept_bits last) ≤ c.keep + c.ahead)
-    (λ due are. none done last are.0) (λ rate. last-at rate c given done last left) (rate_of c.inner)
+last-few c phase given done last left =
+    with_rate (λ rate. DueAt rate c phase given done → BlocksAt rate c phase given (done ++ last) left → length (kept_bits last) ≤ c.keep + c.ahead)
+    (λ due are. none done last are.0) (λ rate. last-at rate c phase given done last left) (rate_of c.inner)
   where
     none : (xs ys : List WindowBlock) → xs ++ ys ≡ [] → length (kept_bits ys) ≤ c.keep + c.ahead
     none [] ys is = omega (arith, ap (λ (l : List WindowBlock). length (kept_bits l)) is)
@@ -169,7 +172,7 @@ none-due None c = refl
 none-due (Some rate) c = record {
   to = first_place (settings_of c rate) (soft_octets c 0 []);
   closed = refl;
-  few = omega (arith, length-soft c [], steps_size_ge rate 0 (c.keep + c.ahead + 1));
+  few = omega (arith, length-soft c 0 [], steps_size_ge rate 0 (c.keep + c.ahead + 1));
 }
 
 pub due-none : (c : Configuration) → AreInnerDue c 0 [] []

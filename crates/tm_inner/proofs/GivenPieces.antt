@@ -1,7 +1,7 @@
 -- A decoder that is given one piece after another, and what its blocks are of a configuration.
-use Rattle.std.proofs.Common.{◌≡◌, ℕ, zero, suc, ◌+◌, ◌-◌, ◌<◌, ◌^◌, slice_set, slice_index_or, min, ◌==◌, ◌%◌, if◌then◌else◌, inl, inr, length-drop, Bool, List, [], ◌∷◌, ◌++◌, length, take, drop, map, refl, sym, ap, ◌∙◌, subst, arith, append_assoc, length-append, false, take-append-drop, Option, Some, None, Err, IsErrOf, true, not}
+use Rattle.std.proofs.Common.{◌≡◌, ℕ, zero, suc, ◌+◌, ◌-◌, ◌<◌, ◌≤◌, slice_set, slice_index_or, min, ◌==◌, ◌%◌, if◌then◌else◌, inl, inr, length-drop, Bool, List, [], ◌∷◌, ◌++◌, length, take, drop, map, refl, sym, ap, ◌∙◌, subst, arith, append_assoc, length-append, false, take-append-drop, length-take, Option, Some, None, Err, IsErrOf, true, not}
 use Rattle.std.proofs.lemmas.Bool.{cases_lt}
-use Rattle.std.proofs.lemmas.List.{append-nil, drop_all, length-map, map-append}
+use Rattle.std.proofs.lemmas.List.{append-nil, drop_all, take_all, drop-map, length-map, map-append}
 use Rattle.std.proofs.Math.Seq.{take-add}
 use Rattle.tm_base.proofs.Handing.{HandedOver-append, HandedPart-after}
 use Rattle.tm_config.specs.Configuration.{Configuration}
@@ -15,12 +15,13 @@ use Rattle.tm_viterbi.specs.declared.decoder.FeedError.{FeedError}
 use Rattle.tm_viterbi.specs.declared.decoder.FeedError.TheVariants.{Taker, Stopped}
 use Rattle.tm_inner.specs.Symbols.{rate_of}
 use Rattle.tm_inner.specs.Inner.{soft_value, soft_octets, BlocksAt, DueAt, AreInnerBlocks, AreInnerDue}
-use Rattle.tm_inner.specs.Receiving.{IsDecoderOf, Decodes, DecodesFor, FindsFirst, FirstAt, AreInnerFirst, Hands, HandsFront, InnerReceiving, StandsFor, from_form}
+use Rattle.tm_inner.specs.Phase.{skipped_at, phase_octets}
+use Rattle.tm_inner.specs.Receiving.{IsDecoderOf, Decodes, DecodesFor, FindsFirst, FirstAt, AreInnerFirst, Hands, HandsFront, HeldOctets, from_form, soft_form}
 use Rattle.tm_inner.proofs.DueBits.{drop-split}
 
 -- ---- pieces, one after another
 
-pub hands-none : {T S : Type 0} (took : T → WindowBlock → T → Type 0) (Stands : S → List ℕ → List WindowBlock → Type 0) (s : S) (taker : T)
+pub hands-none : {T I S : Type 0} (took : T → I → T → Type 0) (Stands : S → List ℕ → List I → Type 0) (s : S) (taker : T)
     → Hands took Stands s s taker taker []
 hands-none took Stands s taker = record {
   more = [];
@@ -28,7 +29,7 @@ hands-none took Stands s taker = record {
   stands = λ given done few stood. subst (λ (l : List ℕ). Stands s l (done ++ [])) (sym (append-nil given)) (subst (Stands s given) (sym (append-nil done)) stood);
 }
 
-pub hands-more : {T S : Type 0} (took : T → WindowBlock → T → Type 0) (Stands : S → List ℕ → List WindowBlock → Type 0) (a b c : S) (taker middle now : T) (first second : List ℕ)
+pub hands-more : {T I S : Type 0} (took : T → I → T → Type 0) (Stands : S → List ℕ → List I → Type 0) (a b c : S) (taker middle now : T) (first second : List ℕ)
     → Hands took Stands a b taker middle first → Hands took Stands b c middle now second → Hands took Stands a c taker now (first ++ second)
 hands-more took Stands a b c taker middle now first second p q = record {
   more = p.more ++ q.more;
@@ -40,7 +41,7 @@ hands-more took Stands a b c taker middle now first second p q = record {
       (subst (Stands c ((given ++ first) ++ second)) (append_assoc done p.more q.more) last);
 }
 
-pub hands-front : {T S : Type 0} (took broke : T → WindowBlock → T → Type 0) (Stands : S → List ℕ → List WindowBlock → Type 0) (First : List ℕ → List WindowBlock → Type 0)
+pub hands-front : {T I S : Type 0} (took broke : T → I → T → Type 0) (Stands : S → List ℕ → List I → Type 0) (First : List ℕ → List I → Type 0)
     (a b : S) (taker middle now : T) (first second : List ℕ)
     → Hands took Stands a b taker middle first → HandsFront took broke Stands First b middle now second → HandsFront took broke Stands First a taker now (first ++ second)
 hands-front took broke Stands First a b taker middle now first second p q = record {
@@ -53,11 +54,11 @@ hands-front took broke Stands First a b taker middle now first second p q = reco
       (subst (First ((given ++ first) ++ second)) (append_assoc done p.more q.tried) last);
 }
 
--- first blocks of a front are first blocks
-abbrev pub Stay : (List ℕ → List WindowBlock → Type 0) → Type 0
-Stay First = (octets more : List ℕ) (blocks : List WindowBlock) → First octets blocks → First (octets ++ more) blocks
+-- what is first of a front is first
+abbrev pub Stay : {I : Type 0} → (List ℕ → List I → Type 0) → Type 0
+Stay {I} First = (octets more : List ℕ) (items : List I) → First octets items → First (octets ++ more) items
 
-pub hands-longer : {T S : Type 0} (took broke : T → WindowBlock → T → Type 0) (Stands : S → List ℕ → List WindowBlock → Type 0) (First : List ℕ → List WindowBlock → Type 0)
+pub hands-longer : {T I S : Type 0} (took broke : T → I → T → Type 0) (Stands : S → List ℕ → List I → Type 0) (First : List ℕ → List I → Type 0)
     (a : S) (taker now : T) (first second : List ℕ) → Stay First
     → HandsFront took broke Stands First a taker now first → HandsFront took broke Stands First a taker now (first ++ second)
 hands-longer took broke Stands First a taker now first second stay p = record {
@@ -70,32 +71,26 @@ hands-longer took broke Stands First a taker now first second stay p = record {
 
 -- ---- the blocks of a configuration
 
-pub blocks-of : (c : Configuration) (d : Decoding) (given : List ℕ) (blocks : List WindowBlock) (left : ℕ) → IsDecoderOf c (Some d)
-    → AreBlocksOf d.settings (soft_octets c 0 given) blocks left → AreInnerBlocks c 0 given blocks left
-blocks-of c d given blocks left of are =
-    subst (λ (r : Option Rate). BlocksAt r c 0 given blocks left) (sym of.1)
-    (subst (λ (s : Settings). AreBlocksOf s (soft_octets c 0 given) blocks left) of.2 are)
+pub blocks-of : (c : Configuration) (d : Decoding) (phase : ℕ) (given : List ℕ) (blocks : List WindowBlock) (left : ℕ) → IsDecoderOf c (Some d)
+    → AreBlocksOf d.settings (soft_octets c phase given) blocks left → AreInnerBlocks c phase given blocks left
+blocks-of c d phase given blocks left of are =
+    subst (λ (r : Option Rate). BlocksAt r c phase given blocks left) (sym of.1)
+    (subst (λ (s : Settings). AreBlocksOf s (soft_octets c phase given) blocks left) of.2 are)
 
-pub blocks-none : (c : Configuration) (given : List ℕ) (blocks : List WindowBlock) → rate_of c.inner ≡ None → blocks ≡ [] → AreInnerBlocks c 0 given blocks 0
-blocks-none c given blocks none is = subst (λ (r : Option Rate). BlocksAt r c 0 given blocks 0) (sym none) (is, refl)
+pub blocks-none : (c : Configuration) (phase : ℕ) (given : List ℕ) (blocks : List WindowBlock) → rate_of c.inner ≡ None → blocks ≡ [] → AreInnerBlocks c phase given blocks 0
+blocks-none c phase given blocks none is = subst (λ (r : Option Rate). BlocksAt r c phase given blocks 0) (sym none) (is, refl)
 
-pub due-of : (c : Configuration) (decoder : Option Decoding) (given : List ℕ) (blocks : List WindowBlock) → IsDecoderOf c decoder
-    → DecodesFor decoder (soft_octets c 0 given) blocks → AreInnerDue c 0 given blocks
-due-of c None given blocks of is = subst (λ (r : Option Rate). DueAt r c 0 given blocks) (sym of) is
-due-of c (Some d) given blocks of is =
-    subst (λ (r : Option Rate). DueAt r c 0 given blocks) (sym of.1) (subst (λ (s : Settings). AreDue s (soft_octets c 0 given) blocks) of.2 is.due)
+pub due-of : (c : Configuration) (decoder : Option Decoding) (phase : ℕ) (given : List ℕ) (blocks : List WindowBlock) → IsDecoderOf c decoder
+    → DecodesFor decoder (soft_octets c phase given) blocks → AreInnerDue c phase given blocks
+due-of c None phase given blocks of is = subst (λ (r : Option Rate). DueAt r c phase given blocks) (sym of) is
+due-of c (Some d) phase given blocks of is =
+    subst (λ (r : Option Rate). DueAt r c phase given blocks) (sym of.1) (subst (λ (s : Settings). AreDue s (soft_octets c phase given) blocks) of.2 is.due)
 
-pub first-of : (c : Configuration) (decoder : Option Decoding) (given : List ℕ) (blocks : List WindowBlock) → IsDecoderOf c decoder
-    → FindsFirst decoder (soft_octets c 0 given) blocks → AreInnerFirst c 0 given blocks
-first-of c None given blocks of is = subst (λ (r : Option Rate). FirstAt r c 0 given blocks) (sym of) is
-first-of c (Some d) given blocks of is =
-    subst (λ (r : Option Rate). FirstAt r c 0 given blocks) (sym of.1) (subst (λ (s : Settings). AreFirst s (soft_octets c 0 given) blocks) of.2 is)
-
--- the soft octets of a longer list
-pub soft-further : (c : Configuration) (given octets : List ℕ)
-    → soft_octets c 0 (given ++ octets) ≡ soft_octets c 0 given ++ map (soft_value c) (drop (c.skip - length given) octets)
-soft-further c given octets =
-    ap (map (soft_value c)) (drop-split c.skip given octets) ∙ map-append (soft_value c) (drop c.skip given) (drop (c.skip - length given) octets)
+pub first-of : (c : Configuration) (decoder : Option Decoding) (phase : ℕ) (given : List ℕ) (blocks : List WindowBlock) → IsDecoderOf c decoder
+    → FindsFirst decoder (soft_octets c phase given) blocks → AreInnerFirst c phase given blocks
+first-of c None phase given blocks of is = subst (λ (r : Option Rate). FirstAt r c phase given blocks) (sym of) is
+first-of c (Some d) phase given blocks of is =
+    subst (λ (r : Option Rate). FirstAt r c phase given blocks) (sym of.1) (subst (λ (s : Settings). AreFirst s (soft_octets c phase given) blocks) of.2 is)
 
 -- of two causes the other
 pub taker_alone : {T : Type 0} (e : FeedError) → (IsErrOf {T = T} (Err e) Stopped → ⊥) → IsErrOf {T = T} (Err e) Taker
@@ -157,6 +152,15 @@ decoded_front took broke o d taker taker_now soft all is same p =
     subst (HandsFront took broke DecodesFor (FindsFirst o) o taker taker_now) same
     (subst (λ (q : Option Decoding). HandsFront took broke DecodesFor (FindsFirst q) q taker taker_now soft) (sym is) (hands_front-some took broke d taker taker_now soft p))
 
+-- ---- octets of a configuration's soft form
+
+formed : (is_plain : Bool) (octets : List ℕ) → map (λ octet. if is_plain then octet else (octet + 128) % 256) octets ≡ from_form (not is_plain) octets
+formed true octets = refl
+formed false octets = refl
+
+pub soft-formed : (c : Configuration) (octets : List ℕ) → soft_form c octets ≡ from_form (not (c.soft == 0)) octets
+soft-formed c octets = formed (c.soft == 0) octets
+
 -- ---- the octets of an inner receiver
 
 drop-least : (n : ℕ) (octets : List ℕ) → drop (min n (length octets)) octets ≡ drop n octets
@@ -165,59 +169,48 @@ drop-least n octets = elim (cases_lt (length octets) n) as (λ _. drop (min n (l
   | inr least ↦ (let same : min n (length octets) ≡ n = omega (arith, least) in ap (λ k. drop k octets) same)
 ]
 
--- soft octets of a form
-formed : (is_plain : Bool) (octets : List ℕ) → map (λ octet. if is_plain then octet else (octet + 128) % 256) octets ≡ from_form (not is_plain) octets
-formed true octets = refl
-formed false octets = refl
+-- the soft octets of a longer list, where this many of the further ones are skipped
+pub phase_octets-more : (c : Configuration) (given octets : List ℕ) (skipped : ℕ) → skipped ≡ min (skipped_at (rate_of c.inner) c - length given) (length octets)
+    → phase_octets c (given ++ octets) ≡ phase_octets c given ++ soft_form c (drop skipped octets)
+phase_octets-more c given octets skipped is =
+    let n = skipped_at (rate_of c.inner) c in
+    ap (map (soft_value c)) (drop-split n given octets) ∙ map-append (soft_value c) (drop n given) (drop (n - length given) octets)
+    ∙ ap (λ l. phase_octets c given ++ map (soft_value c) l) (sym (drop-least (n - length given) octets) ∙ ap (λ k. drop k octets) (sym is))
 
-pub soft-piece : (c : Configuration) (given octets : List ℕ) (count skipped : ℕ) (is_signed : Bool) → length given ≡ count
-    → skipped ≡ min (c.skip - count) (length octets) → is_signed ≡ not (c.soft == 0)
-    → soft_octets c 0 (given ++ octets) ≡ soft_octets c 0 given ++ from_form is_signed (drop skipped octets)
-soft-piece c given octets count skipped is_signed long is form =
-    let same : drop (c.skip - length given) octets ≡ drop skipped octets =
-    ap (λ k. drop (c.skip - k) octets) long ∙ sym (drop-least (c.skip - count) octets) ∙ ap (λ k. drop k octets) (sym is) in
-    soft-further c given octets
-    ∙ ap (λ l. soft_octets c 0 given ++ map (soft_value c) l) same
-    ∙ ap (λ l. soft_octets c 0 given ++ l) (formed (c.soft == 0) (drop skipped octets))
-    ∙ ap (λ b. soft_octets c 0 given ++ from_form b (drop skipped octets)) (sym form)
+pub few-soft : (c : Configuration) (given : List ℕ) → length (phase_octets c given) ≤ length given
+few-soft c given = omega (arith, length-map (drop (skipped_at (rate_of c.inner) c) given) (soft_value c), length-drop (skipped_at (rate_of c.inner) c) given)
 
-few-soft : (c : Configuration) (given octets : List ℕ) (skipped : ℕ) (is_signed : Bool) → length given + length octets < 2 ^ 60
-    → length (soft_octets c 0 given) + length (from_form is_signed (drop skipped octets)) < 2 ^ 60
-few-soft c given octets skipped is_signed few =
-    omega (
-      arith,
-      few,
-      length-map (drop c.skip given) (soft_value c),
-      length-drop c.skip given,
-      length-map (drop skipped octets) (λ (octet : ℕ). if is_signed then (octet + 128) % 256 else octet),
-      length-drop skipped octets,
-    )
+-- those behind the phase are the ones that are decoded
+pub soft-behind : (c : Configuration) (phase n : ℕ) (given : List ℕ) → n ≡ c.skip → drop phase (map (soft_value c) (drop n given)) ≡ soft_octets c phase given
+soft-behind c phase n given is = drop-map (soft_value c) phase (drop n given) ∙ ap (λ k. map (soft_value c) (drop phase (drop k given))) is
 
-pub stands-further : {T : Type 0} (took : T → WindowBlock → T → Type 0) (before now : InnerReceiving) (taker taker_now : T) (octets : List ℕ) (skipped : ℕ) (is_signed : Bool)
-    → now.config ≡ before.config → IsDecoderOf now.config now.decoder → skipped ≡ min (before.config.skip - before.count) (length octets) → is_signed ≡ not (before.config.soft == 0)
-    → now.count ≡ min (before.count + length octets) (2 ^ 64 - 1)
-    → (p : Hands took DecodesFor before.decoder now.decoder taker taker_now (from_form is_signed (drop skipped octets)))
-    → (given : List ℕ) (done : List WindowBlock) → length given + length octets < 2 ^ 60 → StandsFor before given done
-    → StandsFor now (given ++ octets) (done ++ p.more) × AreInnerDue before.config 0 (given ++ octets) (done ++ p.more)
-stands-further took before now taker taker_now octets skipped is_signed config of skip form counted p given done few stood =
-    let soft = soft-piece before.config given octets before.count skipped is_signed stood.count skip form in
-    let there = subst (λ (l : List ℕ). DecodesFor now.decoder l (done ++ p.more)) (sym soft)
-    (p.stands (soft_octets before.config 0 given) done (few-soft before.config given octets skipped is_signed few) stood.decodes) in (
-      record {
-        count = omega (arith, stood.count, few, counted, length-append given octets);
-        few = omega (arith, few, length-append given octets);
-        decodes = subst (λ (c : Configuration). DecodesFor now.decoder (soft_octets c 0 (given ++ octets)) (done ++ p.more)) (sym config) there;
-      },
-      due-of before.config now.decoder (given ++ octets) (done ++ p.more) (subst (λ (c : Configuration). IsDecoderOf c now.decoder) config of) there,
-    )
+pub decodes-behind : (c : Configuration) (decoder : Option Decoding) (phase : ℕ) (given : List ℕ) (blocks : List WindowBlock) → IsDecoderOf c decoder
+    → DecodesFor decoder (drop phase (phase_octets c given)) blocks → DecodesFor decoder (soft_octets c phase given) blocks
+decodes-behind c None phase given blocks of is = is
+decodes-behind c (Some d) phase given blocks of is =
+    subst (λ (l : List ℕ). Decodes d l blocks) (soft-behind c phase (skipped_at (rate_of c.inner) c) given (ap (λ (r : Option Rate). skipped_at r c) of.1)) is
 
-pub front-further : {T : Type 0} (took broke : T → WindowBlock → T → Type 0) (before : InnerReceiving) (taker taker_now : T) (octets : List ℕ) (skipped : ℕ) (is_signed : Bool)
-    → IsDecoderOf before.config before.decoder → skipped ≡ min (before.config.skip - before.count) (length octets) → is_signed ≡ not (before.config.soft == 0)
-    → (p : HandsFront took broke DecodesFor (FindsFirst before.decoder) before.decoder taker taker_now (from_form is_signed (drop skipped octets)))
-    → (given : List ℕ) (done : List WindowBlock) → length given + length octets < 2 ^ 60 → StandsFor before given done
-    → AreInnerFirst before.config 0 (given ++ octets) (done ++ p.tried)
-front-further took broke before taker taker_now octets skipped is_signed of skip form p given done few stood =
-    let soft = soft-piece before.config given octets before.count skipped is_signed stood.count skip form in
-    first-of before.config before.decoder (given ++ octets) (done ++ p.tried) of
-    (subst (λ (l : List ℕ). FindsFirst before.decoder l (done ++ p.tried)) (sym soft)
-    (p.first (soft_octets before.config 0 given) done (few-soft before.config given octets skipped is_signed few) stood.decodes))
+pub finds-behind : (c : Configuration) (decoder : Option Decoding) (phase : ℕ) (given : List ℕ) (blocks : List WindowBlock) → IsDecoderOf c decoder
+    → FindsFirst decoder (drop phase (phase_octets c given)) blocks → FindsFirst decoder (soft_octets c phase given) blocks
+finds-behind c None phase given blocks of is = is
+finds-behind c (Some d) phase given blocks of is =
+    subst (λ (l : List ℕ). AreFirst d.settings l blocks) (soft-behind c phase (skipped_at (rate_of c.inner) c) given (ap (λ (r : Option Rate). skipped_at r c) of.1)) is
+
+-- ---- octets that are held
+
+pub same-held : (held : HeldOctets) (octets : List ℕ) (room : ℕ) → held.octets ≡ octets → held.room ≡ room → held ≡ record { octets = octets; room = room }
+same-held held octets room are is =
+    ap (λ (l : List ℕ). let h : HeldOctets = record { octets = l; room = held.room } in h) are
+    ∙ ap (λ (n : ℕ). let h : HeldOctets = record { octets = octets; room = n } in h) is
+
+-- all of the octets were taken where there is room left
+pub taken-all : (is_signed : Bool) (held octets now : List ℕ) (taken room : ℕ) → taken ≡ min (length octets) (room - length held)
+    → now ≡ held ++ from_form is_signed (take taken octets) → length now < room → take taken octets ≡ octets
+taken-all is_signed held octets now taken room most is less =
+    take_all taken octets
+    (omega (arith, most, less, ap length is, length-append held (from_form is_signed (take taken octets)), length-map (take taken octets) (λ octet. if is_signed then (octet + 128) % 256 else octet), length-take taken octets))
+
+-- octets of a configuration's form, in two parts
+pub form-parts : (c : Configuration) (soft taken : ℕ) (octets : List ℕ) → soft ≡ c.soft
+    → from_form (not (soft == 0)) (take taken octets) ++ from_form (not (soft == 0)) (drop taken octets) ≡ soft_form c octets
+form-parts c soft taken octets is = form-split (not (soft == 0)) taken octets ∙ ap (λ (n : ℕ). from_form (not (n == 0)) octets) is ∙ sym (soft-formed c octets)

@@ -7,4 +7,8 @@ pub mod ReceivedBits
 pub mod FewBits
 mod Metrics
 pub mod GivenPieces
+pub mod PhasePieces
+pub mod HandedPieces
+pub mod InTurn
+pub mod HandedBits
 pub mod WorkedBits

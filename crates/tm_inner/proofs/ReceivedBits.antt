@@ -118,21 +118,21 @@ kept-count rate invert keep ahead starts t n octets (b ∷ blocks) whole are =
 
 -- ---- the bits of octets
 
-pub length-soft : (c : Configuration) (given : List ℕ) → length (soft_octets c 0 given) ≡ length given - c.skip
-length-soft c given = length-map (drop 0 (drop c.skip given)) (soft_value c) ∙ length-drop c.skip given
+pub length-soft : (c : Configuration) (phase : ℕ) (given : List ℕ) → length (soft_octets c phase given) ≡ length given - c.skip - phase
+length-soft c phase given = length-map (drop phase (drop c.skip given)) (soft_value c) ∙ omega (arith, length-drop phase (drop c.skip given), length-drop c.skip given)
 
-pub bits-coded : (c : Configuration) (rate : Rate) (n m : ℕ) (given : List ℕ) (blocks : List WindowBlock) (left : ℕ) → rate_of c.inner ≡ Some rate → length given ≡ n
-    → AreWhole rate (n - c.skip) m → AreInnerBlocks c 0 given blocks left → m ≡ length (inner_bits c given blocks)
-bits-coded c rate n m given blocks left is long whole are =
-    subst (λ (r : Option Rate). BlocksAt r c 0 given blocks left → m ≡ length (bits_at r c given blocks)) (sym is) counted are
+pub bits-coded : (c : Configuration) (rate : Rate) (phase n m : ℕ) (given : List ℕ) (blocks : List WindowBlock) (left : ℕ) → rate_of c.inner ≡ Some rate → length given ≡ n
+    → AreWhole rate (n - c.skip - phase) m → AreInnerBlocks c phase given blocks left → m ≡ length (inner_bits c given blocks)
+bits-coded c rate phase n m given blocks left is long whole are =
+    subst (λ (r : Option Rate). BlocksAt r c phase given blocks left → m ≡ length (bits_at r c given blocks)) (sym is) counted are
   where
-    counted : AreBlocksOf (settings_of c rate) (soft_octets c 0 given) blocks left → m ≡ length (map (λ bit. bit == 1) (kept_bits blocks))
+    counted : AreBlocksOf (settings_of c rate) (soft_octets c phase given) blocks left → m ≡ length (map (λ bit. bit == 1) (kept_bits blocks))
     counted of =
         let s = settings_of c rate in
-        let size : length (soft_octets c 0 given) ≡ n - c.skip = length-soft c given ∙ ap (λ k. k - c.skip) long in
-        let steps : AreWhole rate (n - c.skip) of.count = (omega (arith, size, of.steps.whole), omega (arith, size, of.steps.most)) in
-        let same : m ≡ of.count = one-count rate (n - c.skip) m of.count whole steps in
-        let kept = kept-count rate s.invert s.keep s.ahead (first_start s.start) 0 of.count (soft_octets c 0 given) blocks of.steps.whole of.are in
+        let size : length (soft_octets c phase given) ≡ n - c.skip - phase = length-soft c phase given ∙ ap (λ k. k - c.skip - phase) long in
+        let steps : AreWhole rate (n - c.skip - phase) of.count = (omega (arith, size, of.steps.whole), omega (arith, size, of.steps.most)) in
+        let same : m ≡ of.count = one-count rate (n - c.skip - phase) m of.count whole steps in
+        let kept = kept-count rate s.invert s.keep s.ahead (first_start s.start) 0 of.count (soft_octets c phase given) blocks of.steps.whole of.are in
         same ∙ sym kept ∙ sym (length-map (kept_bits blocks) (λ bit. bit == 1))
 
 pub bits-plain : (c : Configuration) (n m : ℕ) (given : List ℕ) (blocks : List WindowBlock) → rate_of c.inner ≡ None → length given ≡ n

@@ -1,4 +1,6 @@
 pub mod Symbols
 pub mod Inner
+pub mod Phase
 pub mod Sending
 pub mod Receiving
+pub mod Handing

@@ -1,23 +1,16 @@
 -- What an inner receiver keeps, and for which octets, given so far, and which blocks, handed over so far, it stands.
-use Rattle.std.specs.Prelude.{◌≡◌, ℕ, ◌+◌, ◌^◌, ◌<◌, ◌%◌, Bool, if◌then◌else◌, List, [], ◌++◌, length, map, Option, Some, None}
+use Rattle.std.specs.Prelude.{◌≡◌, ◌≢◌, ◌⊎◌, ℕ, ◌+◌, ◌^◌, ◌<◌, ◌%◌, Bool, if◌then◌else◌, List, [], ◌++◌, length, map, drop, Option, Some, None}
+use Rattle.tm_base.specs.Handed.{Handed}
 use Rattle.tm_base.specs.Takers.{HandedOver, HandedPart}
 use Rattle.tm_config.specs.Configuration.{Configuration}
 use Rattle.tm_conv.specs.declared.rates.Rate.{Rate}
 use Rattle.tm_viterbi.specs.WindowBlock.{WindowBlock}
 use Rattle.tm_viterbi.specs.Due.{AreDue, AreFirst}
 use Rattle.tm_viterbi.specs.Decoding.{Decoding, StandsFor as DecoderStandsFor}
+use Rattle.tm_phase.specs.declared.choosing.Chosen.{Chosen}
 use Rattle.tm_inner.specs.Symbols.{rate_of}
-use Rattle.tm_inner.specs.Inner.{settings_of, soft_octets}
-
--- what contracts see of an inner receiver
-pub record InnerReceiving : Type 0 where
-  pub config : Configuration
-  -- that of the inner code; None where there is no inner code
-  pub decoder : Option Decoding
-  -- how many octets were given, up to the greatest value that is counted
-  pub count : ℕ
-  -- an earlier call answered Taker, or `finish` was called
-  pub has_stopped : Bool
+use Rattle.tm_inner.specs.Inner.{settings_of, soft_value, soft_octets}
+use Rattle.tm_inner.specs.Phase.{IsChosenBy, IsSettledBy, phase_octets, skip_of, in_turn}
 
 -- the decoder is that of the configuration's inner code, and there is none where it has no inner code
 abbrev pub IsDecoderOf : Configuration → Option Decoding → Type 0
@@ -39,41 +32,106 @@ abbrev pub DecodesFor : Option Decoding → List ℕ → List WindowBlock → Ty
 DecodesFor None soft done = done ≡ []
 DecodesFor (Some decoder) soft done = Decodes decoder soft done
 
--- an inner receiver that was given these octets and no others, fewer than 2^60, and has handed over these blocks
-pub record StandsFor (r : InnerReceiving) (given : List ℕ) (done : List WindowBlock) : Type 0 where
-  pub count : length given ≡ r.count
-  pub few : length given < 2 ^ 60
-  pub decodes : DecodesFor r.decoder (soft_octets r.config 0 given) done
-
--- the blocks of the first windows of received octets; none where there is no inner code
-abbrev pub FirstAt : Option Rate → Configuration → ℕ → List ℕ → List WindowBlock → Type 0
-FirstAt None c phase octets blocks = blocks ≡ []
-FirstAt (Some rate) c phase octets blocks = AreFirst (settings_of c rate) (soft_octets c phase octets) blocks
-
-abbrev pub AreInnerFirst : Configuration → ℕ → List ℕ → List WindowBlock → Type 0
-AreInnerFirst c = FirstAt (rate_of c.inner) c
-
 -- the blocks of the first windows that a decoder finds in soft octets
 abbrev pub FindsFirst : Option Decoding → List ℕ → List WindowBlock → Type 0
 FindsFirst None soft blocks = blocks ≡ []
 FindsFirst (Some decoder) soft blocks = AreFirst decoder.settings soft blocks
 
+-- what contracts see of the octets that wait, and of the room for them
+pub record HeldOctets : Type 0 where
+  pub octets : List ℕ
+  pub room : ℕ
+
+-- what contracts see of a decoder behind the choice of the phase
+pub record Phasing : Type 0 where
+  pub config : Configuration
+  -- that of the inner code; None where there is no inner code
+  pub decoder : Option Decoding
+  -- the soft octets that wait for the choice, and how many there is room for
+  pub held : List ℕ
+  pub room : ℕ
+  -- None before the choice, and where the phase is given
+  pub chosen : Option Chosen
+
+-- before the choice all soft octets wait, and nothing was handed over
+pub record Waits (p : Phasing) (soft : List ℕ) (done : List (Handed WindowBlock)) : Type 0 where
+  pub find : p.config.phase ≢ 0
+  pub none : p.chosen ≡ None
+  pub held : p.held ≡ soft
+  pub fresh : DecodesFor p.decoder [] []
+  pub nothing : done ≡ []
+
+-- behind the choice, or where the phase is given, the decoder was given the soft octets behind the phase
+pub record Goes (p : Phasing) (soft : List ℕ) (done : List (Handed WindowBlock)) : Type 0 where
+  pub choice : IsChosenBy p.config soft p.chosen
+  pub blocks : List WindowBlock
+  pub decodes : DecodesFor p.decoder (drop (skip_of p.chosen) soft) blocks
+  pub are : done ≡ in_turn p.chosen blocks
+
+-- a decoder that was given these soft octets and no others, behind the choice of the phase once it is settled
+abbrev pub PhasesFor : Phasing → List ℕ → List (Handed WindowBlock) → Type 0
+PhasesFor p soft done = (Waits p soft done × (IsSettledBy p.config soft → ⊥)) ⊎ (Goes p soft done × IsSettledBy p.config soft)
+
+-- the blocks of the first windows of soft octets; none where there is no inner code
+abbrev pub FirstFor : Option Rate → Configuration → List ℕ → List WindowBlock → Type 0
+FirstFor None c soft blocks = blocks ≡ []
+FirstFor (Some rate) c soft blocks = AreFirst (settings_of c rate) soft blocks
+
+-- the phase of soft octets, and the blocks of first windows behind it
+pub record IsFrontBy (c : Configuration) (soft : List ℕ) (handed : List (Handed WindowBlock)) : Type 0 where
+  pub chosen : Option Chosen
+  pub choice : IsChosenBy c soft chosen
+  pub blocks : List WindowBlock
+  pub first : FirstFor (rate_of c.inner) c (drop (skip_of chosen) soft) blocks
+  pub are : handed ≡ in_turn chosen blocks
+
+-- the same once the phase is settled
+abbrev pub IsFirstBy : Configuration → List ℕ → List (Handed WindowBlock) → Type 0
+IsFirstBy c soft handed = IsSettledBy c soft × IsFrontBy c soft handed
+
+-- what contracts see of an inner receiver
+pub record InnerReceiving : Type 0 where
+  pub config : Configuration
+  pub phased : Phasing
+  -- how many octets were given, up to the greatest value that is counted
+  pub count : ℕ
+  -- an earlier call answered Taker, or `finish` was called
+  pub has_stopped : Bool
+
+-- an inner receiver that was given these octets and no others, fewer than 2^60, and has handed over this
+pub record StandsFor (r : InnerReceiving) (given : List ℕ) (done : List (Handed WindowBlock)) : Type 0 where
+  pub count : length given ≡ r.count
+  pub few : length given < 2 ^ 60
+  pub same : r.phased.config ≡ r.config
+  pub phases : PhasesFor r.phased (phase_octets r.config given) done
+
+-- the same of received octets
+abbrev pub FirstAt : Option Rate → Configuration → ℕ → List ℕ → List WindowBlock → Type 0
+FirstAt rate c phase octets = FirstFor rate c (soft_octets c phase octets)
+
+abbrev pub AreInnerFirst : Configuration → ℕ → List ℕ → List WindowBlock → Type 0
+AreInnerFirst c = FirstAt (rate_of c.inner) c
+
 -- octets of which 0 is the surest 0 and 255 the surest 1; in the signed form these are -128 and 127, in two's complement
 abbrev pub from_form : Bool → List ℕ → List ℕ
 from_form is_signed octets = map (λ octet. if is_signed then (octet + 128) % 256 else octet) octets
 
--- given the octets, fewer than 2^60 with those before, a value goes on and hands over blocks
-pub record Hands {T S : Type 0} (took : T → WindowBlock → T → Type 0) (Stands : S → List ℕ → List WindowBlock → Type 0) (before now : S)
+-- received octets as such
+abbrev pub soft_form : Configuration → List ℕ → List ℕ
+soft_form c octets = map (soft_value c) octets
+
+-- given the octets, fewer than 2^60 with those before, a value goes on and hands over more
+pub record Hands {T I S : Type 0} (took : T → I → T → Type 0) (Stands : S → List ℕ → List I → Type 0) (before now : S)
     (taker taker_now : T) (octets : List ℕ) : Type 0 where
-  pub more : List WindowBlock
+  pub more : List I
   pub handed : HandedOver took taker more taker_now
-  pub stands : (given : List ℕ) (done : List WindowBlock) → length given + length octets < 2 ^ 60 → Stands before given done
+  pub stands : (given : List ℕ) (done : List I) → length given + length octets < 2 ^ 60 → Stands before given done
       → Stands now (given ++ octets) (done ++ more)
 
--- given the octets, a value hands over a part of the first blocks, at which the taker fails
-pub record HandsFront {T S : Type 0} (took broke : T → WindowBlock → T → Type 0) (Stands : S → List ℕ → List WindowBlock → Type 0)
-    (First : List ℕ → List WindowBlock → Type 0) (before : S) (taker taker_now : T) (octets : List ℕ) : Type 0 where
-  pub tried : List WindowBlock
+-- given the octets, a value hands over a part of the first of it, at which the taker fails
+pub record HandsFront {T I S : Type 0} (took broke : T → I → T → Type 0) (Stands : S → List ℕ → List I → Type 0)
+    (First : List ℕ → List I → Type 0) (before : S) (taker taker_now : T) (octets : List ℕ) : Type 0 where
+  pub tried : List I
   pub handed : HandedPart took broke taker tried taker_now
-  pub first : (given : List ℕ) (done : List WindowBlock) → length given + length octets < 2 ^ 60 → Stands before given done
+  pub first : (given : List ℕ) (done : List I) → length given + length octets < 2 ^ 60 → Stands before given done
       → First (given ++ octets) (done ++ tried)

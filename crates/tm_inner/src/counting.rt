@@ -8,14 +8,17 @@ use crate::code::rate_of;
 use tm_config::Config;
 use tm_conv::Rate;
 
-// How many bits are received with so many octets: those of the whole steps of the inner code, or with none all behind
-// the skipped ones.
-pub fn count_bits(config: &Config, octets: u64) -> u64
+// How many bits are received with so many octets: those of the whole steps of the inner code behind the phase, or with none all
+// behind the skipped ones.
+pub fn count_bits(config: &Config, phase: u64, octets: u64) -> u64
     ensures { (given : List ℕ) (blocks : List WindowBlock) (left : ℕ) → length given ≡ octets → length given < 2 ^ 60
-        → AreInnerBlocks config.now 0 given blocks left → result ≡ length (inner_bits config.now given blocks) }
+        → AreInnerBlocks config.now phase given blocks left → result ≡ length (inner_bits config.now given blocks) }
 {
     match rate_of(config) {
-        Some(rate) => count_steps(rate, octets.saturating_sub(config.skip())),
+        Some(rate) => count_steps(
+            rate,
+            octets.saturating_sub(config.skip()).saturating_sub(phase),
+        ),
         None => octets.saturating_mul(8).saturating_sub(config.skip()),
     }
 }

@@ -80,11 +80,11 @@ pub fn end<B: BlockTaker>(decoder: &mut Option<Decoder>, blocks: &mut B) -> Resu
     ensures of { (c : Configuration) → IsDecoderOf c decoder.old → IsDecoderOf c decoder.new }
     ensures stopped { HasStopped true decoder.new }
     ensures handed { IfOk result (λ left. (last : List WindowBlock) × HandedOver B.took blocks.old last blocks.new
-        × ((c : Configuration) (given : List ℕ) (done : List WindowBlock) → IsDecoderOf c decoder.old
-        → DecodesFor decoder.old (soft_octets c 0 given) done → AreInnerBlocks c 0 given (done ++ last) left)) }
+        × ((c : Configuration) (phase : ℕ) (given : List ℕ) (done : List WindowBlock) → IsDecoderOf c decoder.old
+        → DecodesFor decoder.old (soft_octets c phase given) done → AreInnerBlocks c phase given (done ++ last) left)) }
     ensures front { OnErr result ((last : WindowBlock) × B.broke blocks.old last blocks.new
-        × ((c : Configuration) (given : List ℕ) (done : List WindowBlock) → IsDecoderOf c decoder.old
-        → DecodesFor decoder.old (soft_octets c 0 given) done → (left : ℕ) × AreInnerBlocks c 0 given (done ++ last ∷ []) left)) }
+        × ((c : Configuration) (phase : ℕ) (given : List ℕ) (done : List WindowBlock) → IsDecoderOf c decoder.old
+        → DecodesFor decoder.old (soft_octets c phase given) done → (left : ℕ) × AreInnerBlocks c phase given (done ++ last ∷ []) left)) }
     ensures left { IfOk result (λ left. left ≤ 1) }
     ensures cause { HasCause (B.faults blocks.old) (B.faults blocks.new) (B.is_last blocks.new) result }
 {

@@ -1,11 +1,14 @@
 //! The inner stages: from the octets of marked codeblocks to the symbols that are sent, by the inner code of a configuration
-//! (CCSDS 131.0-B, Convolutional Coding), and from soft symbols that are received to blocks of bits.
+//! (CCSDS 131.0-B, Convolutional Coding), and from soft symbols that are received to blocks of bits, behind their phase where it
+//! is to be found.
 #![tactic(auto)]
 
 mod code;
 mod counting;
 mod feeding;
+mod held;
 mod laws;
+mod phased;
 mod receiver;
 mod sender;
 #[cfg(test)]

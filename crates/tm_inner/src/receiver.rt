@@ -1,21 +1,26 @@
 // The receiver's first stage.
-ghost use Rattle.std.specs.Prelude.{◌≡◌, ◌≢◌, ◌↔◌, ◌++◌, ◌∷◌, ℕ, ◌+◌, ◌-◌, ◌*◌, ◌^◌, ◌<◌, ◌≤◌, IsTrue, List, [], true, false, IfOk, OnOk, IsErrOf, Err, None, length, drop};
+ghost use Rattle.std.specs.Prelude.{◌≡◌, ◌≢◌, ◌↔◌, ◌++◌, ℕ, ◌+◌, ◌-◌, ◌*◌, ◌^◌, ◌<◌, ◌≤◌, IsTrue, List, [], true, false, IfOk, OnOk, IsErrOf, Err, None, length, drop};
 ghost use Rattle.std.specs.Option.{is_some};
 ghost use Rattle.tm_base.specs.Bits.{bits_of};
+ghost use Rattle.tm_base.specs.Handed.{Handed, items_of, on_handed};
 ghost use Rattle.tm_base.specs.Outside.{Rose};
 ghost use Rattle.tm_base.specs.Takers.{HandedOver, HandedPart};
 ghost use Rattle.tm_viterbi.specs.WindowBlock.{WindowBlock};
-ghost use Rattle.tm_inner.specs.Inner.{AreInnerBlocks, AreInnerDue, inner_bits};
+ghost use Rattle.tm_inner.specs.Inner.{inner_bits};
+ghost use Rattle.tm_inner.specs.Phase.{IsChosen, IsChosenSoFar, skipped_at};
 ghost use Rattle.tm_inner.specs.Symbols.{rate_of};
-ghost use Rattle.tm_inner.specs.Receiving.{StandsFor, AreInnerFirst};
+ghost use Rattle.tm_inner.specs.Receiving.{StandsFor};
+ghost use Rattle.tm_inner.specs.Handing.{AreHanded, AreHandedDue, AreHandedFirst, AreHandedFront};
 
+use crate::code::rate_of;
 use crate::counting::count_bits;
-use crate::feeding::{decode, decoder_of, end};
+use crate::phased::Phased;
 use std::alloc::Global;
 use std::marker::Model;
 use tm_base::{Failed, NoMemory};
 use tm_config::Config;
-use tm_viterbi::{BlockTaker, Decoder, FeedError};
+use tm_phase::Chosen;
+use tm_viterbi::{BlockTaker, FeedError};
 
 /// What came of all octets.
 #[derive(Clone, Copy, Debug, PartialEq, Eq)]
@@ -27,26 +32,26 @@ pub struct InnerEnd {
 }
 
 /// Turns octets that are received into the blocks of the inner code, piece by piece (CCSDS 131.0-B, Convolutional Coding): it
-/// drops the octets that are to be skipped, undoes the soft form, and decodes. With no inner code the octets hold the bits
-/// themselves, and no block comes. It takes all its memory at `open`.
+/// drops the octets that are to be skipped, undoes the soft form, finds the symbol phase where it isn't given, and decodes. With
+/// no inner code the octets hold the bits themselves, and no block comes. It takes all its memory at `open`.
 #[derive(Drop)]
 pub struct InnerReceiver {
     config: Config,
-    // None where there is no inner code.
-    decoder: Option<Decoder>,
+    phased: Phased,
     // The octets given.
     count: u64,
     has_stopped: bool,
 }
 
 impl Model for InnerReceiver {
-    ghost use Rattle.tm_inner.specs.Receiving.{InnerReceiving, IsDecoderOf, HasStopped};
+    ghost use Rattle.std.specs.Prelude.{◌≡◌, false};
+    ghost use Rattle.tm_inner.specs.Receiving.{InnerReceiving, HasStopped};
 
     ghost Value = { InnerReceiving };
 
-    ghost view = { λ r. record { config = r.config; decoder = r.decoder; count = r.count; has_stopped = r.has_stopped } };
+    ghost view = { λ r. record { config = r.config; phased = r.phased; count = r.count; has_stopped = r.has_stopped } };
 
-    ghost invariant = { λ r. IsDecoderOf r.config r.decoder × HasStopped r.has_stopped r.decoder };
+    ghost invariant = { λ r. (r.phased.config ≡ r.config) × (r.has_stopped ≡ false → HasStopped false r.phased.decoder) };
 }
 
 impl InnerReceiver {
@@ -56,21 +61,20 @@ impl InnerReceiver {
         ensures fresh { IfOk result (λ r. r.has_stopped ≡ false) }
         ensures stands { IfOk result (λ r. StandsFor r [] []) }
     {
-        match decoder_of(alloc, config) {
-            Ok(decoder) => Ok(InnerReceiver {
-                config: *config,
-                decoder,
-                count: 0,
-                has_stopped: false,
-            }),
-            Err(_) => Err(NoMemory),
-        }
+        let phased = Phased::open(alloc, config)?;
+        Ok(InnerReceiver {
+            config: *config,
+            phased,
+            count: 0,
+            has_stopped: false,
+        })
     }
 
-    /// Takes the next octets, and hands over the blocks of the windows that are closed by them: all blocks of the octets so
-    /// far but the last.
+    /// Takes the next octets, and hands over what is due with them: the blocks of the windows that are closed, all blocks of the
+    /// octets so far but the last. Where the symbol phase is to be found nothing is due until it is chosen: once all steps of a
+    /// window can be compared, or with no inner code at the first octet. Then it is handed over, once, before any block.
     ///
-    /// `Taker` comes where `blocks` fails; a front of the blocks was then handed over. `Stopped` comes where an earlier call
+    /// `Taker` comes where `blocks` fails; a front of what is due was then handed over. `Stopped` comes where an earlier call
     /// answered `Taker` or `finish` was called; nothing is handed over then.
     ///
     /// The octets given in all are to be below 2^60.
@@ -79,12 +83,14 @@ impl InnerReceiver {
         ensures unchanged { IsErrOf result FeedError.Stopped → (self.new ≡ self.old) × (blocks.new ≡ blocks.old) }
         ensures stops { IsTrue self.new.has_stopped ↔ OnOk result ⊥ }
         ensures config { self.new.config ≡ self.old.config }
-        ensures handed { OnOk result ((more : List WindowBlock) × HandedOver B.took blocks.old more blocks.new
-            × ((given : List ℕ) (done : List WindowBlock) → length given + length octets.now < 2 ^ 60 → StandsFor self.old given done
-            → StandsFor self.new (given ++ octets.now) (done ++ more) × AreInnerDue self.old.config 0 (given ++ octets.now) (done ++ more))) }
-        ensures front { IsErrOf result FeedError.Taker → (tried : List WindowBlock) × HandedPart B.took B.broke blocks.old tried blocks.new
-            × ((given : List ℕ) (done : List WindowBlock) → length given + length octets.now < 2 ^ 60 → StandsFor self.old given done
-            → AreInnerFirst self.old.config 0 (given ++ octets.now) (done ++ tried)) }
+        ensures chosen { (given : List ℕ) (done : List (Handed WindowBlock)) → StandsFor self.old given done → self.old.has_stopped ≡ false
+            → IsChosenSoFar self.old.config (given ++ octets.now) self.new.phased.chosen }
+        ensures handed { OnOk result ((more : List (Handed WindowBlock)) × HandedOver (on_handed B.took_phase B.took) blocks.old more blocks.new
+            × ((given : List ℕ) (done : List (Handed WindowBlock)) → length given + length octets.now < 2 ^ 60 → StandsFor self.old given done
+            → StandsFor self.new (given ++ octets.now) (done ++ more) × AreHandedDue self.old.config (given ++ octets.now) (done ++ more))) }
+        ensures front { IsErrOf result FeedError.Taker → (tried : List (Handed WindowBlock)) × HandedPart (on_handed B.took_phase B.took) (on_handed B.broke_phase B.broke) blocks.old tried blocks.new
+            × ((given : List ℕ) (done : List (Handed WindowBlock)) → length given + length octets.now < 2 ^ 60 → StandsFor self.old given done
+            → AreHandedFirst self.old.config (given ++ octets.now) (done ++ tried)) }
         ensures later { B.faults blocks.old ≤ B.faults blocks.new }
         ensures rose { IsErrOf result FeedError.Taker → Rose (B.faults blocks.old) (B.faults blocks.new) (B.is_last blocks.new) }
         ensures same { result ≢ Err FeedError.Taker → B.faults blocks.new ≡ B.faults blocks.old }
@@ -92,11 +98,9 @@ impl InnerReceiver {
         if self.has_stopped {
             return Err(FeedError::Stopped);
         }
-        let left = self.config.skip().saturating_sub(self.count);
-        let skipped = left.min(octets.len() as u64) as usize;
+        let skipped = self.octets_to_skip().min(octets.len() as u64) as usize;
         self.count = self.count.saturating_add(octets.len() as u64);
-        let is_signed = self.config.soft() != 0;
-        match decode(&mut self.decoder, is_signed, &octets[skipped..], blocks) {
+        match self.phased.feed(&octets[skipped..], blocks) {
             Ok(()) => Ok(()),
             Err(Failed) => {
                 self.has_stopped = true;
@@ -105,22 +109,23 @@ impl InnerReceiver {
         }
     }
 
-    /// Hands over the block of the last window, where a step is left for it, and answers how many bits were received and how
-    /// many octets are left over. It is called once, at the end of the octets.
+    /// Hands over what is left: the symbol phase, where it is to be found and was not chosen yet, and the last blocks. Answers
+    /// how many bits were received and how many octets are left over. It is called once, at the end of the octets.
     ///
-    /// `Taker` comes where `blocks` fails. `Stopped` comes where an earlier call answered `Taker` or `finish` was called;
-    /// nothing is handed over then.
+    /// `Taker` comes where `blocks` fails; a front of all was then handed over. `Stopped` comes where an earlier call answered
+    /// `Taker` or `finish` was called; nothing is handed over then.
     pub fn finish<B: BlockTaker>(&mut self, blocks: &mut B) -> Result<InnerEnd, FeedError>
         ensures stopped { IsErrOf result FeedError.Stopped ↔ IsTrue self.old.has_stopped }
         ensures unchanged { IsErrOf result FeedError.Stopped → (self.new ≡ self.old) × (blocks.new ≡ blocks.old) }
         ensures stops { self.new.has_stopped ≡ true }
         ensures config { self.new.config ≡ self.old.config }
-        ensures handed { IfOk result (λ end. (last : List WindowBlock) × HandedOver B.took blocks.old last blocks.new
-            × ((given : List ℕ) (done : List WindowBlock) → StandsFor self.old given done
-            → AreInnerBlocks self.old.config 0 given (done ++ last) end.leftover × (end.bits ≡ length (inner_bits self.old.config given (done ++ last))))) }
-        ensures front { IsErrOf result FeedError.Taker → (last : WindowBlock) × B.broke blocks.old last blocks.new
-            × ((given : List ℕ) (done : List WindowBlock) → StandsFor self.old given done
-            → (left : ℕ) × AreInnerBlocks self.old.config 0 given (done ++ last ∷ []) left) }
+        ensures chosen { (given : List ℕ) (done : List (Handed WindowBlock)) → StandsFor self.old given done → self.old.has_stopped ≡ false
+            → IsChosen self.old.config given self.new.phased.chosen }
+        ensures handed { IfOk result (λ end. (last : List (Handed WindowBlock)) × HandedOver (on_handed B.took_phase B.took) blocks.old last blocks.new
+            × ((given : List ℕ) (done : List (Handed WindowBlock)) → StandsFor self.old given done
+            → AreHanded self.old.config given (done ++ last) end.leftover × (end.bits ≡ length (inner_bits self.old.config given (items_of (done ++ last)))))) }
+        ensures front { IsErrOf result FeedError.Taker → (tried : List (Handed WindowBlock)) × HandedPart (on_handed B.took_phase B.took) (on_handed B.broke_phase B.broke) blocks.old tried blocks.new
+            × ((given : List ℕ) (done : List (Handed WindowBlock)) → StandsFor self.old given done → AreHandedFront self.old.config given (done ++ tried)) }
         ensures left { IfOk result (λ end. end.leftover ≤ 1) }
         ensures later { B.faults blocks.old ≤ B.faults blocks.new }
         ensures rose { IsErrOf result FeedError.Taker → Rose (B.faults blocks.old) (B.faults blocks.new) (B.is_last blocks.new) }
@@ -130,28 +135,49 @@ impl InnerReceiver {
             return Err(FeedError::Stopped);
         }
         self.has_stopped = true;
-        let bits = count_bits(&self.config, self.count);
-        match end(&mut self.decoder, blocks) {
-            Ok(leftover) => Ok(InnerEnd { bits, leftover }),
+        match self.phased.end(blocks) {
+            Ok(leftover) => Ok(InnerEnd {
+                bits: count_bits(&self.config, self.phased.skip(), self.count),
+                leftover,
+            }),
             Err(Failed) => Err(FeedError::Taker),
         }
+    }
+
+    /// The symbol phase that was chosen: None before the choice, and where the phase is given.
+    pub fn chosen(&self) -> Option<Chosen>
+        ensures value { result ≡ self.now.phased.chosen }
+        ensures so_far { (given : List ℕ) (done : List (Handed WindowBlock)) → StandsFor self.now given done → IsChosenSoFar self.now.config given result }
+    {
+        self.phased.chosen()
     }
 
     /// Whether the configuration has an inner code. Where it has none, no block comes, and the octets hold the bits.
     pub fn has_inner_code(&self) -> bool
         ensures { result ≡ is_some (rate_of self.now.config.inner) }
     {
-        self.decoder.is_some()
+        rate_of(&self.config).is_some()
     }
 
     /// With no inner code, how many bits of the next octets are still to be skipped, 0 to 15. The bits behind them are received.
     pub fn bits_to_skip(&self) -> u64
         ensures value { result ≡ self.now.config.skip - 8 * self.now.count }
-        ensures bits { (given octets : List ℕ) (done : List WindowBlock) → StandsFor self.now given done → rate_of self.now.config.inner ≡ None
+        ensures bits { (given octets : List ℕ) (done : List (Handed WindowBlock)) → StandsFor self.now given done → rate_of self.now.config.inner ≡ None
             → inner_bits self.now.config (given ++ octets) [] ≡ inner_bits self.now.config given [] ++ drop result (bits_of octets) }
     {
         self.config
             .skip()
             .saturating_sub(self.count.saturating_mul(8))
+    }
+
+    // How many of the next octets are still to be skipped; with no inner code none, as bits are.
+    fn octets_to_skip(&self) -> u64
+        ensures { result ≡ skipped_at (rate_of self.now.config.inner) self.now.config - self.now.count }
+    {
+        if self.has_inner_code() {
+            self.config.skip().saturating_sub(self.count)
+        } else {
+            0
+        }
     }
 }

@@ -1,12 +1,15 @@
 // Worked values: the octets of a few steps, the bits that are received, and the blocks that are handed over.
 mod takers;
 
+ghost use Rattle.std.specs.Prelude.{◌≤◌};
+
 use crate::{InnerEnd, InnerReceiver, inner_all};
 use std::alloc::{AllocError, Global};
 use std::process::Abort;
 use std::test::Fail;
 use takers::{Collector, Kept};
 use tm_config::{Config, Raw};
+use tm_phase::Chosen;
 use tm_viterbi::FeedError;
 
 // A block from register 0.
@@ -31,7 +34,15 @@ fn repeated(alloc: Global, pair: (u8, u8), count: usize) -> Result<Vec<u8>, Allo
     Ok(octets)
 }
 
-// What comes of the octets, at once and in pieces of one, of two and of 300 octets.
+// What comes of octets, with the skip and the cost of their phase where it is to be found.
+#[derive(Clone, Copy)]
+struct Wanted<'a> {
+    phase: Option<(u8, u64)>,
+    blocks: &'a [Kept],
+    end: InnerEnd,
+}
+
+// What comes of the octets, with the phase given.
 fn check(
     rt: &impl Abort,
     alloc: Global,
@@ -40,25 +51,54 @@ fn check(
     blocks: &[Kept],
     end: (u64, u8),
 ) -> Result<(), Fail> {
+    check_found(rt, alloc, raw, octets, None, blocks, end)
+}
+
+// The same with this phase: at once and in pieces of one, of two and of 300 octets.
+fn check_found(
+    rt: &impl Abort,
+    alloc: Global,
+    raw: Raw,
+    octets: &[u8],
+    phase: Option<(u8, u64)>,
+    blocks: &[Kept],
+    end: (u64, u8),
+) -> Result<(), Fail> {
     let config = Config::check(&raw)?;
-    let wanted = InnerEnd {
+    let end = InnerEnd {
         bits: end.0,
         leftover: end.1,
     };
+    let wanted = Wanted { phase, blocks, end };
     let mut all = Collector::new(alloc, 9);
-    assert_eq!(rt; inner_all(alloc, &config, octets, &mut all)?, wanted);
+    assert_eq!(rt; inner_all(alloc, &config, octets, &mut all)?, end);
+    assert_eq!(rt; all.phase(), phase);
     assert_eq!(rt; all.kept(), blocks);
-    for size in [1, 2, 300] {
-        let mut taker = Collector::new(alloc, 9);
-        let mut receiver = InnerReceiver::open(alloc, &config)?;
-        for piece in octets.chunks(size) {
-            receiver.feed(piece, &mut taker)?;
-        }
-        assert_eq!(rt; receiver.finish(&mut taker)?, wanted);
-        assert_eq!(rt; taker.kept(), blocks);
-        assert_eq!(rt; receiver.feed(octets, &mut taker), Err(FeedError::Stopped));
-        assert_eq!(rt; receiver.finish(&mut taker), Err(FeedError::Stopped));
+    check_pieces(rt, alloc, &config, octets, 1, &wanted)?;
+    check_pieces(rt, alloc, &config, octets, 2, &wanted)?;
+    check_pieces(rt, alloc, &config, octets, 300, &wanted)
+}
+
+fn check_pieces(
+    rt: &impl Abort,
+    alloc: Global,
+    config: &Config,
+    octets: &[u8],
+    size: usize,
+    wanted: &Wanted<'_>,
+) -> Result<(), Fail>
+    requires { 1 ≤ size }
+{
+    let mut taker = Collector::new(alloc, 9);
+    let mut receiver = InnerReceiver::open(alloc, config)?;
+    for piece in octets.chunks(size) {
+        receiver.feed(piece, &mut taker)?;
     }
+    assert_eq!(rt; receiver.finish(&mut taker)?, wanted.end);
+    assert_eq!(rt; taker.phase(), wanted.phase);
+    assert_eq!(rt; taker.kept(), wanted.blocks);
+    assert_eq!(rt; receiver.feed(octets, &mut taker), Err(FeedError::Stopped));
+    assert_eq!(rt; receiver.finish(&mut taker), Err(FeedError::Stopped));
     Ok(())
 }
 
@@ -203,5 +243,87 @@ fn a_taker_that_fails(rt: HostRuntime) -> Result<(), Fail> {
     assert_eq!(rt; tried, Err(FeedError::Taker));
     assert_eq!(rt; receiver.feed(&[], &mut taker), Err(FeedError::Stopped));
     assert_eq!(rt; receiver.finish(&mut taker), Err(FeedError::Stopped));
+    Ok(())
+}
+
+// An octet before the undisturbed symbols of the marker 1A CF FC 1D, with each second one inverted.
+#[test]
+fn phase_found(rt: HostRuntime) -> Result<(), Fail> {
+    let alloc = rt.alloc();
+    let symbols: u64 = 0x56081C971AA73D3E;
+    let mut octets = [0x00; 65];
+    for i in 0..64 {
+        if symbols >> (63 - i) & 1 == 1 {
+            octets[1 + i] = 0xFF;
+        }
+    }
+    let mut raw = Raw::default();
+    raw.phase = 1;
+    let found = Some((1, 0));
+    let blocks = [block(32, 32, 0, 0, 46)];
+    check_found(&rt, alloc, raw, &octets, found, &blocks, (32, 0))?;
+    // With windows of 64 steps the phase is chosen at octet 129. Pairs of the other phase cost at least one symbol.
+    raw.keep = 64;
+    raw.ahead = 0;
+    let config = Config::check(&raw)?;
+    let mut taker = Collector::new(alloc, 9);
+    let mut receiver = InnerReceiver::open(alloc, &config)?;
+    receiver.feed(&[0x00], &mut taker)?;
+    for _ in 0..63 {
+        receiver.feed(&[0x00, 0xFF], &mut taker)?;
+    }
+    receiver.feed(&[0x00], &mut taker)?;
+    assert_eq!(rt; receiver.chosen(), None);
+    assert_eq!(rt; taker.phase(), None);
+    receiver.feed(&[0xFF], &mut taker)?;
+    assert_eq!(rt; receiver.chosen(), Some(Chosen { skip: 1, cost: 0 }));
+    assert_eq!(rt; taker.phase(), found);
+    Ok(())
+}
+
+// Both phases cost nothing, and so do no octets.
+#[test]
+fn phase_of_a_tie(rt: HostRuntime) -> Result<(), Fail> {
+    let alloc = rt.alloc();
+    let mut raw = Raw::default();
+    raw.phase = 1;
+    check_found(&rt, alloc, raw, &[], Some((0, 0)), &[], (0, 0))?;
+    raw.start = 1;
+    let octets = [0xFF, 0x00, 0xFF, 0x00, 0xFF, 0x00, 0xFF];
+    let config = Config::check(&raw)?;
+    let mut taker = Collector::new(alloc, 9);
+    let end = inner_all(alloc, &config, &octets, &mut taker)?;
+    let wanted = InnerEnd {
+        bits: 3,
+        leftover: 1,
+    };
+    assert_eq!(rt; end, wanted);
+    assert_eq!(rt; taker.phase(), Some((0, 0)));
+    assert_eq!(rt; taker.kept().len(), 1);
+    for b in taker.kept() {
+        assert_eq!(rt; b.metric, 0);
+    }
+    Ok(())
+}
+
+// With no inner code the phase is 0, from the first octet on. A taker that fails at it stops the receiver.
+#[test]
+fn phase_without_an_inner_code(rt: HostRuntime) -> Result<(), Fail> {
+    let alloc = rt.alloc();
+    let mut raw = Raw::default();
+    raw.inner = 0;
+    raw.phase = 1;
+    check_found(&rt, alloc, raw, &[], Some((0, 0)), &[], (0, 0))?;
+    let config = Config::check(&raw)?;
+    let mut taker = Collector::new(alloc, 9);
+    let mut receiver = InnerReceiver::open(alloc, &config)?;
+    receiver.feed(&[], &mut taker)?;
+    assert_eq!(rt; receiver.chosen(), None);
+    receiver.feed(&[0x55], &mut taker)?;
+    assert_eq!(rt; receiver.chosen(), Some(Chosen { skip: 0, cost: 0 }));
+    let mut failing = Collector::new(alloc, 0);
+    let mut other = InnerReceiver::open(alloc, &config)?;
+    assert_eq!(rt; other.feed(&[0x55], &mut failing), Err(FeedError::Taker));
+    assert_eq!(rt; other.feed(&[], &mut failing), Err(FeedError::Stopped));
     Ok(())
 }

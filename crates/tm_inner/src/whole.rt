@@ -1,31 +1,31 @@
 // Octets received at once.
-ghost use Rattle.std.specs.Prelude.{◌≡◌, ◌≢◌, ◌⊎◌, ℕ, ◌^◌, ◌<◌, ◌≤◌, List, IfOk, IsErrOf, Err, length};
+ghost use Rattle.std.specs.Prelude.{◌≡◌, ◌≢◌, ℕ, ◌^◌, ◌<◌, ◌≤◌, List, IfOk, IsErrOf, Err, length};
+ghost use Rattle.tm_base.specs.Handed.{Handed, items_of, on_handed};
 ghost use Rattle.tm_base.specs.Takers.{HandedOver, HandedPart};
 ghost use Rattle.tm_base.specs.Outside.{Rose};
 ghost use Rattle.tm_viterbi.specs.WindowBlock.{WindowBlock};
-ghost use Rattle.tm_inner.specs.Inner.{AreInnerBlocks, inner_bits};
-ghost use Rattle.tm_inner.specs.Receiving.{AreInnerFirst};
+ghost use Rattle.tm_inner.specs.Inner.{inner_bits};
+ghost use Rattle.tm_inner.specs.Handing.{AreHanded, AreHandedFront};
 
 use crate::receiver::{InnerEnd, InnerReceiver};
 use std::alloc::Global;
 use tm_config::Config;
 use tm_viterbi::{AllError, BlockTaker};
 
-/// Hands over the blocks of received octets, fewer than 2^60, and answers how many bits were received and how many octets are
-/// left over. With no inner code no block comes.
+/// Hands over the symbol phase of received octets, fewer than 2^60, where it is to be found, and their blocks. Answers how many
+/// bits were received and how many octets are left over. With no inner code no block comes.
 ///
-/// `Memory` comes only where there isn't enough of it. `Taker` comes where `blocks` fails; a front of the blocks was then
-/// handed over.
+/// `Memory` comes only where there isn't enough of it. `Taker` comes where `blocks` fails; a front of all was then handed over.
 pub fn inner_all<B: BlockTaker>(
     alloc: Global,
     config: &Config,
     octets: &[u8],
     blocks: &mut B,
 ) -> Result<InnerEnd, AllError>
-    ensures handed { IfOk result (λ end. (all : List WindowBlock) × HandedOver B.took blocks.old all blocks.new
-        × (length octets.now < 2 ^ 60 → AreInnerBlocks config.now 0 octets.now all end.leftover × (end.bits ≡ length (inner_bits config.now octets.now all)))) }
-    ensures front { IsErrOf result AllError.Taker → (tried : List WindowBlock) × HandedPart B.took B.broke blocks.old tried blocks.new
-        × (length octets.now < 2 ^ 60 → AreInnerFirst config.now 0 octets.now tried ⊎ ((left : ℕ) × AreInnerBlocks config.now 0 octets.now tried left)) }
+    ensures handed { IfOk result (λ end. (all : List (Handed WindowBlock)) × HandedOver (on_handed B.took_phase B.took) blocks.old all blocks.new
+        × (length octets.now < 2 ^ 60 → AreHanded config.now octets.now all end.leftover × (end.bits ≡ length (inner_bits config.now octets.now (items_of all))))) }
+    ensures front { IsErrOf result AllError.Taker → (tried : List (Handed WindowBlock)) × HandedPart (on_handed B.took_phase B.took) (on_handed B.broke_phase B.broke) blocks.old tried blocks.new
+        × (length octets.now < 2 ^ 60 → AreHandedFront config.now octets.now tried) }
     ensures left { IfOk result (λ end. end.leftover ≤ 1) }
     ensures unchanged { IsErrOf result AllError.Memory → blocks.new ≡ blocks.old }
     ensures later { B.faults blocks.old ≤ B.faults blocks.new }

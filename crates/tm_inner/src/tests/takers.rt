@@ -1,4 +1,4 @@
-// A taker that keeps what blocks tell.
+// A taker that keeps the phase and what blocks tell.
 ghost use Rattle.std.specs.Prelude.{◌≡◌, ◌-◌, ◌^◌};
 
 use std::alloc::Global;
@@ -16,10 +16,12 @@ pub(super) struct Kept {
     pub(super) end_state: u8,
 }
 
-// It takes the first blocks, and fails from then on.
+// It takes a phase before any block and the first blocks, and fails from then on. With no room it takes no phase either.
 #[derive(Drop)]
 pub(super) struct Collector {
     kept: Vec<Kept>,
+    // Its skip and its cost.
+    phase: Option<(u8, u64)>,
     room: usize,
     faults: u64,
 }
@@ -28,6 +30,7 @@ impl Collector {
     pub(super) fn new(alloc: Global, room: usize) -> Collector {
         Collector {
             kept: Vec::new(alloc),
+            phase: None,
             room,
             faults: 0,
         }
@@ -35,6 +38,10 @@ impl Collector {
 
     pub(super) fn kept(&self) -> &[Kept] {
         self.kept.as_slice()
+    }
+
+    pub(super) fn phase(&self) -> Option<(u8, u64)> {
+        self.phase
     }
 }
 
@@ -67,7 +74,11 @@ impl BlockTaker for Collector {
         Err(Failed)
     }
 
-    fn phase(&mut self, _skip: u8, _cost: u64) -> Result<(), Failed> {
+    fn phase(&mut self, skip: u8, cost: u64) -> Result<(), Failed> {
+        if self.room != 0 && self.phase.is_none() && self.kept.len() == 0 {
+            self.phase = Some((skip, cost));
+            return Ok(());
+        }
         self.faults = self.faults.saturating_add(1);
         Err(Failed)
     }

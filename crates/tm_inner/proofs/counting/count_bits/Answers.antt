@@ -9,5 +9,7 @@ returns-in-None c = λ given blocks left long few are.
 
 pub returns-in-Some : goal.returns-in-Some
 returns-in-Some c = λ given blocks left long few are.
-    bits-coded c.args.config.now c.in-Some.rate c.args.octets c.count_steps.result given blocks left (sym c.rate_of.ensures ∙ c.in-Some.is) long
-    (omega (arith, c.count_steps.ensures.whole, c.saturating_sub.ensures, c.skip.ensures.value), omega (arith, c.count_steps.ensures.most, c.saturating_sub.ensures, c.skip.ensures.value)) are
+    bits-coded c.args.config.now c.in-Some.rate c.args.phase c.args.octets c.count_steps.result given blocks left (sym c.rate_of.ensures ∙ c.in-Some.is) long (
+      omega (arith, c.count_steps.ensures.whole, c.saturating_sub.ensures, c.saturating_sub-in-Some.ensures, c.skip.ensures.value),
+      omega (arith, c.count_steps.ensures.most, c.saturating_sub.ensures, c.saturating_sub-in-Some.ensures, c.skip.ensures.value),
+    ) are

@@ -13,8 +13,8 @@ returns-in-Err-clause-front g c =
     let last = c.in-Err.ensures.front (taker_alone c.in-Err.field-0 (λ is. none (c.in-Err.ensures.stopped.0 is))) in (
       last.0,
       last.1,
-      λ config given done of stood.
-          let decodes = subst (λ (o : Option Decoding). DecodesFor o (soft_octets config 0 given) done) c.in-Some.is stood in
-          let blocks = last.2 (soft_octets config 0 given) done decodes.stands in
-          (blocks.0, blocks-of config d given _ blocks.0 (subst (IsDecoderOf config) c.in-Some.is of) blocks.1),
+      λ config phase given done of stood.
+          let decodes = subst (λ (o : Option Decoding). DecodesFor o (soft_octets config phase given) done) c.in-Some.is stood in
+          let blocks = last.2 (soft_octets config phase given) done decodes.stands in
+          (blocks.0, blocks-of config d phase given _ blocks.0 (subst (IsDecoderOf config) c.in-Some.is of) blocks.1),
     )

@@ -1,9 +1,11 @@
-use Rattle.std.proofs.Common.{◌≡◌, ◌++◌, ◌∷◌, ◌∙◌, inl, inr, sym, true, false, [], subst, arith, length, IsTrue}
-use Rattle.tm_base.proofs.Handing.{HandedOver-append, HandedPart-first, HandedPart-after}
+use Rattle.std.proofs.Common.{◌≡◌, ◌++◌, ◌∙◌, sym, true, false, [], subst, arith, length, IsTrue}
+use Rattle.tm_base.specs.Handed.{items_of}
+use Rattle.tm_base.proofs.Handing.{HandedOver-append, HandedPart-after}
 use Rattle.tm_config.specs.Configuration.{Configuration}
-use Rattle.tm_inner.specs.Inner.{AreInnerBlocks, inner_bits}
-use Rattle.tm_inner.specs.Receiving.{AreInnerFirst}
+use Rattle.tm_inner.specs.Inner.{inner_bits}
+use Rattle.tm_inner.specs.Handing.{AreHanded, AreHandedFirst, AreHandedFront}
 use Rattle.tm_inner.proofs.GivenPieces.{taker_alone}
+use Rattle.tm_inner.proofs.HandedPieces.{front-first}
 use Rattle.tm_inner.proofs.whole.inner_all.Goals as goal
 
 pub returns-in-Ok-finish-clause-handed : goal.returns-in-Ok-finish-clause-handed
@@ -16,7 +18,7 @@ returns-in-Ok-finish-clause-handed g c =
       HandedOver-append _ c.args.blocks.now c.feed.new.blocks c.finish.new.blocks fed.0 last.0 fed.1 last.1,
       λ few.
           let stands = (fed.2 [] [] (omega (arith, few)) c.in-Ok.ensures.stands).0 in
-          subst (λ (v : Configuration). AreInnerBlocks v 0 octets all c.in-Ok-finish.end.leftover × (c.in-Ok-finish.end.bits ≡ length (inner_bits v octets all)))
+          subst (λ (v : Configuration). AreHanded v octets all c.in-Ok-finish.end.leftover × (c.in-Ok-finish.end.bits ≡ length (inner_bits v octets (items_of all))))
           (c.feed.ensures.config ∙ c.in-Ok.ensures.config) (last.2 octets fed.0 stands),
     )
 
@@ -26,12 +28,11 @@ returns-clause-front g c = λ _.
     let none : IsTrue c.feed.new.self.has_stopped → ⊥ = λ stopped. c.in-Ok-feed.ensures.stops.0 stopped in
     let octets = c.args.octets.now in
     let last = c.in-Err.ensures.front (taker_alone c.in-Err.field-0 (λ is. none (c.in-Err.ensures.stopped.0 is))) in (
-      fed.0 ++ last.0 ∷ [],
-      HandedPart-after _ _ c.args.blocks.now c.feed.new.blocks c.finish.new.blocks fed.0 (last.0 ∷ []) fed.1 (HandedPart-first _ _ c.feed.new.blocks c.finish.new.blocks last.0 [] last.1),
+      fed.0 ++ last.0,
+      HandedPart-after _ _ c.args.blocks.now c.feed.new.blocks c.finish.new.blocks fed.0 last.0 fed.1 last.1,
       λ few.
           let stands = (fed.2 [] [] (omega (arith, few)) c.in-Ok.ensures.stands).0 in
-          let blocks = last.2 octets fed.0 stands in
-          inr (blocks.0, subst (λ (v : Configuration). AreInnerBlocks v 0 octets (fed.0 ++ last.0 ∷ []) blocks.0) (c.feed.ensures.config ∙ c.in-Ok.ensures.config) blocks.1),
+          subst (λ (v : Configuration). AreHandedFront v octets (fed.0 ++ last.0)) (c.feed.ensures.config ∙ c.in-Ok.ensures.config) (last.2 octets fed.0 stands),
     )
 
 pub returns-in_default-feed-clause-front : goal.returns-in_default-feed-clause-front
@@ -41,5 +42,6 @@ returns-in_default-feed-clause-front g c = λ _.
     let tried = c.in_default-feed.ensures.front (taker_alone c.in_default-feed.field-0 (λ is. none (c.in_default-feed.ensures.stopped.0 is))) in (
       tried.0,
       tried.1,
-      λ few. inl (subst (λ (v : Configuration). AreInnerFirst v 0 octets tried.0) c.in-Ok.ensures.config (tried.2 [] [] (omega (arith, few)) c.in-Ok.ensures.stands)),
+      λ few. front-first c.args.config.now octets tried.0
+          (subst (λ (v : Configuration). AreHandedFirst v octets tried.0) c.in-Ok.ensures.config (tried.2 [] [] (omega (arith, few)) c.in-Ok.ensures.stands)),
     )

@@ -1,54 +1,79 @@
-use Rattle.std.proofs.Common.{◌++◌, ◌==◌, not, ℕ, List, Bool, refl, sym, ap, subst, arith}
+use Rattle.std.proofs.Common.{◌≡◌, ◌++◌, ◌∙◌, ◌-◌, ℕ, List, length, take, drop, min, refl, sym, ap, subst, arith}
 use Rattle.std.proofs.lemmas.List.{take_rest}
-use Rattle.tm_inner.specs.Inner.{AreInnerDue}
-use Rattle.tm_inner.specs.Receiving.{InnerReceiving, StandsFor, AreInnerFirst, HasStopped, DecodesFor, FindsFirst, Hands, HandsFront, from_form}
-use Rattle.tm_inner.proofs.GivenPieces.{stands-further, front-further}
+use Rattle.tm_base.specs.Handed.{on_handed}
+use Rattle.tm_config.specs.Configuration.{Configuration}
+use Rattle.tm_inner.specs.Symbols.{rate_of}
+use Rattle.tm_inner.specs.Phase.{IsChosenSoFar, skipped_at}
+use Rattle.tm_inner.specs.Handing.{AreHandedDue, AreHandedFirst}
+use Rattle.tm_inner.specs.Receiving.{InnerReceiving, StandsFor, Hands, HandsFront, PhasesFor, IsFirstBy, soft_form}
+use Rattle.tm_inner.proofs.HandedPieces.{chosen-further, stands-further, front-further}
 use Rattle.tm_inner.proofs.receiver.InnerReceiver.feed.Goals as goal
 
-pub invariant_of-self : goal.invariant_of-self
-invariant_of-self g c = (
-  c.in-Ok.ensures.of c.self.inside.config c.self.invariant.0,
-  subst (λ (b : Bool). HasStopped b c.decode.new.decoder) (sym c.if-self.false) c.in-Ok.ensures.fresh,
-)
+-- how many octets a receiver of this view skips
+skips : (before view : InnerReceiving) (to_skip skipped n : ℕ) → before ≡ view → to_skip ≡ skipped_at (rate_of view.config.inner) view.config - view.count → skipped ≡ min to_skip n
+    → skipped ≡ min (skipped_at (rate_of before.config.inner) before.config - before.count) n
+skips before view to_skip skipped n same all is =
+    is ∙ ap (λ (k : ℕ). min k n) (subst (λ (r : InnerReceiving). to_skip ≡ skipped_at (rate_of r.config.inner) r.config - r.count) (sym same) all)
 
-pub invariant_of-self-in-Err : goal.invariant_of-self-in-Err
-invariant_of-self-in-Err g c = (c.in-Err.ensures.of c.self.inside.config c.self.invariant.0, c.in-Err.ensures.stopped)
+pub returns-in-Ok-clause-chosen : goal.returns-in-Ok-clause-chosen
+returns-in-Ok-clause-chosen g c = λ given done stood _.
+    let s = c.self.inside in
+    let octets = c.args.octets.now in
+    let n = c.min-skipped.result in
+    let before : InnerReceiving = record { config = s.config; phased = s.phased; count = s.count; has_stopped = s.has_stopped } in
+    let skip = skips before c.args.self.now c.octets_to_skip.result n (length octets) c.self.view_is c.octets_to_skip.ensures c.min-skipped.ensures in
+    subst (λ (r : InnerReceiving). StandsFor r given done → IsChosenSoFar r.config (given ++ octets) c.feed.new.self.chosen) c.self.view_is
+    (chosen-further before c.feed.new.self.chosen octets (take (length octets - n) (drop n octets)) n c.self.invariant.0 (take_rest octets n) skip c.feed.ensures.chosen given done) stood
 
 pub returns-in-Ok-clause-handed : goal.returns-in-Ok-clause-handed
 returns-in-Ok-clause-handed g c =
     let s = c.self.inside in
+    let t = g.B.BlockTaker in
     let octets = c.args.octets.now in
-    let before : InnerReceiving = record { config = s.config; decoder = s.decoder; count = s.count; has_stopped = s.has_stopped } in
-    let now : InnerReceiving = record { config = s.config; decoder = c.decode.new.decoder; count = c.saturating_add-self-inside.result; has_stopped = s.has_stopped } in
-    let is_signed = not (c.soft-is_signed.result == 0) in
-    let p = subst (λ (l : List ℕ). Hands g.B.BlockTaker.took DecodesFor s.decoder c.decode.new.decoder c.args.blocks.now c.decode.new.blocks (from_form is_signed l))
-    (take_rest octets c.min-skipped.result) c.in-Ok.ensures.handed in (
+    let n = c.min-skipped.result in
+    let start = c.args.blocks.now in
+    let last = c.feed.new.blocks in
+    let before : InnerReceiving = record { config = s.config; phased = s.phased; count = s.count; has_stopped = s.has_stopped } in
+    let now : InnerReceiving = record { config = s.config; phased = c.feed.new.self; count = c.saturating_add-self-inside.result; has_stopped = s.has_stopped } in
+    let skip = skips before c.args.self.now c.octets_to_skip.result n (length octets) c.self.view_is c.octets_to_skip.ensures c.min-skipped.ensures in
+    let p = subst (λ (l : List ℕ). Hands (on_handed t.took_phase t.took) PhasesFor s.phased c.feed.new.self start last (soft_form s.config l)) (take_rest octets n)
+    (subst (λ (k : Configuration). Hands (on_handed t.took_phase t.took) PhasesFor s.phased c.feed.new.self start last (soft_form k (take (length octets - n) (drop n octets)))) c.self.invariant.0 c.in-Ok.ensures.handed) in (
       p.more,
       p.handed,
       λ given done few stood.
-          let further = stands-further g.B.BlockTaker.took before now c.args.blocks.now c.decode.new.blocks octets c.min-skipped.result is_signed refl
-          (c.in-Ok.ensures.of s.config c.self.invariant.0) (omega (arith, c.min-skipped.ensures, c.saturating_sub-left.ensures, c.skip.ensures.value))
-          (ap (λ (n : ℕ). not (n == 0)) c.soft-is_signed.ensures.value) (omega (arith, c.saturating_add-self-inside.ensures)) p given done few
-          (subst (λ (r : InnerReceiving). StandsFor r given done) (sym c.self.view_is) stood) in (
+          let further = stands-further (on_handed t.took_phase t.took) before now start last octets n c.self.invariant.0 refl c.feed.ensures.config c.feed.ensures.of
+          skip (omega (arith, c.saturating_add-self-inside.ensures)) p given done few (subst (λ (r : InnerReceiving). StandsFor r given done) (sym c.self.view_is) stood) in (
             further.0,
-            subst (λ (r : InnerReceiving). AreInnerDue r.config 0 (given ++ octets) (done ++ p.more)) c.self.view_is further.1,
+            subst (λ (r : InnerReceiving). AreHandedDue r.config (given ++ octets) (done ++ p.more)) c.self.view_is further.1,
           ),
     )
+
+pub returns-in-Err-clause-chosen : goal.returns-in-Err-clause-chosen
+returns-in-Err-clause-chosen g c = λ given done stood _.
+    let s = c.self.inside in
+    let octets = c.args.octets.now in
+    let n = c.min-skipped.result in
+    let before : InnerReceiving = record { config = s.config; phased = s.phased; count = s.count; has_stopped = s.has_stopped } in
+    let skip = skips before c.args.self.now c.octets_to_skip.result n (length octets) c.self.view_is c.octets_to_skip.ensures c.min-skipped.ensures in
+    subst (λ (r : InnerReceiving). StandsFor r given done → IsChosenSoFar r.config (given ++ octets) c.feed.new.self.chosen) c.self.view_is
+    (chosen-further before c.feed.new.self.chosen octets (take (length octets - n) (drop n octets)) n c.self.invariant.0 (take_rest octets n) skip c.feed.ensures.chosen given done) stood
 
 pub returns-in-Err-clause-front : goal.returns-in-Err-clause-front
 returns-in-Err-clause-front g c = λ _.
     let s = c.self.inside in
+    let t = g.B.BlockTaker in
     let octets = c.args.octets.now in
-    let before : InnerReceiving = record { config = s.config; decoder = s.decoder; count = s.count; has_stopped = s.has_stopped } in
-    let is_signed = not (c.soft-is_signed.result == 0) in
-    let p = subst (λ (l : List ℕ). HandsFront g.B.BlockTaker.took g.B.BlockTaker.broke DecodesFor (FindsFirst s.decoder) s.decoder c.args.blocks.now c.decode.new.blocks (from_form is_signed l))
-    (take_rest octets c.min-skipped.result) c.in-Err.ensures.front in (
+    let n = c.min-skipped.result in
+    let start = c.args.blocks.now in
+    let last = c.feed.new.blocks in
+    let before : InnerReceiving = record { config = s.config; phased = s.phased; count = s.count; has_stopped = s.has_stopped } in
+    let skip = skips before c.args.self.now c.octets_to_skip.result n (length octets) c.self.view_is c.octets_to_skip.ensures c.min-skipped.ensures in
+    let p = subst (λ (l : List ℕ). HandsFront (on_handed t.took_phase t.took) (on_handed t.broke_phase t.broke) PhasesFor (IsFirstBy s.config) s.phased start last (soft_form s.config l)) (take_rest octets n)
+    (subst (λ (k : Configuration). HandsFront (on_handed t.took_phase t.took) (on_handed t.broke_phase t.broke) PhasesFor (IsFirstBy k) s.phased start last (soft_form k (take (length octets - n) (drop n octets)))) c.self.invariant.0 c.in-Err.ensures.front) in (
       p.tried,
       p.handed,
       λ given done few stood.
-          let first = front-further g.B.BlockTaker.took g.B.BlockTaker.broke before c.args.blocks.now c.decode.new.blocks octets c.min-skipped.result is_signed
-          c.self.invariant.0 (omega (arith, c.min-skipped.ensures, c.saturating_sub-left.ensures, c.skip.ensures.value))
-          (ap (λ (n : ℕ). not (n == 0)) c.soft-is_signed.ensures.value) p given done few
-          (subst (λ (r : InnerReceiving). StandsFor r given done) (sym c.self.view_is) stood) in
-          subst (λ (r : InnerReceiving). AreInnerFirst r.config 0 (given ++ octets) (done ++ p.tried)) c.self.view_is first,
+          subst (λ (r : InnerReceiving). AreHandedFirst r.config (given ++ octets) (done ++ p.tried)) c.self.view_is
+          (front-further (on_handed t.took_phase t.took) (on_handed t.broke_phase t.broke) before start last octets n skip p given done few
+          (subst (λ (r : InnerReceiving). StandsFor r given done) (sym c.self.view_is) stood)),
     )

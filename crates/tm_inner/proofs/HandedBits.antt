@@ -1,0 +1,144 @@
+-- What is handed over behind the choice of the phase comes to few bits.
+use Rattle.std.proofs.Common.{ℕ, zero, suc, ◌≡◌, ◌+◌, ◌-◌, ◌*◌, ◌≤◌, ◌<◌, ◌∙◌, refl, List, [], ◌++◌, length, drop, ap, sym, subst, arith, inl, inr, Option, Some, None, length-append, length-drop, min, ◌/◌, ◌%◌}
+use Rattle.std.proofs.lemmas.List.{length-map}
+use Rattle.std.proofs.lemmas.Bool.{cases_lt}
+use Rattle.tm_base.specs.Handed.{Handed, items_of}
+use Rattle.tm_base.proofs.HandedItems.{items_of-append}
+use Rattle.tm_config.specs.Configuration.{Configuration}
+use Rattle.tm_conv.specs.declared.rates.Rate.{Rate}
+use Rattle.tm_conv.specs.declared.rates.Rate.TheVariants.{R12, R23, R34, R56, R78}
+use Rattle.tm_conv.specs.Path.{steps_size}
+use Rattle.tm_conv.proofs.Sizes.{steps_size-is, steps_size_ge}
+use Rattle.tm_viterbi.specs.WindowBlock.{WindowBlock}
+use Rattle.tm_viterbi.specs.Clean.{kept_bits}
+use Rattle.tm_viterbi.specs.Due.{first_place}
+use Rattle.tm_viterbi.specs.Starts.{first_start}
+use Rattle.tm_phase.specs.declared.choosing.Chosen.{Chosen}
+use Rattle.tm_phase.specs.Phase.{period_size}
+use Rattle.tm_inner.specs.Symbols.{rate_of}
+use Rattle.tm_inner.specs.Inner.{settings_of, soft_value, soft_octets, BlocksAt, AreInnerBlocks}
+use Rattle.tm_inner.specs.Phase.{IsChosenBy, IsSettled, needed_at, skipped_at, phase_octets, skip_of, in_turn}
+use Rattle.tm_inner.specs.Receiving.{FirstAt, AreInnerFirst}
+use Rattle.tm_inner.specs.Handing.{AreHanded, AreHandedDue}
+use Rattle.tm_inner.proofs.ReceivedBits.{kept-count, length-soft}
+use Rattle.tm_inner.proofs.PhasePieces.{items_of-in_turn}
+use Rattle.tm_inner.proofs.InTurn.{settled-stays}
+use Rattle.tm_inner.proofs.HandedPieces.{needed-some}
+use Rattle.tm_inner.proofs.FewBits.{closed-few, due-none, first-of-due, more-few, last-few}
+
+-- ---- the phase needs few octets
+
+steps-few : (rate : Rate) (n : ℕ) → steps_size rate 0 n ≤ 2 * n
+steps-few R12 n = let a : steps_size R12 0 n ≡ n + (n / 1 + min 1 (n % 1)) = steps_size-is R12 n in omega (arith, a)
+steps-few R23 n = let a : steps_size R23 0 n ≡ n + (n / 2 + min 1 (n % 2)) = steps_size-is R23 n in omega (arith, a)
+steps-few R34 n = let a : steps_size R34 0 n ≡ n + (n / 3 + min 1 (n % 3)) = steps_size-is R34 n in omega (arith, a)
+steps-few R56 n = let a : steps_size R56 0 n ≡ n + (n / 5 + min 1 (n % 5)) = steps_size-is R56 n in omega (arith, a)
+steps-few R78 n = let a : steps_size R78 0 n ≡ n + (n / 7 + min 1 (n % 7)) = steps_size-is R78 n in omega (arith, a)
+
+period-few : (rate : Rate) → period_size rate ≤ 8
+unfolding steps_size
+period-few R12 = let size : period_size R12 ≡ 2 = refl in omega (arith, size)
+period-few R23 = let size : period_size R23 ≡ 3 = refl in omega (arith, size)
+period-few R34 = let size : period_size R34 ≡ 4 = refl in omega (arith, size)
+period-few R56 = let size : period_size R56 ≡ 6 = refl in omega (arith, size)
+period-few R78 = let size : period_size R78 ≡ 8 = refl in omega (arith, size)
+
+pub needed-few : (rate : Option Rate) (c : Configuration) → needed_at rate c ≤ 2 * (c.keep + c.ahead) + 7
+needed-few None c = omega arith
+needed-few (Some rate) c = omega (arith, steps-few rate (c.keep + c.ahead), period-few rate)
+
+-- ---- the blocks of octets with the phase found
+
+-- before the choice there are few octets
+unsettled-few : (c : Configuration) (given : List ℕ) → (IsSettled c given → ⊥) → length (phase_octets c given) < needed_at (rate_of c.inner) c
+unsettled-few c given unsettled = elim (cases_lt (length (phase_octets c given)) (needed_at (rate_of c.inner) c)) as (λ _. length (phase_octets c given) < needed_at (rate_of c.inner) c) [
+  | inl less ↦ less
+  | inr many ↦ absurd (unsettled (inr many))
+]
+
+length-phase : (c : Configuration) (octets : List ℕ) → length (phase_octets c octets) ≡ length octets - skipped_at (rate_of c.inner) c
+length-phase c octets =
+    length-map (drop (skipped_at (rate_of c.inner) c) octets) (soft_value c) ∙ length-drop (skipped_at (rate_of c.inner) c) octets
+
+-- what the first blocks of octets keep is no more than the soft octets that are decoded
+first-bits : (rate : Option Rate) (c : Configuration) (phase : ℕ) (octets : List ℕ) (blocks : List WindowBlock) → FirstAt rate c phase octets blocks
+    → length (kept_bits blocks) ≤ length octets - skipped_at rate c
+first-bits None c phase octets blocks are = omega (arith, ap (λ (l : List WindowBlock). length (kept_bits l)) are)
+first-bits (Some rate) c phase octets blocks are =
+    let s = settings_of c rate in
+    let few = closed-few rate s.invert s.keep s.ahead (first_place s (soft_octets c phase octets)) are.0 blocks are.1 in
+    omega (arith, few, length-soft c phase octets)
+
+whole-bits : (rate : Option Rate) (c : Configuration) (phase : ℕ) (octets : List ℕ) (blocks : List WindowBlock) (left : ℕ) → BlocksAt rate c phase octets blocks left
+    → length (kept_bits blocks) ≤ length octets - skipped_at rate c
+whole-bits None c phase octets blocks left are = omega (arith, ap (λ (l : List WindowBlock). length (kept_bits l)) are.0)
+whole-bits (Some rate) c phase octets blocks left are =
+    let s = settings_of c rate in
+    let kept = kept-count rate s.invert s.keep s.ahead (first_start s.start) 0 are.count (soft_octets c phase octets) blocks are.steps.whole are.are in
+    omega (arith, kept, are.steps.whole, steps_size_ge rate 0 are.count, length-soft c phase octets)
+
+-- two lists of which one goes on from the other begin with the same phase, and so their items go on
+record GoOn (chosen other : Option Chosen) (items more all : List WindowBlock) : Type 0 where
+  skip : skip_of chosen ≡ skip_of other
+  are : all ≡ items ++ more
+
+same-skip : (c : Configuration) (soft soft_now : List ℕ) (chosen other : Option Chosen) (items all : List WindowBlock) (more : List (Handed WindowBlock))
+    → IsChosenBy c soft chosen → IsChosenBy c soft_now other → in_turn chosen items ++ more ≡ in_turn other all → skip_of chosen ≡ skip_of other
+same-skip c soft soft_now None None items all more is now same = refl
+same-skip c soft soft_now None (Some b) items all more is now same = absurd (now.0 is)
+same-skip c soft soft_now (Some a) None items all more is now same = absurd (is.0 now)
+same-skip c soft soft_now (Some a) (Some b) items all more is now same = cc
+
+go-on : (c : Configuration) (soft soft_now : List ℕ) (chosen other : Option Chosen) (items all : List WindowBlock) (done more : List (Handed WindowBlock))
+    → IsChosenBy c soft chosen → IsChosenBy c soft_now other → done ≡ in_turn chosen items → done ++ more ≡ in_turn other all → GoOn chosen other items (items_of more) all
+go-on c soft soft_now chosen other items all done more is now are whole =
+    let same : in_turn chosen items ++ more ≡ in_turn other all = ap (λ l. l ++ more) (sym are) ∙ whole in record {
+      skip = same-skip c soft soft_now chosen other items all more is now same;
+      are = sym (items_of-in_turn other all) ∙ ap items_of (sym same) ∙ items_of-append (in_turn chosen items) more ∙ ap (λ l. l ++ items_of more) (items_of-in_turn chosen items);
+    }
+
+-- the blocks of octets, behind those that are due
+pub handed-more-few : (c : Configuration) (given octets : List ℕ) (done more : List (Handed WindowBlock)) → AreHandedDue c given done → AreHandedDue c (given ++ octets) (done ++ more)
+    → length (kept_bits (items_of more)) ≤ needed_at (rate_of c.inner) c + c.keep + c.ahead + length octets
+handed-more-few c given octets done more (inl before) (inl now) = omega (arith, ap (λ l. length (kept_bits (items_of l))) (ap (λ l. l ++ more) (sym before.1) ∙ now.1))
+handed-more-few c given octets done more (inr before) (inl now) = absurd (now.0 (settled-stays c given octets before.0))
+handed-more-few c given octets done more (inl before) (inr now) =
+    let h = now.1 in
+    let items : items_of more ≡ h.items = ap (λ l. items_of (l ++ more)) (sym before.1) ∙ ap items_of h.are ∙ items_of-in_turn h.chosen h.items in
+    let first = first-bits (rate_of c.inner) c (skip_of h.chosen) (given ++ octets) h.items (first-of-due c (skip_of h.chosen) (given ++ octets) h.items h.are_items) in
+    omega (arith, ap (λ l. length (kept_bits l)) items, first, length-append given octets, length-phase c given, unsettled-few c given before.0)
+handed-more-few c given octets done more (inr before) (inr now) =
+    let g = before.1 in
+    let h = now.1 in
+    let on = go-on c (phase_octets c given) (phase_octets c (given ++ octets)) g.chosen h.chosen g.items h.items done more g.choice h.choice g.are h.are in
+    let all : AreInnerFirst c (skip_of g.chosen) (given ++ octets) (g.items ++ items_of more) =
+    subst (λ (n : ℕ). AreInnerFirst c n (given ++ octets) (g.items ++ items_of more)) (sym on.skip)
+    (subst (AreInnerFirst c (skip_of h.chosen) (given ++ octets)) on.are (first-of-due c (skip_of h.chosen) (given ++ octets) h.items h.are_items)) in
+    omega (arith, more-few c (skip_of g.chosen) given octets g.items (items_of more) g.are_items all)
+
+-- the blocks of the end
+pub handed-last-few : (c : Configuration) (given : List ℕ) (done last : List (Handed WindowBlock)) (left : ℕ) → AreHandedDue c given done → AreHanded c given (done ++ last) left
+    → length (kept_bits (items_of last)) ≤ needed_at (rate_of c.inner) c + c.keep + c.ahead
+handed-last-few c given done last left (inl before) h =
+    let items : items_of last ≡ h.items = ap (λ l. items_of (l ++ last)) (sym before.1) ∙ ap items_of h.are ∙ items_of-in_turn h.chosen h.items in
+    let whole = whole-bits (rate_of c.inner) c (skip_of h.chosen) given h.items left h.are_items in
+    omega (arith, ap (λ l. length (kept_bits l)) items, whole, length-phase c given, unsettled-few c given before.0)
+handed-last-few c given done last left (inr before) h =
+    let g = before.1 in
+    let on = go-on c (phase_octets c given) (phase_octets c given) g.chosen h.chosen g.items h.items done last g.choice h.choice g.are h.are in
+    let all : AreInnerBlocks c (skip_of g.chosen) given (g.items ++ items_of last) left =
+    subst (λ (n : ℕ). AreInnerBlocks c n given (g.items ++ items_of last) left) (sym on.skip)
+    (subst (λ (l : List WindowBlock). AreInnerBlocks c (skip_of h.chosen) given l left) on.are h.are_items) in
+    omega (arith, last-few c (skip_of g.chosen) given g.items (items_of last) left g.are_items all)
+
+-- no octets have nothing that is due
+pub handed-due-none : (c : Configuration) → 1 ≤ c.keep → AreHandedDue c [] []
+handed-due-none c some = by_phase c.phase refl
+  where
+    by_phase : (n : ℕ) → n ≡ c.phase → AreHandedDue c [] []
+    by_phase zero is = inr (inl (sym is), record { chosen = None; choice = sym is; items = []; are_items = due-none c; are = refl })
+    by_phase (suc n) is = inl (unsettled, refl)
+      where
+        unsettled : IsSettled c [] → ⊥
+        unsettled (inl given) = omega (arith, given, is)
+        unsettled (inr many) = omega (arith, many, length-phase c [], needed-some (rate_of c.inner) c some)

@@ -1,0 +1,199 @@
+-- What is handed over for received octets.
+use Rattle.std.proofs.Common.{◌≡◌, ◌⊎◌, inl, inr, ℕ, ◌+◌, ◌-◌, ◌<◌, ◌≤◌, ◌^◌, min, length-append, length-drop, List, [], ◌∷◌, ◌++◌, length, map, drop, refl, sym, ap, ◌∙◌, subst, arith, Option, Some, None}
+use Rattle.std.proofs.lemmas.List.{length-map}
+use Rattle.tm_base.specs.Handed.{Handed, Item, items_of}
+use Rattle.tm_config.specs.Configuration.{Configuration}
+use Rattle.tm_conv.specs.declared.rates.Rate.{Rate}
+use Rattle.tm_conv.proofs.Sizes.{steps_size_ge}
+use Rattle.tm_viterbi.specs.WindowBlock.{WindowBlock}
+use Rattle.tm_viterbi.specs.Decoding.{Decoding}
+use Rattle.tm_viterbi.specs.Due.{AreFirst}
+use Rattle.tm_phase.specs.declared.choosing.Chosen.{Chosen}
+use Rattle.tm_inner.specs.Symbols.{rate_of}
+use Rattle.tm_inner.specs.Inner.{settings_of, soft_value, soft_octets, AreInnerBlocks, inner_bits}
+use Rattle.tm_inner.specs.Phase.{IsChosen, IsChosenSoFar, IsChosenBy, IsChosenSoFar, IsSettledBy, IsSoFarBy, needed_at, skipped_at, phase_octets, skip_of, in_turn}
+use Rattle.tm_inner.specs.Receiving.{IsDecoderOf, DecodesFor, FirstFor, FirstAt, Hands, HandsFront, InnerReceiving, StandsFor, Phasing, Goes, PhasesFor, IsFrontBy, IsFirstBy, soft_form}
+use Rattle.tm_inner.specs.Handing.{AreHanded, AreHandedDue, AreHandedFirst, AreHandedFront}
+use Rattle.tm_inner.proofs.GivenPieces.{due-of, decodes-behind, few-soft, phase_octets-more, soft-behind}
+use Rattle.tm_inner.proofs.PhasePieces.{further, items_of-in_turn, so-far}
+
+-- the phase needs an octet or more
+pub needed-some : (rate : Option Rate) (c : Configuration) → 1 ≤ c.keep → 1 ≤ needed_at rate c
+needed-some None c some = omega arith
+needed-some (Some rate) c some = omega (arith, steps_size_ge rate 0 (c.keep + c.ahead))
+
+-- before any octets
+pub phases-none : (p : Phasing) → p.chosen ≡ None → p.held ≡ [] → DecodesFor p.decoder [] [] → 1 ≤ p.config.keep → (p.config.phase ≡ 0) ⊎ (p.config.phase ≡ 0 → ⊥) → PhasesFor p [] []
+phases-none p none held fresh some (inl given) = inr (
+  record {
+    choice = subst (IsChosenBy p.config []) (sym none) given;
+    blocks = [];
+    decodes = subst (λ (o : Option Chosen). DecodesFor p.decoder (drop (skip_of o) []) []) (sym none) fresh;
+    are = ap (λ (o : Option Chosen). in_turn o []) (sym none);
+  },
+  inl given,
+)
+phases-none p none held fresh some (inr find) = inl (
+  record { find = find; none = none; held = held; fresh = fresh; nothing = refl },
+  unsettled,
+)
+  where
+    unsettled : IsSettledBy p.config [] → ⊥
+    unsettled (inl given) = find given
+    unsettled (inr many) = omega (arith, many, needed-some (rate_of p.config.inner) p.config some)
+
+pub phases-so-far : (p : Phasing) (soft : List ℕ) (done : List (Handed WindowBlock)) → PhasesFor p soft done → IsSoFarBy p.config soft p.chosen
+phases-so-far p soft done (inl w) = subst (IsSoFarBy p.config soft) (sym w.0.none) (λ settled. absurd (w.1 settled))
+phases-so-far p soft done (inr g) = so-far p.config soft p.chosen g.1 g.0.choice
+
+pub stands-so-far : (r : InnerReceiving) (given : List ℕ) (done : List (Handed WindowBlock)) → StandsFor r given done → IsChosenSoFar r.config given r.phased.chosen
+stands-so-far r given done stood =
+    subst (λ (k : Configuration). IsSoFarBy k (phase_octets r.config given) r.phased.chosen) stood.same (phases-so-far r.phased (phase_octets r.config given) done stood.phases)
+
+-- first blocks behind the phase are those of received octets
+first-behind : (rate : Option Rate) (c : Configuration) (phase : ℕ) (given : List ℕ) (blocks : List WindowBlock)
+    → FirstFor rate c (drop phase (map (soft_value c) (drop (skipped_at rate c) given))) blocks → FirstAt rate c phase given blocks
+first-behind None c phase given blocks is = is
+first-behind (Some rate) c phase given blocks is = subst (λ (l : List ℕ). AreFirst (settings_of c rate) l blocks) (soft-behind c phase c.skip given refl) is
+
+pub handed-front : (c : Configuration) (given : List ℕ) (handed : List (Handed WindowBlock)) → IsFrontBy c (phase_octets c given) handed → AreHandedFront c given handed
+handed-front c given handed h = record {
+  chosen = h.chosen;
+  choice = h.choice;
+  items = h.blocks;
+  are_items = inl (first-behind (rate_of c.inner) c (skip_of h.chosen) given h.blocks h.first);
+  are = h.are;
+}
+
+pub handed-first : (c : Configuration) (given : List ℕ) (handed : List (Handed WindowBlock)) → IsFirstBy c (phase_octets c given) handed → AreHandedFirst c given handed
+handed-first c given handed h = (
+  h.0,
+  record {
+    chosen = h.1.chosen;
+    choice = h.1.choice;
+    items = h.1.blocks;
+    are_items = first-behind (rate_of c.inner) c (skip_of h.1.chosen) given h.1.blocks h.1.first;
+    are = h.1.are;
+  },
+)
+
+pub front-first : (c : Configuration) (given : List ℕ) (handed : List (Handed WindowBlock)) → AreHandedFirst c given handed → AreHandedFront c given handed
+front-first c given handed h = record { chosen = h.1.chosen; choice = h.1.choice; items = h.1.items; are_items = inl h.1.are_items; are = h.1.are }
+
+pub handed-due : (p : Phasing) (given : List ℕ) (done : List (Handed WindowBlock)) → IsDecoderOf p.config p.decoder → PhasesFor p (phase_octets p.config given) done → AreHandedDue p.config given done
+handed-due p given done of (inl w) = inl (w.1, w.0.nothing)
+handed-due p given done of (inr g) = inr (
+  g.1,
+  record {
+    chosen = p.chosen;
+    choice = g.0.choice;
+    items = g.0.blocks;
+    are_items = due-of p.config p.decoder (skip_of p.chosen) given g.0.blocks of (decodes-behind p.config p.decoder (skip_of p.chosen) given g.0.blocks of g.0.decodes);
+    are = g.0.are;
+  },
+)
+
+-- the last blocks, by which all is handed over
+abbrev pub AreLast : Option Decoding → List WindowBlock → ℕ → Type 0
+AreLast decoder last left = (c : Configuration) (phase : ℕ) (given : List ℕ) (done : List WindowBlock) → IsDecoderOf c decoder
+    → DecodesFor decoder (soft_octets c phase given) done → AreInnerBlocks c phase given (done ++ last) left
+
+pub handed-last : (p : Phasing) (given : List ℕ) (done : List (Handed WindowBlock)) (last : List WindowBlock) (left : ℕ) → IsDecoderOf p.config p.decoder → AreLast p.decoder last left
+    → Goes p (phase_octets p.config given) done → (all : AreHanded p.config given (done ++ map Item last) left) × (all.chosen ≡ p.chosen)
+handed-last p given done last left of are g = (
+  record {
+    chosen = p.chosen;
+    choice = g.choice;
+    items = g.blocks ++ last;
+    are_items = are p.config (skip_of p.chosen) given g.blocks of (decodes-behind p.config p.decoder (skip_of p.chosen) given g.blocks of g.decodes);
+    are = further p.chosen done g.blocks last g.are;
+  },
+  refl,
+)
+
+-- the taker fails at the last block
+pub handed-last_front : (p : Phasing) (given : List ℕ) (done : List (Handed WindowBlock)) (last : WindowBlock) → IsDecoderOf p.config p.decoder
+    → ((c : Configuration) (phase : ℕ) (given : List ℕ) (done : List WindowBlock) → IsDecoderOf c p.decoder
+    → DecodesFor p.decoder (soft_octets c phase given) done → (left : ℕ) × AreInnerBlocks c phase given (done ++ last ∷ []) left)
+    → Goes p (phase_octets p.config given) done → AreHandedFront p.config given (done ++ Item last ∷ [])
+handed-last_front p given done last of are g = record {
+  chosen = p.chosen;
+  choice = g.choice;
+  items = g.blocks ++ last ∷ [];
+  are_items = inr (are p.config (skip_of p.chosen) given g.blocks of (decodes-behind p.config p.decoder (skip_of p.chosen) given g.blocks of g.decodes));
+  are = further p.chosen done g.blocks (last ∷ []) g.are;
+}
+
+-- ---- an inner receiver that is given more
+
+pub stands-further : {T : Type 0} (took : T → Handed WindowBlock → T → Type 0) (before now : InnerReceiving) (taker taker_now : T) (octets : List ℕ) (skipped : ℕ)
+    → before.phased.config ≡ before.config → now.config ≡ before.config → now.phased.config ≡ before.phased.config → IsDecoderOf now.phased.config now.phased.decoder
+    → skipped ≡ min (skipped_at (rate_of before.config.inner) before.config - before.count) (length octets) → now.count ≡ min (before.count + length octets) (2 ^ 64 - 1)
+    → (h : Hands took PhasesFor before.phased now.phased taker taker_now (soft_form before.config (drop skipped octets)))
+    → (given : List ℕ) (done : List (Handed WindowBlock)) → length given + length octets < 2 ^ 60 → StandsFor before given done
+    → StandsFor now (given ++ octets) (done ++ h.more) × AreHandedDue before.config (given ++ octets) (done ++ h.more)
+stands-further took before now taker taker_now octets skipped inside config phased of skip counted h given done few stood =
+    let c = before.config in
+    let all = phase_octets-more c given octets skipped (skip ∙ ap (λ (n : ℕ). min (skipped_at (rate_of c.inner) c - n) (length octets)) (sym stood.count)) in
+    let size : length (soft_form c (drop skipped octets)) ≤ length octets = omega (arith, length-map (drop skipped octets) (soft_value c), length-drop skipped octets) in
+    let phases : PhasesFor now.phased (phase_octets c (given ++ octets)) (done ++ h.more) = subst (λ (l : List ℕ). PhasesFor now.phased l (done ++ h.more)) (sym all)
+    (h.stands (phase_octets c given) done (omega (arith, few, few-soft c given, size)) stood.phases) in
+    let same : now.phased.config ≡ c = phased ∙ inside in (
+      record {
+        count = omega (arith, stood.count, few, counted, length-append given octets);
+        few = omega (arith, few, length-append given octets);
+        same = phased ∙ inside ∙ sym config;
+        phases = subst (λ (k : Configuration). PhasesFor now.phased (phase_octets k (given ++ octets)) (done ++ h.more)) (sym config) phases;
+      },
+      subst (λ (k : Configuration). AreHandedDue k (given ++ octets) (done ++ h.more)) same
+          (handed-due now.phased (given ++ octets) (done ++ h.more) of (subst (λ (k : Configuration). PhasesFor now.phased (phase_octets k (given ++ octets)) (done ++ h.more)) (sym same) phases)),
+    )
+
+pub front-further : {T : Type 0} (took broke : T → Handed WindowBlock → T → Type 0) (before : InnerReceiving) (taker taker_now : T) (octets : List ℕ) (skipped : ℕ)
+    → skipped ≡ min (skipped_at (rate_of before.config.inner) before.config - before.count) (length octets)
+    → (h : HandsFront took broke PhasesFor (IsFirstBy before.config) before.phased taker taker_now (soft_form before.config (drop skipped octets)))
+    → (given : List ℕ) (done : List (Handed WindowBlock)) → length given + length octets < 2 ^ 60 → StandsFor before given done
+    → AreHandedFirst before.config (given ++ octets) (done ++ h.tried)
+front-further took broke before taker taker_now octets skipped skip h given done few stood =
+    let c = before.config in
+    let all = phase_octets-more c given octets skipped (skip ∙ ap (λ (n : ℕ). min (skipped_at (rate_of c.inner) c - n) (length octets)) (sym stood.count)) in
+    let size : length (soft_form c (drop skipped octets)) ≤ length octets = omega (arith, length-map (drop skipped octets) (soft_value c), length-drop skipped octets) in
+    handed-first c (given ++ octets) (done ++ h.tried) (subst (λ (l : List ℕ). IsFirstBy c l (done ++ h.tried)) (sym all)
+    (h.first (phase_octets c given) done (omega (arith, few, few-soft c given, size)) stood.phases))
+
+pub chosen-further : (before : InnerReceiving) (chosen : Option Chosen) (octets piece : List ℕ) (skipped : ℕ) → before.phased.config ≡ before.config → piece ≡ drop skipped octets
+    → skipped ≡ min (skipped_at (rate_of before.config.inner) before.config - before.count) (length octets)
+    → ((soft : List ℕ) (done : List (Handed WindowBlock)) → PhasesFor before.phased soft done → IsSoFarBy before.phased.config (soft ++ soft_form before.phased.config piece) chosen)
+    → (given : List ℕ) (done : List (Handed WindowBlock)) → StandsFor before given done → IsChosenSoFar before.config (given ++ octets) chosen
+chosen-further before chosen octets piece skipped inside is skip so_far given done stood =
+    let c = before.config in
+    let all = phase_octets-more c given octets skipped (skip ∙ ap (λ (n : ℕ). min (skipped_at (rate_of c.inner) c - n) (length octets)) (sym stood.count)) in
+    let there = subst (λ (k : Configuration). IsSoFarBy k (phase_octets c given ++ soft_form k piece) chosen) inside (so_far (phase_octets c given) done stood.phases) in
+    subst (λ (l : List ℕ). IsSoFarBy c l chosen) (ap (λ (l : List ℕ). phase_octets c given ++ soft_form c l) is ∙ sym all) there
+
+-- ---- the end
+
+pub chosen-last : (r : InnerReceiving) (chosen : Option Chosen) → r.phased.config ≡ r.config
+    → ((soft : List ℕ) (done : List (Handed WindowBlock)) → PhasesFor r.phased soft done → IsChosenBy r.phased.config soft chosen)
+    → (given : List ℕ) (done : List (Handed WindowBlock)) → StandsFor r given done → IsChosen r.config given chosen
+chosen-last r chosen inside is given done stood =
+    subst (λ (k : Configuration). IsChosenBy k (phase_octets r.config given) chosen) inside (is (phase_octets r.config given) done stood.phases)
+
+pub all-handed : (r : InnerReceiving) (chosen : Option Chosen) (last : List (Handed WindowBlock)) (phase bits left : ℕ) → r.phased.config ≡ r.config → phase ≡ skip_of chosen
+    → ((given : List ℕ) (blocks : List WindowBlock) (left : ℕ) → length given ≡ r.count → length given < 2 ^ 60 → AreInnerBlocks r.config phase given blocks left
+    → bits ≡ length (inner_bits r.config given blocks))
+    → ((given : List ℕ) (done : List (Handed WindowBlock)) → length given < 2 ^ 60 → PhasesFor r.phased (phase_octets r.phased.config given) done
+    → (all : AreHanded r.phased.config given (done ++ last) left) × (all.chosen ≡ chosen))
+    → (given : List ℕ) (done : List (Handed WindowBlock)) → StandsFor r given done
+    → AreHanded r.config given (done ++ last) left × (bits ≡ length (inner_bits r.config given (items_of (done ++ last))))
+all-handed r chosen last phase bits left inside skip counts handed given done stood =
+    let c = r.config in
+    let h : (all : AreHanded c given (done ++ last) left) × (all.chosen ≡ chosen) =
+    subst (λ (k : Configuration). PhasesFor r.phased (phase_octets k given) done → (all : AreHanded k given (done ++ last) left) × (all.chosen ≡ chosen)) inside (handed given done stood.few) stood.phases in
+    let all = h.0 in
+    let same : skip_of all.chosen ≡ phase = ap skip_of h.1 ∙ sym skip in
+    let items : items_of (done ++ last) ≡ all.items = ap items_of all.are ∙ items_of-in_turn all.chosen all.items in (
+      all,
+      counts given all.items left stood.count stood.few (subst (λ (n : ℕ). AreInnerBlocks c n given all.items left) same all.are_items)
+          ∙ ap (λ (l : List WindowBlock). length (inner_bits c given l)) (sym items),
+    )

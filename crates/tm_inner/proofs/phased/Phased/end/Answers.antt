@@ -1,0 +1,73 @@
+use Rattle.std.proofs.Common.{◌≡◌, ◌++◌, ◌∷◌, ◌∙◌, [], List, map, sym, ap, subst, arith, append_assoc}
+use Rattle.std.proofs.lemmas.Result.{IfOk-weaker, on_err_weaker}
+use Rattle.tm_base.specs.Handed.{Handed, Item, on_handed}
+use Rattle.tm_base.proofs.Handing.{HandedOver-append, HandedPart-first, HandedPart-after}
+use Rattle.tm_base.proofs.HandedItems.{HandedOver-items}
+use Rattle.tm_config.specs.Configuration.{Configuration}
+use Rattle.tm_viterbi.specs.WindowBlock.{WindowBlock}
+use Rattle.tm_inner.specs.Phase.{IsChosenBy, phase_octets}
+use Rattle.tm_inner.specs.Handing.{AreHanded, AreHandedFront}
+use Rattle.tm_inner.specs.Receiving.{Phasing, Goes}
+use Rattle.tm_inner.proofs.GivenPieces.{few-soft}
+use Rattle.tm_inner.proofs.HandedPieces.{handed-front, handed-last, handed-last_front}
+use Rattle.tm_inner.proofs.phased.Phased.end.Goals as goal
+
+pub returns-in-Err-clause-front : goal.returns-in-Err-clause-front
+returns-in-Err-clause-front g c =
+    let p = c.args.self.now in
+    let h = c.in-Err.ensures.front in (
+      h.0,
+      h.1,
+      λ given done few stood. handed-front p.config given (done ++ h.0) (h.2 (phase_octets p.config given) done (omega (arith, few, few-soft p.config given)) stood),
+    )
+
+pub invariant_of-self : goal.invariant_of-self
+invariant_of-self g c = (c.end.ensures.of c.self.inside.config c.self.invariant.0, c.self.invariant.1)
+
+pub returns-clause-chosen : goal.returns-clause-chosen
+returns-clause-chosen g c = λ soft done stood.
+    subst (λ (p : Phasing). IsChosenBy c.args.self.now.config soft p.chosen) (sym c.self.view_is) (c.settle.ensures.chosen soft done stood)
+
+pub returns-clause-handed : goal.returns-clause-handed
+returns-clause-handed g c =
+    let s = c.self.inside in
+    let old = c.args.self.now in
+    let took = g.B.BlockTaker.took in
+    let took_phase = g.B.BlockTaker.took_phase in
+    let before : Phasing = record { config = s.config; decoder = s.decoder; held = s.held.octets; room = s.held.room; chosen = s.chosen } in
+    let config : s.config ≡ old.config = ap (λ (p : Phasing). p.config) c.self.view_is ∙ c.settle.ensures.config in
+    let m = c.in-Ok.ensures.handed in
+    IfOk-weaker c.end.result _ _ (λ left h. (
+      m.0 ++ map Item h.0,
+      HandedOver-append (on_handed took_phase took) c.args.blocks.now c.settle.new.blocks c.end.new.blocks m.0 (map Item h.0) m.1 (HandedOver-items took_phase took c.settle.new.blocks c.end.new.blocks h.0 h.1),
+      λ given done few stood.
+          let goes = subst (λ (k : Configuration). Goes before (phase_octets k given) (done ++ m.0)) (sym config)
+          (subst (λ (p : Phasing). Goes p (phase_octets old.config given) (done ++ m.0)) (sym c.self.view_is)
+          (m.2 (phase_octets old.config given) done (omega (arith, few, few-soft old.config given)) stood)) in
+          subst (λ (k : Configuration). (all : AreHanded k given (done ++ (m.0 ++ map Item h.0)) left) × (all.chosen ≡ s.chosen)) config
+          (subst (λ (l : List (Handed WindowBlock)). (all : AreHanded s.config given l left) × (all.chosen ≡ s.chosen)) (append_assoc done m.0 (map Item h.0))
+          (handed-last before given (done ++ m.0) h.0 left c.self.invariant.0 h.2 goes)),
+    )) c.end.ensures.handed
+
+pub returns-clause-front : goal.returns-clause-front
+returns-clause-front g c =
+    let s = c.self.inside in
+    let old = c.args.self.now in
+    let took = g.B.BlockTaker.took in
+    let broke = g.B.BlockTaker.broke in
+    let took_phase = g.B.BlockTaker.took_phase in
+    let broke_phase = g.B.BlockTaker.broke_phase in
+    let before : Phasing = record { config = s.config; decoder = s.decoder; held = s.held.octets; room = s.held.room; chosen = s.chosen } in
+    let config : s.config ≡ old.config = ap (λ (p : Phasing). p.config) c.self.view_is ∙ c.settle.ensures.config in
+    let m = c.in-Ok.ensures.handed in
+    on_err_weaker c.end.result (λ h. (
+      m.0 ++ Item h.0 ∷ [],
+      HandedPart-after (on_handed took_phase took) (on_handed broke_phase broke) c.args.blocks.now c.settle.new.blocks c.end.new.blocks m.0 (Item h.0 ∷ []) m.1
+          (HandedPart-first (on_handed took_phase took) (on_handed broke_phase broke) c.settle.new.blocks c.end.new.blocks (Item h.0) [] h.1),
+      λ given done few stood.
+          let goes = subst (λ (k : Configuration). Goes before (phase_octets k given) (done ++ m.0)) (sym config)
+          (subst (λ (p : Phasing). Goes p (phase_octets old.config given) (done ++ m.0)) (sym c.self.view_is)
+          (m.2 (phase_octets old.config given) done (omega (arith, few, few-soft old.config given)) stood)) in
+          subst (λ (k : Configuration). AreHandedFront k given (done ++ (m.0 ++ Item h.0 ∷ []))) config
+          (subst (AreHandedFront s.config given) (append_assoc done m.0 (Item h.0 ∷ [])) (handed-last_front before given (done ++ m.0) h.0 c.self.invariant.0 h.2 goes)),
+    )) c.end.ensures.front
