@@ -1,58 +1,77 @@
--- A receiver that is given octets: the blocks of its first stage, the bits of these, and the items that are due of them.
+-- A receiver that is given octets: the phase and the blocks of its first stage, the bits of these, and the items that are due of them.
 use Rattle.std.proofs.Common.{◌≡◌, ◌==◌, ◌<◌, ◌≤◌, ◌+◌, ◌-◌, ◌*◌, ◌/◌, ◌%◌, ◌^◌, ℕ, zero, suc, min, inl, inr, get_or, Bool, true, false, List, [], ◌∷◌, ◌++◌, length, take, drop, map, refl, sym, ap, ◌∙◌, subst, arith, append_assoc, length-append, length-drop, Option, Some, None}
 use Rattle.std.specs.Option.{is_some}
 use Rattle.std.proofs.lemmas.List.{append-nil, drop-append-le, drop-map, drop_all, length-map, take_rest}
 use Rattle.std.proofs.lemmas.Bool.{cases_lt}
 use Rattle.std.proofs.Math.Seq.{take-add}
 use Rattle.tm_base.specs.Bits.{bits_of, bits_of_octet}
-use Rattle.tm_base.specs.Takers.{HandedOver}
+use Rattle.tm_base.specs.Handed.{Handed, Phase, Item, on_handed, items_of}
+use Rattle.tm_base.specs.Takers.{HandedOver, HandedPart}
 use Rattle.tm_base.proofs.Packing.{length-bits_of, length-low_bits, bits_of-append, bits_of-drop}
+use Rattle.tm_base.proofs.Handing.{HandedOver-append, HandedPart-after}
+use Rattle.tm_base.proofs.HandedItems.{HandedOver-items, HandedPart-items, items_of-append}
 use Rattle.tm_config.specs.Configuration.{Configuration}
 use Rattle.tm_conv.specs.declared.rates.Rate.{Rate}
-use Rattle.tm_viterbi.specs.Settings.{Settings}
 use Rattle.tm_viterbi.specs.WindowBlock.{WindowBlock}
 use Rattle.tm_viterbi.specs.Due.{AreFirst}
 use Rattle.tm_viterbi.specs.Clean.{kept_bits}
+use Rattle.tm_phase.specs.declared.choosing.Chosen.{Chosen}
 use Rattle.tm_inner.specs.Symbols.{rate_of}
 use Rattle.tm_inner.specs.Inner.{BlocksAt, bits_at, settings_of, soft_value, soft_octets, AreInnerBlocks, AreInnerDue, Inner, inner_bits}
-use Rattle.tm_inner.specs.Receiving.{InnerReceiving, FirstAt, AreInnerFirst, StandsFor as InnerStandsFor}
-use Rattle.tm_inner.proofs.DueBits.{drop-split}
-use Rattle.tm_inner.proofs.GivenPieces.{soft-further}
-use Rattle.tm_inner.proofs.FewBits.{due-none, first-few, whole-few, first-of-due, last-few, more-few}
+use Rattle.tm_inner.specs.Phase.{IsChosenBy, IsChosen, IsSettled, needed_at, skipped_at, phase_octets, skip_of, in_turn, IsChosenSoFar}
+use Rattle.tm_inner.specs.Handing.{AreHanded, AreHandedDue}
+use Rattle.tm_inner.specs.Receiving.{InnerReceiving, FirstAt, AreInnerFirst, StandsFor as InnerStandsFor, Hands, HandsFront}
+use Rattle.tm_inner.proofs.DueBits.{drop-split, soft-more}
+use Rattle.tm_inner.proofs.GivenPieces.{Stay}
+use Rattle.tm_inner.proofs.PhasePieces.{PhaseStays, StayClosed, items_of-in_turn}
+use Rattle.tm_inner.proofs.HandedPieces.{stands-so-far}
+use Rattle.tm_inner.proofs.InTurn.{choice-stays, settled-stays, so_far-stays}
+use Rattle.tm_inner.proofs.FewBits.{first-few, first-of-due, whole-few}
+use Rattle.tm_inner.proofs.HandedBits.{handed-due-none, handed-last-few, handed-more-few, needed-few}
 use Rattle.tm_sync.specs.declared.found.Found.{Found}
 use Rattle.tm_sync.specs.Places.{places}
 use Rattle.tm_sync.proofs.Longer.{places-end, places-goes_on}
 use Rattle.tm_channel.specs.ReceivedCodeblock.{rules_of}
 use Rattle.tm_channel.specs.Items.{ItemValue, AreItemsOf, AreFirstItemsOf, AreItems}
 use Rattle.tm_channel.specs.Due.{due}
-use Rattle.tm_channel.specs.Receive.{ReceiveDue, ReceiveFirst, ReceiveFront}
-use Rattle.tm_channel.specs.Receiving.{beyond, AreFurther, AreFirstFurther}
-use Rattle.tm_channel.specs.OctetReceiving.{BitReceiving, OctetReceiving, StandsFor, StandsForBits, Keeping, Keeps, Grows, GrowsFirst, Ends, Received, ReceivedPart, ReceivedLast, ReceivedLastPart, Takes, TakesPart, bits_found, received_bits}
+use Rattle.tm_channel.specs.Handing.{phase_from, phase_of, AreReceived, AreReceivedDue, AreReceivedFirst, AreReceivedFront}
+use Rattle.tm_channel.specs.Receiving.{beyond, AreFurther, AreFirstFurther, AreFirstDue}
+use Rattle.tm_channel.specs.OctetReceiving.{BitReceiving, OctetReceiving, StandsFor, FirstWith, StandsForBits, Stages, StagesFor, Keeping, Keeps, KeepsPhase, Grows, Ends, Received, ReceivedPart, ReceivedLast, ReceivedLastPart, bits_found, received_bits}
 use Rattle.tm_channel.proofs.Streaming.{first-longer, first-more, first-then, items-then}
 use Rattle.tm_channel.proofs.AllBits.{beyond-nil, all-items, some-items, few-items, due-nil}
-use Rattle.tm_channel.proofs.ReceivedPieces.{all_bits, all_bits-append, received-none, received-then, part-then}
+use Rattle.tm_channel.proofs.ReceivedPieces.{all_bits, all_bits-append}
+use Rattle.tm_channel.proofs.Turns.{front-nil, in_turn-split, part-some, phase_from-append, phase_of-behind, phase_of-in_turn, turn-further}
 
--- windows that are closed stay so
-abbrev pub Closed : Type 0
-Closed = (s : Settings) (octets more : List ℕ) (first : List WindowBlock) → AreFirst s octets first → AreFirst s (octets ++ more) first
+-- ---- the phase and the bits that are kept
 
--- ---- bits that are kept
-
-kept-all : (a b : Keeping) (blocks : List WindowBlock) → HandedOver Keeps a blocks b → length a.bits + length (kept_bits blocks) ≤ a.size → b.bits ≡ a.bits ++ kept_bits blocks
+kept-all : (a b : Keeping) (more : List (Handed WindowBlock)) → HandedOver (on_handed KeepsPhase Keeps) a more b → length a.bits + length (kept_bits (items_of more)) ≤ a.size
+    → b.bits ≡ a.bits ++ kept_bits (items_of more)
 kept-all a b [] same few = sym (ap (λ (k : Keeping). k.bits) same) ∙ sym (append-nil a.bits)
-kept-all a b (x ∷ xs) handed few =
+kept-all a b (Phase skip cost ∷ more) handed few =
     let m = handed.0 in
-    let one = handed.1.bits (omega (arith, few, length-append (take x.kept x.bits) (kept_bits xs))) in
+    let bits : m.bits ≡ a.bits = ap (λ (k : Keeping). k.bits) handed.1 in
+    let size : m.size ≡ a.size = ap (λ (k : Keeping). k.size) handed.1 in
+    kept-all m b more handed.2 (omega (arith, few, ap length bits, size)) ∙ ap (λ l. l ++ kept_bits (items_of more)) bits
+kept-all a b (Item x ∷ xs) handed few =
+    let m = handed.0 in
+    let one = handed.1.bits (omega (arith, few, length-append (take x.kept x.bits) (kept_bits (items_of xs)))) in
     let rest = kept-all m b xs handed.2
-    (omega (arith, few, handed.1.size, ap length one, length-append a.bits (take x.kept x.bits), length-append (take x.kept x.bits) (kept_bits xs))) in
-    rest ∙ ap (λ l. l ++ kept_bits xs) one ∙ append_assoc a.bits (take x.kept x.bits) (kept_bits xs)
+    (omega (arith, few, handed.1.size, ap length one, length-append a.bits (take x.kept x.bits), length-append (take x.kept x.bits) (kept_bits (items_of xs)))) in
+    rest ∙ ap (λ l. l ++ kept_bits (items_of xs)) one ∙ append_assoc a.bits (take x.kept x.bits) (kept_bits (items_of xs))
 
-kept-alone : (room kept : Keeping) (blocks : List WindowBlock) → HandedOver Keeps room blocks kept → room.bits ≡ [] → length (kept_bits blocks) ≤ room.size → kept.bits ≡ kept_bits blocks
-kept-alone room kept blocks handed none fits = kept-all room kept blocks handed (omega (arith, fits, ap length none)) ∙ ap (λ l. l ++ kept_bits blocks) none
+kept-alone : (room kept : Keeping) (more : List (Handed WindowBlock)) → HandedOver (on_handed KeepsPhase Keeps) room more kept → room.bits ≡ [] → length (kept_bits (items_of more)) ≤ room.size
+    → kept.bits ≡ kept_bits (items_of more)
+kept-alone room kept more handed none fits = kept-all room kept more handed (omega (arith, fits, ap length none)) ∙ ap (λ l. l ++ kept_bits (items_of more)) none
 
-pub kept-size : (a b : Keeping) (blocks : List WindowBlock) → HandedOver Keeps a blocks b → b.size ≡ a.size
+pub kept-size : (a b : Keeping) (more : List (Handed WindowBlock)) → HandedOver (on_handed KeepsPhase Keeps) a more b → b.size ≡ a.size
 kept-size a b [] same = sym (ap (λ (k : Keeping). k.size) same)
-kept-size a b (x ∷ xs) handed = kept-size handed.0 b xs handed.2 ∙ handed.1.size
+kept-size a b (Phase skip cost ∷ more) handed = kept-size handed.0 b more handed.2 ∙ ap (λ (k : Keeping). k.size) handed.1
+kept-size a b (Item x ∷ xs) handed = kept-size handed.0 b xs handed.2 ∙ handed.1.size
+
+kept-phase : (a b : Keeping) (more : List (Handed WindowBlock)) → HandedOver (on_handed KeepsPhase Keeps) a more b → b.phase ≡ phase_from a.phase more
+kept-phase a b [] same = sym (ap (λ (k : Keeping). k.phase) same)
+kept-phase a b (Phase skip cost ∷ more) handed = kept-phase handed.0 b more handed.2 ∙ ap (λ (k : Keeping). phase_from k.phase more) handed.1
+kept-phase a b (Item x ∷ xs) handed = kept-phase handed.0 b xs handed.2 ∙ ap (λ (o : Option Chosen). phase_from o xs) handed.1.phase
 
 -- which bits come of octets
 pub found-some : (rate : Option Rate) (skip : ℕ) (kept octets : List ℕ) → is_some rate ≡ true → bits_found rate skip kept octets ≡ map (λ bit. bit == 1) kept
@@ -65,148 +84,81 @@ found-none (Some rate) skip kept octets is = absurd cc
 
 -- ---- the bits of further octets
 
-front-nil : {A : Type 0} (xs ys : List A) → xs ++ ys ≡ [] → (xs ≡ []) × (ys ≡ [])
-front-nil [] ys none = (refl, none)
-front-nil (x ∷ xs) ys none = absurd cc
-
 further-at : (rate : Option Rate) (c : Configuration) (given octets : List ℕ) (blocks more : List WindowBlock) (kept : List ℕ) (skip : ℕ) → skip ≡ c.skip - 8 * length given
-    → kept ≡ kept_bits more → FirstAt rate c 0 (given ++ octets) (blocks ++ more)
-    → bits_at rate c (given ++ octets) (blocks ++ more) ≡ bits_at rate c given blocks ++ bits_found rate skip kept octets
-further-at None c given octets blocks more kept skip is same first =
+    → kept ≡ kept_bits more → bits_at rate c (given ++ octets) (blocks ++ more) ≡ bits_at rate c given blocks ++ bits_found rate skip kept octets
+further-at None c given octets blocks more kept skip is same =
     let left : c.skip - length (bits_of given) ≡ skip = omega (arith, is, length-bits_of given) in
     ap (drop c.skip) (bits_of-append given octets) ∙ drop-split c.skip (bits_of given) (bits_of octets)
     ∙ ap (λ n. drop c.skip (bits_of given) ++ drop n (bits_of octets)) left
-further-at (Some rate) c given octets blocks more kept skip is same first =
+further-at (Some rate) c given octets blocks more kept skip is same =
     all_bits-append blocks more ∙ ap (λ l. all_bits blocks ++ map (λ bit. bit == 1) l) (sym same)
 
--- the first stage was given octets, and its bits were kept
-pub grows-kept : (inner now : InnerReceiving) (room kept : Keeping) (octets : List ℕ) (more : List WindowBlock) → HandedOver Keeps room more kept → room.bits ≡ []
-    → inner.config.keep + inner.config.ahead + length octets ≤ room.size
-    → ((given : List ℕ) (done : List WindowBlock) → length given + length octets < 2 ^ 60 → InnerStandsFor inner given done
-    → InnerStandsFor now (given ++ octets) (done ++ more) × AreInnerDue inner.config 0 (given ++ octets) (done ++ more))
-    → Grows inner now octets (received_bits inner kept.bits octets)
-grows-kept inner now room kept octets more handed none fits stands given done few stood due =
+-- the first stage was given octets, and its phase and its bits were kept
+pub grows-kept : (inner now : InnerReceiving) (room kept : Keeping) (octets : List ℕ) (more : List (Handed WindowBlock)) → HandedOver (on_handed KeepsPhase Keeps) room more kept
+    → room.bits ≡ [] → room.phase ≡ None → 3 * (inner.config.keep + inner.config.ahead) + 7 + length octets ≤ room.size
+    → ((given : List ℕ) (done : List (Handed WindowBlock)) → length given + length octets < 2 ^ 60 → InnerStandsFor inner given done
+    → InnerStandsFor now (given ++ octets) (done ++ more) × AreHandedDue inner.config (given ++ octets) (done ++ more))
+    → Grows inner now octets kept.phase (received_bits inner kept.bits octets)
+grows-kept inner now room kept octets more handed none fresh fits stands given done few stood due =
     let c = inner.config in
     let there = stands given done few stood in
-    let first = first-of-due c 0 (given ++ octets) (done ++ more) there.1 in
-    let most = more-few c given octets done more due first in
-    let same : kept.bits ≡ kept_bits more = kept-alone room kept more handed none (omega (arith, most, fits)) in
+    let most = handed-more-few c given octets done more due there.1 in
+    let same : kept.bits ≡ kept_bits (items_of more) = kept-alone room kept more handed none (omega (arith, most, needed-few (rate_of c.inner) c, fits)) in
     record {
       more = more;
       stands = there.0;
       due = there.1;
-      bits = further-at (rate_of c.inner) c given octets done more kept.bits (c.skip - 8 * inner.count) (omega (arith, stood.count)) same first;
+      is_phase = kept-phase room kept more handed ∙ ap (λ (o : Option Chosen). phase_from o more) fresh;
+      bits = ap (inner_bits c (given ++ octets)) (items_of-append done more)
+          ∙ further-at (rate_of c.inner) c given octets (items_of done) (items_of more) kept.bits (c.skip - 8 * inner.count) (omega (arith, stood.count)) same;
     }
 
-last-at : (rate : Option Rate) (c : Configuration) (given : List ℕ) (blocks last : List WindowBlock) (left : ℕ) → BlocksAt rate c 0 given (blocks ++ last) left
+last-at : (rate : Option Rate) (c : Configuration) (phase : ℕ) (given : List ℕ) (blocks last : List WindowBlock) (left : ℕ) → BlocksAt rate c phase given (blocks ++ last) left
     → bits_at rate c given (blocks ++ last) ≡ bits_at rate c given blocks ++ all_bits last
-last-at None c given blocks last left are =
+last-at None c phase given blocks last left are =
     let none = front-nil blocks last are.0 in
     sym (append-nil (drop c.skip (bits_of given))) ∙ ap (λ (l : List WindowBlock). drop c.skip (bits_of given) ++ all_bits l) (sym none.1)
-last-at (Some rate) c given blocks last left are = all_bits-append blocks last
+last-at (Some rate) c phase given blocks last left are = all_bits-append blocks last
+
+-- the blocks of what was handed over
+turn-items : {I : Type 0} (chosen : Option Chosen) (items : List I) (handed : List (Handed I)) → handed ≡ in_turn chosen items → items_of handed ≡ items
+turn-items chosen items handed are = ap items_of are ∙ items_of-in_turn chosen items
 
 -- the last blocks add these bits
-bits-last : (c : Configuration) (given : List ℕ) (blocks last : List WindowBlock) (left : ℕ) → AreInnerBlocks c 0 given (blocks ++ last) left
-    → inner_bits c given (blocks ++ last) ≡ inner_bits c given blocks ++ all_bits last
-bits-last c = last-at (rate_of c.inner) c
+bits-last : (c : Configuration) (given : List ℕ) (done last : List (Handed WindowBlock)) (left : ℕ) → AreHanded c given (done ++ last) left
+    → inner_bits c given (items_of (done ++ last)) ≡ inner_bits c given (items_of done) ++ all_bits (items_of last)
+bits-last c given done last left h =
+    let blocks : h.items ≡ items_of done ++ items_of last = sym (turn-items h.chosen h.items (done ++ last) h.are) ∙ items_of-append done last in
+    ap (inner_bits c given) (items_of-append done last) ∙ last-at (rate_of c.inner) c (skip_of h.chosen) given (items_of done) (items_of last) left
+    (subst (λ (l : List WindowBlock). AreInnerBlocks c (skip_of h.chosen) given l left) blocks h.are_items)
 
--- the first stage ended, and its bits were kept
-pub ends-kept : (inner : InnerReceiving) (room kept : Keeping) (count : ℕ) (last : List WindowBlock) (left : ℕ) → HandedOver Keeps room last kept → room.bits ≡ []
-    → inner.config.keep + inner.config.ahead ≤ room.size
-    → ((given : List ℕ) (done : List WindowBlock) → InnerStandsFor inner given done
-    → AreInnerBlocks inner.config 0 given (done ++ last) left × (count ≡ length (inner_bits inner.config given (done ++ last))))
-    → Ends inner (map (λ bit. bit == 1) kept.bits) count
-ends-kept inner room kept count last left handed none fits stands given done stood due =
+-- the first stage ended, and its phase and its bits were kept
+pub ends-kept : (inner : InnerReceiving) (room kept : Keeping) (count : ℕ) (last : List (Handed WindowBlock)) (left : ℕ) → HandedOver (on_handed KeepsPhase Keeps) room last kept
+    → room.bits ≡ [] → room.phase ≡ None → 3 * (inner.config.keep + inner.config.ahead) + 7 ≤ room.size
+    → ((given : List ℕ) (done : List (Handed WindowBlock)) → InnerStandsFor inner given done
+    → AreHanded inner.config given (done ++ last) left × (count ≡ length (inner_bits inner.config given (items_of (done ++ last)))))
+    → Ends inner kept.phase (map (λ bit. bit == 1) kept.bits) count
+ends-kept inner room kept count last left handed none fresh fits stands given done stood due =
+    let c = inner.config in
     let there = stands given done stood in
-    let most = last-few inner.config given done last left due there.0 in
-    let same : kept.bits ≡ kept_bits last = kept-alone room kept last handed none (omega (arith, most, fits)) in
+    let most = handed-last-few c given done last left due there.0 in
+    let same : kept.bits ≡ kept_bits (items_of last) = kept-alone room kept last handed none (omega (arith, most, needed-few (rate_of c.inner) c, fits)) in
     record {
       last = last;
       left = left;
-      are_blocks = there.0;
-      bits = bits-last inner.config given done last left there.0 ∙ ap (λ l. inner_bits inner.config given done ++ map (λ bit. bit == 1) l) (sym same);
+      are_handed = there.0;
+      is_phase = kept-phase room kept last handed ∙ ap (λ (o : Option Chosen). phase_from o last) fresh;
+      bits = bits-last c given done last left there.0 ∙ ap (λ l. inner_bits c given (items_of done) ++ map (λ bit. bit == 1) l) (sym same);
       counted = there.1;
     }
 
 -- ---- pieces of octets
-
-pub grows-none : (inner : InnerReceiving) → Grows inner inner [] []
-grows-none inner given done few stood due = record {
-  more = [];
-  stands = subst (λ (l : List ℕ). InnerStandsFor inner l (done ++ [])) (sym (append-nil given)) (subst (InnerStandsFor inner given) (sym (append-nil done)) stood);
-  due = subst (λ (l : List ℕ). AreInnerDue inner.config 0 l (done ++ [])) (sym (append-nil given)) (subst (AreInnerDue inner.config 0 given) (sym (append-nil done)) due);
-  bits = ap (λ l. inner_bits inner.config l (done ++ [])) (append-nil given) ∙ ap (inner_bits inner.config given) (append-nil done) ∙ sym (append-nil (inner_bits inner.config given done));
-}
-
-pub grows-then : (a b d : InnerReceiving) (octets others : List ℕ) (piece rest : List Bool) → b.config ≡ a.config → Grows a b octets piece → Grows b d others rest
-    → Grows a d (octets ++ others) (piece ++ rest)
-grows-then a b d octets others piece rest same p q given done few stood due =
-    let f = p given done (omega (arith, few, length-append octets others)) stood due in
-    let g = q (given ++ octets) (done ++ f.more) (omega (arith, few, length-append octets others, length-append given octets)) f.stands
-    (subst (λ (c : Configuration). AreInnerDue c 0 (given ++ octets) (done ++ f.more)) (sym same) f.due) in
-    let all = append_assoc given octets others in
-    let blocks = append_assoc done f.more g.more in
-    record {
-      more = f.more ++ g.more;
-      stands = subst (λ (l : List ℕ). InnerStandsFor d l (done ++ (f.more ++ g.more))) all (subst (InnerStandsFor d ((given ++ octets) ++ others)) blocks g.stands);
-      due = subst (λ (l : List ℕ). AreInnerDue a.config 0 l (done ++ (f.more ++ g.more))) all
-          (subst (AreInnerDue a.config 0 ((given ++ octets) ++ others)) blocks
-          (subst (λ (c : Configuration). AreInnerDue c 0 ((given ++ octets) ++ others) ((done ++ f.more) ++ g.more)) same g.due));
-      bits = ap (λ l. inner_bits a.config l (done ++ (f.more ++ g.more))) (sym all) ∙ ap (inner_bits a.config ((given ++ octets) ++ others)) (sym blocks)
-          ∙ subst (λ (c : Configuration). inner_bits c ((given ++ octets) ++ others) ((done ++ f.more) ++ g.more) ≡ inner_bits c (given ++ octets) (done ++ f.more) ++ rest) same g.bits
-          ∙ ap (λ l. l ++ rest) f.bits ∙ append_assoc (inner_bits a.config given done) piece rest;
-    }
-
-stays-at : Closed → (rate : Option Rate) (c : Configuration) (octets more : List ℕ) (blocks : List WindowBlock) → FirstAt rate c 0 octets blocks
-    → FirstAt rate c 0 (octets ++ more) blocks × ((rest : List Bool) × (bits_at rate c (octets ++ more) blocks ≡ bits_at rate c octets blocks ++ rest))
-stays-at closed None c octets more blocks first =
-    (first, (drop (c.skip - length (bits_of octets)) (bits_of more), ap (drop c.skip) (bits_of-append octets more) ∙ drop-split c.skip (bits_of octets) (bits_of more)))
-stays-at closed (Some rate) c octets more blocks first = (
-  subst (λ (l : List ℕ). AreFirst (settings_of c rate) l blocks) (sym (soft-further c octets more))
-      (closed (settings_of c rate) (soft_octets c 0 octets) (map (soft_value c) (drop (c.skip - length octets) more)) blocks first),
-  ([], sym (append-nil (all_bits blocks))),
-)
-
--- first octets add first bits, whatever octets come
-pub grows-first : Closed → (a b : InnerReceiving) (octets others : List ℕ) (piece : List Bool) → Grows a b octets piece → GrowsFirst a (octets ++ others) piece
-grows-first closed a b octets others piece p given done few stood due =
-    let f = p given done (omega (arith, few, length-append octets others)) stood due in
-    let first = first-of-due a.config 0 (given ++ octets) (done ++ f.more) f.due in
-    let stays = stays-at closed (rate_of a.config.inner) a.config (given ++ octets) others (done ++ f.more) first in
-    let all = append_assoc given octets others in
-    record {
-      more = f.more;
-      first = subst (λ (l : List ℕ). AreInnerFirst a.config 0 l (done ++ f.more)) all stays.0;
-      rest = stays.1.0;
-      bits = ap (λ l. inner_bits a.config l (done ++ f.more)) (sym all) ∙ stays.1.1 ∙ ap (λ l. l ++ stays.1.0) f.bits ∙ append_assoc (inner_bits a.config given done) piece stays.1.0;
-    }
 
 -- one piece of a list, and then the next
 pub piece-joined : (done count : ℕ) (octets : List ℕ) → take done octets ++ take ((done + count) - done) (drop done octets) ≡ take (done + count) octets
 piece-joined done count octets =
     let same : (done + count) - done ≡ count = omega arith in
     ap (λ (n : ℕ). take done octets ++ take n (drop done octets)) same ∙ sym (take-add done count octets)
-
-pub takes-none : {T : Type 0} (took : T → ItemValue → T → Type 0) (inner : InnerReceiving) (bits : BitReceiving) (taker : T) → Takes took inner inner bits bits taker taker []
-takes-none took inner bits taker = record { piece = []; grows = grows-none inner; received = received-none took bits taker }
-
-pub takes-then : {T : Type 0} (took : T → ItemValue → T → Type 0) (a b d : InnerReceiving) (s t u : BitReceiving) (taker middle now : T) (octets others : List ℕ) (piece : List Bool)
-    → b.config ≡ a.config → Takes took a b s t taker middle octets → Grows b d others piece → Received took t u middle now piece
-    → Takes took a d s u taker now (octets ++ others)
-takes-then took a b d s t u taker middle now octets others piece same p grows received = record {
-  piece = p.piece ++ piece;
-  grows = grows-then a b d octets others p.piece piece same p.grows grows;
-  received = received-then took s t u taker middle now p.piece piece p.received received;
-}
-
-pub takes-part : {T : Type 0} (took broke : T → ItemValue → T → Type 0) (a b d : InnerReceiving) (s t u : BitReceiving) (taker middle now : T) (octets others rest : List ℕ) (piece : List Bool) → Closed
-    → b.config ≡ a.config → Takes took a b s t taker middle octets → Grows b d others piece → ReceivedPart took broke t u middle now piece
-    → TakesPart took broke a s u taker now ((octets ++ others) ++ rest)
-takes-part took broke a b d s t u taker middle now octets others rest piece closed same p grows received = record {
-  piece = p.piece ++ piece;
-  grows = grows-first closed a d (octets ++ others) rest (p.piece ++ piece) (grows-then a b d octets others p.piece piece same p.grows grows);
-  received = part-then took broke s t u taker middle now p.piece piece p.received received;
-}
 
 -- bits behind the first ones
 drop-twice : {A : Type 0} (a b : ℕ) (xs : List A) → drop b (drop a xs) ≡ drop (a + b) xs
@@ -269,161 +221,463 @@ first-beyond c bits rest items are =
     (first-longer c (bits ++ rest) (places (rules_of c) bits) (drop (length (places (rules_of c) bits)) (places (rules_of c) (bits ++ rest))) items
     (first-more c bits rest (places (rules_of c) bits) items (places-end (rules_of c) bits) are))
 
--- ---- a receiver goes on
+-- ---- the phase comes once
 
--- its parts are of one configuration
-abbrev pub IsOf : OctetReceiving → Type 0
-IsOf r = (r.inner.config ≡ r.config) × (r.bits.batch.config ≡ r.config)
+once : (c : Configuration) (soft soft_now : List ℕ) (chosen other : Option Chosen) (blocks all : List WindowBlock) (more : List (Handed WindowBlock))
+    → IsChosenBy c soft chosen → IsChosenBy c soft_now other → in_turn chosen blocks ++ more ≡ in_turn other all → phase_of more ≡ None
+once c soft soft_now None None blocks all more is now same = sym (phase_of-behind blocks more) ∙ ap phase_of same ∙ phase_of-in_turn None all
+once c soft soft_now None (Some b) blocks all more is now same = absurd (now.0 is)
+once c soft soft_now (Some a) None blocks all more is now same = absurd (is.0 now)
+once c soft soft_now (Some a) (Some b) blocks all more is now same =
+    sym (phase_of-behind blocks more) ∙ ap (λ l. phase_of (drop 1 l)) same ∙ phase_of-in_turn None all
+
+once-due : (c : Configuration) (given octets : List ℕ) (done more : List (Handed WindowBlock)) → AreHandedDue c given done → AreHandedDue c (given ++ octets) (done ++ more)
+    → IsSettled c given → phase_of more ≡ None
+once-due c given octets done more (inl before) now settled = absurd (before.0 settled)
+once-due c given octets done more (inr before) (inl now) settled = ap phase_of (front-nil done more now.1).1
+once-due c given octets done more (inr before) (inr now) settled =
+    let g = before.1 in
+    let h = now.1 in
+    once c (phase_octets c given) (phase_octets c (given ++ octets)) g.chosen h.chosen g.items h.items more g.choice h.choice (ap (λ l. l ++ more) (sym g.are) ∙ h.are)
+
+once-last : (c : Configuration) (given : List ℕ) (done last : List (Handed WindowBlock)) (left : ℕ) → AreHandedDue c given done → AreHanded c given (done ++ last) left
+    → IsSettled c given → phase_of last ≡ None
+once-last c given done last left (inl before) h settled = absurd (before.0 settled)
+once-last c given done last left (inr before) h settled =
+    let g = before.1 in
+    once c (phase_octets c given) (phase_octets c given) g.chosen h.chosen g.items h.items last g.choice h.choice (ap (λ l. l ++ last) (sym g.are) ∙ h.are)
+
+-- ---- before the choice there are no bits and no items
+
+unsettled-at : (rate : Option Rate) (c : Configuration) (given : List ℕ) → (needed_at rate c ≤ length (map (soft_value c) (drop (skipped_at rate c) given)) → ⊥) → bits_at rate c given [] ≡ []
+unsettled-at None c [] unsettled = drop_all c.skip [] (omega arith)
+unsettled-at None c (octet ∷ octets) unsettled = absurd (unsettled (omega (arith, length-map octets (soft_value c))))
+unsettled-at (Some rate) c given unsettled = refl
+
+unsettled-none : (c : Configuration) (given : List ℕ) → (IsSettled c given → ⊥) → inner_bits c given [] ≡ []
+unsettled-none c given unsettled = unsettled-at (rate_of c.inner) c given (λ many. unsettled (inr many))
+
+nil-items : (c : Configuration) (bits : List Bool) (items : List ItemValue) → AreItemsOf c bits [] items → items ≡ []
+nil-items c bits [] are = refl
+nil-items c bits (item ∷ items) are = absurd are
+
+nil-first : (c : Configuration) (bits : List Bool) (items : List ItemValue) → AreFirstItemsOf c bits [] items → items ≡ []
+nil-first c bits [] are = refl
+nil-first c bits (item ∷ items) are = absurd are
+
+unsettled-bits : (c : Configuration) (given : List ℕ) (handed : List (Handed WindowBlock)) → (IsSettled c given → ⊥) → handed ≡ [] → inner_bits c given (items_of handed) ≡ []
+unsettled-bits c given handed unsettled none = ap (λ (l : List (Handed WindowBlock)). inner_bits c given (items_of l)) none ∙ unsettled-none c given unsettled
+
+due-none-items : (c : Configuration) (bits : List Bool) (items : List ItemValue) → bits ≡ [] → AreItemsOf c bits (due (rules_of c) bits) items → items ≡ []
+due-none-items c bits items none are =
+    nil-items c bits items (subst (λ (fs : List Found). AreItemsOf c bits fs items) (ap (due (rules_of c)) none ∙ due-nil c) are)
+
+first-none-items : (c : Configuration) (bits piece : List Bool) (items : List ItemValue) → bits ++ piece ≡ [] → AreFirstFurther c bits piece items → items ≡ []
+first-none-items c bits piece items none are =
+    let nothing : beyond (due (rules_of c) bits) (due (rules_of c) (bits ++ piece)) ≡ [] =
+    ap (λ (l : List Bool). beyond (due (rules_of c) bits) (due (rules_of c) l)) none ∙ ap (beyond (due (rules_of c) bits)) (due-nil c)
+    ∙ drop_all (length (due (rules_of c) bits)) [] (omega arith) in
+    nil-first c (bits ++ piece) items (subst (λ (fs : List Found). AreFirstItemsOf c (bits ++ piece) fs items) nothing are)
+
+-- ---- what is handed over in turn
+
+turn-more : (c : Configuration) (given : List ℕ) (handed more : List (Handed WindowBlock)) (done : List (Handed ItemValue)) (items others : List ItemValue) (phase : Option Chosen)
+    → AreHandedDue c given handed
+    → AreItemsOf c (inner_bits c given (items_of handed)) (due (rules_of c) (inner_bits c given (items_of handed))) items
+    → done ≡ in_turn (phase_of handed) items → (IsSettled c given → phase_of more ≡ None) → phase ≡ phase_of more
+    → done ++ (in_turn phase [] ++ map Item others) ≡ in_turn (phase_of (handed ++ more)) (items ++ others)
+turn-more c given handed more done items others phase (inl before) are_items are once is =
+    let none = due-none-items c (inner_bits c given (items_of handed)) items (unsettled-bits c given handed before.0 before.1) are_items in
+    let start : done ≡ [] = are ∙ ap (λ (l : List (Handed WindowBlock)). in_turn (phase_of l) items) before.1 ∙ ap (in_turn None) none in
+    ap (λ l. l ++ (in_turn phase [] ++ map Item others)) start
+    ∙ ap (λ (o : Option Chosen). in_turn o [] ++ map Item others) is
+    ∙ sym (in_turn-split (phase_of more) others)
+    ∙ ap (λ (l : List (Handed WindowBlock)). in_turn (phase_of (l ++ more)) others) (sym before.1)
+    ∙ ap (λ l. in_turn (phase_of (handed ++ more)) (l ++ others)) (sym none)
+turn-more c given handed more done items others phase (inr before) are_items are once is =
+    ap (λ (o : Option Chosen). done ++ (in_turn o [] ++ map Item others)) is
+    ∙ turn-further (phase_of handed) more done items others (once before.0) are
+    ∙ ap (λ (o : Option Chosen). in_turn o (items ++ others)) (sym (phase_from-append None handed more))
+
+-- ---- both stages go on
+
+-- they are of one configuration
+abbrev pub IsOf : Stages → Type 0
+IsOf s = s.bits.batch.config ≡ s.inner.config
+
+few-nil : (rate : Option Rate) (c : Configuration) (given : List ℕ) → length (bits_at rate c given []) ≤ 8 * length given
+few-nil None c given = omega (arith, length-drop c.skip (bits_of given), length-bits_of given)
+few-nil (Some rate) c given = omega arith
+
+due-few : (c : Configuration) (given : List ℕ) (handed : List (Handed WindowBlock)) → AreHandedDue c given handed → length (inner_bits c given (items_of handed)) ≤ 8 * length given
+due-few c given handed (inl w) =
+    omega (arith, few-nil (rate_of c.inner) c given, ap (λ (l : List (Handed WindowBlock)). length (inner_bits c given (items_of l))) w.1)
+due-few c given handed (inr g) =
+    let h = g.1 in
+    omega (
+      arith,
+      first-few c (skip_of h.chosen) given h.items (first-of-due c (skip_of h.chosen) given h.items h.are_items),
+      ap (λ (l : List WindowBlock). length (inner_bits c given l)) (turn-items h.chosen h.items handed h.are),
+    )
 
 -- fewer than 2^60 octets have fewer than 2^63 bits
-few_bits : (bits all piece rest : List Bool) (given octets : List ℕ) → all ≡ bits ++ (piece ++ rest) → length all ≤ 8 * length (given ++ octets) → length given + length octets < 2 ^ 60
+few_bits : (bits all piece : List Bool) (given octets : List ℕ) → all ≡ bits ++ piece → length all ≤ 8 * length (given ++ octets) → length given + length octets < 2 ^ 60
     → length (bits ++ piece) < 2 ^ 63
-few_bits bits all piece rest given octets is most few =
-    omega (arith, ap length is, most, few, length-append given octets, length-append bits (piece ++ rest), length-append piece rest, length-append bits piece)
+few_bits bits all piece given octets is most few = omega (arith, ap length is, most, few, length-append given octets)
 
--- given these octets, a receiver goes on
-pub goes : {T : Type 0} (took : T → ItemValue → T → Type 0) (r now : OctetReceiving) (taker taker_now : T) (octets : List ℕ) → IsOf r → now.config ≡ r.config
-    → (p : Takes took r.inner now.inner r.bits now.bits taker taker_now octets) (given : List ℕ) (done : List ItemValue) → length given + length octets < 2 ^ 60
-    → StandsFor r given done → StandsFor now (given ++ octets) (done ++ p.received.items) × ReceiveDue r.config 0 (given ++ octets) (done ++ p.received.items)
-goes took r now taker taker_now octets of config p given done few stood =
-    let c = r.config in
-    let f = p.grows given stood.blocks few stood.inner (subst (λ (k : Configuration). AreInnerDue k 0 given stood.blocks) (sym of.0) stood.are_due) in
-    let blocks = stood.blocks ++ f.more in
-    let are_due = subst (λ (k : Configuration). AreInnerDue k 0 (given ++ octets) blocks) of.0 f.due in
-    let bits = inner_bits c given stood.blocks in
-    let all = inner_bits c (given ++ octets) blocks in
-    let is : all ≡ bits ++ p.piece = subst (λ (k : Configuration). inner_bits k (given ++ octets) blocks ≡ inner_bits k given stood.blocks ++ p.piece) of.0 f.bits in
-    let few' = few_bits bits all p.piece [] given octets (is ∙ ap (λ l. bits ++ l) (sym (append-nil p.piece)))
-    (first-few c (given ++ octets) blocks (first-of-due c 0 (given ++ octets) blocks are_due)) few in
-    let more = subst (λ (k : Configuration). AreFurther k bits p.piece p.received.items) of.1 (p.received.due bits few' stood.bits) in
-    let items = subst (λ (l : List Bool). AreItemsOf c l (due (rules_of c) l) (done ++ p.received.items)) (sym is) (due-further c bits p.piece done p.received.items stood.are_items more) in
-    let stands = subst (StandsForBits now.bits) (sym is) (p.received.stands bits few' stood.bits) in (
+-- what the first stage goes on to
+record Onward (s : Stages) (now : InnerReceiving) (given octets : List ℕ) (handed : List (Handed WindowBlock)) (phase : Option Chosen) (piece : List Bool) : Type 0 where
+  more : List (Handed WindowBlock)
+  stands : InnerStandsFor now (given ++ octets) (handed ++ more)
+  due : AreHandedDue s.inner.config (given ++ octets) (handed ++ more)
+  is_phase : phase ≡ phase_of more
+  is : inner_bits s.inner.config (given ++ octets) (items_of (handed ++ more)) ≡ inner_bits s.inner.config given (items_of handed) ++ piece
+  few : length (inner_bits s.inner.config given (items_of handed) ++ piece) < 2 ^ 63
+
+onward : (s : Stages) (now : InnerReceiving) (octets : List ℕ) (phase : Option Chosen) (piece : List Bool) → Grows s.inner now octets phase piece
+    → (given : List ℕ) (done : List (Handed ItemValue)) → length given + length octets < 2 ^ 60 → (stood : StagesFor s given done) → Onward s now given octets stood.handed phase piece
+onward s now octets phase piece grows given done few stood =
+    let c = s.inner.config in
+    let f = grows given stood.handed few stood.inner stood.are_due in
+    record {
+      more = f.more;
+      stands = f.stands;
+      due = f.due;
+      is_phase = f.is_phase;
+      is = f.bits;
+      few = few_bits (inner_bits c given (items_of stood.handed)) (inner_bits c (given ++ octets) (items_of (stood.handed ++ f.more))) piece given octets f.bits
+          (due-few c (given ++ octets) (stood.handed ++ f.more) f.due) few;
+    }
+
+-- all that is due with the octets was handed over
+stages-more : {T : Type 0} (took : T → ItemValue → T → Type 0) (s now : Stages) (middle taker_now : T) (octets : List ℕ) (phase : Option Chosen) (piece : List Bool)
+    → IsOf s → now.inner.config ≡ s.inner.config → Grows s.inner now.inner octets phase piece → (p : Received took s.bits now.bits middle taker_now piece)
+    → (given : List ℕ) (done : List (Handed ItemValue)) → length given + length octets < 2 ^ 60 → StagesFor s given done
+    → StagesFor now (given ++ octets) (done ++ (in_turn phase [] ++ map Item p.items))
+stages-more took s now middle taker_now octets phase piece of same grows p given done few stood =
+    let c = s.inner.config in
+    let f = onward s now.inner octets phase piece grows given done few stood in
+    let handed = stood.handed ++ f.more in
+    let bits = inner_bits c given (items_of stood.handed) in
+    let more = subst (λ (k : Configuration). AreFurther k bits piece p.items) of (p.due bits f.few stood.bits) in
+    let items = subst (λ (l : List Bool). AreItemsOf c l (due (rules_of c) l) (stood.items ++ p.items)) (sym f.is) (due-further c bits piece stood.items p.items stood.are_items more) in
+    let stands = subst (StandsForBits now.bits) (sym f.is) (p.stands bits f.few stood.bits) in
+    record {
+      handed = handed;
+      inner = f.stands;
+      are_due = subst (λ (k : Configuration). AreHandedDue k (given ++ octets) handed) (sym same) f.due;
+      bits = subst (λ (k : Configuration). StandsForBits now.bits (inner_bits k (given ++ octets) (items_of handed))) (sym same) stands;
+      items = stood.items ++ p.items;
+      are_items = subst (λ (k : Configuration). AreItemsOf k (inner_bits k (given ++ octets) (items_of handed)) (due (rules_of k) (inner_bits k (given ++ octets) (items_of handed))) (stood.items ++ p.items))
+          (sym same) items;
+      are = turn-more c given stood.handed f.more done stood.items p.items phase stood.are_due stood.are_items stood.are
+          (once-due c given octets stood.handed f.more stood.are_due f.due) f.is_phase;
+    }
+
+-- a part of it was
+stages-front : (s : Stages) (now : InnerReceiving) (octets : List ℕ) (phase : Option Chosen) (piece : List Bool) (tried : List ItemValue)
+    → IsOf s → Grows s.inner now octets phase piece → AreFirstDue s.bits.batch.config (StandsForBits s.bits) piece tried
+    → (in_turn phase [] ++ map Item tried ≡ [] → ⊥)
+    → (given : List ℕ) (done : List (Handed ItemValue)) → length given + length octets < 2 ^ 60 → StagesFor s given done
+    → AreReceivedFirst s.inner.config (given ++ octets) (done ++ (in_turn phase [] ++ map Item tried))
+stages-front s now octets phase piece tried of grows first some given done few stood =
+    let c = s.inner.config in
+    let f = onward s now octets phase piece grows given done few stood in
+    let handed = stood.handed ++ f.more in
+    let bits = inner_bits c given (items_of stood.handed) in
+    let more = subst (λ (k : Configuration). AreFirstFurther k bits piece tried) of (first bits f.few stood.bits) in
+    elim f.due as (λ _. AreReceivedFirst c (given ++ octets) (done ++ (in_turn phase [] ++ map Item tried))) [
+      | inl w ↦ (
+          let none : phase ≡ None = f.is_phase ∙ ap phase_of (front-nil stood.handed f.more w.1).1 in
+          let no_items = first-none-items c bits piece tried (sym f.is ∙ unsettled-bits c (given ++ octets) handed w.0 w.1) more in
+          absurd (some (ap (λ (o : Option Chosen). in_turn o [] ++ map Item tried) none ∙ ap (map Item) no_items))
+          )
+      | inr g ↦ (
+          let h = g.1 in
+          let blocks = turn-items h.chosen h.items handed h.are in
+          let chosen : phase_of handed ≡ h.chosen = ap phase_of h.are ∙ phase_of-in_turn h.chosen h.items in (
+            g.0,
+            record {
+              chosen = h.chosen;
+              choice = h.choice;
+              items = stood.items ++ tried;
+              are_items = record {
+                blocks = items_of handed;
+                are_first = subst (AreInnerFirst c (skip_of h.chosen) (given ++ octets)) (sym blocks) (first-of-due c (skip_of h.chosen) (given ++ octets) h.items h.are_items);
+                are_items = subst (λ (l : List Bool). AreFirstItemsOf c l (places (rules_of c) l) (stood.items ++ tried)) (sym f.is) (first-of-more c bits piece stood.items tried stood.are_items more);
+              };
+              are = turn-more c given stood.handed f.more done stood.items tried phase stood.are_due stood.are_items stood.are
+                  (once-due c given octets stood.handed f.more stood.are_due f.due) f.is_phase
+                  ∙ ap (λ (o : Option Chosen). in_turn o (stood.items ++ tried)) chosen;
+            },
+          )
+          )
+    ]
+
+pub hands-due : {T : Type 0} (took_phase : T → ℕ → ℕ → T → Type 0) (took : T → ItemValue → T → Type 0) (s now : Stages) (taker middle taker_now : T) (octets : List ℕ) (phase : Option Chosen) (piece : List Bool)
+    → IsOf s → now.inner.config ≡ s.inner.config → Grows s.inner now.inner octets phase piece → HandedOver (on_handed took_phase took) taker (in_turn phase []) middle
+    → Received took s.bits now.bits middle taker_now piece → Hands (on_handed took_phase took) StagesFor s now taker taker_now octets
+hands-due took_phase took s now taker middle taker_now octets phase piece of same grows first p = record {
+  more = in_turn phase [] ++ map Item p.items;
+  handed = HandedOver-append (on_handed took_phase took) taker middle taker_now (in_turn phase []) (map Item p.items) first
+      (HandedOver-items took_phase took middle taker_now p.items p.handed);
+  stands = stages-more took s now middle taker_now octets phase piece of same grows p;
+}
+
+-- the taker failed at the phase
+pub front-phase : {T : Type 0} (took_phase broke_phase : T → ℕ → ℕ → T → Type 0) (took broke : T → ItemValue → T → Type 0) (s : Stages) (now : InnerReceiving) (taker taker_now : T) (octets : List ℕ)
+    (phase : Option Chosen) (piece : List Bool) → IsOf s → Grows s.inner now octets phase piece
+    → HandedPart (on_handed took_phase took) (on_handed broke_phase broke) taker (in_turn phase []) taker_now
+    → HandsFront (on_handed took_phase took) (on_handed broke_phase broke) StagesFor (AreReceivedFirst s.inner.config) s taker taker_now octets
+front-phase took_phase broke_phase took broke s now taker taker_now octets phase piece of grows part =
+    let all = append-nil (in_turn {I = ItemValue} phase []) in
+    record {
+      tried = in_turn phase [];
+      handed = part;
+      first = λ given done few stood. subst (λ (l : List (Handed ItemValue)). AreReceivedFirst s.inner.config (given ++ octets) (done ++ l)) all
+          (stages-front s now octets phase piece [] of grows (λ bits _ _. tt)
+          (λ none. part-some (on_handed took_phase took) (on_handed broke_phase broke) taker taker_now (in_turn phase []) part (sym all ∙ none)) given done few stood);
+    }
+
+-- it failed at an item behind it
+pub front-due : {T : Type 0} (took_phase broke_phase : T → ℕ → ℕ → T → Type 0) (took broke : T → ItemValue → T → Type 0) (s : Stages) (now : InnerReceiving) (bits_now : BitReceiving)
+    (taker middle taker_now : T) (octets : List ℕ) (phase : Option Chosen) (piece : List Bool) → IsOf s → Grows s.inner now octets phase piece
+    → HandedOver (on_handed took_phase took) taker (in_turn phase []) middle → ReceivedPart took broke s.bits bits_now middle taker_now piece
+    → HandsFront (on_handed took_phase took) (on_handed broke_phase broke) StagesFor (AreReceivedFirst s.inner.config) s taker taker_now octets
+front-due took_phase broke_phase took broke s now bits_now taker middle taker_now octets phase piece of grows first p =
+    let part = HandedPart-after (on_handed took_phase took) (on_handed broke_phase broke) taker middle taker_now (in_turn phase []) (map Item p.tried) first
+    (HandedPart-items took_phase broke_phase took broke middle taker_now p.tried p.handed) in
+    record {
+      tried = in_turn phase [] ++ map Item p.tried;
+      handed = part;
+      first = stages-front s now octets phase piece p.tried of grows p.first
+          (part-some (on_handed took_phase took) (on_handed broke_phase broke) taker taker_now (in_turn phase [] ++ map Item p.tried) part);
+    }
+
+-- what both stages have handed over is due
+pub received-due : (s : Stages) (given : List ℕ) (done : List (Handed ItemValue)) → StagesFor s given done → AreReceivedDue s.inner.config given done
+received-due s given done stood =
+    let c = s.inner.config in
+    let handed = stood.handed in
+    elim stood.are_due as (λ _. AreReceivedDue c given done) [
+      | inl w ↦ (
+          let none = due-none-items c (inner_bits c given (items_of handed)) stood.items (unsettled-bits c given handed w.0 w.1) stood.are_items in
+          inl (w.0, stood.are ∙ ap (λ (l : List (Handed WindowBlock)). in_turn (phase_of l) stood.items) w.1 ∙ ap (in_turn None) none)
+          )
+      | inr g ↦ (
+          let h = g.1 in
+          let blocks = turn-items h.chosen h.items handed h.are in
+          let chosen : phase_of handed ≡ h.chosen = ap phase_of h.are ∙ phase_of-in_turn h.chosen h.items in
+          inr (
+            g.0,
+            record {
+              chosen = h.chosen;
+              choice = h.choice;
+              items = stood.items;
+              are_items = record { blocks = items_of handed; are_due = subst (AreInnerDue c (skip_of h.chosen) given) (sym blocks) h.are_items; are_items = stood.are_items };
+              are = stood.are ∙ ap (λ (o : Option Chosen). in_turn o stood.items) chosen;
+            },
+          )
+          )
+    ]
+
+-- ---- what is first stays so
+
+stays-at : StayClosed → (rate : Option Rate) (c : Configuration) (phase : ℕ) (octets more : List ℕ) (blocks : List WindowBlock) → FirstAt rate c phase octets blocks
+    → FirstAt rate c phase (octets ++ more) blocks × ((rest : List Bool) × (bits_at rate c (octets ++ more) blocks ≡ bits_at rate c octets blocks ++ rest))
+stays-at closed None c phase octets more blocks first =
+    (first, (drop (c.skip - length (bits_of octets)) (bits_of more), ap (drop c.skip) (bits_of-append octets more) ∙ drop-split c.skip (bits_of octets) (bits_of more)))
+stays-at closed (Some rate) c phase octets more blocks first =
+    let back = map (soft_value c) (drop (phase - length (drop c.skip octets)) (drop (c.skip - length octets) more)) in (
+      subst (λ (l : List ℕ). AreFirst (settings_of c rate) l blocks) (sym (soft-more c phase octets more)) (closed (settings_of c rate) (soft_octets c phase octets) back blocks first),
+      ([], sym (append-nil (all_bits blocks))),
+    )
+
+pub first-stays : PhaseStays → StayClosed → (c : Configuration) → Stay (AreReceivedFirst c)
+first-stays stays closed c octets more handed h =
+    let t = h.1 in
+    let r = t.are_items in
+    let first = stays-at closed (rate_of c.inner) c (skip_of t.chosen) octets more r.blocks r.are_first in (
+      settled-stays c octets more h.0,
       record {
-        blocks = blocks;
-        inner = f.stands;
-        are_due = subst (λ (k : Configuration). AreInnerDue k 0 (given ++ octets) blocks) (sym config) are_due;
-        bits = subst (λ (k : Configuration). StandsForBits now.bits (inner_bits k (given ++ octets) blocks)) (sym config) stands;
-        are_items = subst (λ (k : Configuration). AreItemsOf k (inner_bits k (given ++ octets) blocks) (due (rules_of k) (inner_bits k (given ++ octets) blocks)) (done ++ p.received.items)) (sym config) items;
+        chosen = t.chosen;
+        choice = choice-stays stays c octets more t.chosen h.0 t.choice;
+        items = t.items;
+        are_items = record {
+          blocks = r.blocks;
+          are_first = first.0;
+          are_items = subst (λ (l : List Bool). AreFirstItemsOf c l (places (rules_of c) l) t.items) (sym first.1.1)
+              (first-beyond c (inner_bits c octets r.blocks) first.1.0 t.items r.are_items);
+        };
+        are = t.are;
       },
-      record { blocks = blocks; are_due = are_due; are_items = items },
     )
 
--- the taker failed at one of the items that are due with them
-pub goes-front : {T : Type 0} (took broke : T → ItemValue → T → Type 0) (r : OctetReceiving) (bits_now : BitReceiving) (taker taker_now : T) (octets : List ℕ) → IsOf r
-    → (p : TakesPart took broke r.inner r.bits bits_now taker taker_now octets) (given : List ℕ) (done : List ItemValue) → length given + length octets < 2 ^ 60
-    → StandsFor r given done → ReceiveFirst r.config 0 (given ++ octets) (done ++ p.received.tried)
-goes-front took broke r bits_now taker taker_now octets of p given done few stood =
-    let c = r.config in
-    let f = p.grows given stood.blocks few stood.inner (subst (λ (k : Configuration). AreInnerDue k 0 given stood.blocks) (sym of.0) stood.are_due) in
-    let blocks = stood.blocks ++ f.more in
-    let first = subst (λ (k : Configuration). AreInnerFirst k 0 (given ++ octets) blocks) of.0 f.first in
-    let bits = inner_bits c given stood.blocks in
-    let all = inner_bits c (given ++ octets) blocks in
-    let is : all ≡ bits ++ (p.piece ++ f.rest) = subst (λ (k : Configuration). inner_bits k (given ++ octets) blocks ≡ inner_bits k given stood.blocks ++ (p.piece ++ f.rest)) of.0 f.bits in
-    let few' = few_bits bits all p.piece f.rest given octets is (first-few c (given ++ octets) blocks first) few in
-    let more = subst (λ (k : Configuration). AreFirstFurther k bits p.piece p.received.tried) of.1 (p.received.first bits few' stood.bits) in
-    let front = first-of-more c bits p.piece done p.received.tried stood.are_items more in
-    record {
-      blocks = blocks;
-      are_first = first;
-      are_items = subst (λ (l : List Bool). AreFirstItemsOf c l (places (rules_of c) l) (done ++ p.received.tried)) (append_assoc bits p.piece f.rest ∙ sym is)
-          (first-beyond c (bits ++ p.piece) f.rest (done ++ p.received.tried) front);
-    }
+-- the phase that is chosen with these octets too
+pub first-chosen : {T : Type 0} (took broke : T → Handed ItemValue → T → Type 0) (s : Stages) (now : InnerReceiving) (taker taker_now : T) (octets : List ℕ)
+    (phase : Option Chosen) (piece : List Bool) → now.config ≡ s.inner.config → Grows s.inner now octets phase piece
+    → HandsFront took broke StagesFor (AreReceivedFirst s.inner.config) s taker taker_now octets
+    → HandsFront took broke StagesFor (FirstWith s.inner.config now.phased.chosen) s taker taker_now octets
+first-chosen took broke s now taker taker_now octets phase piece same grows p = record {
+  tried = p.tried;
+  handed = p.handed;
+  first = λ given done few stood.
+      let f = grows given stood.handed few stood.inner stood.are_due in (
+        p.first given done few stood,
+        subst (λ (k : Configuration). IsChosenSoFar k (given ++ octets) now.phased.chosen) same (stands-so-far now (given ++ octets) (stood.handed ++ f.more) f.stands),
+      );
+}
 
--- ---- a receiver ends
+pub first_with-stays : PhaseStays → StayClosed → (c : Configuration) (chosen : Option Chosen) → Stay (FirstWith c chosen)
+first_with-stays stays closed c chosen octets more handed h = (first-stays stays closed c octets more handed h.0, so_far-stays stays c octets more chosen h.0.0 h.1)
 
--- the bits of the end of the octets
-record Ended (r : OctetReceiving) (given : List ℕ) (blocks : List WindowBlock) (piece : List Bool) (count : ℕ) : Type 0 where
+-- ---- both stages end
+
+-- the phase that is chosen at the end
+pub chosen-at_end : (r now : OctetReceiving) (chosen : Option Chosen) → r ≡ now → r.stages.inner.config ≡ r.config
+    → ((given : List ℕ) (done : List (Handed WindowBlock)) → InnerStandsFor r.stages.inner given done → IsChosen r.stages.inner.config given chosen)
+    → (given : List ℕ) (done : List (Handed ItemValue)) → StandsFor now given done → now.has_stopped ≡ false → IsChosen now.config given chosen
+chosen-at_end r now chosen view same is =
+    subst (λ (n : OctetReceiving). (given : List ℕ) (done : List (Handed ItemValue)) → StandsFor n given done → n.has_stopped ≡ false → IsChosen n.config given chosen) view
+    (λ given done stood _. subst (λ (k : Configuration). IsChosen k given chosen) same (is given stood.handed stood.inner))
+
+-- the phase and the bits of the end of the octets
+record Ended (s : Stages) (given : List ℕ) (done : List (Handed ItemValue)) (stood : StagesFor s given done) (phase : Option Chosen) (piece : List Bool) (count : ℕ) : Type 0 where
+  chosen : Option Chosen
+  choice : IsChosen s.inner.config given chosen
   bits : List Bool
-  inner : Inner r.config 0 given bits
-  is : bits ≡ inner_bits r.config given blocks ++ piece
-  few : length (inner_bits r.config given blocks ++ piece) < 2 ^ 63
+  inner : Inner s.inner.config (skip_of chosen) given bits
+  is : bits ≡ inner_bits s.inner.config given (items_of stood.handed) ++ piece
+  few : length (inner_bits s.inner.config given (items_of stood.handed) ++ piece) < 2 ^ 63
   counted : count ≡ length bits
+  turn : (others : List ItemValue) → done ++ (in_turn phase [] ++ map Item others) ≡ in_turn chosen (stood.items ++ others)
 
-ended : (r : OctetReceiving) (given : List ℕ) (done : List ItemValue) (piece : List Bool) (count : ℕ) → IsOf r → Ends r.inner piece count → (stood : StandsFor r given done)
-    → Ended r given stood.blocks piece count
-ended r given done piece count of ends stood =
-    let e = ends given stood.blocks stood.inner (subst (λ (k : Configuration). AreInnerDue k 0 given stood.blocks) (sym of.0) stood.are_due) in
-    let blocks = stood.blocks ++ e.last in
-    let here = subst (λ (k : Configuration). AreInnerBlocks k 0 given blocks e.left) of.0 e.are_blocks in
-    let is = subst (λ (k : Configuration). inner_bits k given blocks ≡ inner_bits k given stood.blocks ++ piece) of.0 e.bits in
+ended : (s : Stages) (given : List ℕ) (done : List (Handed ItemValue)) (stood : StagesFor s given done) (phase : Option Chosen) (piece : List Bool) (count : ℕ) → Ends s.inner phase piece count
+    → Ended s given done stood phase piece count
+ended s given done stood phase piece count ends =
+    let c = s.inner.config in
+    let e = ends given stood.handed stood.inner stood.are_due in
+    let h = e.are_handed in
+    let handed = stood.handed ++ e.last in
+    let blocks = turn-items h.chosen h.items handed h.are in
+    let chosen : phase_of handed ≡ h.chosen = ap phase_of h.are ∙ phase_of-in_turn h.chosen h.items in
+    let here = subst (λ (l : List WindowBlock). AreInnerBlocks c (skip_of h.chosen) given l e.left) (sym blocks) h.are_items in
     record {
-      bits = inner_bits r.config given blocks;
-      inner = record { blocks = blocks; left = e.left; are_blocks = here; are_bits = refl };
-      is = is;
-      few = omega (arith, ap length is, whole-few r.config given blocks e.left here, stood.inner.few);
-      counted = subst (λ (k : Configuration). count ≡ length (inner_bits k given blocks)) of.0 e.counted;
+      chosen = h.chosen;
+      choice = h.choice;
+      bits = inner_bits c given (items_of handed);
+      inner = record { blocks = items_of handed; left = e.left; are_blocks = here; are_bits = refl };
+      is = e.bits;
+      few = omega (arith, ap length e.bits, whole-few c (skip_of h.chosen) given (items_of handed) e.left here, stood.inner.few);
+      counted = e.counted;
+      turn = λ others. turn-more c given stood.handed e.last done stood.items others phase stood.are_due stood.are_items stood.are
+          (once-last c given stood.handed e.last e.left stood.are_due h) e.is_phase ∙ ap (λ (o : Option Chosen). in_turn o (stood.items ++ others)) chosen;
     }
 
-pub ends : {T : Type 0} (took : T → ItemValue → T → Type 0) (r : OctetReceiving) (bits_now : BitReceiving) (taker middle now : T) (piece : List Bool) (count : ℕ) → IsOf r → Ends r.inner piece count
-    → (p : Received took r.bits bits_now taker middle piece) (q : ReceivedLast took bits_now middle now) (given : List ℕ) (done : List ItemValue) → StandsFor r given done
-    → (bits : List Bool) × Inner r.config 0 given bits × (count ≡ length bits) × AreItems r.config bits (done ++ (p.items ++ q.items))
-ends took r bits_now taker middle now piece count of ended_with p q given done stood =
-    let c = r.config in
-    let e = ended r given done piece count of ended_with stood in
-    let bits = inner_bits c given stood.blocks in
-    let more = subst (λ (k : Configuration). AreFurther k bits piece p.items) of.1 (p.due bits e.few stood.bits) in
-    let due_items = due-further c bits piece done p.items stood.are_items more in
+pub ends : {T : Type 0} (took : T → ItemValue → T → Type 0) (s : Stages) (bits_now : BitReceiving) (taker middle now : T) (phase : Option Chosen) (piece : List Bool) (count : ℕ)
+    → IsOf s → Ends s.inner phase piece count → (p : Received took s.bits bits_now taker middle piece) (q : ReceivedLast took bits_now middle now)
+    → (given : List ℕ) (done : List (Handed ItemValue)) → StagesFor s given done
+    → AreReceived s.inner.config given (done ++ (in_turn phase [] ++ map Item (p.items ++ q.items))) count
+ends took s bits_now taker middle now phase piece count of ended_with p q given done stood =
+    let c = s.inner.config in
+    let e = ended s given done stood phase piece count ended_with in
+    let bits = inner_bits c given (items_of stood.handed) in
+    let more = subst (λ (k : Configuration). AreFurther k bits piece p.items) of (p.due bits e.few stood.bits) in
+    let due_items = due-further c bits piece stood.items p.items stood.are_items more in
     let last = subst (λ (k : Configuration). AreItemsOf k (bits ++ piece) (beyond (due (rules_of k) (bits ++ piece)) (places (rules_of k) (bits ++ piece))) q.items)
-    (p.config ∙ of.1) (q.last (bits ++ piece) (p.stands bits e.few stood.bits)) in
-    let items = all-items c (bits ++ piece) (done ++ p.items) q.items
-    (subst (λ (fs : List Found). AreItemsOf c (bits ++ piece) fs (done ++ p.items)) (sym (beyond-nil c (due (rules_of c) (bits ++ piece)))) due_items) last in (
-      e.bits,
-      e.inner,
-      e.counted,
-      subst (λ (l : List Bool). AreItems c l (done ++ (p.items ++ q.items))) (sym e.is) (subst (AreItems c (bits ++ piece)) (append_assoc done p.items q.items) items),
-    )
-
--- the taker failed at one of the items that are due with the last bits
-pub ends-part : {T : Type 0} (took broke : T → ItemValue → T → Type 0) (r : OctetReceiving) (bits_now : BitReceiving) (taker now : T) (piece : List Bool) (count : ℕ) → IsOf r → Ends r.inner piece count
-    → (p : ReceivedPart took broke r.bits bits_now taker now piece) (given : List ℕ) (done : List ItemValue) → StandsFor r given done
-    → ReceiveFront r.config 0 given (done ++ p.tried)
-ends-part took broke r bits_now taker now piece count of ended_with p given done stood =
-    let c = r.config in
-    let e = ended r given done piece count of ended_with stood in
-    let bits = inner_bits c given stood.blocks in
-    let more = subst (λ (k : Configuration). AreFirstFurther k bits piece p.tried) of.1 (p.first bits e.few stood.bits) in
+    (p.config ∙ of) (q.last (bits ++ piece) (p.stands bits e.few stood.bits)) in
+    let items = all-items c (bits ++ piece) (stood.items ++ p.items) q.items
+    (subst (λ (fs : List Found). AreItemsOf c (bits ++ piece) fs (stood.items ++ p.items)) (sym (beyond-nil c (due (rules_of c) (bits ++ piece)))) due_items) last in
     record {
-      bits = e.bits;
-      inner = e.inner;
-      are_items = subst (λ (l : List Bool). AreFirstItemsOf c l (places (rules_of c) l) (done ++ p.tried)) (sym e.is) (first-of-more c bits piece done p.tried stood.are_items more);
+      chosen = e.chosen;
+      choice = e.choice;
+      items = stood.items ++ (p.items ++ q.items);
+      are_items = (
+        e.bits,
+        e.inner,
+        e.counted,
+        subst (λ (l : List Bool). AreItems c l (stood.items ++ (p.items ++ q.items))) (sym e.is) (subst (AreItems c (bits ++ piece)) (append_assoc stood.items p.items q.items) items),
+      );
+      are = e.turn (p.items ++ q.items);
     }
 
--- the taker failed at one of the last items
-pub ends-front : {T : Type 0} (took broke : T → ItemValue → T → Type 0) (r : OctetReceiving) (bits_now : BitReceiving) (taker middle now : T) (piece : List Bool) (count : ℕ) → IsOf r → Ends r.inner piece count
-    → (p : Received took r.bits bits_now taker middle piece) (q : ReceivedLastPart took broke bits_now middle now) (given : List ℕ) (done : List ItemValue) → StandsFor r given done
-    → ReceiveFront r.config 0 given (done ++ (p.items ++ q.tried))
-ends-front took broke r bits_now taker middle now piece count of ended_with p q given done stood =
-    let c = r.config in
-    let e = ended r given done piece count of ended_with stood in
-    let bits = inner_bits c given stood.blocks in
-    let more = subst (λ (k : Configuration). AreFurther k bits piece p.items) of.1 (p.due bits e.few stood.bits) in
-    let due_items = due-further c bits piece done p.items stood.are_items more in
+-- a front of all, where these are first items of the bits
+ends-first : (s : Stages) (phase : Option Chosen) (piece : List Bool) (count : ℕ) (given : List ℕ) (done : List (Handed ItemValue)) (stood : StagesFor s given done)
+    → Ended s given done stood phase piece count → (tried : List ItemValue)
+    → AreFirstItemsOf s.inner.config (inner_bits s.inner.config given (items_of stood.handed) ++ piece)
+    (places (rules_of s.inner.config) (inner_bits s.inner.config given (items_of stood.handed) ++ piece)) (stood.items ++ tried)
+    → AreReceivedFront s.inner.config given (done ++ (in_turn phase [] ++ map Item tried))
+ends-first s phase piece count given done stood e tried first =
+    let c = s.inner.config in
+    record {
+      chosen = e.chosen;
+      choice = e.choice;
+      items = stood.items ++ tried;
+      are_items = record {
+        bits = e.bits;
+        inner = e.inner;
+        are_items = subst (λ (l : List Bool). AreFirstItemsOf c l (places (rules_of c) l) (stood.items ++ tried)) (sym e.is) first;
+      };
+      are = e.turn tried;
+    }
+
+-- the taker failed at the phase
+pub ends-phase : (s : Stages) (phase : Option Chosen) (piece : List Bool) (count : ℕ) → IsOf s → Ends s.inner phase piece count
+    → (given : List ℕ) (done : List (Handed ItemValue)) → StagesFor s given done → AreReceivedFront s.inner.config given (done ++ in_turn phase [])
+ends-phase s phase piece count of ended_with given done stood =
+    let c = s.inner.config in
+    let e = ended s given done stood phase piece count ended_with in
+    let bits = inner_bits c given (items_of stood.handed) in
+    subst (λ (l : List (Handed ItemValue)). AreReceivedFront c given (done ++ l)) (append-nil (in_turn phase []))
+    (ends-first s phase piece count given done stood e [] (first-of-more c bits piece stood.items [] stood.are_items tt))
+
+-- it failed at one of the items that are due with the last bits
+pub ends-part : {T : Type 0} (took broke : T → ItemValue → T → Type 0) (s : Stages) (bits_now : BitReceiving) (taker now : T) (phase : Option Chosen) (piece : List Bool) (count : ℕ)
+    → IsOf s → Ends s.inner phase piece count → (p : ReceivedPart took broke s.bits bits_now taker now piece)
+    → (given : List ℕ) (done : List (Handed ItemValue)) → StagesFor s given done
+    → AreReceivedFront s.inner.config given (done ++ (in_turn phase [] ++ map Item p.tried))
+ends-part took broke s bits_now taker now phase piece count of ended_with p given done stood =
+    let c = s.inner.config in
+    let e = ended s given done stood phase piece count ended_with in
+    let bits = inner_bits c given (items_of stood.handed) in
+    let more = subst (λ (k : Configuration). AreFirstFurther k bits piece p.tried) of (p.first bits e.few stood.bits) in
+    ends-first s phase piece count given done stood e p.tried (first-of-more c bits piece stood.items p.tried stood.are_items more)
+
+-- it failed at one of the last items
+pub ends-front : {T : Type 0} (took broke : T → ItemValue → T → Type 0) (s : Stages) (bits_now : BitReceiving) (taker middle now : T) (phase : Option Chosen) (piece : List Bool) (count : ℕ)
+    → IsOf s → Ends s.inner phase piece count → (p : Received took s.bits bits_now taker middle piece) (q : ReceivedLastPart took broke bits_now middle now)
+    → (given : List ℕ) (done : List (Handed ItemValue)) → StagesFor s given done
+    → AreReceivedFront s.inner.config given (done ++ (in_turn phase [] ++ map Item (p.items ++ q.tried)))
+ends-front took broke s bits_now taker middle now phase piece count of ended_with p q given done stood =
+    let c = s.inner.config in
+    let e = ended s given done stood phase piece count ended_with in
+    let bits = inner_bits c given (items_of stood.handed) in
+    let more = subst (λ (k : Configuration). AreFurther k bits piece p.items) of (p.due bits e.few stood.bits) in
+    let due_items = due-further c bits piece stood.items p.items stood.are_items more in
     let last = subst (λ (k : Configuration). AreFirstItemsOf k (bits ++ piece) (beyond (due (rules_of k) (bits ++ piece)) (places (rules_of k) (bits ++ piece))) q.tried)
-    (p.config ∙ of.1) (q.first (bits ++ piece) (p.stands bits e.few stood.bits)) in
-    let items = some-items c (bits ++ piece) (done ++ p.items) q.tried
-    (subst (λ (fs : List Found). AreItemsOf c (bits ++ piece) fs (done ++ p.items)) (sym (beyond-nil c (due (rules_of c) (bits ++ piece)))) due_items) last in
-    record {
-      bits = e.bits;
-      inner = e.inner;
-      are_items = subst (λ (l : List Bool). AreFirstItemsOf c l (places (rules_of c) l) (done ++ (p.items ++ q.tried))) (sym e.is)
-          (subst (AreFirstItemsOf c (bits ++ piece) (places (rules_of c) (bits ++ piece))) (append_assoc done p.items q.tried) items);
-    }
+    (p.config ∙ of) (q.first (bits ++ piece) (p.stands bits e.few stood.bits)) in
+    let items = some-items c (bits ++ piece) (stood.items ++ p.items) q.tried
+    (subst (λ (fs : List Found). AreItemsOf c (bits ++ piece) fs (stood.items ++ p.items)) (sym (beyond-nil c (due (rules_of c) (bits ++ piece)))) due_items) last in
+    ends-first s phase piece count given done stood e (p.items ++ q.tried)
+    (subst (AreFirstItemsOf c (bits ++ piece) (places (rules_of c) (bits ++ piece))) (append_assoc stood.items p.items q.tried) items)
 
--- ---- a new receiver
+-- ---- new stages
 
 bits-nil : (rate : Option Rate) (c : Configuration) → bits_at rate c [] [] ≡ []
 bits-nil None c = drop_all c.skip [] (omega arith)
 bits-nil (Some rate) c = refl
 
-pub stands-fresh : (r : OctetReceiving) → InnerStandsFor r.inner [] [] → StandsForBits r.bits [] → StandsFor r [] []
-stands-fresh r inner bits =
-    let none : inner_bits r.config [] [] ≡ [] = bits-nil (rate_of r.config.inner) r.config in
+pub stands-fresh : (s : Stages) → 1 ≤ s.inner.config.keep → InnerStandsFor s.inner [] [] → StandsForBits s.bits [] → StagesFor s [] []
+stands-fresh s some inner bits =
+    let c = s.inner.config in
+    let none : inner_bits c [] [] ≡ [] = bits-nil (rate_of c.inner) c in
     record {
-      blocks = [];
+      handed = [];
       inner = inner;
-      are_due = due-none r.config;
-      bits = subst (StandsForBits r.bits) (sym none) bits;
-      are_items = subst (λ (l : List Bool). AreItemsOf r.config l (due (rules_of r.config) l) []) (sym none)
-          (subst (λ (fs : List Found). AreItemsOf r.config [] fs []) (sym (due-nil r.config)) tt);
+      are_due = handed-due-none c some;
+      bits = subst (StandsForBits s.bits) (sym none) bits;
+      items = [];
+      are_items = subst (λ (l : List Bool). AreItemsOf c l (due (rules_of c) l) []) (sym none)
+          (subst (λ (fs : List Found). AreItemsOf c [] fs []) (sym (due-nil c)) tt);
+      are = refl;
     }

@@ -14,12 +14,14 @@ pub mod DueItems
 pub mod FirstItems
 pub mod WorkedItems
 pub mod Gathered
+pub mod HandedItems
 pub mod Handing
 pub mod Streaming
 pub mod Stepping
 pub mod Pieces
 pub mod AllBits
 pub mod ReceivedPieces
+pub mod Turns
 pub mod GivenOctets
 pub mod TurnedOver
 pub mod ColumnsRead

@@ -5,6 +5,7 @@ pub mod ReceivedCodeblock
 pub mod Items
 pub mod Due
 pub mod Receive
+pub mod Handing
 pub mod SentStream
 pub mod Receiving
 pub mod OctetReceiving

@@ -40,7 +40,7 @@ impl<'a> Model for Item<'a> {
     ghost invariant = { λ i. length i.answers.now ≤ 8 };
 }
 
-/// What takes items, one after another. It counts its faults, and the count never falls.
+/// What takes the symbol phase, where it is to be found, and then items, one after another. It counts its faults, and the count never falls.
 pub trait ItemTaker {
     /// How often a call has failed.
     ghost faults: { Self → ℕ };
@@ -54,7 +54,7 @@ pub trait ItemTaker {
     /// What an item does at which the taker fails.
     ghost broke: { Self → ItemValue → Self → Type 0 };
 
-    /// What taking the symbol phase does: how many octets are skipped, and what they cost.
+    /// What taking the symbol phase does: how many octets are skipped, and what the best path behind them costs.
     ghost took_phase: { Self → ℕ → ℕ → Self → Type 0 };
 
     /// What a symbol phase does at which the taker fails.
@@ -66,7 +66,7 @@ pub trait ItemTaker {
         ensures err { OnErr result (broke self.old item.now self.new) }
         ensures cause { HasCause (faults self.old) (faults self.new) (is_last self.new) result };
 
-    /// Takes the symbol phase that was chosen, `skip` octets at this cost. `Failed` comes only where the count of faults rose.
+    /// Takes the symbol phase that was chosen: `skip` octets, behind which the best path costs `cost`. `Failed` comes only where the count of faults rose.
     fn phase(&mut self, skip: u8, cost: u64) -> Result<(), Failed>
         ensures ok { OnOk result (took_phase self.old skip cost self.new) }
         ensures err { OnErr result (broke_phase self.old skip cost self.new) }

@@ -1,16 +1,18 @@
-// The bits that blocks keep, until the search takes them.
-ghost use Rattle.std.specs.Prelude.{◌≡◌, [], IfOk};
+// The bits that blocks keep, and the phase before them, until the search and the taker take them.
+ghost use Rattle.std.specs.Prelude.{◌≡◌, [], None, IfOk};
 
 use std::alloc::{AllocError, Global};
 use std::marker::Model;
 use tm_base::Failed;
+use tm_phase::Chosen;
 use tm_viterbi::{Block, BlockTaker};
 
-/// Room for the bits that blocks keep.
+/// Room for the bits that blocks keep, and for the symbol phase before them.
 #[derive(Drop)]
 pub struct KeptBits {
     room: Vec<u8>,
     count: usize,
+    phase: Option<Chosen>,
 }
 
 impl Model for KeptBits {
@@ -19,7 +21,7 @@ impl Model for KeptBits {
 
     ghost Value = { Keeping };
 
-    ghost view = { λ k. record { bits = take k.count k.room.items; size = length k.room.items } };
+    ghost view = { λ k. record { bits = take k.count k.room.items; size = length k.room.items; phase = k.phase } };
 
     ghost invariant = { λ k. k.count ≤ length k.room.items };
 }
@@ -27,19 +29,21 @@ impl Model for KeptBits {
 impl KeptBits {
     /// Room for so many bits, with none in it. It takes all its memory here.
     pub fn open(alloc: Global, size: usize) -> Result<KeptBits, AllocError>
-        ensures { IfOk result (λ kept. kept ≡ record { bits = []; size = size }) }
+        ensures { IfOk result (λ kept. kept ≡ record { bits = []; size = size; phase = None }) }
     {
         Ok(KeptBits {
             room: vec![in alloc; 0; size]?,
             count: 0,
+            phase: None,
         })
     }
 
-    /// Keeps no bit any longer.
+    /// Keeps no bit and no phase any longer.
     pub fn clear(&mut self)
-        ensures { self.new ≡ record self.old { bits = [] } }
+        ensures { self.new ≡ record self.old { bits = []; phase = None } }
     {
         self.count = 0;
+        self.phase = None;
     }
 
     /// The bits, each 0 or 1.
@@ -48,12 +52,19 @@ impl KeptBits {
     {
         &self.room.as_slice()[..self.count]
     }
+
+    /// The symbol phase, where it was handed over.
+    pub fn phase(&self) -> Option<Chosen>
+        ensures { result ≡ self.now.phase }
+    {
+        self.phase
+    }
 }
 
 // It never fails: bits for which there is no room are dropped.
 impl BlockTaker for KeptBits {
     ghost use Rattle.std.specs.Prelude.{◌≡◌};
-    ghost use Rattle.tm_channel.specs.OctetReceiving.{Keeps};
+    ghost use Rattle.tm_channel.specs.OctetReceiving.{Keeps, KeepsPhase};
 
     ghost faults = { λ k. 0 };
 
@@ -63,7 +74,7 @@ impl BlockTaker for KeptBits {
 
     ghost broke = { λ a block b. ⊥ };
 
-    ghost took_phase = { λ a skip cost b. b ≡ a };
+    ghost took_phase = { λ a skip cost b. KeepsPhase a skip cost b };
 
     ghost broke_phase = { λ a skip cost b. ⊥ };
 
@@ -77,7 +88,8 @@ impl BlockTaker for KeptBits {
         Ok(())
     }
 
-    fn phase(&mut self, _skip: u8, _cost: u64) -> Result<(), Failed> {
+    fn phase(&mut self, skip: u8, cost: u64) -> Result<(), Failed> {
+        self.phase = Some(Chosen { skip, cost });
         Ok(())
     }
 }

@@ -2,6 +2,7 @@
 ghost use Rattle.std.specs.Prelude.{◌≡◌, ◌++◌, ℕ, Bool, List, map};
 ghost use Rattle.std.specs.List.{concat};
 ghost use Rattle.tm_base.specs.Bits.{AreOctets};
+ghost use Rattle.tm_base.specs.Handed.{Handed};
 ghost use Rattle.tm_config.specs.Accepted.{IsAccepted};
 ghost use Rattle.tm_config.specs.Configuration.{Configuration};
 ghost use Rattle.tm_inner.specs.Inner.{Inner, IsStartKnown};
@@ -9,10 +10,12 @@ ghost use Rattle.tm_viterbi.specs.Clean.{turned_octets};
 ghost use Rattle.tm_channel.specs.Frames.{whole_frames};
 ghost use Rattle.tm_channel.specs.Sent.{sent};
 ghost use Rattle.tm_channel.specs.Items.{ItemValue, frames_of, turned_item};
+ghost use Rattle.tm_channel.specs.Handing.{AreReceived, AreReceivedDue, AreReceivedFirst, AreReceivedFront};
 ghost use Rattle.tm_channel.specs.Receive.{Receive, ReceiveDue, ReceiveFirst, ReceiveFront};
 ghost use Rattle.tm_channel.specs.SentStream.{AreAsSent, AreNear, IsSent, SentUnit, clean_items, unit_frames, unit_places};
 
 use tm_inner::{clean_inner_law, due_bits_law, inner_law};
+use tm_phase::{phase_law, whole_window_law};
 use tm_viterbi::{closed_windows_law, due_law, turned_blocks_law};
 
 /// Received octets come to one list of items. It does nothing.
@@ -43,6 +46,29 @@ pub fn first_items_law()
     closed_windows_law();
     due_law();
     inner_law();
+}
+
+/// What is handed over for received octets, their phase where it is to be found and then items, is one list, which there is. What is
+/// due, and the first of what is handed over, stand first in it, whatever octets come behind. It does nothing.
+pub fn received_law()
+    ensures exists { (c : Configuration) (octets : List ℕ) → IsAccepted c → (handed : List (Handed ItemValue)) × ((bits : ℕ) × AreReceived c octets handed bits) }
+    ensures one { (c : Configuration) (octets : List ℕ) (handed others : List (Handed ItemValue)) (bits count : ℕ) → IsAccepted c
+        → AreReceived c octets handed bits → AreReceived c octets others count → handed ≡ others }
+    ensures bits { (c : Configuration) (octets : List ℕ) (handed others : List (Handed ItemValue)) (bits count : ℕ)
+        → AreReceived c octets handed bits → AreReceived c octets others count → bits ≡ count }
+    ensures due { (c : Configuration) (octets more : List ℕ) (due all : List (Handed ItemValue)) (bits : ℕ) → IsAccepted c
+        → AreReceivedDue c octets due → AreReceived c (octets ++ more) all bits → (rest : List (Handed ItemValue)) × (all ≡ due ++ rest) }
+    ensures first { (c : Configuration) (octets more : List ℕ) (first all : List (Handed ItemValue)) (bits : ℕ) → IsAccepted c
+        → AreReceivedFirst c octets first → AreReceived c (octets ++ more) all bits → (rest : List (Handed ItemValue)) × (all ≡ first ++ rest) }
+    ensures front { (c : Configuration) (octets : List ℕ) (front all : List (Handed ItemValue)) (bits : ℕ) → IsAccepted c
+        → AreReceivedFront c octets front → AreReceived c octets all bits → (rest : List (Handed ItemValue)) × (all ≡ front ++ rest) }
+{
+    items_law();
+    due_items_law();
+    first_items_law();
+    inner_law();
+    phase_law();
+    whole_window_law();
 }
 
 /// However the units of frames were disturbed, with gaps before and behind them, their items stand exactly at their markers,

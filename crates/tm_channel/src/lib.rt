@@ -23,11 +23,14 @@ mod tests;
 
 pub use cadus::{basis_of, cadu};
 pub use item::{Item, ItemTaker};
-pub use laws::{clean_law, disturbed_law, due_items_law, first_items_law, items_law, polarity_law};
+pub use laws::{
+    clean_law, disturbed_law, due_items_law, first_items_law, items_law, polarity_law, received_law,
+};
 pub use receiver::{Receiver, RecvError, receive_all};
 pub use sender::Sender;
 pub use tm_config::{Config, ConfigError, Raw};
 pub use tm_inner::{InnerEnd, InnerReceiver, InnerSender, SendError, inner_all};
+pub use tm_phase::Chosen;
 pub use tm_rs_solve::Answer;
 pub use tm_viterbi::{AllError, Block, BlockTaker, FeedError};
 pub use tm_workers::{Gate, OpenGate};

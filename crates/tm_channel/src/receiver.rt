@@ -1,10 +1,11 @@
 // The receiver: octets in, items out.
-ghost use Rattle.std.specs.Prelude.{◌≡◌, ◌≢◌, ◌↔◌, ◌⊎◌, ◌++◌, ℕ, ◌+◌, ◌^◌, ◌<◌, ◌≤◌, Bool, true, false, List, [], length, IfOk, OnOk, IsErrOf, Err, IsTrue};
+ghost use Rattle.std.specs.Prelude.{◌≡◌, ◌≢◌, ◌↔◌, ◌⊎◌, ◌++◌, ℕ, ◌+◌, ◌^◌, ◌<◌, ◌≤◌, true, false, List, [], length, IfOk, OnOk, IsErrOf, Err, IsTrue};
+ghost use Rattle.tm_base.specs.Handed.{Handed, on_handed};
 ghost use Rattle.tm_base.specs.Outside.{Rose};
 ghost use Rattle.tm_base.specs.Takers.{HandedOver, HandedPart};
-ghost use Rattle.tm_inner.specs.Inner.{Inner};
-ghost use Rattle.tm_channel.specs.Items.{ItemValue, AreItems};
-ghost use Rattle.tm_channel.specs.Receive.{Receive, ReceiveDue, ReceiveFirst, ReceiveFront};
+ghost use Rattle.tm_inner.specs.Phase.{IsChosen, IsChosenSoFar};
+ghost use Rattle.tm_channel.specs.Items.{ItemValue};
+ghost use Rattle.tm_channel.specs.Handing.{AreReceived, AreReceivedDue, AreReceivedFirst, AreReceivedFront};
 ghost use Rattle.tm_channel.specs.OctetReceiving.{StandsFor};
 
 use crate::item::ItemTaker;
@@ -12,7 +13,7 @@ use crate::kept::KeptBits;
 use crate::repair::codeblock_size;
 use crate::store::Codeblocks;
 use crate::stream::BitStream;
-use crate::taking::{PIECE, end, take};
+use crate::taking::{PIECE, end, hand_phase, take};
 use std::alloc::Global;
 use std::marker::Model;
 use std::thread::Threads;
@@ -20,6 +21,7 @@ use thiserror::Error;
 use tm_base::{Failed, NoMemory};
 use tm_config::Config;
 use tm_inner::InnerReceiver;
+use tm_phase::Chosen;
 use tm_sync::Search;
 use tm_viterbi::AllError;
 use tm_workers::{Gate, OpenGate};
@@ -42,22 +44,22 @@ pub enum RecvError {
 pub struct Receiver {
     config: Config,
     inner: InnerReceiver,
-    // Room for the bits of a window of the inner code and of a piece of octets.
+    // Room for the bits of a window of the inner code, of the octets that wait for the phase and of a piece of octets.
     kept: KeptBits,
     stream: BitStream,
     has_stopped: bool,
 }
 
 impl Model for Receiver {
-    ghost use Rattle.std.specs.Prelude.{◌≡◌, ◌≤◌, ◌+◌, false};
+    ghost use Rattle.std.specs.Prelude.{◌≡◌, ◌≤◌, ◌+◌, ◌*◌, false};
     ghost use Rattle.tm_channel.specs.OctetReceiving.{OctetReceiving};
 
     ghost Value = { OctetReceiving };
 
-    ghost view = { λ r. record { config = r.config; has_stopped = r.has_stopped; inner = r.inner; bits = r.stream } };
+    ghost view = { λ r. record { config = r.config; has_stopped = r.has_stopped; stages = record { inner = r.inner; bits = r.stream } } };
 
     ghost invariant = { λ r. (r.inner.config ≡ r.config) × (r.stream.batch.config ≡ r.config) × (r.has_stopped ≡ false → r.inner.has_stopped ≡ false)
-        × (r.inner.config.keep + r.inner.config.ahead + 4096 ≤ r.kept.size) };
+        × (3 * (r.inner.config.keep + r.inner.config.ahead) + 7 + 4096 ≤ r.kept.size) };
 }
 
 impl Receiver {
@@ -70,8 +72,8 @@ impl Receiver {
         let Ok(inner) = InnerReceiver::open(alloc, &config) else {
             return Err(NoMemory);
         };
-        let Ok(kept) = KeptBits::open(alloc, (config.keep() + config.ahead()) as usize + PIECE)
-        else {
+        let window = (config.keep() + config.ahead()) as usize;
+        let Ok(kept) = KeptBits::open(alloc, 3 * window + 7 + PIECE) else {
             return Err(NoMemory);
         };
         let Ok(batch) = Codeblocks::open(alloc, config) else {
@@ -93,9 +95,11 @@ impl Receiver {
     }
 
     /// Takes the next octets, and hands over the items that are due: those of the codeblocks that lie whole in the bits received,
-    /// 32 of them at a time. With an inner code these are the bits of all windows that are closed.
+    /// 32 of them at a time. With an inner code these are the bits of all windows that are closed. Where the symbol phase is to be
+    /// found nothing is due until it is chosen: once all steps of a window can be compared, or with no inner code at the first octet.
+    /// Then it is handed over, once, before any item.
     ///
-    /// `Taker` comes where `taker` fails; first items were then handed over. `Stopped` comes where an earlier call answered
+    /// `Taker` comes where `taker` fails; a front of what is due was then handed over. `Stopped` comes where an earlier call answered
     /// `Taker` or `finish` was called; nothing is handed over then.
     ///
     /// The octets given in all are to be below 2^60. Workers enter `gate` before each word that they decode.
@@ -110,12 +114,14 @@ impl Receiver {
         ensures unchanged { IsErrOf result RecvError.Stopped → (self.new ≡ self.old) × (taker.new ≡ taker.old) }
         ensures stops { IsTrue self.new.has_stopped ↔ OnOk result ⊥ }
         ensures config { self.new.config ≡ self.old.config }
-        ensures handed { OnOk result ((more : List ItemValue) × HandedOver T.took taker.old more taker.new
-            × ((given : List ℕ) (done : List ItemValue) → length given + length octets.now < 2 ^ 60 → StandsFor self.old given done
-            → StandsFor self.new (given ++ octets.now) (done ++ more) × ReceiveDue self.old.config 0 (given ++ octets.now) (done ++ more))) }
-        ensures front { IsErrOf result RecvError.Taker → (tried : List ItemValue) × HandedPart T.took T.broke taker.old tried taker.new
-            × ((given : List ℕ) (done : List ItemValue) → length given + length octets.now < 2 ^ 60 → StandsFor self.old given done
-            → ReceiveFirst self.old.config 0 (given ++ octets.now) (done ++ tried)) }
+        ensures handed { OnOk result ((more : List (Handed ItemValue)) × HandedOver (on_handed T.took_phase T.took) taker.old more taker.new
+            × ((given : List ℕ) (done : List (Handed ItemValue)) → length given + length octets.now < 2 ^ 60 → StandsFor self.old given done
+            → StandsFor self.new (given ++ octets.now) (done ++ more) × AreReceivedDue self.old.config (given ++ octets.now) (done ++ more))) }
+        ensures front { IsErrOf result RecvError.Taker → (tried : List (Handed ItemValue)) × HandedPart (on_handed T.took_phase T.took) (on_handed T.broke_phase T.broke) taker.old tried taker.new
+            × ((given : List ℕ) (done : List (Handed ItemValue)) → length given + length octets.now < 2 ^ 60 → StandsFor self.old given done
+            → AreReceivedFirst self.old.config (given ++ octets.now) (done ++ tried)) }
+        ensures chosen { (given : List ℕ) (done : List (Handed ItemValue)) → length given + length octets.now < 2 ^ 60 → StandsFor self.old given done
+            → self.old.has_stopped ≡ false → IsChosenSoFar self.old.config (given ++ octets.now) self.new.stages.inner.phased.chosen }
         ensures later { T.faults taker.old ≤ T.faults taker.new }
         ensures rose { IsErrOf result RecvError.Taker → Rose (T.faults taker.old) (T.faults taker.new) (T.is_last taker.new) }
         ensures same { result ≢ Err RecvError.Taker → T.faults taker.new ≡ T.faults taker.old }
@@ -140,9 +146,10 @@ impl Receiver {
         }
     }
 
-    /// Hands over the items that are left, and answers how many bits were received. It is called once, at the end of the octets.
+    /// Hands over what is left: the symbol phase, where it is to be found and was not chosen yet, and the last items. Answers how
+    /// many bits were received. It is called once, at the end of the octets.
     ///
-    /// `Taker` comes where `taker` fails; first items were then handed over. `Stopped` comes where an earlier call answered
+    /// `Taker` comes where `taker` fails; a front of all was then handed over. `Stopped` comes where an earlier call answered
     /// `Taker` or `finish` was called; nothing is handed over then.
     pub fn finish<R: Threads + Sync, T: ItemTaker, G: Gate + Sync>(
         &mut self,
@@ -154,11 +161,12 @@ impl Receiver {
         ensures unchanged { IsErrOf result RecvError.Stopped → (self.new ≡ self.old) × (taker.new ≡ taker.old) }
         ensures stops { self.new.has_stopped ≡ true }
         ensures config { self.new.config ≡ self.old.config }
-        ensures handed { IfOk result (λ count. (last : List ItemValue) × HandedOver T.took taker.old last taker.new
-            × ((given : List ℕ) (done : List ItemValue) → StandsFor self.old given done
-            → (bits : List Bool) × Inner self.old.config 0 given bits × (count ≡ length bits) × AreItems self.old.config bits (done ++ last))) }
-        ensures front { IsErrOf result RecvError.Taker → (tried : List ItemValue) × HandedPart T.took T.broke taker.old tried taker.new
-            × ((given : List ℕ) (done : List ItemValue) → StandsFor self.old given done → ReceiveFront self.old.config 0 given (done ++ tried)) }
+        ensures handed { IfOk result (λ count. (last : List (Handed ItemValue)) × HandedOver (on_handed T.took_phase T.took) taker.old last taker.new
+            × ((given : List ℕ) (done : List (Handed ItemValue)) → StandsFor self.old given done → AreReceived self.old.config given (done ++ last) count)) }
+        ensures front { IsErrOf result RecvError.Taker → (tried : List (Handed ItemValue)) × HandedPart (on_handed T.took_phase T.took) (on_handed T.broke_phase T.broke) taker.old tried taker.new
+            × ((given : List ℕ) (done : List (Handed ItemValue)) → StandsFor self.old given done → AreReceivedFront self.old.config given (done ++ tried)) }
+        ensures chosen { (given : List ℕ) (done : List (Handed ItemValue)) → StandsFor self.old given done → self.old.has_stopped ≡ false
+            → IsChosen self.old.config given self.new.stages.inner.phased.chosen }
         ensures later { T.faults taker.old ≤ T.faults taker.new }
         ensures rose { IsErrOf result RecvError.Taker → Rose (T.faults taker.old) (T.faults taker.new) (T.is_last taker.new) }
         ensures same { result ≢ Err RecvError.Taker → T.faults taker.new ≡ T.faults taker.old }
@@ -168,6 +176,10 @@ impl Receiver {
         }
         self.has_stopped = true;
         let count = end(&mut self.inner, &mut self.kept);
+        match hand_phase(&self.kept, taker) {
+            Ok(()) => {}
+            Err(Failed) => return Err(RecvError::Taker),
+        }
         match self.stream.take_bits(rt, self.kept.bits(), taker, gate) {
             Ok(()) => {}
             Err(Failed) => return Err(RecvError::Taker),
@@ -177,12 +189,21 @@ impl Receiver {
             Err(Failed) => Err(RecvError::Taker),
         }
     }
+
+    /// The symbol phase that was chosen: None before the choice, and where the phase is given.
+    pub fn chosen(&self) -> Option<Chosen>
+        ensures value { result ≡ self.now.stages.inner.phased.chosen }
+        ensures so_far { (given : List ℕ) (done : List (Handed ItemValue)) → StandsFor self.now given done → IsChosenSoFar self.now.config given result }
+    {
+        self.inner.chosen()
+    }
 }
 
-/// Hands over all items of octets, fewer than 2^60, and answers how many bits were received.
+/// Hands over the symbol phase of octets, fewer than 2^60, where it is to be found, and all their items. Answers how many bits were
+/// received.
 ///
-/// `Memory` comes only where there isn't enough of it; nothing is handed over then. `Taker` comes where `taker` fails; first items
-/// were then handed over. Workers enter `OpenGate`.
+/// `Memory` comes only where there isn't enough of it; nothing is handed over then. `Taker` comes where `taker` fails; a front of
+/// all was then handed over. Workers enter `OpenGate`.
 pub fn receive_all<R: Threads + Sync, T: ItemTaker>(
     rt: &R,
     alloc: Global,
@@ -190,10 +211,10 @@ pub fn receive_all<R: Threads + Sync, T: ItemTaker>(
     octets: &[u8],
     taker: &mut T,
 ) -> Result<u64, AllError>
-    ensures handed { IfOk result (λ count. (items : List ItemValue) × HandedOver T.took taker.old items taker.new
-        × (length octets.now < 2 ^ 60 → (bits : List Bool) × Inner config 0 octets.now bits × (count ≡ length bits) × AreItems config bits items)) }
-    ensures front { IsErrOf result AllError.Taker → (tried : List ItemValue) × HandedPart T.took T.broke taker.old tried taker.new
-        × (length octets.now < 2 ^ 60 → ReceiveFirst config 0 octets.now tried ⊎ ReceiveFront config 0 octets.now tried) }
+    ensures handed { IfOk result (λ count. (all : List (Handed ItemValue)) × HandedOver (on_handed T.took_phase T.took) taker.old all taker.new
+        × (length octets.now < 2 ^ 60 → AreReceived config octets.now all count)) }
+    ensures front { IsErrOf result AllError.Taker → (tried : List (Handed ItemValue)) × HandedPart (on_handed T.took_phase T.took) (on_handed T.broke_phase T.broke) taker.old tried taker.new
+        × (length octets.now < 2 ^ 60 → AreReceivedFirst config octets.now tried ⊎ AreReceivedFront config octets.now tried) }
     ensures unchanged { IsErrOf result AllError.Memory → taker.new ≡ taker.old }
     ensures later { T.faults taker.old ≤ T.faults taker.new }
     ensures rose { IsErrOf result AllError.Taker → Rose (T.faults taker.old) (T.faults taker.new) (T.is_last taker.new) }

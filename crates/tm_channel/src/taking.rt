@@ -1,10 +1,14 @@
 // Octets through both stages of a receiver: the inner code, and the search for codeblocks in its bits.
-ghost use Rattle.std.specs.Prelude.{◌≡◌, ◌+◌, ◌≤◌, ◌==◌, ℕ, Bool, List, false, drop, length, map, OnOk, OnErr, IfOk};
+ghost use Rattle.std.specs.Prelude.{◌≡◌, ◌+◌, ◌*◌, ◌≤◌, ◌==◌, ℕ, List, [], false, drop, length, map, OnOk, OnErr};
 ghost use Rattle.std.specs.Option.{is_some};
 ghost use Rattle.tm_base.specs.Bits.{bits_of};
+ghost use Rattle.tm_base.specs.Handed.{Handed, on_handed};
 ghost use Rattle.tm_base.specs.Outside.{HasCause};
-ghost use Rattle.tm_inner.specs.Symbols.{rate_of};
-ghost use Rattle.tm_channel.specs.OctetReceiving.{Ends, Grows, Received, ReceivedPart, Takes, TakesPart, received_bits};
+ghost use Rattle.tm_base.specs.Takers.{HandedOver, HandedPart};
+ghost use Rattle.tm_inner.specs.Phase.{IsChosen, in_turn};
+ghost use Rattle.tm_inner.specs.Receiving.{Hands, HandsFront, StandsFor as InnerStandsFor};
+ghost use Rattle.tm_viterbi.specs.WindowBlock.{WindowBlock};
+ghost use Rattle.tm_channel.specs.OctetReceiving.{Ends, FirstWith, Grows, Received, ReceivedPart, StagesFor, received_bits};
 
 use crate::item::ItemTaker;
 use crate::kept::KeptBits;
@@ -13,14 +17,15 @@ use crate::stream::BitStream;
 use std::thread::Threads;
 use tm_base::Failed;
 use tm_inner::InnerReceiver;
+use tm_phase::whole_window_law;
 use tm_viterbi::closed_windows_law;
 use tm_workers::Gate;
 
 /// How many octets go through both stages at a time.
 pub const PIECE: usize = 4096;
 
-/// Takes the next octets, and hands over the items that are due with them. There is to be room for the bits of a window and of
-/// `PIECE` octets.
+/// Takes the next octets, and hands over what is due with them: the symbol phase, where it is chosen with them, and items. There is
+/// to be room for the bits of a window, of the octets that wait for the phase and of `PIECE` octets.
 pub fn take<R: Threads + Sync, T: ItemTaker, G: Gate + Sync>(
     inner: &mut InnerReceiver,
     kept: &mut KeptBits,
@@ -31,16 +36,20 @@ pub fn take<R: Threads + Sync, T: ItemTaker, G: Gate + Sync>(
     gate: &G,
 ) -> Result<(), Failed>
     requires fresh { inner.old.has_stopped ≡ false }
-    requires room { inner.old.config.keep + inner.old.config.ahead + 4096 ≤ kept.old.size }
+    requires of { stream.old.batch.config ≡ inner.old.config }
+    requires room { 3 * (inner.old.config.keep + inner.old.config.ahead) + 7 + 4096 ≤ kept.old.size }
     ensures inner { inner.new.config ≡ inner.old.config }
     ensures fresh { inner.new.has_stopped ≡ false }
     ensures room { kept.new.size ≡ kept.old.size }
     ensures stream { stream.new.batch.config ≡ stream.old.batch.config }
-    ensures handed { OnOk result (Takes T.took inner.old inner.new stream.old stream.new taker.old taker.new octets.now) }
-    ensures front { OnErr result (TakesPart T.took T.broke inner.old stream.old stream.new taker.old taker.new octets.now) }
+    ensures handed { OnOk result (Hands (on_handed T.took_phase T.took) StagesFor (record { inner = inner.old; bits = stream.old })
+        (record { inner = inner.new; bits = stream.new }) taker.old taker.new octets.now) }
+    ensures front { OnErr result (HandsFront (on_handed T.took_phase T.took) (on_handed T.broke_phase T.broke) StagesFor (FirstWith inner.old.config inner.new.phased.chosen)
+        (record { inner = inner.old; bits = stream.old }) taker.old taker.new octets.now) }
     ensures cause { HasCause (T.faults taker.old) (T.faults taker.new) (T.is_last taker.new) result }
 {
     closed_windows_law();
+    whole_window_law();
     let mut done = 0;
     while done < octets.len() {
         let end = done + PIECE.min(octets.len() - done);
@@ -64,17 +73,24 @@ fn take_piece<R: Threads + Sync, T: ItemTaker, G: Gate + Sync>(
     gate: &G,
 ) -> Result<(), Failed>
     requires fresh { inner.old.has_stopped ≡ false }
-    requires room { inner.old.config.keep + inner.old.config.ahead + length octets.now ≤ kept.old.size }
+    requires of { stream.old.batch.config ≡ inner.old.config }
+    requires room { 3 * (inner.old.config.keep + inner.old.config.ahead) + 7 + length octets.now ≤ kept.old.size }
     ensures inner { inner.new.config ≡ inner.old.config }
     ensures fresh { inner.new.has_stopped ≡ false }
     ensures room { kept.new.size ≡ kept.old.size }
     ensures stream { stream.new.batch.config ≡ stream.old.batch.config }
-    ensures handed { OnOk result ((piece : List Bool) × Grows inner.old inner.new octets.now piece × Received T.took stream.old stream.new taker.old taker.new piece) }
-    ensures front { OnErr result ((piece : List Bool) × Grows inner.old inner.new octets.now piece × ReceivedPart T.took T.broke stream.old stream.new taker.old taker.new piece) }
+    ensures handed { OnOk result (Hands (on_handed T.took_phase T.took) StagesFor (record { inner = inner.old; bits = stream.old })
+        (record { inner = inner.new; bits = stream.new }) taker.old taker.new octets.now) }
+    ensures front { OnErr result (HandsFront (on_handed T.took_phase T.took) (on_handed T.broke_phase T.broke) StagesFor (FirstWith inner.old.config inner.new.phased.chosen)
+        (record { inner = inner.old; bits = stream.old }) taker.old taker.new octets.now) }
     ensures cause { HasCause (T.faults taker.old) (T.faults taker.new) (T.is_last taker.new) result }
 {
     let skip = inner.bits_to_skip();
     decode(inner, kept, octets);
+    match hand_phase(kept, taker) {
+        Ok(()) => {}
+        Err(Failed) => return Err(Failed),
+    }
     if inner.has_inner_code() {
         match stream.take_bits(rt, kept.bits(), taker, gate) {
             Ok(()) => Ok(()),
@@ -88,14 +104,14 @@ fn take_piece<R: Threads + Sync, T: ItemTaker, G: Gate + Sync>(
     }
 }
 
-// Gives octets to the first stage, and keeps the bits of its blocks.
+// Gives octets to the first stage, and keeps the phase and the bits of its blocks.
 fn decode(inner: &mut InnerReceiver, kept: &mut KeptBits, octets: &[u8])
     requires fresh { inner.old.has_stopped ≡ false }
-    requires room { inner.old.config.keep + inner.old.config.ahead + length octets.now ≤ kept.old.size }
+    requires room { 3 * (inner.old.config.keep + inner.old.config.ahead) + 7 + length octets.now ≤ kept.old.size }
     ensures inner { inner.new.config ≡ inner.old.config }
     ensures fresh { inner.new.has_stopped ≡ false }
     ensures room { kept.new.size ≡ kept.old.size }
-    ensures grows { Grows inner.old inner.new octets.now (received_bits inner.old kept.new.bits octets.now) }
+    ensures grows { Grows inner.old inner.new octets.now kept.new.phase (received_bits inner.old kept.new.bits octets.now) }
 {
     kept.clear();
     match inner.feed(octets, kept) {
@@ -104,13 +120,26 @@ fn decode(inner: &mut InnerReceiver, kept: &mut KeptBits, octets: &[u8])
     }
 }
 
-// Ends the first stage, keeps the bits of its last blocks, and answers how many bits were received in all.
+/// Hands over the symbol phase, where the first stage has handed it over.
+pub fn hand_phase<T: ItemTaker>(kept: &KeptBits, taker: &mut T) -> Result<(), Failed>
+    ensures handed { OnOk result (HandedOver (on_handed T.took_phase T.took) taker.old (in_turn kept.now.phase []) taker.new) }
+    ensures front { OnErr result (HandedPart (on_handed T.took_phase T.took) (on_handed T.broke_phase T.broke) taker.old (in_turn kept.now.phase []) taker.new) }
+    ensures cause { HasCause (T.faults taker.old) (T.faults taker.new) (T.is_last taker.new) result }
+{
+    match kept.phase() {
+        Some(chosen) => taker.phase(chosen.skip, chosen.cost),
+        None => Ok(()),
+    }
+}
+
+// Ends the first stage, keeps the phase and the bits of its last blocks, and answers how many bits were received in all.
 pub fn end(inner: &mut InnerReceiver, kept: &mut KeptBits) -> u64
     requires fresh { inner.old.has_stopped ≡ false }
-    requires room { inner.old.config.keep + inner.old.config.ahead ≤ kept.old.size }
+    requires room { 3 * (inner.old.config.keep + inner.old.config.ahead) + 7 ≤ kept.old.size }
     ensures inner { inner.new.config ≡ inner.old.config }
     ensures room { kept.new.size ≡ kept.old.size }
-    ensures ends { Ends inner.old (map (λ bit. bit == 1) kept.new.bits) result }
+    ensures ends { Ends inner.old kept.new.phase (map (λ bit. bit == 1) kept.new.bits) result }
+    ensures chosen { (given : List ℕ) (done : List (Handed WindowBlock)) → InnerStandsFor inner.old given done → IsChosen inner.old.config given inner.new.phased.chosen }
 {
     kept.clear();
     match inner.finish(kept) {

@@ -1,10 +1,10 @@
-// What comes of columns with wrong octets.
-use crate::{Answer, Config, Item, ItemTaker, Raw, receive_all};
+// What comes of columns with wrong octets, and of symbols whose phase is to be found.
+use crate::{Answer, Config, Item, ItemTaker, Raw, Sender, receive_all};
 use std::alloc::Global;
 use std::process::Abort;
 use std::test::Fail;
 use std::thread::Threads;
-use tm_base::Failed;
+use tm_base::{Failed, MemSink, Sink};
 
 // The sync marker, and the codeblock of the frame 7B: the coefficients of the generator of the code that corrects 16
 // errors, in the dual basis.
@@ -14,9 +14,11 @@ const CADU: [u8; 37] = [
     0x86, 0x5F, 0x32, 0x47, 0x7B,
 ];
 
-// Keeps how many items came, and of the last one its first answer and its frame's first octet.
+// Keeps the phase that came before any item, how many items came, and of the last one its first answer and its frame's first octet.
 #[derive(Drop)]
 struct Last {
+    // Its skip and its cost.
+    phase: Option<(u8, u64)>,
     count: u64,
     answer: Option<Answer>,
     octet: Option<u8>,
@@ -42,21 +44,25 @@ impl ItemTaker for Last {
         Ok(())
     }
 
-    fn phase(&mut self, _skip: u8, _cost: u64) -> Result<(), Failed> {
+    fn phase(&mut self, skip: u8, cost: u64) -> Result<(), Failed> {
+        if self.count == 0 {
+            self.phase = Some((skip, cost));
+        }
         Ok(())
     }
 }
 
 // Receives octets that come to one item: frames of one octet, not randomized.
-fn receive<R: Abort + Threads + Sync>(rt: &R, alloc: Global, octets: &[u8]) -> Result<Last, Fail> {
-    let raw = Raw {
-        length: Some(1),
-        inner: 0,
-        randomize: 0,
-        ..Raw::default()
-    };
-    let config = Config::check(&raw)?;
+fn receive<R: Abort + Threads + Sync>(
+    rt: &R,
+    alloc: Global,
+    inner: u64,
+    phase: u64,
+    octets: &[u8],
+) -> Result<Last, Fail> {
+    let config = Config::check(&raw(inner, phase))?;
     let mut last = Last {
+        phase: None,
         count: 0,
         answer: None,
         octet: None,
@@ -66,13 +72,26 @@ fn receive<R: Abort + Threads + Sync>(rt: &R, alloc: Global, octets: &[u8]) -> R
     Ok(last)
 }
 
+// Frames of one octet, not randomized, and windows of 64 steps.
+fn raw(inner: u64, phase: u64) -> Raw {
+    Raw {
+        length: Some(1),
+        inner,
+        randomize: 0,
+        keep: 64,
+        ahead: 0,
+        phase,
+        ..Raw::default()
+    }
+}
+
 #[test]
 fn wrong_octets_are_repaired(rt: HostRuntime) -> Result<(), Fail> {
     let mut octets = CADU;
     for k in 4..20 {
         octets[k] ^= 1;
     }
-    let last = receive(&rt, rt.alloc(), &octets)?;
+    let last = receive(&rt, rt.alloc(), 0, 0, &octets)?;
     assert!(rt; last.answer == Some(Answer::Fixed(16)));
     assert!(rt; last.octet == Some(0x7B));
     Ok(())
@@ -86,8 +105,32 @@ fn beyond_repair_there_is_no_frame(rt: HostRuntime) -> Result<(), Fail> {
         octets[k] = 0;
     }
     octets[36] = 1;
-    let last = receive(&rt, rt.alloc(), &octets)?;
+    let last = receive(&rt, rt.alloc(), 0, 0, &octets)?;
     assert!(rt; last.answer == Some(Answer::Beyond));
     assert!(rt; last.octet == None);
+    Ok(())
+}
+
+// One octet stands before the symbols, so that they are a path behind it, at no cost, and not from the first octet on.
+#[test]
+fn the_phase_comes_before_the_item(rt: HostRuntime) -> Result<(), Fail> {
+    let alloc = rt.alloc();
+    let mut sink = MemSink::new(alloc, 593, Vec::new(alloc))?;
+    sink.write(&[0xFF])?;
+    let mut sender = Sender::new(Config::check(&raw(12, 0))?);
+    sender.push(&[0x7B], &mut sink)?;
+    let last = receive(&rt, alloc, 12, 1, sink.octets())?;
+    assert!(rt; last.phase == Some((1, 0)));
+    assert!(rt; last.octet == Some(0x7B));
+    Ok(())
+}
+
+#[test]
+fn the_phase_of_bits_is_0(rt: HostRuntime) -> Result<(), Fail> {
+    let last = receive(&rt, rt.alloc(), 0, 1, &CADU)?;
+    assert!(rt; last.phase == Some((0, 0)));
+    assert!(rt; last.octet == Some(0x7B));
+    let given = receive(&rt, rt.alloc(), 0, 0, &CADU)?;
+    assert!(rt; given.phase == None);
     Ok(())
 }

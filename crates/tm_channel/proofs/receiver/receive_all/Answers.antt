@@ -1,9 +1,7 @@
-use Rattle.std.proofs.Common.{rules, ◌++◌, ◌∙◌, ◌≡◌, inl, inr, ℕ, Bool, List, [], length, subst, refl, arith, Err, IsErrOf, IsTrue}
+use Rattle.std.proofs.Common.{◌++◌, ◌∙◌, inl, inr, [], subst, refl, arith, Err, IsErrOf, IsTrue}
 use Rattle.tm_base.proofs.Handing.{HandedOver-append, HandedPart-after}
 use Rattle.tm_config.specs.Configuration.{Configuration}
-use Rattle.tm_inner.specs.Inner.{Inner}
-use Rattle.tm_channel.specs.Items.{AreItems}
-use Rattle.tm_channel.specs.Receive.{ReceiveFirst, ReceiveFront}
+use Rattle.tm_channel.specs.Handing.{AreReceived, AreReceivedFirst, AreReceivedFront}
 use Rattle.tm_channel.specs.declared.receiver.RecvError.{RecvError}
 use Rattle.tm_channel.specs.declared.receiver.RecvError.TheVariants.{Taker, Stopped}
 use Rattle.tm_channel.proofs.receiver.receive_all.Goals as goal
@@ -17,22 +15,23 @@ returns-in-Ok-finish-clause-handed g c =
       HandedOver-append _ c.args.taker.now c.feed.new.taker c.finish.new.taker fed.0 last.0 fed.1 last.1,
       λ few.
           let stands = (fed.2 [] [] (omega (arith, few)) c.in-Ok.ensures.stands).0 in
-          subst (λ (k : Configuration). (bits : List Bool) × Inner k 0 octets bits × (c.in-Ok-finish.count ≡ length bits) × AreItems k bits (fed.0 ++ last.0))
+          subst (λ (k : Configuration). AreReceived k octets (fed.0 ++ last.0) c.in-Ok-finish.count)
           (c.feed.ensures.config ∙ c.in-Ok.ensures.config) (last.2 octets fed.0 stands),
     )
 
+taker_alone : {T : Type 0} (e : RecvError) → (IsErrOf {T = T} (Err e) Stopped → ⊥) → IsErrOf {T = T} (Err e) Taker
+taker_alone Taker h = refl
+taker_alone Stopped h = absurd (h refl)
+
 pub returns-in_default-feed-clause-front : goal.returns-in_default-feed-clause-front
 returns-in_default-feed-clause-front g c = λ _.
-    let fed = c.in_default-feed.ensures.front (search rules) in
+    let fresh = c.in-Ok.ensures.fresh in
+    let fed = c.in_default-feed.ensures.front (taker_alone c.in_default-feed.field-0 (λ is. (let stopped = c.in_default-feed.ensures.stopped.0 is in absurd cc))) in
     let octets = c.args.octets.now in (
       fed.0,
       fed.1,
-      λ few. inl (subst (λ (k : Configuration). ReceiveFirst k 0 octets fed.0) c.in-Ok.ensures.config (fed.2 [] [] (omega (arith, few)) c.in-Ok.ensures.stands)),
+      λ few. inl (subst (λ (k : Configuration). AreReceivedFirst k octets fed.0) c.in-Ok.ensures.config (fed.2 [] [] (omega (arith, few)) c.in-Ok.ensures.stands)),
     )
-
-taker_alone : (e : RecvError) → (IsErrOf {T = ℕ} (Err e) Stopped → ⊥) → IsErrOf {T = ℕ} (Err e) Taker
-taker_alone Taker h = refl
-taker_alone Stopped h = absurd (h refl)
 
 pub returns-clause-front : goal.returns-clause-front
 returns-clause-front g c = λ _.
@@ -44,5 +43,5 @@ returns-clause-front g c = λ _.
       HandedPart-after _ _ c.args.taker.now c.feed.new.taker c.finish.new.taker fed.0 last.0 fed.1 last.1,
       λ few.
           let stands = (fed.2 [] [] (omega (arith, few)) c.in-Ok.ensures.stands).0 in
-          inr (subst (λ (k : Configuration). ReceiveFront k 0 octets (fed.0 ++ last.0)) (c.feed.ensures.config ∙ c.in-Ok.ensures.config) (last.2 octets fed.0 stands)),
+          inr (subst (λ (k : Configuration). AreReceivedFront k octets (fed.0 ++ last.0)) (c.feed.ensures.config ∙ c.in-Ok.ensures.config) (last.2 octets fed.0 stands)),
     )

@@ -12,4 +12,4 @@ pub returns-in-Ok-clause-grows : goal.returns-in-Ok-clause-grows
 returns-in-Ok-clause-grows c =
     let some = c.in-Ok.ensures.handed in
     grows-kept c.args.inner.now c.feed.new.self c.clear.new.self c.feed.new.blocks c.args.octets.now some.0 some.1 (ap (λ (k : Keeping). k.bits) c.clear.ensures)
-    (omega (arith, c.requires.room, ap (λ (k : Keeping). k.size) c.clear.ensures)) some.2
+    (ap (λ (k : Keeping). k.phase) c.clear.ensures) (omega (arith, c.requires.room, ap (λ (k : Keeping). k.size) c.clear.ensures)) some.2

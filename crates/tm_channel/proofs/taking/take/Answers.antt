@@ -1,7 +1,11 @@
 use Rattle.std.proofs.Common.{◌≡◌, ◌++◌, ◌+◌, ◌-◌, ◌∙◌, take, drop, arith, refl, ap, subst, take-append-drop}
 use Rattle.std.proofs.lemmas.List.{take_all}
-use Rattle.tm_channel.specs.OctetReceiving.{Takes, TakesPart}
-use Rattle.tm_channel.proofs.GivenOctets.{piece-joined, takes-none, takes-part, takes-then}
+use Rattle.tm_base.specs.Handed.{on_handed}
+use Rattle.tm_config.specs.Configuration.{Configuration}
+use Rattle.tm_inner.specs.Receiving.{Hands, HandsFront}
+use Rattle.tm_inner.proofs.GivenPieces.{hands-none, hands-more, hands-front, hands-longer}
+use Rattle.tm_channel.specs.OctetReceiving.{FirstWith, Stages, StagesFor}
+use Rattle.tm_channel.proofs.GivenOctets.{first_with-stays, piece-joined}
 use Rattle.tm_channel.proofs.taking.take.Goals as goal
 
 pub loop-done-init : goal.loop-done-init
@@ -12,7 +16,7 @@ loop-done-init g c = record {
   room = refl;
   stream = refl;
   faults = refl;
-  handed = takes-none g.T.ItemTaker.took c.args.inner.now c.args.stream.now c.args.taker.now;
+  handed = hands-none (on_handed g.T.ItemTaker.took_phase g.T.ItemTaker.took) StagesFor (record { inner = c.args.inner.now; bits = c.args.stream.now }) c.args.taker.now;
 }
 
 pub loop-done-preserved : goal.loop-done-preserved
@@ -21,16 +25,19 @@ loop-done-preserved g c =
     let at = c.loop-done.done in
     let octets = c.args.octets.now in
     let next = take ((at + c.min.result) - at) (drop at octets) in
-    let some = c.in-Ok.ensures.handed in record {
+    let start : Stages = record { inner = c.args.inner.now; bits = c.args.stream.now } in
+    let before : Stages = record { inner = c.loop-done.inner; bits = c.loop-done.stream } in
+    let now : Stages = record { inner = c.take_piece.new.inner; bits = c.take_piece.new.stream } in
+    let took = on_handed g.T.ItemTaker.took_phase g.T.ItemTaker.took in
+    record {
       within = omega (arith, c.min.ensures, c.loop-done-test.true);
       inner = c.take_piece.ensures.inner ∙ i.inner;
       fresh = c.take_piece.ensures.fresh;
       room = c.take_piece.ensures.room ∙ i.room;
       stream = c.take_piece.ensures.stream ∙ i.stream;
       faults = c.in-Ok.ensures.cause.same ∙ i.faults;
-      handed = subst (Takes g.T.ItemTaker.took c.args.inner.now c.take_piece.new.inner c.args.stream.now c.take_piece.new.stream c.args.taker.now c.take_piece.new.taker) (piece-joined at c.min.result octets)
-          (takes-then g.T.ItemTaker.took c.args.inner.now c.loop-done.inner c.take_piece.new.inner c.args.stream.now c.loop-done.stream c.take_piece.new.stream c.args.taker.now c.loop-done.taker c.take_piece.new.taker
-          (take at octets) next some.0 i.inner i.handed some.1 some.2);
+      handed = subst (Hands took StagesFor start now c.args.taker.now c.take_piece.new.taker) (piece-joined at c.min.result octets)
+          (hands-more took StagesFor start before now c.args.taker.now c.loop-done.taker c.take_piece.new.taker (take at octets) next i.handed c.in-Ok.ensures.handed);
     }
 
 pub returns-in-Err-clause-front : goal.returns-in-Err-clause-front
@@ -40,13 +47,22 @@ returns-in-Err-clause-front g c =
     let octets = c.args.octets.now in
     let next = take ((at + c.min.result) - at) (drop at octets) in
     let rest = drop (at + c.min.result) octets in
-    let some = c.in-Err.ensures.front in
+    let start : Stages = record { inner = c.args.inner.now; bits = c.args.stream.now } in
+    let before : Stages = record { inner = c.loop-done.inner; bits = c.loop-done.stream } in
+    let took = on_handed g.T.ItemTaker.took_phase g.T.ItemTaker.took in
+    let broke = on_handed g.T.ItemTaker.broke_phase g.T.ItemTaker.broke in
+    let chosen = c.take_piece.new.inner.phased.chosen in
+    let first = FirstWith c.args.inner.now.config chosen in
+    let part = subst (λ (k : Configuration). HandsFront took broke StagesFor (FirstWith k chosen) before c.loop-done.taker c.take_piece.new.taker next) i.inner c.in-Err.ensures.front in
     let whole : (take at octets ++ next) ++ rest ≡ octets = ap (λ l. l ++ rest) (piece-joined at c.min.result octets) ∙ take-append-drop (at + c.min.result) octets in
-    subst (TakesPart g.T.ItemTaker.took g.T.ItemTaker.broke c.args.inner.now c.args.stream.now c.take_piece.new.stream c.args.taker.now c.take_piece.new.taker) whole
-    (takes-part g.T.ItemTaker.took g.T.ItemTaker.broke c.args.inner.now c.loop-done.inner c.take_piece.new.inner c.args.stream.now c.loop-done.stream c.take_piece.new.stream c.args.taker.now c.loop-done.taker c.take_piece.new.taker
-    (take at octets) next rest some.0 c.closed_windows_law.ensures i.inner i.handed some.1 some.2)
+    subst (HandsFront took broke StagesFor first start c.args.taker.now c.take_piece.new.taker) whole
+    (hands-longer took broke StagesFor first start c.args.taker.now c.take_piece.new.taker (take at octets ++ next) rest
+    (first_with-stays c.whole_window_law.ensures.front c.closed_windows_law.ensures c.args.inner.now.config chosen)
+    (hands-front took broke StagesFor first start before c.args.taker.now c.loop-done.taker c.take_piece.new.taker (take at octets) next i.handed part))
 
 pub returns-clause-handed : goal.returns-clause-handed
 returns-clause-handed g c =
-    subst (Takes g.T.ItemTaker.took c.args.inner.now c.loop-done.inner c.args.stream.now c.loop-done.stream c.args.taker.now c.loop-done.taker) (take_all c.loop-done.done c.args.octets.now c.loop-done-test.false)
+    let start : Stages = record { inner = c.args.inner.now; bits = c.args.stream.now } in
+    let now : Stages = record { inner = c.loop-done.inner; bits = c.loop-done.stream } in
+    subst (Hands (on_handed g.T.ItemTaker.took_phase g.T.ItemTaker.took) StagesFor start now c.args.taker.now c.loop-done.taker) (take_all c.loop-done.done c.args.octets.now c.loop-done-test.false)
     c.loop-done.invariant.handed

@@ -1,5 +1,7 @@
 use Rattle.std.proofs.Common.{◌≡◌, ◌≤◌, ◌-◌, false, take, length}
-use Rattle.tm_channel.specs.OctetReceiving.{Takes}
+use Rattle.tm_base.specs.Handed.{on_handed}
+use Rattle.tm_inner.specs.Receiving.{Hands}
+use Rattle.tm_channel.specs.OctetReceiving.{StagesFor}
 use Rattle.tm_channel.proofs.taking.take.Given as goal
 
 abbrev pub invariant-loop-done : goal.invariant-loop-done
@@ -10,7 +12,8 @@ invariant-loop-done g l = record {
   room : l.kept.size ≡ l.initial.kept.size;
   stream : l.stream.batch.config ≡ l.initial.stream.batch.config;
   faults : g.T.ItemTaker.faults l.taker ≡ g.T.ItemTaker.faults l.initial.taker;
-  handed : Takes g.T.ItemTaker.took l.initial.inner l.inner l.initial.stream l.stream l.initial.taker l.taker (take l.done l.octets);
+  handed : Hands (on_handed g.T.ItemTaker.took_phase g.T.ItemTaker.took) StagesFor (record { inner = l.initial.inner; bits = l.initial.stream }) (record { inner = l.inner; bits = l.stream })
+      l.initial.taker l.taker (take l.done l.octets);
 }
 
 abbrev pub decreases-loop-done : goal.decreases-loop-done

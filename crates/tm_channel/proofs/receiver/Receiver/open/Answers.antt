@@ -1,7 +1,9 @@
-use Rattle.std.proofs.Common.{false}
+use Rattle.std.proofs.Common.{ap, arith}
+use Rattle.tm_config.specs.Configuration.{Configuration}
 use Rattle.tm_channel.proofs.GivenOctets.{stands-fresh}
 use Rattle.tm_channel.proofs.receiver.Receiver.open.Goals as goal
 
 pub returns-clause-stands : goal.returns-clause-stands
 returns-clause-stands c =
-    stands-fresh (record { config = c.args.config; has_stopped = false; inner = c.in-Ok.inner; bits = c.new.result }) c.in-Ok.ensures.stands c.new.ensures.stands
+    stands-fresh (record { inner = c.in-Ok.inner; bits = c.new.result }) (omega (arith, c.keep.ensures.accepted.some_keep, ap (λ (k : Configuration). k.keep) c.in-Ok.ensures.config))
+    c.in-Ok.ensures.stands c.new.ensures.stands

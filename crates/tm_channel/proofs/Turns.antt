@@ -1,0 +1,65 @@
+-- What is handed over in turn: a phase that may come, and items behind it.
+use Rattle.std.proofs.Common.{◌≡◌, List, [], ◌∷◌, ◌++◌, map, refl, sym, ap, ◌∙◌, Option, Some, None}
+use Rattle.tm_base.specs.Handed.{Handed, Phase, Item}
+use Rattle.tm_base.specs.Takers.{HandedPart}
+use Rattle.tm_phase.specs.declared.choosing.Chosen.{Chosen}
+use Rattle.tm_inner.specs.Phase.{in_turn}
+use Rattle.tm_inner.proofs.PhasePieces.{further}
+use Rattle.tm_channel.specs.Handing.{phase_from, phase_of}
+
+-- ---- the phase
+
+pub phase_from-append : {I : Type 0} (before : Option Chosen) (xs ys : List (Handed I)) → phase_from before (xs ++ ys) ≡ phase_from (phase_from before xs) ys
+phase_from-append before [] ys = refl
+phase_from-append before (Phase skip cost ∷ xs) ys = phase_from-append (Some (record { skip = skip; cost = cost })) xs ys
+phase_from-append before (Item item ∷ xs) ys = phase_from-append before xs ys
+
+phase_from-items : {I : Type 0} (before : Option Chosen) (items : List I) → phase_from before (map Item items) ≡ before
+phase_from-items before [] = refl
+phase_from-items before (item ∷ items) = phase_from-items before items
+
+pub phase_of-in_turn : {I : Type 0} (chosen : Option Chosen) (items : List I) → phase_of (in_turn chosen items) ≡ chosen
+phase_of-in_turn None items = phase_from-items None items
+phase_of-in_turn (Some chosen) items = phase_from-items (Some chosen) items
+
+-- behind items alone it is the phase of the rest
+pub phase_of-behind : {I : Type 0} (items : List I) (more : List (Handed I)) → phase_of (map Item items ++ more) ≡ phase_of more
+phase_of-behind items more = phase_from-append None (map Item items) more ∙ ap (λ (o : Option Chosen). phase_from o more) (phase_from-items None items)
+
+phase_from-some : {I : Type 0} (before : Chosen) (handed : List (Handed I)) → phase_from (Some before) handed ≡ None → ⊥
+phase_from-some before [] none = absurd cc
+phase_from-some before (Phase skip cost ∷ handed) none = phase_from-some (record { skip = skip; cost = cost }) handed none
+phase_from-some before (Item item ∷ handed) none = phase_from-some before handed none
+
+-- where none is handed over, it stays
+phase_from-none : {I : Type 0} (before : Option Chosen) (handed : List (Handed I)) → phase_of handed ≡ None → phase_from before handed ≡ before
+phase_from-none before [] none = refl
+phase_from-none before (Phase skip cost ∷ handed) none = absurd (phase_from-some (record { skip = skip; cost = cost }) handed none)
+phase_from-none before (Item item ∷ handed) none = phase_from-none before handed none
+
+-- ---- items behind it
+
+pub in_turn-split : {I : Type 0} (chosen : Option Chosen) (items : List I) → in_turn chosen items ≡ in_turn chosen [] ++ map Item items
+in_turn-split None items = refl
+in_turn-split (Some chosen) items = refl
+
+-- further items behind what was handed over, with no further phase
+pub turn-further : {I J : Type 0} (before : Option Chosen) (more : List (Handed J)) (done : List (Handed I)) (items others : List I) → phase_of more ≡ None → done ≡ in_turn before items
+    → done ++ (in_turn (phase_of more) [] ++ map Item others) ≡ in_turn (phase_from before more) (items ++ others)
+turn-further before more done items others none are =
+    ap (λ (o : Option Chosen). done ++ (in_turn o [] ++ map Item others)) none
+    ∙ further before done items others are
+    ∙ ap (λ (o : Option Chosen). in_turn o (items ++ others)) (sym (phase_from-none before more none))
+
+-- ---- lists with nothing in them
+
+pub front-nil : {A : Type 0} (xs ys : List A) → xs ++ ys ≡ [] → (xs ≡ []) × (ys ≡ [])
+front-nil [] ys none = (refl, none)
+front-nil (x ∷ xs) ys none = absurd cc
+
+cons-nil : {A : Type 0} (x : A) (xs : List A) → x ∷ xs ≡ [] → ⊥
+cons-nil x xs none = absurd cc
+
+-- a taker fails at something
+pub part-some : {T I : Type 0} (took broke : T → I → T → Type 0) (taker now : T) (items : List I) → HandedPart took broke taker items now → items ≡ [] → ⊥
+part-some took broke taker now items part none = cons-nil part.next part.rest (front-nil part.front (part.next ∷ part.rest) (sym part.split ∙ none)).1
