@@ -8,9 +8,11 @@ pub mod OnlyWords
 pub mod Reporting
 pub mod Received
 pub mod Reports
+pub mod TraceLines
 pub mod Tracing
 pub mod Generating
 pub mod FewSymbols
 pub mod Soaking
+mod SentPhase
 pub mod Links
 pub mod Erasing

@@ -1,37 +1,58 @@
 -- What `decode` makes of octets in which frames were sent, from the laws of what is received.
-use Rattle.std.proofs.Common.{◌≡◌, ◌⊎◌, ℕ, zero, suc, ◌+◌, ◌*◌, ◌==◌, Bool, true, false, if◌then◌else◌, List, [], ◌∷◌, length, replicate, Option, refl, sym, ap, ◌∙◌, subst, arith}
+use Rattle.std.proofs.Common.{◌≡◌, ◌⊎◌, inr, ℕ, zero, suc, ◌+◌, ◌-◌, ◌*◌, ◌/◌, ◌%◌, ◌==◌, Bool, true, false, if◌then◌else◌, List, [], ◌∷◌, ◌++◌, length, map, replicate, Option, Some, None, refl, sym, ap, ◌∙◌, subst, arith}
 use Rattle.std.specs.List.{concat}
+use Rattle.std.proofs.lemmas.List.{length-map}
 use Rattle.tm_base.specs.Bits.{AreOctets, bits_of}
+use Rattle.tm_base.specs.Handed.{Handed, items_of}
 use Rattle.tm_base.specs.Written.{Wrote}
+use Rattle.tm_base.proofs.HandedItems.{items_of-items}
 use Rattle.tm_base.proofs.Packing.{length-bits_of}
 use Rattle.tm_config.specs.Configuration.{Configuration, codeblock_length}
 use Rattle.tm_config.specs.Accepted.{IsAccepted}
-use Rattle.tm_inner.specs.Inner.{Inner, IsStartKnown}
-use Rattle.tm_inner.specs.Symbols.{symbols_of_octets}
+use Rattle.tm_conv.specs.declared.rates.Rate.{Rate}
+use Rattle.tm_conv.specs.Path.{period}
+use Rattle.tm_phase.specs.declared.choosing.Chosen.{Chosen}
+use Rattle.tm_inner.specs.Inner.{Inner, IsStartKnown, inner_bits}
+use Rattle.tm_inner.specs.Phase.{IsChosen, PhaseAt, phase_octets, skip_of, in_turn}
+use Rattle.tm_inner.specs.Symbols.{rate_of, symbols_of_octets}
+use Rattle.tm_inner.proofs.InTurn.{OnePhase, one-choice}
+use Rattle.tm_inner.proofs.ReceivedBits.{bits-coded, bits-plain, whole_steps}
 use Rattle.tm_rs_solve.specs.declared.answers.Answer.{Answer}
 use Rattle.tm_rs_solve.specs.declared.answers.Answer.TheVariants.{Fixed}
 use Rattle.tm_sync.specs.declared.found.Found.{Found}
+use Rattle.tm_viterbi.specs.Clean.{turned_octets}
+use Rattle.tm_viterbi.proofs.HasBlocks.{HasBest}
 use Rattle.tm_channel.specs.Frames.{whole_frames}
 use Rattle.tm_channel.specs.Sent.{cadus, sent}
 use Rattle.tm_channel.specs.ReceivedCodeblock.{received_columns}
-use Rattle.tm_channel.specs.Items.{ItemValue, are_fixed, frames_of}
+use Rattle.tm_channel.specs.Items.{ItemValue, are_fixed, frames_of, turned_item}
+use Rattle.tm_channel.specs.Handing.{AreReceived}
 use Rattle.tm_channel.specs.Receive.{Receive}
 use Rattle.tm_channel.specs.SentStream.{SentUnit, IsSent, AreRepaired, AreWithin, AreAsSent, AreNear, sent_columns, unit_codeblock, unit_frames, unit_places, clean_answers, clean_items}
 use Rattle.tm_cli.specs.Command.Command.{Decode}
 use Rattle.tm_cli.specs.Report.{bad, report_text}
-use Rattle.tm_cli.specs.Output.{IsDecoded, HasBad, WroteOutput}
+use Rattle.tm_cli.specs.Output.{HasBad, WroteOutput}
 use Rattle.tm_cli.specs.Ending.{Ends, status_of}
-use Rattle.tm_cli.specs.Link.{KeepsCleanLink, KeepsDisturbedLink}
+use Rattle.tm_cli.specs.Link.{KeepsCleanLink, KeepsDisturbedLink, KeepsTurnedInput, KeepsTurnedSymbols, sent_phase}
 use Rattle.tm_cli.specs.declared.ending.Ending.{Ending}
 use Rattle.tm_cli.specs.declared.ending.Ending.TheVariants.{Done, Bad, LeftOver, SourceFault, SinkFault, PastLimit}
+use Rattle.tm_cli.proofs.SentPhase.{Complements, phase-sent, phase-turned}
 
--- octets come to one list of bits, and to one list of items
+-- octets come to one list of bits, which there is, and to one list of items
+abbrev HasBits : Type 0
+HasBits = (c : Configuration) (phase : ℕ) (octets : List ℕ) → IsAccepted c → (bits : List Bool) × Inner c phase octets bits
+
 abbrev OneBits : Type 0
 OneBits = (c : Configuration) (phase : ℕ) (octets : List ℕ) (bits others : List Bool) → Inner c phase octets bits → Inner c phase octets others → bits ≡ others
 
 abbrev OneItems : Type 0
 OneItems = (c : Configuration) (phase : ℕ) (octets : List ℕ) (items others : List ItemValue) → IsAccepted c
     → Receive c phase octets items → Receive c phase octets others → items ≡ others
+
+-- and what is handed over is one list
+abbrev OneHanded : Type 0
+OneHanded = (c : Configuration) (octets : List ℕ) (handed others : List (Handed ItemValue)) (bits count : ℕ) → IsAccepted c
+    → AreReceived c octets handed bits → AreReceived c octets others count → handed ≡ others
 
 -- the bits and the items of what is sent for octets, and the frames of these items
 abbrev CleanBits : Type 0
@@ -54,6 +75,15 @@ abbrev SentFrames : Type 0
 SentFrames = (c : Configuration) (phase : ℕ) (octets : List ℕ) (bits : List Bool) (units : List SentUnit) (last : List Bool) (items : List ItemValue)
     → IsAccepted c → Inner c phase octets bits → IsSent c bits units last → Receive c phase octets items
     → AreNear c (unit_places c units) units → frames_of items ≡ unit_frames units
+
+-- the items of octets turned over, with no inner code and of symbols at rate 1/2
+abbrev TurnedItems : Type 0
+TurnedItems = (c : Configuration) (phase : ℕ) (octets : List ℕ) (items : List ItemValue) → IsAccepted c → c.inner ≡ 0 → c.polarity ≡ 1 → AreOctets octets
+    → Receive c phase octets items → Receive c phase (turned_octets octets) (map turned_item items)
+
+abbrev TurnedSymbols : Type 0
+TurnedSymbols = (c : Configuration) (octets : List ℕ) (items : List ItemValue) → IsAccepted c → c.inner ≡ 12 → c.polarity ≡ 1 → c.start ≡ 1 → c.skip ≡ 0 → AreOctets octets
+    → Receive c 0 (turned_octets (sent c octets)) items → items ≡ map turned_item (clean_items c 0 (whole_frames c.frame_length octets))
 
 -- ---- no column is beyond repair
 
@@ -97,17 +127,76 @@ near-good c (f ∷ fs) (u ∷ units) (item ∷ items) are near =
     (near-fixed c.repair (received_columns c (unit_codeblock c f u)) (sent_columns c u.frame) item.answers are.0.answers near.0.columns)
     (near-good c fs units items are.1 near.1)
 
+-- ---- items in the other polarity
+
+frames-turned : (items : List ItemValue) → frames_of (map turned_item items) ≡ frames_of items
+frames-turned [] = refl
+frames-turned (item ∷ items) = ap (λ l. item.frame ++ l) (frames-turned items)
+
+bad-turned : (items : List ItemValue) → bad (map turned_item items) ≡ bad items
+bad-turned [] = refl
+bad-turned (item ∷ items) = ap (λ n. (if are_fixed item.answers then 0 else 1) + n) (bad-turned items)
+
+-- ---- octets of the same length
+
+-- they come to as many bits
+same-count : (c : Configuration) (phase : ℕ) (octets others : List ℕ) (bits more : List Bool) → length octets ≡ length others → Inner c phase octets bits → Inner c phase others more
+    → length bits ≡ length more
+same-count c phase octets others bits more long a b = ap length a.are_bits ∙ by-rate (rate_of c.inner) refl ∙ sym (ap length b.are_bits)
+  where
+    n : ℕ
+    n = length others
+
+    m : ℕ
+    m = 8 * n - c.skip
+
+    by-rate : (rate : Option Rate) → rate_of c.inner ≡ rate → length (inner_bits c octets a.blocks) ≡ length (inner_bits c others b.blocks)
+    by-rate None is = sym (bits-plain c n m octets a.blocks is long refl) ∙ bits-plain c n m others b.blocks is refl refl
+    by-rate (Some rate) is =
+        let p = period rate in
+        let k : ℕ = n - c.skip - phase in
+        let rest : ℕ = k % (p + 1) - 1 in
+        let whole = whole_steps rate k p rest refl refl in
+        sym (bits-coded c rate phase n (k / (p + 1) * p + rest) octets a.blocks a.left is long whole a.are_blocks)
+        ∙ bits-coded c rate phase n (k / (p + 1) * p + rest) others b.blocks b.left is refl whole b.are_blocks
+
+-- with no inner code the phase hangs on no octet
+phase-plain : (rate : Option Rate) (c : Configuration) (soft others : List ℕ) (chosen : Chosen) → rate ≡ None → PhaseAt rate c soft chosen → PhaseAt rate c others chosen
+phase-plain None c soft others chosen is p = p
+phase-plain (Some rate) c soft others chosen is p = absurd (cc)
+
+choice-plain : (c : Configuration) (octets others : List ℕ) (chosen : Option Chosen) → c.inner ≡ 0 → IsChosen c octets chosen → IsChosen c others chosen
+choice-plain c octets others None none is = is
+choice-plain c octets others (Some chosen) none is =
+    (is.0, phase-plain (rate_of c.inner) c (phase_octets c octets) (phase_octets c others) chosen (ap rate_of none) is.1)
+
 -- ---- what was written
 
--- the items that were received
-received : (c : Configuration) (octets frames report : List ℕ) (d : IsDecoded c octets frames report) → Receive c 0 octets d.items
-received c octets frames report d = record { bits = d.bits; inner = d.inner; are_items = d.are_items }
+-- no octet stands before those that were sent
+sent-skip : (c : Configuration) → skip_of (sent_phase c) ≡ 0
+sent-skip c = go (c.phase == 0)
+  where
+    go : (given : Bool) → skip_of (if given then None else Some (record { skip = 0; cost = 0 })) ≡ 0
+    go true = refl
+    go false = refl
 
--- there is no codeblock beyond repair where the items have none
-none-bad : OneItems → (c : Configuration) (octets : List ℕ) (items : List ItemValue) → IsAccepted c → Receive c 0 octets items → bad items ≡ 0 → HasBad c octets → ⊥
-none-bad one c octets items ok receive good h = h.2 (ap bad (one c 0 octets h.0 items ok h.1 receive) ∙ good)
+-- the items of what is handed over in turn are these
+items_of-turn : (chosen : Option Chosen) (items : List ItemValue) → items_of (in_turn chosen items) ≡ items
+items_of-turn None items = items_of-items items
+items_of-turn (Some chosen) items = items_of-items items
 
--- so the status is 0
+-- What `decode` wrote for octets with this phase: the frames and the report of the items that are received. Where none of these has a
+-- column beyond repair, the status is 0.
+record Came (status : ℕ) (c : Configuration) (octets : List ℕ) (chosen : Option Chosen) (taken taken_now noted noted_now : Option (List ℕ)) : Type 0 where
+  bits : List Bool
+  items : List ItemValue
+  inner : Inner c (skip_of chosen) octets bits
+  receive : Receive c (skip_of chosen) octets items
+  out : Wrote taken taken_now (frames_of items)
+  notes : Wrote noted noted_now (report_text (in_turn chosen items) (length bits))
+  good : bad items ≡ 0 → status ≡ 0
+
+-- the status is 0 where nothing is beyond repair
 good-status : (e : Ending) (status : ℕ) (c : Configuration) (octets : List ℕ) (taken taken_now noted noted_now : Option (List ℕ))
     → status ≡ status_of e → Ends e Decode c octets taken taken_now noted noted_now → (status ≡ 0) ⊎ (status ≡ 1) → (HasBad c octets → ⊥) → status ≡ 0
 good-status Done status c octets taken taken_now noted noted_now told ends read good = told
@@ -127,39 +216,103 @@ whole-output SourceFault status c octets taken taken_now noted noted_now told en
 whole-output SinkFault status c octets taken taken_now noted noted_now told ends read = absurd (omega (arith, told, read))
 whole-output PastLimit status c octets taken taken_now noted noted_now told ends read = absurd (omega (arith, told, read))
 
+came : OnePhase → OneHanded → (e : Ending) (status : ℕ) (c : Configuration) (octets : List ℕ) (chosen : Option Chosen) (taken taken_now noted noted_now : Option (List ℕ))
+    → IsAccepted c → status ≡ status_of e → Ends e Decode c octets taken taken_now noted noted_now → (status ≡ 0) ⊎ (status ≡ 1) → IsChosen c octets chosen
+    → Came status c octets chosen taken taken_now noted noted_now
+came one_phase one e status c octets chosen taken taken_now noted noted_now ok told ends read choice =
+    let wrote = whole-output e status c octets taken taken_now noted noted_now told ends read in
+    let d = wrote.1 in
+    let r = d.are_received in
+    let all = r.are_items in
+    let same : r.chosen ≡ chosen = one-choice one_phase c octets r.chosen chosen r.choice choice in
+    let handed : d.handed ≡ in_turn chosen r.items = r.are ∙ ap (λ (o : Option Chosen). in_turn o r.items) same in
+    let items : items_of d.handed ≡ r.items = ap (items_of {I = ItemValue}) handed ∙ items_of-turn chosen r.items in
+    let inner : Inner c (skip_of chosen) octets all.0 = subst (λ (o : Option Chosen). Inner c (skip_of o) octets all.0) same all.1 in
+    record {
+      bits = all.0;
+      items = r.items;
+      inner = inner;
+      receive = record { bits = all.0; inner = inner; are_items = all.3 };
+      out = subst (Wrote taken taken_now) (d.are_frames ∙ ap frames_of items) wrote.2.out;
+      notes = subst (Wrote noted noted_now) (d.is_report ∙ ap (λ (l : List (Handed ItemValue)). report_text l d.bits) handed ∙ ap (report_text (in_turn chosen r.items)) all.2) wrote.2.notes;
+      good = λ none. good-status e status c octets taken taken_now noted noted_now told ends read
+          (λ h. h.2 (ap (λ (l : List (Handed ItemValue)). bad (items_of l)) (one c octets h.0 d.handed h.1.0 d.bits ok h.1.1 r) ∙ ap bad items ∙ none));
+    }
+
+-- what came of octets of which the phase is known
+came-free : OnePhase → OneHanded → (e : Ending) (status : ℕ) (c : Configuration) (octets : List ℕ) (taken taken_now noted noted_now : Option (List ℕ))
+    → IsAccepted c → status ≡ status_of e → Ends e Decode c octets taken taken_now noted noted_now → (status ≡ 0) ⊎ (status ≡ 1)
+    → ((chosen : Option Chosen) → IsChosen c octets chosen → chosen ≡ sent_phase c) → Came status c octets (sent_phase c) taken taken_now noted noted_now
+came-free one_phase one e status c octets taken taken_now noted noted_now ok told ends read known =
+    let r = (whole-output e status c octets taken taken_now noted noted_now told ends read).1.are_received in
+    came one_phase one e status c octets (sent_phase c) taken taken_now noted noted_now ok told ends read
+    (subst (λ (o : Option Chosen). IsChosen c octets o) (known r.chosen r.choice) r.choice)
+
 -- ---- links
 
-pub keeps-clean : OneItems → CleanBits → CleanItems → CleanFrames → (e : Ending) (status : ℕ) (c : Configuration) (octets : List ℕ) (taken taken_now noted noted_now : Option (List ℕ))
+pub keeps-clean : HasBest → OnePhase → OneHanded → CleanBits → CleanItems → CleanFrames → (e : Ending) (status : ℕ) (c : Configuration) (octets : List ℕ) (taken taken_now noted noted_now : Option (List ℕ))
     → IsAccepted c → status ≡ status_of e → Ends e Decode c octets taken taken_now noted noted_now → (status ≡ 0) ⊎ (status ≡ 1)
     → KeepsCleanLink status c octets taken taken_now noted noted_now
-keeps-clean one clean_bits clean frames e status c octets taken taken_now noted noted_now ok told ends read = λ input skip start small is.
-    let wrote = whole-output e status c octets taken taken_now noted noted_now told ends read in
-    let d = wrote.1 in
-    let receive = received c octets wrote.0.out wrote.0.notes d in
+keeps-clean best one_phase one clean_bits clean frames e status c octets taken taken_now noted noted_now ok told ends read = λ input skip start small is.
+    let r = came-free one_phase one e status c octets taken taken_now noted noted_now ok told ends read
+    (λ chosen choice. phase-sent best c input chosen skip (subst (λ (l : List ℕ). IsChosen c l chosen) is choice)) in
     let sent_frames = whole_frames c.frame_length input in
-    let items : d.items ≡ clean_items c 0 sent_frames = clean c input d.items ok skip start small (subst (λ (l : List ℕ). Receive c 0 l d.items) is receive) in
-    let count : length d.bits ≡ 8 * length (cadus c input) =
-    ap length (clean_bits c (cadus c input) d.bits ok skip start (subst (λ (l : List ℕ). Inner c 0 l d.bits) is d.inner)) ∙ length-bits_of (cadus c input) in (
-      good-status e status c octets taken taken_now noted noted_now told ends read (none-bad one c octets d.items ok receive (ap bad items ∙ clean-good c 0 sent_frames)),
-      subst (Wrote taken taken_now) (d.are_frames ∙ ap frames_of items ∙ frames c 0 sent_frames) wrote.2.out,
-      subst (Wrote noted noted_now) (d.is_report ∙ ap (λ (l : List ItemValue). report_text l (length d.bits)) items ∙ ap (report_text (clean_items c 0 sent_frames)) count) wrote.2.notes,
+    let inner : Inner c 0 (sent c input) r.bits = subst (λ (n : ℕ). Inner c n (sent c input) r.bits) (sent-skip c) (subst (λ (l : List ℕ). Inner c (skip_of (sent_phase c)) l r.bits) is r.inner) in
+    let receive : Receive c 0 (sent c input) r.items =
+    subst (λ (n : ℕ). Receive c n (sent c input) r.items) (sent-skip c) (subst (λ (l : List ℕ). Receive c (skip_of (sent_phase c)) l r.items) is r.receive) in
+    let items : r.items ≡ clean_items c 0 sent_frames = clean c input r.items ok skip start small receive in
+    let count : length r.bits ≡ 8 * length (cadus c input) = ap length (clean_bits c (cadus c input) r.bits ok skip start inner) ∙ length-bits_of (cadus c input) in (
+      r.good (ap bad items ∙ clean-good c 0 sent_frames),
+      subst (Wrote taken taken_now) (ap frames_of items ∙ frames c 0 sent_frames) r.out,
+      subst (Wrote noted noted_now) (λ i. report_text (in_turn (sent_phase c) (items i)) (count i)) r.notes,
     )
 
-pub keeps-disturbed : OneBits → OneItems → SentItems → SentFrames → (e : Ending) (status : ℕ) (c : Configuration) (octets : List ℕ) (taken taken_now noted noted_now : Option (List ℕ))
+pub keeps-disturbed : OnePhase → OneHanded → OneBits → SentItems → SentFrames → (e : Ending) (status : ℕ) (c : Configuration) (octets : List ℕ) (taken taken_now noted noted_now : Option (List ℕ))
     → IsAccepted c → status ≡ status_of e → Ends e Decode c octets taken taken_now noted noted_now → (status ≡ 0) ⊎ (status ≡ 1)
     → KeepsDisturbedLink status c octets taken taken_now noted noted_now
-keeps-disturbed one_bits one sent_items sent_frames e status c octets taken taken_now noted noted_now ok told ends read = λ bits units last inner is.
-    let wrote = whole-output e status c octets taken taken_now noted noted_now told ends read in
-    let d = wrote.1 in
-    let receive = received c octets wrote.0.out wrote.0.notes d in
-    let as_sent = sent_items c 0 octets bits units last d.items ok inner is receive in
-    let out : Wrote taken taken_now (frames_of d.items) = subst (Wrote taken taken_now) d.are_frames wrote.2.out in (
-      d.items,
+keeps-disturbed one_phase one one_bits sent_items sent_frames e status c octets taken taken_now noted noted_now ok told ends read = λ bits units last chosen choice inner is.
+    let r = came one_phase one e status c octets chosen taken taken_now noted noted_now ok told ends read choice in
+    let as_sent = sent_items c (skip_of chosen) octets bits units last r.items ok inner is r.receive in (
+      r.items,
       as_sent,
-      out,
-      subst (Wrote noted noted_now) (d.is_report ∙ ap (λ (l : List Bool). report_text d.items (length l)) (one_bits c 0 octets d.bits bits d.inner inner)) wrote.2.notes,
+      r.out,
+      subst (Wrote noted noted_now) (ap (λ (l : List Bool). report_text (in_turn chosen r.items) (length l)) (one_bits c (skip_of chosen) octets r.bits bits r.inner inner)) r.notes,
       λ near. (
-        good-status e status c octets taken taken_now noted noted_now told ends read (none-bad one c octets d.items ok receive (near-good c (unit_places c units) units d.items as_sent near)),
-        subst (Wrote taken taken_now) (sent_frames c 0 octets bits units last d.items ok inner is receive near) out,
+        r.good (near-good c (unit_places c units) units r.items as_sent near),
+        subst (Wrote taken taken_now) (sent_frames c (skip_of chosen) octets bits units last r.items ok inner is r.receive near) r.out,
       ),
+    )
+
+pub keeps-turned_input : OnePhase → OneHanded → OneItems → TurnedItems → (e : Ending) (status : ℕ) (c : Configuration) (octets : List ℕ) (taken taken_now noted noted_now : Option (List ℕ))
+    → IsAccepted c → status ≡ status_of e → Ends e Decode c octets taken taken_now noted noted_now → (status ≡ 0) ⊎ (status ≡ 1)
+    → KeepsTurnedInput c octets taken taken_now noted noted_now
+keeps-turned_input one_phase one one_items turned e status c octets taken taken_now noted noted_now ok told ends read = λ other bits items chosen plain find small is choice inner are.
+    let r = came one_phase one e status c octets chosen taken taken_now noted noted_now ok told ends read (choice-plain c other octets chosen plain choice) in
+    let receive : Receive c (skip_of chosen) octets (map turned_item items) =
+    subst (λ (l : List ℕ). Receive c (skip_of chosen) l (map turned_item items)) (sym is)
+    (turned c (skip_of chosen) other items ok plain find small (record { bits = bits; inner = inner; are_items = are })) in
+    let same : r.items ≡ map turned_item items = one_items c (skip_of chosen) octets r.items (map turned_item items) ok r.receive receive in
+    let count : length r.bits ≡ length bits = same-count c (skip_of chosen) octets other r.bits bits (ap length is ∙ length-map other (λ octet. 255 - octet)) r.inner inner in (
+      subst (Wrote taken taken_now) (ap frames_of same ∙ frames-turned items) r.out,
+      subst (Wrote noted noted_now) (ap (λ (l : List ItemValue). report_text (in_turn chosen l) (length r.bits)) same ∙ ap (report_text (in_turn chosen (map turned_item items))) count) r.notes,
+    )
+
+pub keeps-turned_symbols : HasBest → Complements → OnePhase → OneHanded → HasBits → CleanBits → CleanFrames → TurnedSymbols → (e : Ending) (status : ℕ) (c : Configuration) (octets : List ℕ) (taken taken_now noted noted_now : Option (List ℕ))
+    → IsAccepted c → status ≡ status_of e → Ends e Decode c octets taken taken_now noted noted_now → (status ≡ 0) ⊎ (status ≡ 1)
+    → KeepsTurnedSymbols status c octets taken taken_now noted noted_now
+keeps-turned_symbols best complements one_phase one has_bits clean_bits frames turned e status c octets taken taken_now noted noted_now ok told ends read = λ input half find any skip small is.
+    let r = came-free one_phase one e status c octets taken taken_now noted noted_now ok told ends read
+    (λ chosen choice. phase-turned best complements c input chosen skip (subst (λ (l : List ℕ). IsChosen c l chosen) is choice)) in
+    let clean = clean_items c 0 (whole_frames c.frame_length input) in
+    let inner : Inner c 0 octets r.bits = subst (λ (n : ℕ). Inner c n octets r.bits) (sent-skip c) r.inner in
+    let receive : Receive c 0 (turned_octets (sent c input)) r.items =
+    subst (λ (n : ℕ). Receive c n (turned_octets (sent c input)) r.items) (sent-skip c) (subst (λ (l : List ℕ). Receive c (skip_of (sent_phase c)) l r.items) is r.receive) in
+    let items : r.items ≡ map turned_item clean = turned c input r.items ok half find any skip small receive in
+    let upright = has_bits c 0 (sent c input) ok in
+    let count : length r.bits ≡ 8 * length (cadus c input) =
+    same-count c 0 octets (sent c input) r.bits upright.0 (ap length is ∙ length-map (sent c input) (λ octet. 255 - octet)) inner upright.1
+    ∙ ap length (clean_bits c (cadus c input) upright.0 ok skip (inr (inr half)) upright.1) ∙ length-bits_of (cadus c input) in (
+      r.good (ap bad items ∙ bad-turned clean ∙ clean-good c 0 (whole_frames c.frame_length input)),
+      subst (Wrote taken taken_now) (ap frames_of items ∙ frames-turned clean ∙ frames c 0 (whole_frames c.frame_length input)) r.out,
+      subst (Wrote noted noted_now) (λ i. report_text (in_turn (sent_phase c) (items i)) (count i)) r.notes,
     )

@@ -4,28 +4,30 @@ use Rattle.rand_pcg.specs.Lcg.{Lcg}
 use Rattle.tm_base.specs.Outside.{Rose}
 use Rattle.tm_base.specs.Pieces.{further}
 use Rattle.tm_base.specs.Takers.{HandedOver}
+use Rattle.tm_base.specs.Handed.{Handed, Phase, Item, items_of}
 use Rattle.tm_base.specs.Written.{Wrote, WroteFront}
-use Rattle.tm_config.specs.Configuration.{Configuration}
-use Rattle.tm_inner.specs.Inner.{Inner}
+use Rattle.tm_config.specs.Accepted.{IsAccepted}
+use Rattle.tm_config.specs.Configuration.{Configuration, word_length, codeblock_length}
+use Rattle.tm_config.proofs.Lengths.{codeblock_length-le}
 use Rattle.tm_inner.specs.Sending.{InnerSending, SendsFront, Sends, StandsFor as SenderStandsFor}
 use Rattle.tm_inner.specs.declared.sender.SendError.{SendError}
 use Rattle.tm_inner.specs.declared.sender.SendError.TheVariants.{Sink, Stopped}
 use Rattle.tm_inner.specs.Symbols.{symbols_of_octets}
 use Rattle.tm_inner.proofs.Symbols.{symbols-go_on, symbols-none}
-use Rattle.tm_channel.specs.Items.{ItemValue, AreItems}
-use Rattle.tm_channel.specs.Receive.{ReceiveDue}
+use Rattle.tm_channel.specs.Items.{ItemValue}
+use Rattle.tm_channel.specs.Handing.{AreReceived, AreReceivedDue}
 use Rattle.tm_channel.specs.OctetReceiving.{OctetReceiving, StandsFor}
 use Rattle.tm_cli.specs.Generated.{drawn, draw_count, generated_unit, generated_units, generated}
 use Rattle.tm_cli.specs.HeldSymbols.{HeldSymbols}
 use Rattle.tm_cli.specs.Lines.{report_end_text}
-use Rattle.tm_cli.specs.Receiving.{AreAll, HandedDue}
+use Rattle.tm_cli.specs.Receiving.{HandedDue}
 use Rattle.tm_cli.specs.Report.{good, bad, fixed}
-use Rattle.tm_cli.specs.Soak.{Counted, counts_of, IsSoakLine}
-use Rattle.tm_cli.specs.Taken.{Standing, no_counts, Reported}
+use Rattle.tm_cli.specs.Soak.{CountedHanded, counts_of, IsSoakLine}
+use Rattle.tm_cli.specs.Taken.{Standing, no_counts, ReportedHanded}
 use Rattle.tm_cli.specs.declared.counts.Counts.{Counts}
 use Rattle.tm_cli.proofs.FewSymbols.{length-further}
 use Rattle.tm_cli.proofs.Generating.{units-none, units-more}
-use Rattle.tm_cli.proofs.Received.{due-more, few-all, all-handed}
+use Rattle.tm_cli.proofs.Received.{due-none, due-more, few-received, all-handed}
 use Rattle.tm_cli.proofs.Reporting.{handed-along, report-wrote}
 
 -- ---- one unit
@@ -66,41 +68,46 @@ unit-sent sender given unit (Err Stopped) before now new small stands fresh stop
 
 -- and what is due for it is received
 pub unit-received : (c : Configuration) (sender sender_now : InnerSending) (receiver receiver_now : OctetReceiving) (start counts counts_now : Counts) (given unit octets : List ℕ)
-    (before now : HeldSymbols) (more : List ItemValue) → before ≡ record { octets = []; is_full = false } → octets ≡ now.octets
+    (before now : HeldSymbols) (more : List (Handed ItemValue)) → before ≡ record { octets = []; is_full = false } → octets ≡ now.octets
     → Sends sender sender_now (Some before.octets) (Some now.octets) unit → SenderStandsFor sender given
-    → receiver_now.config ≡ receiver.config → HandedOver Counted counts more counts_now
-    → ((given : List ℕ) (done : List ItemValue) → length given + length octets < 2 ^ 60 → StandsFor receiver given done
-    → StandsFor receiver_now (given ++ octets) (done ++ more) × ReceiveDue receiver.config 0 (given ++ octets) (done ++ more))
-    → HandedDue c receiver (λ items. HandedOver Counted start items counts) (symbols_of_octets sender.config given)
-    → HandedDue c receiver_now (λ items. HandedOver Counted start items counts_now) (symbols_of_octets sender.config (given ++ unit))
+    → receiver_now.config ≡ receiver.config → HandedOver CountedHanded counts more counts_now
+    → ((given : List ℕ) (done : List (Handed ItemValue)) → length given + length octets < 2 ^ 60 → StandsFor receiver given done
+    → StandsFor receiver_now (given ++ octets) (done ++ more) × AreReceivedDue receiver.config (given ++ octets) (done ++ more))
+    → HandedDue c receiver (λ handed. HandedOver CountedHanded start handed counts) (symbols_of_octets sender.config given)
+    → HandedDue c receiver_now (λ handed. HandedOver CountedHanded start handed counts_now) (symbols_of_octets sender.config (given ++ unit))
 unit-received c sender sender_now receiver receiver_now start counts counts_now given unit octets before now more new is sends stands same handed goes_on was =
-    let fed = due-more Counted c receiver receiver_now start counts counts_now (symbols_of_octets sender.config given) octets more same handed goes_on was in
+    let fed = due-more CountedHanded c receiver receiver_now start counts counts_now (symbols_of_octets sender.config given) octets more same handed goes_on was in
     let wrote = subst (λ (b : HeldSymbols). Wrote (Some b.octets) (Some now.octets) (further (symbols_of_octets sender.config) given unit)) new (sends.fed.written given stands) in
     let all = ap (λ (l : List ℕ). symbols_of_octets sender.config given ++ l) is ∙ symbols-are sender.config given unit now.octets wrote in
-    subst (HandedDue c receiver_now (λ items. HandedOver Counted start items counts_now)) all fed
+    subst (HandedDue c receiver_now (λ handed. HandedOver CountedHanded start handed counts_now)) all fed
 
 -- ---- all units
 
-pub handed-none : (c : Configuration) (hits : ℕ) (receiver : OctetReceiving) → receiver.config ≡ c → StandsFor receiver [] []
-    → (g : _) → HandedDue c receiver (λ items. HandedOver Counted no_counts items no_counts) (symbols_of_octets c (generated_units c 0 hits g))
-handed-none c hits receiver same stands g =
+pub handed-none : (c : Configuration) (hits : ℕ) (receiver : OctetReceiving) → IsAccepted c → receiver.config ≡ c → StandsFor receiver [] []
+    → (g : _) → HandedDue c receiver (λ handed. HandedOver CountedHanded no_counts handed no_counts) (symbols_of_octets c (generated_units c 0 hits g))
+handed-none c hits receiver accepted same stands g =
     let none : [] ≡ symbols_of_octets c (generated_units c 0 hits g) = sym (ap (symbols_of_octets c) (units-none c hits g) ∙ symbols-none c) in
-    subst (HandedDue c receiver (λ items. HandedOver Counted no_counts items no_counts)) none (record { items = []; config = same; stands = λ _. stands; holds = refl })
+    subst (HandedDue c receiver (λ handed. HandedOver CountedHanded no_counts handed no_counts)) none (due-none CountedHanded c receiver no_counts accepted same stands)
 
 -- one more, for a sender of the same configuration
 pub handed-more : (c : Configuration) (hits frame : ℕ) (g at : Lcg) (sender : InnerSending) (receiver receiver_now : OctetReceiving) (counts counts_now : Counts) (unit : List ℕ)
     → sender.config ≡ c → at ≡ drawn (frame * draw_count c hits) g → unit ≡ generated_unit c hits at
-    → HandedDue c receiver (λ items. HandedOver Counted no_counts items counts) (symbols_of_octets c (generated_units c frame hits g))
-    → (HandedDue c receiver (λ items. HandedOver Counted no_counts items counts) (symbols_of_octets sender.config (generated_units c frame hits g))
-    → HandedDue c receiver_now (λ items. HandedOver Counted no_counts items counts_now) (symbols_of_octets sender.config (generated_units c frame hits g ++ unit)))
-    → HandedDue c receiver_now (λ items. HandedOver Counted no_counts items counts_now) (symbols_of_octets c (generated_units c (frame + 1) hits g))
+    → HandedDue c receiver (λ handed. HandedOver CountedHanded no_counts handed counts) (symbols_of_octets c (generated_units c frame hits g))
+    → (HandedDue c receiver (λ handed. HandedOver CountedHanded no_counts handed counts) (symbols_of_octets sender.config (generated_units c frame hits g))
+    → HandedDue c receiver_now (λ handed. HandedOver CountedHanded no_counts handed counts_now) (symbols_of_octets sender.config (generated_units c frame hits g ++ unit)))
+    → HandedDue c receiver_now (λ handed. HandedOver CountedHanded no_counts handed counts_now) (symbols_of_octets c (generated_units c (frame + 1) hits g))
 handed-more c hits frame g at sender receiver receiver_now counts counts_now unit same stand is was goes_on =
-    let before = subst (λ (k : Configuration). HandedDue c receiver (λ items. HandedOver Counted no_counts items counts) (symbols_of_octets k (generated_units c frame hits g))) (sym same) was in
+    let before = subst (λ (k : Configuration). HandedDue c receiver (λ handed. HandedOver CountedHanded no_counts handed counts) (symbols_of_octets k (generated_units c frame hits g))) (sym same) was in
     let all : symbols_of_octets sender.config (generated_units c frame hits g ++ unit) ≡ symbols_of_octets c (generated_units c (frame + 1) hits g) =
     ap (λ (k : Configuration). symbols_of_octets k (generated_units c frame hits g ++ unit)) same
     ∙ ap (λ (l : List ℕ). symbols_of_octets c (generated_units c frame hits g ++ l)) is
     ∙ ap (symbols_of_octets c) (units-more c frame hits g at stand) in
-    subst (HandedDue c receiver_now (λ items. HandedOver Counted no_counts items counts_now)) all (goes_on before)
+    subst (HandedDue c receiver_now (λ handed. HandedOver CountedHanded no_counts handed counts_now)) all (goes_on before)
+
+-- a unit is so long
+pub unit_few : (c : Configuration) (depth word : ℕ) → IsAccepted c → depth ≡ c.depth → word ≡ word_length c → depth * word ≤ 2040
+unit_few c depth word accepted is_depth is_word =
+    let size : depth * word ≡ codeblock_length c = ap (λ n. n * word) is_depth ∙ ap (λ n. c.depth * n) is_word in omega (arith, size, codeblock_length-le c accepted)
 
 -- units are so long
 pub units-long : (c : Configuration) (frame hits : ℕ) (g at : Lcg) (unit : List ℕ) → at ≡ drawn (frame * draw_count c hits) g → unit ≡ generated_unit c hits at → length unit ≤ 2044
@@ -116,13 +123,15 @@ units-long c frame hits g at unit stand is small few =
 abbrev untold : Counts → Standing
 untold _ = record { taken = None; faults = 0 }
 
-reported : (a : Counts) (item : ItemValue) (b : Counts) → Counted a item b → (tt {0} ≡ tt {0}) × Reported (untold a) (untold b) a b item
-reported a item b one = (refl, record { line = record { written = refl; same = refl }; counted = one.counted; few = one.few })
+reported : (a : Counts) (h : Handed ItemValue) (b : Counts) → CountedHanded a h b → ReportedHanded (untold a) (untold b) a b h
+reported a (Phase skip cost) b same = (same, record { written = refl; same = refl })
+reported a (Item item) b one = record { line = record { written = refl; same = refl }; counted = one.counted; few = one.few }
 
-pub counted-all : (items : List ItemValue) (counts : Counts) → length items < 2 ^ 53 → HandedOver Counted no_counts items counts → counts ≡ counts_of items
-counted-all items counts few handed =
-    let all = (report-wrote (λ (_ : Counts). tt {0}) untold (λ (k : Counts). k) items no_counts counts refl few
-    (handed-along Counted (λ a item b. (tt {0} ≡ tt {0}) × Reported (untold a) (untold b) a b item) reported items no_counts counts handed)).1 in
+counted-all : (handed : List (Handed ItemValue)) (counts : Counts) → length (items_of handed) < 2 ^ 53 → HandedOver CountedHanded no_counts handed counts → counts ≡ counts_of (items_of handed)
+counted-all handed counts few over =
+    let items = items_of handed in
+    let all = report-wrote untold (λ (k : Counts). k) handed no_counts counts refl few
+    (handed-along CountedHanded (λ a h b. ReportedHanded (untold a) (untold b) a b h) reported handed no_counts counts over) in
     let goods : counts.good ≡ good items = all.good ∙ omega arith in
     let bads : counts.bad ≡ bad items = all.bad ∙ omega arith in
     let fixeds : counts.fixed ≡ fixed items = all.fixed ∙ omega arith in
@@ -131,18 +140,18 @@ counted-all items counts few handed =
     ∙ ap (λ (n : ℕ). record { good = good items; bad = bad items; fixed = n }) fixeds
 
 -- at the end all items of the octets are counted
-pub all-counted : (c : Configuration) (receiver : OctetReceiving) (counts now : Counts) (octets : List ℕ) (last : List ItemValue) (bits : ℕ) → length octets < 2 ^ 40
-    → HandedDue c receiver (λ items. HandedOver Counted no_counts items counts) octets → HandedOver Counted counts last now
-    → ((given : List ℕ) (done : List ItemValue) → StandsFor receiver given done
-    → (found : List Bool) × Inner receiver.config 0 given found × (bits ≡ length found) × AreItems receiver.config found (done ++ last))
-    → (items : List ItemValue) × AreAll c bits octets items × (now ≡ counts_of items)
-all-counted c receiver counts now octets last bits few handed more finish =
-    let all = all-handed Counted c receiver no_counts counts now octets last bits (omega (arith, few)) handed more finish in
-    (all.0, all.1, counted-all all.0 now (omega (arith, few, few-all c bits octets all.0 all.1)) all.2)
+pub all-counted : (c : Configuration) (receiver : OctetReceiving) (counts now : Counts) (octets : List ℕ) (last : List (Handed ItemValue)) (bits : ℕ) → length octets < 2 ^ 40
+    → HandedDue c receiver (λ handed. HandedOver CountedHanded no_counts handed counts) octets → HandedOver CountedHanded counts last now
+    → ((given : List ℕ) (done : List (Handed ItemValue)) → StandsFor receiver given done → AreReceived receiver.config given (done ++ last) bits)
+    → (handed : List (Handed ItemValue)) × AreReceived c octets handed bits × (now ≡ counts_of (items_of handed))
+all-counted c receiver counts now octets last bits few was more finish =
+    let all = all-handed CountedHanded c receiver no_counts counts now octets last bits (omega (arith, few)) was more finish in
+    (all.0, all.1, counted-all all.0 now (omega (arith, few, few-received c bits octets all.0 all.1)) all.2)
 
 -- ---- the line
 
-pub counted-line : (c : Configuration) (seed frames hits bits : ℕ) (counts : Counts) → ((items : List ItemValue) × AreAll c bits (generated c seed frames hits) items × (counts ≡ counts_of items))
+pub counted-line : (c : Configuration) (seed frames hits bits : ℕ) (counts : Counts)
+    → ((handed : List (Handed ItemValue)) × AreReceived c (generated c seed frames hits) handed bits × (counts ≡ counts_of (items_of handed)))
     → IsSoakLine c seed frames hits (report_end_text counts.good counts.bad counts.fixed bits)
 counted-line c seed frames hits bits counts counted =
-    record { items = counted.0; bits = bits; are_all = counted.1; is_line = ap (λ (k : Counts). report_end_text k.good k.bad k.fixed bits) counted.2 }
+    record { handed = counted.0; bits = bits; are_received = counted.1; is_line = ap (λ (k : Counts). report_end_text k.good k.bad k.fixed bits) counted.2 }

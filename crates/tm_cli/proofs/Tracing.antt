@@ -1,42 +1,47 @@
 -- What tracing has written, from what an inner receiver handed over.
-use Rattle.std.proofs.Common.{◌≡◌, ℕ, ◌+◌, ◌-◌, ◌<◌, ◌≤◌, ◌^◌, Bool, List, [], ◌∷◌, ◌++◌, length, take, drop, map, refl, sym, ap, ◌∙◌, subst, arith, append_assoc, Option, Some, None, length-append, length-drop, length-take}
-use Rattle.std.proofs.Math.Seq.{drop-nil}
+use Rattle.std.proofs.Common.{◌≡◌, inl, inr, ℕ, ◌+◌, ◌-◌, ◌<◌, ◌≤◌, ◌^◌, Bool, List, [], ◌∷◌, ◌++◌, length, take, drop, map, refl, sym, ap, ◌∙◌, subst, arith, Option, Some, None, length-append, length-drop, length-take}
 use Rattle.std.proofs.lemmas.List.{append-nil, take_all}
 use Rattle.std.specs.Io.KnownBytes.{append_known}
+use Rattle.tm_base.specs.Handed.{Handed, Item, items_of}
 use Rattle.tm_base.specs.Written.{WroteFront}
 use Rattle.tm_base.specs.Takers.{HandedOver, HandedPart}
+use Rattle.tm_base.proofs.HandedItems.{items_of-append}
 use Rattle.tm_config.specs.Configuration.{Configuration}
 use Rattle.tm_config.specs.Accepted.{IsAccepted}
 use Rattle.tm_conv.specs.declared.rates.Rate.{Rate}
 use Rattle.tm_conv.specs.Path.{steps_size}
 use Rattle.tm_conv.proofs.Sizes.{steps_size_ge}
-use Rattle.tm_viterbi.specs.Settings.{Settings}
 use Rattle.tm_viterbi.specs.WindowBlock.{WindowBlock}
-use Rattle.tm_viterbi.specs.Blocks.{AreBlocks, AreBlocksOf}
-use Rattle.tm_viterbi.specs.Due.{Place, Closed, behind, first_place, AreDue}
+use Rattle.tm_viterbi.specs.Blocks.{AreBlocks}
+use Rattle.tm_viterbi.specs.Due.{Place, Closed, behind, first_place, AreFirst}
 use Rattle.tm_viterbi.specs.Starts.{first_start}
 use Rattle.tm_viterbi.proofs.CleanBlocks.{steps-mono}
 use Rattle.tm_viterbi.proofs.HasBlocks.{some_kept}
 use Rattle.tm_inner.specs.Symbols.{rate_of}
-use Rattle.tm_inner.specs.Inner.{settings_of, soft_value, soft_octets, BlocksAt, DueAt, AreInnerBlocks, AreInnerDue, inner_bits}
+use Rattle.tm_inner.specs.Inner.{settings_of, soft_value, soft_octets, BlocksAt, AreInnerBlocks, AreInnerDue, inner_bits}
+use Rattle.tm_inner.specs.Phase.{skip_of, in_turn, InTurnSettled}
 use Rattle.tm_inner.specs.Receiving.{InnerReceiving, StandsFor, FirstAt, AreInnerFirst, Hands, HandsFront}
-use Rattle.tm_inner.proofs.DueBits.{StayClosed, StandFirst}
+use Rattle.tm_inner.specs.Handing.{AreHanded, AreHandedDue, AreHandedFirst, AreHandedFront}
+use Rattle.tm_inner.proofs.DueBits.{StayClosed, StandFirst, soft-more}
 use Rattle.tm_inner.proofs.InnerBits.{HasBlocks, has_blocks}
 use Rattle.tm_inner.proofs.ReceivedBits.{length-soft}
 use Rattle.tm_inner.proofs.FewBits.{first-of-due}
-use Rattle.tm_inner.proofs.GivenPieces.{soft-further}
+use Rattle.tm_inner.proofs.HandedBits.{handed-due-none}
+use Rattle.tm_inner.proofs.PhasePieces.{PhaseStays, in_turn-more, items_of-in_turn}
+use Rattle.tm_inner.proofs.InTurn.{HasPhase, OnePhase, in_turn-exists, in_turn-front, in_turn-so_far}
 use Rattle.tm_cli.specs.Command.Command.{Trace}
-use Rattle.tm_cli.specs.Lines.{block_text, trace_end_text}
+use Rattle.tm_cli.specs.Lines.{trace_end_text}
 use Rattle.tm_cli.specs.Output.{Output, IsTrace, WroteFronts, WroteDue}
 use Rattle.tm_cli.specs.Ending.{Ends, WroteEarly}
 use Rattle.tm_cli.specs.declared.ending.Ending.TheVariants as ending
 use Rattle.tm_cli.specs.Reading.{FedUpTo}
 use Rattle.tm_cli.specs.Report.{blocks_text, trace_text}
-use Rattle.tm_cli.specs.Taken.{Standing, TookText, BrokeText, Traced, TracedAll}
+use Rattle.tm_cli.specs.Taken.{Standing, TookText, BrokeText, TracedAll}
 use Rattle.tm_cli.specs.Tracing.{StandsAt, Traces, TraceFails, TracedWhole, WroteTrace, WroteTraceFront}
 use Rattle.tm_cli.specs.declared.turns.Pumped.{Pumped}
 use Rattle.tm_cli.specs.declared.turns.Pumped.TheVariants.{Ended, SourceFault, FeedFault, PastLimit}
-use Rattle.tm_cli.proofs.Reporting.{part-of, took-more, handed-along, handed-keeps, part-keeps, traced-all, trace-wrote, trace-broke, trace-front, blocks_text-split, broke-front, broke-after}
+use Rattle.tm_cli.proofs.Reporting.{part-of, broke-front}
+use Rattle.tm_cli.proofs.TraceLines.{TookOne, BrokeOne, traced-none, traced-more, traced-part, trace-front, trace_text-split}
 use Rattle.tm_cli.proofs.Endings.{wrote-nothing, wrote-front}
 
 -- ---- windows are at most as many as octets
@@ -59,39 +64,94 @@ whole-few rate invert keep ahead starts t n octets (b ∷ blocks) some are =
     let rest = whole-few rate invert keep ahead (Some b.end_state) (t + b.kept) (n - b.kept) (drop (steps_size rate t b.kept) octets) blocks some are.2 in
     omega (arith, kept, are.1.kept, rest)
 
-few-first-at : (rate : Option Rate) (c : Configuration) (octets : List ℕ) (blocks : List WindowBlock) → 0 < c.keep → FirstAt rate c 0 octets blocks → length blocks ≤ length octets
-few-first-at None c octets blocks some are = let none = ap length are in omega arith
-few-first-at (Some rate) c octets blocks some are =
+few-first-at : (rate : Option Rate) (c : Configuration) (phase : ℕ) (octets : List ℕ) (blocks : List WindowBlock) → 0 < c.keep → FirstAt rate c phase octets blocks
+    → length blocks ≤ length octets
+few-first-at None c phase octets blocks some are = let none = ap length are in omega arith
+few-first-at (Some rate) c phase octets blocks some are =
     let s = settings_of c rate in
-    omega (arith, closed-few rate s.invert s.keep s.ahead (first_place s (soft_octets c 0 octets)) are.0 blocks some are.1, length-soft c octets)
+    omega (arith, closed-few rate s.invert s.keep s.ahead (first_place s (soft_octets c phase octets)) are.0 blocks some are.1, length-soft c phase octets)
 
-few-at : (rate : Option Rate) (c : Configuration) (octets : List ℕ) (blocks : List WindowBlock) (left : ℕ) → 0 < c.keep → BlocksAt rate c 0 octets blocks left → length blocks ≤ length octets
-few-at None c octets blocks left some are = let none = ap length are.0 in omega arith
-few-at (Some rate) c octets blocks left some are =
+few-at : (rate : Option Rate) (c : Configuration) (phase : ℕ) (octets : List ℕ) (blocks : List WindowBlock) (left : ℕ) → 0 < c.keep → BlocksAt rate c phase octets blocks left
+    → length blocks ≤ length octets
+few-at None c phase octets blocks left some are = let none = ap length are.0 in omega arith
+few-at (Some rate) c phase octets blocks left some are =
     let s = settings_of c rate in
-    omega (arith, whole-few rate s.invert s.keep s.ahead (first_start s.start) 0 are.count (soft_octets c 0 octets) blocks some are.are, are.steps.whole, steps_size_ge rate 0 are.count, length-soft c octets)
+    omega (
+      arith,
+      whole-few rate s.invert s.keep s.ahead (first_start s.start) 0 are.count (soft_octets c phase octets) blocks some are.are,
+      are.steps.whole,
+      steps_size_ge rate 0 are.count,
+      length-soft c phase octets,
+    )
 
-few-first : (c : Configuration) (octets : List ℕ) (blocks : List WindowBlock) → IsAccepted c → AreInnerFirst c 0 octets blocks → length blocks ≤ length octets
-few-first c octets blocks accepted = few-first-at (rate_of c.inner) c octets blocks (let keep = accepted.some_keep in omega arith)
+keeps-some : (c : Configuration) → IsAccepted c → 0 < c.keep
+keeps-some c accepted = let keep = accepted.some_keep in omega arith
 
-pub few-blocks : (c : Configuration) (octets : List ℕ) (blocks : List WindowBlock) (left : ℕ) → IsAccepted c → AreInnerBlocks c 0 octets blocks left → length blocks ≤ length octets
-few-blocks c octets blocks left accepted = few-at (rate_of c.inner) c octets blocks left (let keep = accepted.some_keep in omega arith)
+-- what is due once the phase is settled is first
+first-settled : (c : Configuration) (octets : List ℕ) (handed : List (Handed WindowBlock)) → InTurnSettled (λ phase. AreInnerDue c phase octets) c octets handed → AreHandedFirst c octets handed
+first-settled c octets handed h = (
+  h.0,
+  record {
+    chosen = h.1.chosen;
+    choice = h.1.choice;
+    items = h.1.items;
+    are_items = first-of-due c (skip_of h.1.chosen) octets h.1.items h.1.are_items;
+    are = h.1.are;
+  },
+)
+
+few-first : (c : Configuration) (octets : List ℕ) (handed : List (Handed WindowBlock)) → IsAccepted c → AreHandedFirst c octets handed → length (items_of handed) ≤ length octets
+few-first c octets handed accepted h =
+    let few = few-first-at (rate_of c.inner) c (skip_of h.1.chosen) octets h.1.items (keeps-some c accepted) h.1.are_items in
+    omega (arith, few, ap (λ l. length (items_of l)) h.1.are, ap length (items_of-in_turn h.1.chosen h.1.items))
+
+few-due : (c : Configuration) (octets : List ℕ) (handed : List (Handed WindowBlock)) → IsAccepted c → AreHandedDue c octets handed → length (items_of handed) ≤ length octets
+few-due c octets handed accepted (inl none) = omega (arith, ap (λ l. length (items_of l)) none.1)
+few-due c octets handed accepted (inr h) = few-first c octets handed accepted (first-settled c octets handed h)
+
+few-handed : (c : Configuration) (octets : List ℕ) (handed : List (Handed WindowBlock)) (left : ℕ) → IsAccepted c → AreHanded c octets handed left → length (items_of handed) ≤ length octets
+few-handed c octets handed left accepted h =
+    let few = few-at (rate_of c.inner) c (skip_of h.chosen) octets h.items left (keeps-some c accepted) h.are_items in
+    omega (arith, few, ap (λ l. length (items_of l)) h.are, ap length (items_of-in_turn h.chosen h.items))
+
+-- ---- first windows stand first
+
+first-of-all : StandFirst → (rate : Option Rate) (c : Configuration) (phase : ℕ) (octets : List ℕ) (first blocks : List WindowBlock) (left : ℕ)
+    → FirstAt rate c phase octets first → BlocksAt rate c phase octets blocks left → (rest : List WindowBlock) × (blocks ≡ first ++ rest)
+first-of-all stands None c phase octets first blocks left are all = ([], all.0 ∙ ap (λ l. l ++ []) (sym are))
+first-of-all stands (Some rate) c phase octets first blocks left are all = stands (settings_of c rate) (soft_octets c phase octets) first blocks left are all
+
+stay-first : StayClosed → (rate : Option Rate) (c : Configuration) (phase : ℕ) (octets more : List ℕ) (first : List WindowBlock) → FirstAt rate c phase octets first
+    → FirstAt rate c phase (octets ++ more) first
+stay-first stay None c phase octets more first are = are
+stay-first stay (Some rate) c phase octets more first are =
+    let back = map (soft_value c) (drop (phase - length (drop c.skip octets)) (drop (c.skip - length octets) more)) in
+    subst (λ (l : List ℕ). AreFirst (settings_of c rate) l first) (sym (soft-more c phase octets more)) (stay (settings_of c rate) (soft_octets c phase octets) back first are)
+
+-- what is handed over up to a fault is a front of all
+front-of-all : HasBlocks → StandFirst → (c : Configuration) (octets : List ℕ) (front : List (Handed WindowBlock)) → IsAccepted c → AreHandedFront c octets front
+    → (handed : List (Handed WindowBlock)) × (left : ℕ) × AreHanded c octets handed left × ((rest : List (Handed WindowBlock)) × (handed ≡ front ++ rest))
+front-of-all exists stands c octets front accepted f =
+    let phase = skip_of f.chosen in
+    elim f.are_items as (λ _. (handed : List (Handed WindowBlock)) × (left : ℕ) × AreHanded c octets handed left × ((rest : List (Handed WindowBlock)) × (handed ≡ front ++ rest))) [
+      | inl first ↦ (
+          let all = has_blocks exists c phase octets accepted in
+          let split = first-of-all stands (rate_of c.inner) c phase octets f.items all.0 all.1 first all.2 in (
+            in_turn f.chosen all.0,
+            all.1,
+            record { chosen = f.chosen; choice = f.choice; items = all.0; are_items = all.2; are = refl },
+            (map Item split.0, ap (in_turn f.chosen) split.1 ∙ in_turn-more f.chosen f.items split.0 ∙ ap (λ l. l ++ map Item split.0) (sym f.are)),
+          )
+          )
+      | inr all ↦ (
+        front,
+        all.0,
+        record { chosen = f.chosen; choice = f.choice; items = f.items; are_items = all.1; are = f.are },
+        ([], sym (append-nil front)),
+      )
+    ]
 
 -- ---- what was traced of the octets that were read
-
-pub same-along : {T K : Type 0} (name : T → K) (lines : T → Standing) (count : T → ℕ) (blocks : List WindowBlock) (a b : T)
-    → HandedOver (λ x block y. (name y ≡ name x) × Traced (lines x) (lines y) (count x) (count y) block) a blocks b → name b ≡ name a
-same-along {T} name lines count blocks a b handed =
-    let took : T → WindowBlock → T → Type 0 = λ x block y. (name y ≡ name x) × Traced (lines x) (lines y) (count x) (count y) block in
-    handed-keeps took name (λ _ _ _ p. p.0) blocks a b handed
-
-pub same-part : {T K : Type 0} (name : T → K) (lines : T → Standing) (last : T → Type 0) (count : T → ℕ) (blocks : List WindowBlock) (a b : T)
-    → HandedPart (λ x block y. (name y ≡ name x) × Traced (lines x) (lines y) (count x) (count y) block)
-    (λ x block y. (name y ≡ name x) × BrokeText (lines x) (lines y) (last y) [] (block_text (count x) block)) a blocks b → name b ≡ name a
-same-part {T} name lines last count blocks a b part =
-    let took : T → WindowBlock → T → Type 0 = λ x block y. (name y ≡ name x) × Traced (lines x) (lines y) (count x) (count y) block in
-    let broke : T → WindowBlock → T → Type 0 = λ x block y. (name y ≡ name x) × BrokeText (lines x) (lines y) (last y) [] (block_text (count x) block) in
-    part-keeps took broke name (λ _ _ _ p. p.0) (λ _ _ _ p. p.0) blocks a b part
 
 -- of what was fed up to the limit something follows
 pub fed-so : (fed broke so failed : List ℕ → Type 0) (limit : ℕ) (end : Pumped) (octets : List ℕ)
@@ -104,227 +164,218 @@ fed-so fed broke so failed limit PastLimit octets each last p = (each (take limi
 
 traces : {T K : Type 0} (name : T → K) (lines : T → Standing) (count : T → ℕ) (c : Configuration) (a b : InnerReceiving) (taker now : T) (octets : List ℕ)
     → count taker ≡ 0 → IsAccepted c → b.config ≡ c → length octets < 2 ^ 60 → StandsAt a [] []
-    → Hands (λ x block y. (name y ≡ name x) × Traced (lines x) (lines y) (count x) (count y) block) StandsAt a b taker now octets
-    → Traces c b (count now) (lines taker) (lines now) octets
+    → Hands (TookOne name lines count) StandsAt a b taker now octets → Traces c b (count now) (lines taker) (lines now) octets
 traces name lines count c a b taker now octets new accepted same few stood p =
     let small : 0 + length octets < 2 ^ 60 = omega arith in
     let stands : StandsAt b octets p.more = p.stands [] [] small stood in
-    let bound = few-first b.config octets p.more (subst IsAccepted (sym same) accepted) (first-of-due b.config 0 octets p.more stands.1) in
-    let wrote = trace-wrote name lines count p.more taker now new (omega arith) p.handed in
-    record { blocks = p.more; config = same; stands = stands; lines = wrote.1 }
+    let bound = few-due b.config octets p.more (subst IsAccepted (sym same) accepted) stands.1 in
+    record {
+      handed = p.more;
+      config = same;
+      stands = stands;
+      lines = traced-more name lines count (lines taker) [] p.more taker now (traced-none (lines taker) (count taker) new) p.handed (omega arith);
+    }
 
 trace-fails : {T K : Type 0} (name : T → K) (lines : T → Standing) (last : T → Type 0) (count : T → ℕ) (c : Configuration) (a : InnerReceiving) (taker now : T) (octets : List ℕ)
     → count taker ≡ 0 → IsAccepted c → length octets < 2 ^ 60 → StandsAt a [] []
-    → HandsFront (λ x block y. (name y ≡ name x) × Traced (lines x) (lines y) (count x) (count y) block)
-    (λ x block y. (name y ≡ name x) × BrokeText (lines x) (lines y) (last y) [] (block_text (count x) block)) StandsAt (AreInnerFirst c 0) a taker now octets
+    → HandsFront (TookOne name lines count) (BrokeOne name lines last count) StandsAt (AreHandedFirst c) a taker now octets
     → TraceFails c (lines taker) (lines now) (last now) octets
 trace-fails name lines last count c a taker now octets new accepted few stood p =
     let small : 0 + length octets < 2 ^ 60 = omega arith in
-    let first : AreInnerFirst c 0 octets p.tried = p.first [] [] small stood in
+    let first : AreHandedFirst c octets p.tried = p.first [] [] small stood in
     let bound = few-first c octets p.tried accepted first in
-    let broke = trace-broke name lines last count p.tried taker now new (omega arith) p.handed in
-    record { blocks = p.tried; are_first = first; broke = broke.1 }
+    record {
+      handed = p.tried;
+      are_first = first;
+      broke = traced-part name lines last count (lines taker) [] p.tried taker now (traced-none (lines taker) (count taker) new) p.handed (omega arith);
+    }
 
 pub traced-up_to : {T K : Type 0} (name : T → K) (lines : T → Standing) (last : T → Type 0) (count : T → ℕ) (c : Configuration) (limit : ℕ) (a b : InnerReceiving) (taker now : T)
     (end : Pumped) (octets : List ℕ) → count taker ≡ 0 → IsAccepted c → a.config ≡ c → limit ≡ c.limit → StandsAt a [] []
-    → FedUpTo (λ o. (b.config ≡ a.config) × Hands (λ x block y. (name y ≡ name x) × Traced (lines x) (lines y) (count x) (count y) block) StandsAt a b taker now o)
-    (λ o. (config : Configuration) → a.config ≡ config → HandsFront (λ x block y. (name y ≡ name x) × Traced (lines x) (lines y) (count x) (count y) block)
-    (λ x block y. (name y ≡ name x) × BrokeText (lines x) (lines y) (last y) [] (block_text (count x) block)) StandsAt (AreInnerFirst config 0) a taker now o) limit end octets
+    → FedUpTo (λ o. (b.config ≡ a.config) × Hands (TookOne name lines count) StandsAt a b taker now o)
+    (λ o. (config : Configuration) → a.config ≡ config → HandsFront (TookOne name lines count) (BrokeOne name lines last count) StandsAt (AreHandedFirst config) a taker now o) limit end octets
     → FedUpTo (Traces c b (count now) (lines taker) (lines now)) (TraceFails c (lines taker) (lines now) (last now)) c.limit end octets
-traced-up_to {T} name lines last count c limit a b taker now end octets new accepted same up_to stood p =
-    let took : T → WindowBlock → T → Type 0 = λ x block y. (name y ≡ name x) × Traced (lines x) (lines y) (count x) (count y) block in
-    let broke : T → WindowBlock → T → Type 0 = λ x block y. (name y ≡ name x) × BrokeText (lines x) (lines y) (last y) [] (block_text (count x) block) in
+traced-up_to name lines last count c limit a b taker now end octets new accepted same up_to stood p =
+    let fed : List ℕ → Type 0 = λ o. (b.config ≡ a.config) × Hands (TookOne name lines count) StandsAt a b taker now o in
+    let broke : List ℕ → Type 0 = λ o. (config : Configuration) → a.config ≡ config
+    → HandsFront (TookOne name lines count) (BrokeOne name lines last count) StandsAt (AreHandedFirst config) a taker now o in
     let most = accepted.limit in
-    fed-so (λ o. (b.config ≡ a.config) × Hands took StandsAt a b taker now o)
-    (λ o. (config : Configuration) → a.config ≡ config → HandsFront took broke StandsAt (AreInnerFirst config 0) a taker now o)
-    (Traces c b (count now) (lines taker) (lines now)) (TraceFails c (lines taker) (lines now) (last now)) c.limit end octets
+    fed-so fed broke (Traces c b (count now) (lines taker) (lines now)) (TraceFails c (lines taker) (lines now) (last now)) c.limit end octets
     (λ os le q. traces name lines count c a b taker now os new accepted (q.0 ∙ same) (omega arith) stood q.1)
     (λ os le q. trace-fails name lines last count c a taker now os new accepted (omega arith) stood (q c same))
-    (subst (λ (n : ℕ). FedUpTo (λ o. (b.config ≡ a.config) × Hands took StandsAt a b taker now o)
-    (λ o. (config : Configuration) → a.config ≡ config → HandsFront took broke StandsAt (AreInnerFirst config 0) a taker now o) n end octets) up_to p)
+    (subst (λ (n : ℕ). FedUpTo fed broke n end octets) up_to p)
 
 -- ---- the end of a trace
 
--- the last window behind those that were traced before
+-- the last windows behind those that were traced before
 pub traced-whole : {T K : Type 0} (name : T → K) (lines : T → Standing) (count : T → ℕ) (c : Configuration) (r : InnerReceiving) (taker now : T) (start : Standing) (octets : List ℕ)
-    (last : List WindowBlock) (bits left : ℕ) → IsAccepted c → Traces c r (count taker) start (lines taker) octets
-    → HandedOver (λ x block y. (name y ≡ name x) × Traced (lines x) (lines y) (count x) (count y) block) taker last now
-    → ((given : List ℕ) (done : List WindowBlock) → StandsFor r given done
-    → AreInnerBlocks r.config 0 given (done ++ last) left × (bits ≡ length (inner_bits r.config given (done ++ last))))
+    (last : List (Handed WindowBlock)) (bits left : ℕ) → IsAccepted c → Traces c r (count taker) start (lines taker) octets
+    → HandedOver (TookOne name lines count) taker last now
+    → ((given : List ℕ) (done : List (Handed WindowBlock)) → StandsFor r given done
+    → AreHanded r.config given (done ++ last) left × (bits ≡ length (inner_bits r.config given (items_of (done ++ last)))))
     → TracedWhole c (count now) bits left start (lines now) octets
-traced-whole {T} name lines count c r taker now start octets last bits left accepted t handed finish =
-    let took : T → WindowBlock → T → Type 0 = λ x block y. (name y ≡ name x) × Traced (lines x) (lines y) (count x) (count y) block in
-    let done = t.blocks in
-    let whole = subst (λ (k : Configuration). AreInnerBlocks k 0 octets (done ++ last) left × (bits ≡ length (inner_bits k octets (done ++ last)))) t.config (finish octets done t.stands.0) in
-    let bound = few-blocks c octets (done ++ last) left accepted whole.0 in
-    let sum = length-append done last in
+traced-whole name lines count c r taker now start octets last bits left accepted t handed finish =
+    let done = t.handed in
+    let whole = subst (λ (k : Configuration). AreHanded k octets (done ++ last) left × (bits ≡ length (inner_bits k octets (items_of (done ++ last))))) t.config (finish octets done t.stands.0) in
+    let bound = few-handed c octets (done ++ last) left accepted whole.0 in
     let few = t.stands.0.few in
-    let was : count taker ≡ length done = let is = t.lines.counted in omega arith in
-    let rest = traced-all lines count last taker now
-    (handed-along took (λ x block y. Traced (lines x) (lines y) (count x) (count y) block) (λ _ _ _ p. p.1) last taker now handed) (omega arith) in
     record {
-      blocks = done ++ last;
-      are_blocks = whole.0;
+      handed = done ++ last;
+      are_handed = whole.0;
       are_bits = whole.1;
-      lines = record {
-        lines = subst (TookText start (lines now)) (sym (blocks_text-split done last))
-            (took-more start (lines taker) (lines now) (blocks_text 0 done) (blocks_text (length done) last) t.lines.lines
-            (subst (λ (n : ℕ). TookText (lines taker) (lines now) (blocks_text n last)) was rest.lines));
-        counted = let is = rest.counted in omega arith;
-      };
+      lines = traced-more name lines count start done last taker now t.lines handed (omega arith);
     }
 
 -- the sink took the last line
 pub wrote-end : (c : Configuration) (count bits left : ℕ) (start before now : Standing) (octets : List ℕ) → TracedWhole c count bits left start before octets
-    → ((from : Standing) (blocks : List WindowBlock) → TracedAll from before 0 count blocks → TookText from now (trace_text blocks bits left)) → WroteTrace c start now octets
+    → ((from : Standing) (handed : List (Handed WindowBlock)) → TracedAll from before 0 count handed → TookText from now (trace_text handed bits left)) → WroteTrace c start now octets
 wrote-end c count bits left start before now octets w whole = record {
-  blocks = w.blocks;
+  handed = w.handed;
   left = left;
-  are_blocks = w.are_blocks;
-  written = subst (λ (n : ℕ). TookText start now (trace_text w.blocks n left)) w.are_bits (whole start w.blocks w.lines);
+  are_handed = w.are_handed;
+  written = subst (λ (n : ℕ). TookText start now (trace_text w.handed n left)) w.are_bits (whole start w.handed w.lines);
 }
 
 -- the sink failed in the last line
 pub cut-end : (c : Configuration) (count bits left : ℕ) (start before now : Standing) (is_last : Type 0) (octets : List ℕ) → TracedWhole c count bits left start before octets
-    → ((from : Standing) (blocks : List WindowBlock) → TracedAll from before 0 count blocks → BrokeText from now is_last (blocks_text 0 blocks) (trace_end_text (length blocks) bits left))
-    → WroteTraceFront c start now octets
+    → ((from : Standing) (handed : List (Handed WindowBlock)) → TracedAll from before 0 count handed
+    → BrokeText from now is_last (blocks_text 0 handed) (trace_end_text (length (items_of handed)) bits left)) → WroteTraceFront c start now octets
 cut-end c count bits left start before now is_last octets w broke =
-    let blocks = w.blocks in
+    let handed = w.handed in
+    let end = trace_end_text (length (items_of handed)) bits left in
     record {
-      blocks = blocks;
+      handed = handed;
       left = left;
-      are_blocks = w.are_blocks;
-      written = subst (λ (n : ℕ). WroteFront start.taken now.taken (trace_text blocks n left)) w.are_bits
-          (subst (λ l. WroteFront start.taken now.taken (blocks_text 0 blocks ++ l)) (append-nil (trace_end_text (length blocks) bits left))
-          (broke-front start now is_last (blocks_text 0 blocks) (trace_end_text (length blocks) bits left) [] (broke start blocks w.lines)));
+      are_handed = w.are_handed;
+      written = subst (λ (n : ℕ). WroteFront start.taken now.taken (trace_text handed n left)) w.are_bits
+          (subst (λ l. WroteFront start.taken now.taken (blocks_text 0 handed ++ l)) (append-nil end)
+          (broke-front start now is_last (blocks_text 0 handed) end [] (broke start handed w.lines)));
     }
-
--- or in the line of the last window
-pub cut-last : (c : Configuration) (r : InnerReceiving) (count : ℕ) (start before now : Standing) (is_last : Type 0) (octets : List ℕ) (last : WindowBlock)
-    → Traces c r count start before octets → BrokeText before now is_last [] (block_text count last)
-    → ((given : List ℕ) (done : List WindowBlock) → StandsFor r given done → (left : ℕ) × AreInnerBlocks r.config 0 given (done ++ last ∷ []) left)
-    → WroteTraceFront c start now octets
-cut-last c r count start before now is_last octets last t broke finish =
-    let done = t.blocks in
-    let whole = finish octets done t.stands.0 in
-    let blocks = done ++ last ∷ [] in
-    let was : count ≡ length done = let is = t.lines.counted in omega arith in
-    let line = block_text (length done) last in
-    let end = trace_end_text (length blocks) (length (inner_bits c octets blocks)) whole.0 in
-    let text : trace_text blocks (length (inner_bits c octets blocks)) whole.0 ≡ blocks_text 0 done ++ (line ++ end) =
-    ap (λ l. l ++ end) (blocks_text-split done (last ∷ []) ∙ ap (λ l. blocks_text 0 done ++ l) (append-nil line)) ∙ append_assoc (blocks_text 0 done) line end in
-    record {
-      blocks = blocks;
-      left = whole.0;
-      are_blocks = subst (λ (k : Configuration). AreInnerBlocks k 0 octets blocks whole.0) t.config whole.1;
-      written = subst (WroteFront start.taken now.taken) (sym text)
-          (broke-front start now is_last (blocks_text 0 done) line end
-          (broke-after start before now is_last (blocks_text 0 done) line t.lines.lines
-          (subst (λ (n : ℕ). BrokeText before now is_last [] (block_text n last)) was broke)));
-    }
-
--- ---- nothing was given yet
-
-no-due : ((s : Settings) → AreDue s [] []) → (rate : Option Rate) (c : Configuration) → DueAt rate c 0 [] []
-no-due none None c = refl
-no-due none (Some rate) c = subst (λ (l : List ℕ). AreDue (settings_of c rate) (map (soft_value c) l) []) (sym (drop-nil c.skip)) (none (settings_of c rate))
-
-pub stands-new : ((s : Settings) → AreDue s [] []) → (r : InnerReceiving) → StandsFor r [] [] → StandsAt r [] []
-stands-new none r stands = (stands, no-due none (rate_of r.config.inner) r.config)
-
--- ---- how tracing ends
-
--- the trace of octets
-trace-output : HasBlocks → (c : Configuration) (octets : List ℕ) → IsAccepted c → (output : Output) × IsTrace c octets output
-trace-output exists c octets accepted =
-    let h = has_blocks exists c 0 octets accepted in (
-      record { out = trace_text h.0 (length (inner_bits c octets h.0)) h.1; notes = [] },
-      record { blocks = h.0; left = h.1; are_blocks = h.2; out = refl; notes = refl },
-    )
-
-first-at : StayClosed → StandFirst → (rate : Option Rate) (c : Configuration) (octets more : List ℕ) (first blocks : List WindowBlock) (left : ℕ)
-    → FirstAt rate c 0 octets first → BlocksAt rate c 0 (octets ++ more) blocks left → (rest : List WindowBlock) × (blocks ≡ first ++ rest)
-first-at stay stands None c octets more first blocks left are all = ([], all.0 ∙ ap (λ l. l ++ []) (sym are))
-first-at stay stands (Some rate) c octets more first blocks left are all =
-    let s = settings_of c rate in
-    let back = map (soft_value c) (drop (c.skip - length octets) more) in
-    stands s (soft_octets c 0 octets ++ back) first blocks left (stay s (soft_octets c 0 octets) back first are)
-    (subst (λ (l : List ℕ). AreBlocksOf (settings_of c rate) l blocks left) (soft-further c octets more) all)
 
 -- a front of a text is a front of the text and more
 pub front-of : (before now : Option (List ℕ)) (text more : List ℕ) → WroteFront before now text → WroteFront before now (text ++ more)
 front-of before now text more wrote = let r = part-of wrote.0 text more in (r.0, wrote.1 ∙ ap (append_known before) r.1)
 
--- lines of the first windows are a front of the trace of all
-fronts-by : StayClosed → StandFirst → (c : Configuration) (octets more : List ℕ) (first : List WindowBlock) (taken taken_now noted : Option (List ℕ)) (output : Output)
-    → AreInnerFirst c 0 octets first → WroteFront taken taken_now (blocks_text 0 first) → IsTrace c (octets ++ more) output
-    → WroteFronts output taken taken_now noted noted
-fronts-by stay stands c octets more first taken taken_now noted output are wrote is =
-    let split = first-at stay stands (rate_of c.inner) c octets more first is.blocks is.left are is.are_blocks in
-    let rest = blocks_text (length first) split.0 in
-    let end = trace_end_text (length is.blocks) (length (inner_bits c (octets ++ more) is.blocks)) is.left in
-    let text : output.out ≡ blocks_text 0 first ++ (rest ++ end) =
-    is.out ∙ ap (λ l. l ++ end) (ap (blocks_text 0) split.1 ∙ blocks_text-split first split.0) ∙ append_assoc (blocks_text 0 first) rest end in
+-- a front of the lines of the first of all is a front of the trace
+trace-first : (before now : Option (List ℕ)) (handed first rest : List (Handed WindowBlock)) (bits left : ℕ) → handed ≡ first ++ rest
+    → WroteFront before now (blocks_text 0 first) → WroteFront before now (trace_text handed bits left)
+trace-first before now handed first rest bits left split wrote =
+    let text = trace_text-split handed first rest bits left split in
+    subst (WroteFront before now) (sym text.1) (front-of before now (blocks_text 0 first) text.0 wrote)
+
+-- or in one of the last lines before it
+pub cut-last : HasBlocks → StandFirst → {T K : Type 0} (name : T → K) (lines : T → Standing) (last : T → Type 0) (count : T → ℕ) (c : Configuration) (r : InnerReceiving) (taker now : T)
+    (start : Standing) (octets : List ℕ) (tried : List (Handed WindowBlock)) → IsAccepted c → Traces c r (count taker) start (lines taker) octets
+    → HandedPart (TookOne name lines count) (BrokeOne name lines last count) taker tried now
+    → ((given : List ℕ) (done : List (Handed WindowBlock)) → StandsFor r given done → AreHandedFront r.config given (done ++ tried))
+    → WroteTraceFront c start (lines now) octets
+cut-last exists stands name lines last count c r taker now start octets tried accepted t part finish =
+    let front = t.handed ++ tried in
+    let all = front-of-all exists stands c octets front accepted (subst (λ (k : Configuration). AreHandedFront k octets front) t.config (finish octets t.handed t.stands.0)) in
+    let bound : length (items_of front) ≤ length octets =
+    omega (arith, few-handed c octets all.0 all.1 accepted all.2, ap (λ l. length (items_of l)) all.3.1, ap length (items_of-append front all.3.0), length-append (items_of front) (items_of all.3.0)) in
+    let few = t.stands.0.few in
+    let broke = traced-part name lines last count start t.handed tried taker now t.lines part (omega arith) in
     record {
-      out = subst (WroteFront taken taken_now) (sym text) (front-of taken taken_now (blocks_text 0 first) (rest ++ end) wrote);
-      notes = (0, wrote-nothing noted);
+      handed = all.0;
+      left = all.1;
+      are_handed = all.2;
+      written = trace-first start.taken (lines now).taken all.0 front all.3.0 (length (inner_bits c octets (items_of all.0))) all.1 all.3.1
+          (trace-front start (lines now) (last now) front broke);
     }
+
+-- ---- nothing was given yet
+
+pub stands-new : (c : Configuration) (r : InnerReceiving) → IsAccepted c → r.config ≡ c → StandsFor r [] [] → StandsAt r [] []
+stands-new c r accepted same stands = (stands, subst (λ (k : Configuration). AreHandedDue k [] []) (sym same) (handed-due-none c (keeps-some c accepted)))
+
+-- ---- how tracing ends
+
+-- lines of the first of all are a front of the trace
+fronts-by : (c : Configuration) (octets : List ℕ) (first : List (Handed WindowBlock)) (taken taken_now noted : Option (List ℕ)) (output : Output) (is : IsTrace c octets output)
+    → (rest : List (Handed WindowBlock)) × (is.handed ≡ first ++ rest) → WroteFront taken taken_now (blocks_text 0 first) → WroteFronts output taken taken_now noted noted
+fronts-by c octets first taken taken_now noted output is split wrote = record {
+  out = subst (WroteFront taken taken_now) (sym is.out)
+      (trace-first taken taken_now is.handed first split.0 (length (inner_bits c octets (items_of is.handed))) is.left split.1 wrote);
+  notes = (0, wrote-nothing noted);
+}
+
+-- the trace of what is handed over of octets
+abbrev trace-of : (c : Configuration) (octets : List ℕ) (handed : List (Handed WindowBlock)) → ℕ → Output
+trace-of c octets handed left = record { out = trace_text handed (length (inner_bits c octets (items_of handed))) left; notes = [] }
+
+is-trace : (c : Configuration) (octets : List ℕ) (handed : List (Handed WindowBlock)) (left : ℕ) → AreHanded c octets handed left → IsTrace c octets (trace-of c octets handed left)
+is-trace c octets handed left are = record { handed = handed; left = left; are_handed = are; out = refl; notes = refl }
 
 pub ends-done : (c : Configuration) (octets : List ℕ) (before now : Standing) (noted : Option (List ℕ)) → WroteTrace c before now octets → length octets ≤ c.limit
     → Ends ending.Done Trace c octets before.taken now.taken noted noted
-ends-done c octets before now noted w within =
-    let text = trace_text w.blocks (length (inner_bits c octets w.blocks)) w.left in
-    let output : Output = record { out = text; notes = [] } in (
-      (
-        output,
-        record { blocks = w.blocks; left = w.left; are_blocks = w.are_blocks; out = refl; notes = refl },
-        record { out = w.written.written; notes = wrote-nothing noted },
-      ),
-      within,
-      λ none. none,
-      λ none. none,
+ends-done c octets before now noted w within = (
+  (
+    trace-of c octets w.handed w.left,
+    is-trace c octets w.handed w.left w.are_handed,
+    record { out = w.written.written; notes = wrote-nothing noted },
+  ),
+  within,
+  λ none. none,
+  λ none. none,
+)
+
+pub ends-cut : (c : Configuration) (octets : List ℕ) (before now : Standing) (noted : Option (List ℕ)) → WroteTraceFront c before now octets
+    → length octets ≤ c.limit → Ends ending.SinkFault Trace c octets before.taken now.taken noted noted
+ends-cut c octets before now noted w within =
+    let output = trace-of c octets w.handed w.left in (
+      output,
+      subst (λ (l : List ℕ). IsTrace c l output) (sym (take_all c.limit octets within)) (is-trace c octets w.handed w.left w.are_handed),
+      record { out = w.written; notes = (0, wrote-nothing noted) },
+      wrote-nothing noted,
     )
 
 due-written : (c : Configuration) (r : InnerReceiving) (count : ℕ) (octets : List ℕ) (before now : Standing) (noted : Option (List ℕ)) → Traces c r count before now octets
     → WroteDue Trace c octets before.taken now.taken noted noted
 due-written c r count octets before now noted t =
-    let output : Output = record { out = blocks_text 0 t.blocks; notes = [] } in (
+    let output : Output = record { out = blocks_text 0 t.handed; notes = [] } in (
       output,
-      record { blocks = t.blocks; are_due = subst (λ (k : Configuration). AreInnerDue k 0 octets t.blocks) t.config t.stands.1; out = refl; notes = refl },
+      record { handed = t.handed; are_due = subst (λ (k : Configuration). AreHandedDue k octets t.handed) t.config t.stands.1; out = refl; notes = refl },
       record { out = t.lines.lines.written; notes = wrote-nothing noted },
     )
 
-pub ends-early : HasBlocks → StayClosed → StandFirst → (c : Configuration) (r : InnerReceiving) (count : ℕ) (octets : List ℕ) (before now : Standing) (noted : Option (List ℕ))
-    → IsAccepted c → Traces c r count before now octets → WroteEarly Trace c octets before.taken now.taken noted noted
-ends-early exists stay stands c r count octets before now noted accepted t = (
-  due-written c r count octets before now noted t,
-  λ more. let all = trace-output exists c (octets ++ more) accepted in (
-    all.0,
-    all.1,
-    fronts-by stay stands c octets more t.blocks before.taken now.taken noted all.0
-        (first-of-due c 0 octets t.blocks (subst (λ (k : Configuration). AreInnerDue k 0 octets t.blocks) t.config t.stands.1))
-        (wrote-front before.taken now.taken (blocks_text 0 t.blocks) t.lines.lines.written) all.1,
-  ),
-)
+module _ (exists : HasBlocks) (stands : StandFirst) (phase : HasPhase) (one : OnePhase) where
+  -- the trace of octets
+  trace-output : (c : Configuration) (octets : List ℕ) → IsAccepted c → (output : Output) × IsTrace c octets output
+  trace-output c octets accepted =
+      let all = in_turn-exists (λ n blocks. (left : ℕ) × AreInnerBlocks c n octets blocks left) phase c octets
+      (λ n. let b = has_blocks exists c n octets accepted in (b.0, (b.1, b.2))) in
+      let left = all.1.are_items.0 in (
+        trace-of c octets all.0 left,
+        is-trace c octets all.0 left record { chosen = all.1.chosen; choice = all.1.choice; items = all.1.items; are_items = all.1.are_items.1; are = all.1.are },
+      )
 
-pub ends-fed : HasBlocks → StayClosed → StandFirst → (c : Configuration) (octets : List ℕ) (before now : Standing) (is_last : Type 0) (noted : Option (List ℕ))
-    → IsAccepted c → TraceFails c before now is_last (take c.limit octets) → Ends ending.SinkFault Trace c octets before.taken now.taken noted noted
-ends-fed exists stay stands c octets before now is_last noted accepted t =
-    let all = trace-output exists c (take c.limit octets) accepted in (
-      all.0,
-      all.1,
-      fronts-by stay stands c (take c.limit octets) [] t.blocks before.taken now.taken noted all.0 t.are_first
-          (trace-front before now is_last t.blocks t.broke) (subst (λ (l : List ℕ). IsTrace c l all.0) (sym (append-nil (take c.limit octets))) all.1),
-      wrote-nothing noted,
-    )
+  pub ends-early : StayClosed → PhaseStays → (c : Configuration) (r : InnerReceiving) (count : ℕ) (octets : List ℕ) (before now : Standing) (noted : Option (List ℕ))
+      → IsAccepted c → Traces c r count before now octets → WroteEarly Trace c octets before.taken now.taken noted noted
+  ends-early stay stays c r count octets before now noted accepted t = (
+    due-written c r count octets before now noted t,
+    λ more.
+        let all = trace-output c (octets ++ more) accepted in
+        let due = subst (λ (k : Configuration). AreHandedDue k octets t.handed) t.config t.stands.1 in
+        let split = in_turn-so_far (λ n. AreInnerDue c n octets) (λ n blocks. AreInnerBlocks c n (octets ++ more) blocks all.1.left) stays one c octets more t.handed all.1.handed
+        (λ n first blocks p q. first-of-all stands (rate_of c.inner) c n (octets ++ more) first blocks all.1.left
+        (stay-first stay (rate_of c.inner) c n octets more first (first-of-due c n octets first p)) q) due all.1.are_handed in (
+          all.0,
+          all.1,
+          fronts-by c (octets ++ more) t.handed before.taken now.taken noted all.0 all.1 split
+              (wrote-front before.taken now.taken (blocks_text 0 t.handed) t.lines.lines.written),
+        ),
+  )
 
-pub ends-cut : (c : Configuration) (octets : List ℕ) (before now : Standing) (noted : Option (List ℕ)) → WroteTraceFront c before now octets
-    → length octets ≤ c.limit → Ends ending.SinkFault Trace c octets before.taken now.taken noted noted
-ends-cut c octets before now noted w within =
-    let output : Output = record { out = trace_text w.blocks (length (inner_bits c octets w.blocks)) w.left; notes = [] } in
-    let is : IsTrace c octets output = record { blocks = w.blocks; left = w.left; are_blocks = w.are_blocks; out = refl; notes = refl } in (
-      output,
-      subst (λ (l : List ℕ). IsTrace c l output) (sym (take_all c.limit octets within)) is,
-      record { out = w.written; notes = (0, wrote-nothing noted) },
-      wrote-nothing noted,
-    )
+  pub ends-fed : (c : Configuration) (octets : List ℕ) (before now : Standing) (is_last : Type 0) (noted : Option (List ℕ))
+      → IsAccepted c → TraceFails c before now is_last (take c.limit octets) → Ends ending.SinkFault Trace c octets before.taken now.taken noted noted
+  ends-fed c octets before now is_last noted accepted t =
+      let read = take c.limit octets in
+      let all = trace-output c read accepted in
+      let split = in_turn-front (λ n. AreInnerFirst c n read) (λ n blocks. AreInnerBlocks c n read blocks all.1.left) one c read t.handed all.1.handed
+      (λ n first blocks p q. first-of-all stands (rate_of c.inner) c n read first blocks all.1.left p q) t.are_first.1 all.1.are_handed in (
+        all.0,
+        all.1,
+        fronts-by c read t.handed before.taken now.taken noted all.0 all.1 split (trace-front before now is_last t.handed t.broke),
+        wrote-nothing noted,
+      )

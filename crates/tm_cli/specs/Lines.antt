@@ -48,6 +48,6 @@ block_text number block =
 abbrev pub trace_end_text : (blocks bits leftover : ℕ) → List ℕ
 trace_end_text blocks bits leftover = codes "blocks " ++ decimal blocks ++ codes " bits " ++ decimal bits ++ codes " leftover " ++ decimal leftover ++ 10 ∷ []
 
--- the symbol phase that was chosen: the octets skipped, and their cost
+-- the symbol phase that was chosen: the octets skipped, and what the best path behind them costs
 abbrev pub phase_text : (skip cost : ℕ) → List ℕ
 phase_text skip cost = codes "phase " ++ decimal skip ++ codes " cost " ++ decimal cost ++ 10 ∷ []

@@ -1,12 +1,14 @@
 -- What a command writes.
-use Rattle.std.specs.Prelude.{◌≡◌, ◌⊎◌, ℕ, ◌%◌, Bool, List, [], ◌++◌, length, take, Option}
+use Rattle.std.specs.Prelude.{◌≡◌, ◌⊎◌, ℕ, ◌%◌, List, [], ◌++◌, length, take, Option}
 use Rattle.tm_base.specs.Written.{Wrote, WroteFront}
 use Rattle.tm_config.specs.Configuration.{Configuration}
+use Rattle.tm_base.specs.Handed.{Handed, items_of}
 use Rattle.tm_viterbi.specs.WindowBlock.{WindowBlock}
-use Rattle.tm_inner.specs.Inner.{Inner, AreInnerBlocks, AreInnerDue, inner_bits}
+use Rattle.tm_inner.specs.Inner.{inner_bits}
+use Rattle.tm_inner.specs.Handing.{AreHanded, AreHandedDue}
 use Rattle.tm_channel.specs.Sent.{sent}
-use Rattle.tm_channel.specs.Items.{ItemValue, AreItems, frames_of}
-use Rattle.tm_channel.specs.Receive.{Receive, ReceiveDue}
+use Rattle.tm_channel.specs.Items.{ItemValue}
+use Rattle.tm_channel.specs.Handing.{AreReceived, AreReceivedDue}
 use Rattle.tm_cli.specs.Command.{Command}
 use Rattle.tm_cli.specs.Command.Command.{Encode, Decode, Report, Trace, Word, Soak, Erased}
 use Rattle.tm_cli.specs.Erased.{AreLines, AreLinesDue, HasBeyond, record_rest}
@@ -14,6 +16,7 @@ use Rattle.tm_cli.specs.Generated.{generated}
 use Rattle.tm_cli.specs.Lines.{left_over_text}
 use Rattle.tm_cli.specs.Report.{bad, items_text, report_text, blocks_text, trace_text}
 use Rattle.tm_cli.specs.Soak.{IsSoakLine}
+use Rattle.tm_cli.specs.Taken.{handed_frames}
 use Rattle.tm_cli.specs.Word.{IsWordLine, IsBeyond}
 
 -- the octets for the output and the octets for the notes
@@ -25,35 +28,34 @@ pub record Output : Type 0 where
 abbrev pub left_over : Configuration → List ℕ → ℕ
 left_over c octets = length octets % c.frame_length
 
--- the frames of what was received with these octets, and the report of it
+-- the frames of what was received with these octets, and the report of it, which begins with their phase where it is to be found
 pub record IsDecoded (c : Configuration) (octets : List ℕ) (frames report : List ℕ) : Type 0 where
-  pub items : List ItemValue
-  pub bits : List Bool
-  pub inner : Inner c 0 octets bits
-  pub are_items : AreItems c bits items
-  pub are_frames : frames ≡ frames_of items
-  pub is_report : report ≡ report_text items (length bits)
+  pub handed : List (Handed ItemValue)
+  pub bits : ℕ
+  pub are_received : AreReceived c octets handed bits
+  pub are_frames : frames ≡ handed_frames handed
+  pub is_report : report ≡ report_text handed bits
 
--- the frames and the lines of the items that are due for the octets, whatever octets come
+-- the frames and the lines of what is due for the octets, whatever octets come: of the phase, once it is settled, and of items
 pub record IsDecodedDue (c : Configuration) (octets : List ℕ) (frames lines : List ℕ) : Type 0 where
-  pub items : List ItemValue
-  pub are_due : ReceiveDue c 0 octets items
-  pub are_frames : frames ≡ frames_of items
-  pub are_lines : lines ≡ items_text 0 items
+  pub handed : List (Handed ItemValue)
+  pub are_due : AreReceivedDue c octets handed
+  pub are_frames : frames ≡ handed_frames handed
+  pub are_lines : lines ≡ items_text 0 handed
 
--- the trace of all windows of the octets
+-- the trace of all windows of the octets, which begins with their phase where it is to be found
 pub record IsTrace (c : Configuration) (octets : List ℕ) (output : Output) : Type 0 where
-  pub blocks : List WindowBlock
+  pub handed : List (Handed WindowBlock)
   pub left : ℕ
-  pub are_blocks : AreInnerBlocks c 0 octets blocks left
-  pub out : output.out ≡ trace_text blocks (length (inner_bits c octets blocks)) left
+  pub are_handed : AreHanded c octets handed left
+  pub out : output.out ≡ trace_text handed (length (inner_bits c octets (items_of handed))) left
   pub notes : output.notes ≡ []
 
--- the lines of the windows that are due for the octets, whatever octets come: of all windows but the last
+-- the lines of what is due for the octets, whatever octets come: of the phase, once it is settled, and of all windows but the last
 pub record IsTraceDue (c : Configuration) (octets : List ℕ) (output : Output) : Type 0 where
-  pub blocks : List WindowBlock
-  pub are_due : AreInnerDue c 0 octets blocks
-  pub out : output.out ≡ blocks_text 0 blocks
+  pub handed : List (Handed WindowBlock)
+  pub are_due : AreHandedDue c octets handed
+  pub out : output.out ≡ blocks_text 0 handed
   pub notes : output.notes ≡ []
 
 -- all that a command writes for the octets of its whole input, of which there are none where it does not read
@@ -88,7 +90,7 @@ IsPartial Erased c octets = record_rest c octets ≡ 0 → ⊥
 
 -- a codeblock that was received with these octets has a column beyond repair
 abbrev pub HasBad : Configuration → List ℕ → Type 0
-HasBad c octets = (items : List ItemValue) × Receive c 0 octets items × (bad items ≡ 0 → ⊥)
+HasBad c octets = (handed : List (Handed ItemValue)) × ((bits : ℕ) × AreReceived c octets handed bits) × (bad (items_of handed) ≡ 0 → ⊥)
 
 -- the same of the commands that repair codeblocks, those of generated frames too; a word, or that of a record where all are whole, is
 -- beyond repair
@@ -119,13 +121,13 @@ WroteOutput command c octets taken taken_now noted noted_now = (output : Output)
 abbrev pub WroteDue : Command → Configuration → List ℕ → (taken taken_now noted noted_now : Option (List ℕ)) → Type 0
 WroteDue command c octets taken taken_now noted noted_now = (output : Output) × IsDue command c octets output × WroteBoth output taken taken_now noted noted_now
 
--- The output took the frames of the first of these items, and maybe a part of what stands behind them. The notes hold no more than the
--- lines of these first items, or they are all of them.
-pub record AreInTurn (items : List ItemValue) (taken taken_now noted noted_now : Option (List ℕ)) : Type 0 where
-  pub front : List ItemValue
-  pub rest : List ItemValue
-  pub split : items ≡ front ++ rest
-  pub frames : (count : ℕ) × Wrote taken taken_now (frames_of front ++ take count (frames_of rest))
+-- The output took the frames of the first of what was handed over, and maybe a part of what stands behind them. The notes hold no more
+-- than the lines of this first part, or it is all.
+pub record AreInOrder (handed : List (Handed ItemValue)) (taken taken_now noted noted_now : Option (List ℕ)) : Type 0 where
+  pub front : List (Handed ItemValue)
+  pub rest : List (Handed ItemValue)
+  pub split : handed ≡ front ++ rest
+  pub frames : (count : ℕ) × Wrote taken taken_now (handed_frames front ++ take count (handed_frames rest))
   pub lines : WroteFront noted noted_now (items_text 0 front) ⊎ (rest ≡ [])
 
 -- What `encode` and `erased` write on the notes comes last, once the output has taken the whole of its part. The line of an item comes behind its
@@ -133,7 +135,7 @@ pub record AreInTurn (items : List ItemValue) (taken taken_now noted noted_now :
 abbrev pub IsInOrder : Command → Configuration → List ℕ → Output → (taken taken_now noted noted_now : Option (List ℕ)) → Type 0
 IsInOrder Encode c octets output taken taken_now noted noted_now = Wrote noted noted_now [] ⊎ Wrote taken taken_now output.out
 IsInOrder Decode c octets output taken taken_now noted noted_now =
-    (items : List ItemValue) × Receive c 0 octets items × AreInTurn items taken taken_now noted noted_now
+    (handed : List (Handed ItemValue)) × ((bits : ℕ) × AreReceived c octets handed bits) × AreInOrder handed taken taken_now noted noted_now
 IsInOrder Report c octets output taken taken_now noted noted_now = Wrote noted noted_now []
 IsInOrder Trace c octets output taken taken_now noted noted_now = Wrote noted noted_now []
 IsInOrder (Word text) c octets output taken taken_now noted noted_now = Wrote noted noted_now []

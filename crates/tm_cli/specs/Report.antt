@@ -2,9 +2,10 @@
 use Rattle.std.specs.Prelude.{ℕ, ◌+◌, if◌then◌else◌, List, [], ◌∷◌, ◌++◌, length}
 use Rattle.tm_rs_solve.specs.declared.answers.Answer.{Answer}
 use Rattle.tm_rs_solve.specs.declared.answers.Answer.TheVariants.{Fixed, Beyond}
+use Rattle.tm_base.specs.Handed.{Handed, Phase, Item, items_of}
 use Rattle.tm_channel.specs.Items.{ItemValue, are_fixed}
 use Rattle.tm_viterbi.specs.WindowBlock.{WindowBlock}
-use Rattle.tm_cli.specs.Lines.{item_text, report_end_text, block_text, trace_end_text}
+use Rattle.tm_cli.specs.Lines.{item_text, report_end_text, block_text, trace_end_text, phase_text}
 
 -- how many codeblocks have no column beyond repair
 abbrev pub good : List ItemValue → ℕ
@@ -27,20 +28,36 @@ abbrev pub fixed : List ItemValue → ℕ
 fixed [] = 0
 fixed (item ∷ items) = fixed_of item.answers + fixed items
 
--- the lines of items, numbered from `number` on
-abbrev pub items_text : ℕ → List ItemValue → List ℕ
+-- the line of the phase, or that of the next item
+abbrev pub handed_item_text : ℕ → Handed ItemValue → List ℕ
+handed_item_text number (Phase skip cost) = phase_text skip cost
+handed_item_text number (Item item) = item_text number item
+
+-- the lines of what was handed over, with the items numbered from `number` on
+abbrev pub items_text : ℕ → List (Handed ItemValue) → List ℕ
 items_text number [] = []
-items_text number (item ∷ items) = item_text number item ++ items_text (number + 1) items
+items_text number (Phase skip cost ∷ handed) = phase_text skip cost ++ items_text number handed
+items_text number (Item item ∷ handed) = item_text number item ++ items_text (number + 1) handed
 
--- the report of the items of so many bits
-abbrev pub report_text : List ItemValue → ℕ → List ℕ
-report_text items bits = items_text 0 items ++ report_end_text (good items) (bad items) (fixed items) bits
+-- the end of the report of these items
+abbrev pub items_end_text : List ItemValue → ℕ → List ℕ
+items_end_text items bits = report_end_text (good items) (bad items) (fixed items) bits
 
--- the lines of windows, numbered from `number` on
-abbrev pub blocks_text : ℕ → List WindowBlock → List ℕ
+-- the report of what was handed over of so many bits
+abbrev pub report_text : List (Handed ItemValue) → ℕ → List ℕ
+report_text handed bits = items_text 0 handed ++ items_end_text (items_of handed) bits
+
+-- the line of the phase, or that of the next window
+abbrev pub handed_block_text : ℕ → Handed WindowBlock → List ℕ
+handed_block_text number (Phase skip cost) = phase_text skip cost
+handed_block_text number (Item block) = block_text number block
+
+-- the lines of what was handed over, with the windows numbered from `number` on
+abbrev pub blocks_text : ℕ → List (Handed WindowBlock) → List ℕ
 blocks_text number [] = []
-blocks_text number (block ∷ blocks) = block_text number block ++ blocks_text (number + 1) blocks
+blocks_text number (Phase skip cost ∷ handed) = phase_text skip cost ++ blocks_text number handed
+blocks_text number (Item block ∷ handed) = block_text number block ++ blocks_text (number + 1) handed
 
--- the trace of the windows of so many bits, with so many octets behind the last step
-abbrev pub trace_text : List WindowBlock → (bits leftover : ℕ) → List ℕ
-trace_text blocks bits leftover = blocks_text 0 blocks ++ trace_end_text (length blocks) bits leftover
+-- the trace of what was handed over of so many bits, with so many octets behind the last step
+abbrev pub trace_text : List (Handed WindowBlock) → (bits leftover : ℕ) → List ℕ
+trace_text handed bits leftover = blocks_text 0 handed ++ trace_end_text (length (items_of handed)) bits leftover

@@ -5,7 +5,7 @@ use Rattle.tm_config.specs.Configuration.{Configuration}
 use Rattle.tm_cli.specs.Command.{Command}
 use Rattle.tm_cli.specs.Command.Command.{Decode}
 use Rattle.tm_cli.specs.Ending.{Ends, status_of}
-use Rattle.tm_cli.specs.Link.{KeepsCleanLink, KeepsDisturbedLink}
+use Rattle.tm_cli.specs.Link.{KeepsCleanLink, KeepsDisturbedLink, KeepsTurnedInput, KeepsTurnedSymbols}
 use Rattle.tm_cli.specs.Refusal.{reason_of}
 use Rattle.tm_cli.specs.Lines.{refusal_text}
 use Rattle.tm_cli.specs.declared.ending.Ending.{Ending}
@@ -20,6 +20,9 @@ pub record Answers (status : ℕ) (command : Command) (c : Configuration) (octet
   -- where `decode` read its whole input, sent frames come back
   pub clean : command ≡ Decode → (status ≡ 0) ⊎ (status ≡ 1) → KeepsCleanLink status c octets taken taken_now noted noted_now
   pub disturbed : command ≡ Decode → (status ≡ 0) ⊎ (status ≡ 1) → KeepsDisturbedLink status c octets taken taken_now noted noted_now
+  -- in the other polarity too
+  pub turned_input : command ≡ Decode → (status ≡ 0) ⊎ (status ≡ 1) → KeepsTurnedInput c octets taken taken_now noted noted_now
+  pub turned_symbols : command ≡ Decode → (status ≡ 0) ⊎ (status ≡ 1) → KeepsTurnedSymbols status c octets taken taken_now noted noted_now
 
 -- the line of a refusal was written, or a front of it by notes that failed
 abbrev pub WroteRefusal : Refusal → (noted noted_now : Option (List ℕ)) → (same rose : Type 0) → Type 0

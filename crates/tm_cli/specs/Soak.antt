@@ -1,11 +1,11 @@
 -- The command `soak`: generated frames, and what is received of them.
 use Rattle.std.specs.Prelude.{◌≡◌, ℕ, ◌*◌, ◌^◌, ◌≤◌, if◌then◌else◌, nat_le, nat_lt, List, codes, Option, Some, None}
 use Rattle.tm_config.specs.Configuration.{Configuration}
+use Rattle.tm_base.specs.Handed.{Handed, items_of, on_handed}
 use Rattle.tm_channel.specs.Items.{ItemValue}
+use Rattle.tm_channel.specs.Handing.{AreReceived}
 use Rattle.tm_cli.specs.Generated.{generated}
-use Rattle.tm_cli.specs.Lines.{report_end_text}
-use Rattle.tm_cli.specs.Receiving.{AreAll}
-use Rattle.tm_cli.specs.Report.{good, bad, fixed, fixed_of}
+use Rattle.tm_cli.specs.Report.{good, bad, fixed, fixed_of, items_end_text}
 use Rattle.tm_cli.specs.Taken.{counts_after}
 use Rattle.tm_cli.specs.declared.counts.Counts.{Counts}
 use Rattle.tm_cli.specs.declared.soak_refusal.SoakRefusal.{SoakRefusal}
@@ -27,13 +27,17 @@ pub record Counted (was : Counts) (item : ItemValue) (counts : Counts) : Type 0 
   pub counted : counts ≡ counts_after was item.answers
   pub few : fixed_of item.answers ≤ 2040
 
+-- an item was counted, and no phase
+abbrev pub CountedHanded : Counts → Handed ItemValue → Counts → Type 0
+CountedHanded was handed counts = on_handed (λ before skip cost now. now ≡ before) Counted was handed counts
+
 -- what is counted of items
 abbrev pub counts_of : List ItemValue → Counts
 counts_of items = record { good = good items; bad = bad items; fixed = fixed items }
 
 -- the end of the report of all items that are received of the generated frames
 pub record IsSoakLine (c : Configuration) (seed frames hits : ℕ) (line : List ℕ) : Type 0 where
-  pub items : List ItemValue
+  pub handed : List (Handed ItemValue)
   pub bits : ℕ
-  pub are_all : AreAll c bits (generated c seed frames hits) items
-  pub is_line : line ≡ report_end_text (good items) (bad items) (fixed items) bits
+  pub are_received : AreReceived c (generated c seed frames hits) handed bits
+  pub is_line : line ≡ items_end_text (items_of handed) bits

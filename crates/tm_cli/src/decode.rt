@@ -17,7 +17,7 @@ use crate::takers::{Decoding, Report};
 use std::alloc::Global;
 use std::thread::Threads;
 use tm_base::{NoMemory, Sink, Source};
-use tm_channel::{Config, due_items_law, first_items_law, items_law};
+use tm_channel::{Config, received_law};
 
 // Writes the frame of each item of what the source gives, up to the limit, and behind it its line on the notes. Answers how
 // receiving ended, and what was counted.
@@ -63,8 +63,9 @@ fn decode_items<R: Threads + Sync, S: Source, O: Sink, N: Sink>(
 }
 
 /// Writes the frame of each codeblock that is found in the soft octets of the source, up to the limit in octets, and behind it a
-/// line of the report on the notes; at the end of the input it writes the end of the report. `Bad` comes where a codeblock has a
-/// column beyond repair. After a fault nothing more is read or written. It takes all its memory before it reads.
+/// line of the report on the notes; at the end of the input it writes the end of the report. Where the symbol phase is to be
+/// found, its line comes first on the notes. `Bad` comes where a codeblock has a column beyond repair. After a fault nothing more
+/// is read or written. It takes all its memory before it reads.
 pub fn decode<R: Threads + Sync, S: Source, O: Sink, N: Sink>(
     rt: &R,
     alloc: Global,
@@ -91,9 +92,7 @@ pub fn decode<R: Threads + Sync, S: Source, O: Sink, N: Sink>(
     ensures out_same { IfOk result (λ ending. (ending ≡ Ending.SinkFault → ⊥) → O.faults out.new ≡ O.faults out.old) }
     ensures notes_same { IfOk result (λ ending. (ending ≡ Ending.SinkFault → ⊥) → N.faults notes.new ≡ N.faults notes.old) }
 {
-    items_law();
-    due_items_law();
-    first_items_law();
+    received_law();
     let Ok((end, counts)) = decode_items(rt, alloc, config, source, out, notes) else {
         return Err(NoMemory);
     };

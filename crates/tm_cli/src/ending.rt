@@ -9,7 +9,7 @@ pub enum Ending {
     Done,
     /// The same, and a word, or a column of a codeblock that was received, is beyond repair.
     Bad,
-    /// All is written, but the input is not whole frames.
+    /// All is written, but the input is not whole frames, or not whole records.
     LeftOver,
     /// The source failed.
     SourceFault,

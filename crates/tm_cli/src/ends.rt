@@ -1,10 +1,11 @@
 // The ends of a report and of a trace, behind the lines that a taker wrote.
 ghost use Rattle.std.specs.Prelude.{◌≡◌, ◌↔◌, List, length, true, IfOk, OnOk, OnErr};
 ghost use Rattle.tm_base.specs.Outside.{HasCause};
+ghost use Rattle.tm_base.specs.Handed.{Handed, items_of};
 ghost use Rattle.tm_channel.specs.Items.{ItemValue};
 ghost use Rattle.tm_viterbi.specs.WindowBlock.{WindowBlock};
-ghost use Rattle.tm_cli.specs.Lines.{report_end_text, trace_end_text};
-ghost use Rattle.tm_cli.specs.Report.{good, bad, fixed, items_text, report_text, blocks_text, trace_text};
+ghost use Rattle.tm_cli.specs.Lines.{trace_end_text};
+ghost use Rattle.tm_cli.specs.Report.{bad, items_text, items_end_text, report_text, blocks_text, trace_text};
 ghost use Rattle.tm_cli.specs.Taken.{Standing, standing, TookText, BrokeText, no_counts, ReportedAll, TracedAll};
 
 use crate::counts::Counts;
@@ -14,12 +15,12 @@ use tm_base::{Failed, Sink};
 /// Writes the end of the report of `bits` received bits, whose items gave these counts and whose lines the sink has taken. Answers
 /// whether none of them has a column beyond repair.
 pub fn end_report<N: Sink>(lines: &mut N, counts: Counts, bits: u64) -> Result<bool, Failed>
-    ensures whole { IfOk result (λ is_good. (start : Standing) (items : List ItemValue)
-        → ReportedAll start (standing (N.taken lines.old) (N.faults lines.old)) no_counts counts items
-        → TookText start (standing (N.taken lines.new) (N.faults lines.new)) (report_text items bits) × ((is_good ≡ true) ↔ (bad items ≡ 0))) }
-    ensures broke { OnErr result ((start : Standing) (items : List ItemValue)
-        → ReportedAll start (standing (N.taken lines.old) (N.faults lines.old)) no_counts counts items
-        → BrokeText start (standing (N.taken lines.new) (N.faults lines.new)) (N.is_last lines.new) (items_text 0 items) (report_end_text (good items) (bad items) (fixed items) bits)) }
+    ensures whole { IfOk result (λ is_good. (start : Standing) (handed : List (Handed ItemValue))
+        → ReportedAll start (standing (N.taken lines.old) (N.faults lines.old)) no_counts counts handed
+        → TookText start (standing (N.taken lines.new) (N.faults lines.new)) (report_text handed bits) × ((is_good ≡ true) ↔ (bad (items_of handed) ≡ 0))) }
+    ensures broke { OnErr result ((start : Standing) (handed : List (Handed ItemValue))
+        → ReportedAll start (standing (N.taken lines.old) (N.faults lines.old)) no_counts counts handed
+        → BrokeText start (standing (N.taken lines.new) (N.faults lines.new)) (N.is_last lines.new) (items_text 0 handed) (items_end_text (items_of handed) bits)) }
     ensures cause { HasCause (N.faults lines.old) (N.faults lines.new) (N.is_last lines.new) result }
 {
     match frames_line(lines, counts.good, counts.bad, counts.fixed, bits) {
@@ -31,12 +32,12 @@ pub fn end_report<N: Sink>(lines: &mut N, counts: Counts, bits: u64) -> Result<b
 /// Writes the end of the trace of `bits` received bits with `leftover` octets behind the last step. The sink has taken the lines of
 /// so many windows.
 pub fn end_trace<O: Sink>(lines: &mut O, count: u64, bits: u64, leftover: u8) -> Result<(), Failed>
-    ensures whole { OnOk result ((start : Standing) (blocks : List WindowBlock)
-        → TracedAll start (standing (O.taken lines.old) (O.faults lines.old)) 0 count blocks
-        → TookText start (standing (O.taken lines.new) (O.faults lines.new)) (trace_text blocks bits leftover)) }
-    ensures broke { OnErr result ((start : Standing) (blocks : List WindowBlock)
-        → TracedAll start (standing (O.taken lines.old) (O.faults lines.old)) 0 count blocks
-        → BrokeText start (standing (O.taken lines.new) (O.faults lines.new)) (O.is_last lines.new) (blocks_text 0 blocks) (trace_end_text (length blocks) bits leftover)) }
+    ensures whole { OnOk result ((start : Standing) (handed : List (Handed WindowBlock))
+        → TracedAll start (standing (O.taken lines.old) (O.faults lines.old)) 0 count handed
+        → TookText start (standing (O.taken lines.new) (O.faults lines.new)) (trace_text handed bits leftover)) }
+    ensures broke { OnErr result ((start : Standing) (handed : List (Handed WindowBlock))
+        → TracedAll start (standing (O.taken lines.old) (O.faults lines.old)) 0 count handed
+        → BrokeText start (standing (O.taken lines.new) (O.faults lines.new)) (O.is_last lines.new) (blocks_text 0 handed) (trace_end_text (length (items_of handed)) bits leftover)) }
     ensures cause { HasCause (O.faults lines.old) (O.faults lines.new) (O.is_last lines.new) result }
 {
     blocks_line(lines, count, bits, leftover)

@@ -175,8 +175,8 @@ pub fn blocks_line<O: Sink>(out: &mut O, blocks: u64, bits: u64, leftover: u8) -
     line.put(out)
 }
 
-/// Writes the symbol phase that was chosen: `phase S cost C`, with the octets skipped and their cost. `Failed` comes only where
-/// the sink's count of faults rose.
+/// Writes the symbol phase that was chosen: `phase S cost C`, with the octets skipped and the cost of the best path behind them.
+/// `Failed` comes only where the sink's count of faults rose.
 pub fn phase_line<O: Sink>(out: &mut O, skip: u8, cost: u64) -> Result<(), Failed>
     ensures ok { OnOk result (Wrote (O.taken out.old) (O.taken out.new) (phase_text skip cost)) }
     ensures err { OnErr result (WroteFront (O.taken out.old) (O.taken out.new) (phase_text skip cost)) }

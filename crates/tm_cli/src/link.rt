@@ -5,12 +5,15 @@ ghost use Rattle.tm_config.specs.Configuration.{Configuration};
 ghost use Rattle.tm_cli.specs.Command.Command.{Decode};
 ghost use Rattle.tm_cli.specs.declared.ending.Ending.{Ending};
 ghost use Rattle.tm_cli.specs.Ending.{Ends, status_of};
-ghost use Rattle.tm_cli.specs.Link.{KeepsCleanLink, KeepsDisturbedLink};
+ghost use Rattle.tm_cli.specs.Link.{KeepsCleanLink, KeepsDisturbedLink, KeepsTurnedInput, KeepsTurnedSymbols};
 
-use tm_channel::{clean_law, disturbed_law, items_law};
+use tm_channel::{clean_law, disturbed_law, items_law, polarity_law, received_law};
+use tm_conv::{best_path_law, complement_law};
 use tm_inner::{clean_inner_law, inner_law};
+use tm_phase::phase_law;
 
-/// Where `decode` reads its whole input, sent frames come back, as far as they were not disturbed too much. It does nothing.
+/// Where `decode` reads its whole input, sent frames come back, as far as they were not disturbed too much, and in the other polarity
+/// too. It does nothing.
 pub fn link_law()
     ensures clean { (ending : Ending) (status : ℕ) (c : Configuration) (octets : List ℕ) (taken taken_now noted noted_now : Option (List ℕ))
         → IsAccepted c → status ≡ status_of ending → Ends ending Decode c octets taken taken_now noted noted_now → (status ≡ 0) ⊎ (status ≡ 1)
@@ -18,10 +21,21 @@ pub fn link_law()
     ensures disturbed { (ending : Ending) (status : ℕ) (c : Configuration) (octets : List ℕ) (taken taken_now noted noted_now : Option (List ℕ))
         → IsAccepted c → status ≡ status_of ending → Ends ending Decode c octets taken taken_now noted noted_now → (status ≡ 0) ⊎ (status ≡ 1)
         → KeepsDisturbedLink status c octets taken taken_now noted noted_now }
+    ensures turned_input { (ending : Ending) (status : ℕ) (c : Configuration) (octets : List ℕ) (taken taken_now noted noted_now : Option (List ℕ))
+        → IsAccepted c → status ≡ status_of ending → Ends ending Decode c octets taken taken_now noted noted_now → (status ≡ 0) ⊎ (status ≡ 1)
+        → KeepsTurnedInput c octets taken taken_now noted noted_now }
+    ensures turned_symbols { (ending : Ending) (status : ℕ) (c : Configuration) (octets : List ℕ) (taken taken_now noted noted_now : Option (List ℕ))
+        → IsAccepted c → status ≡ status_of ending → Ends ending Decode c octets taken taken_now noted noted_now → (status ≡ 0) ⊎ (status ≡ 1)
+        → KeepsTurnedSymbols status c octets taken taken_now noted noted_now }
 {
     items_law();
+    received_law();
     clean_law();
     disturbed_law();
+    polarity_law();
     inner_law();
     clean_inner_law();
+    phase_law();
+    best_path_law();
+    complement_law();
 }

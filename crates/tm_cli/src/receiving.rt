@@ -1,6 +1,7 @@
-// Receives the soft octets of a source: hands over the items that are found in them.
+// Receives the soft octets of a source: hands over their phase, where it is to be found, and the items that are found in them.
 ghost use Rattle.std.specs.Prelude.{◌≡◌, ◌⊎◌, ℕ, ◌+◌, ◌≤◌, List, [], ◌++◌, length, true, false, IfOk, OnErr};
 ghost use Rattle.std.specs.Io.KnownBytes.{IsAtEnd};
+ghost use Rattle.tm_base.specs.Handed.{on_handed};
 ghost use Rattle.tm_base.specs.Outside.{Rose};
 ghost use Rattle.tm_base.specs.Takers.{HandedOver, HandedPart};
 ghost use Rattle.tm_base.specs.Written.{Gave};
@@ -17,7 +18,7 @@ use std::thread::Threads;
 use tm_base::{Failed, NoMemory, Source};
 use tm_channel::{Config, ItemTaker, OpenGate, Receiver};
 
-// A receiver, its threads, and what takes its items.
+// A receiver, its threads, and what takes what it hands over.
 struct Receiving<'a, 'b, 'c, R, T> {
     rt: &'a R,
     receiver: &'b mut Receiver,
@@ -26,17 +27,18 @@ struct Receiving<'a, 'b, 'c, R, T> {
 
 impl<'a, 'b, 'c, R: Threads + Sync, T: ItemTaker> Feed for Receiving<'a, 'b, 'c, R, T> {
     ghost use Rattle.std.specs.Prelude.{◌≡◌, false, refl};
+    ghost use Rattle.tm_base.specs.Handed.{on_handed};
     ghost use Rattle.std.specs.Thread.{IsSync};
     ghost use Rattle.std.proofs.Common.{◌∙◌, subst, sym, append_assoc};
     ghost use Rattle.std.proofs.lemmas.List.{append-nil};
 
     ghost fed = { λ a b octets. (c : Configuration) (start : T) (given : List ℕ)
-        → HandedDue c a.receiver.now (λ items. HandedOver T.took start items a.taker.now) given
-        → HandedDue c b.receiver.now (λ items. HandedOver T.took start items b.taker.now) (given ++ octets) };
+        → HandedDue c a.receiver.now (λ handed. HandedOver (on_handed T.took_phase T.took) start handed a.taker.now) given
+        → HandedDue c b.receiver.now (λ handed. HandedOver (on_handed T.took_phase T.took) start handed b.taker.now) (given ++ octets) };
 
     ghost broke = { λ a b octets. (c : Configuration) (start : T) (given : List ℕ)
-        → HandedDue c a.receiver.now (λ items. HandedOver T.took start items a.taker.now) given
-        → HandedFirst c (λ items. HandedPart T.took T.broke start items b.taker.now) (given ++ octets) };
+        → HandedDue c a.receiver.now (λ handed. HandedOver (on_handed T.took_phase T.took) start handed a.taker.now) given
+        → HandedFirst c (λ handed. HandedPart (on_handed T.took_phase T.took) (on_handed T.broke_phase T.broke) start handed b.taker.now) (given ++ octets) };
 
     ghost same = { λ a b. (b.receiver.ghost_name ≡ a.receiver.ghost_name) × (b.taker.ghost_name ≡ a.taker.ghost_name) };
 
@@ -50,12 +52,12 @@ impl<'a, 'b, 'c, R: Threads + Sync, T: ItemTaker> Feed for Receiving<'a, 'b, 'c,
 
     ghost same_more = { λ a b c p q. (q.0 ∙ p.0, q.1 ∙ p.1) };
 
-    ghost fed_none = { λ a ready c start given. subst (HandedDue c a.receiver.now (λ items. HandedOver T.took start items a.taker.now)) (sym (append-nil given)) };
+    ghost fed_none = { λ a ready c start given. subst (HandedDue c a.receiver.now (λ handed. HandedOver (on_handed T.took_phase T.took) start handed a.taker.now)) (sym (append-nil given)) };
 
-    ghost fed_more = { λ a b last first second p q c start given was. subst (HandedDue c last.receiver.now (λ items. HandedOver T.took start items last.taker.now))
+    ghost fed_more = { λ a b last first second p q c start given was. subst (HandedDue c last.receiver.now (λ handed. HandedOver (on_handed T.took_phase T.took) start handed last.taker.now))
         (append_assoc given first second) (q c start (given ++ first) (p c start given was)) };
 
-    ghost broke_more = { λ a b last first second p q c start given was. subst (HandedFirst c (λ items. HandedPart T.took T.broke start items last.taker.now))
+    ghost broke_more = { λ a b last first second p q c start given was. subst (HandedFirst c (λ handed. HandedPart (on_handed T.took_phase T.took) (on_handed T.broke_phase T.broke) start handed last.taker.now))
         (append_assoc given first second) (q c start (given ++ first) (p c start given was)) };
 
     fn feed(&mut self, piece: &[u8]) -> Result<(), Failed> {
@@ -79,7 +81,7 @@ pub enum Received {
     PastLimit,
 }
 
-// Hands over the items that are due for what the source gives, up to the limit. Answers how reading ended.
+// Hands over what is due for what the source gives, up to the limit. Answers how reading ended.
 fn receive_pieces<R: Threads + Sync, S: Source, T: ItemTaker>(
     rt: &R,
     config: &Config,
@@ -92,8 +94,8 @@ fn receive_pieces<R: Threads + Sync, S: Source, T: ItemTaker>(
     requires new { StandsFor receiver.old [] [] }
     ensures handed { (octets : List ℕ) × Gave (S.given source.old) (S.given source.new) (S.left source.old) (S.left source.new) octets
         × (length octets ≤ config.now.limit + 1)
-        × FedUpTo (HandedDue config.now receiver.new (λ items. HandedOver T.took taker.old items taker.new))
-        (HandedFirst config.now (λ items. HandedPart T.took T.broke taker.old items taker.new)) config.now.limit result octets }
+        × FedUpTo (HandedDue config.now receiver.new (λ handed. HandedOver (on_handed T.took_phase T.took) taker.old handed taker.new))
+        (HandedFirst config.now (λ handed. HandedPart (on_handed T.took_phase T.took) (on_handed T.broke_phase T.broke) taker.old handed taker.new)) config.now.limit result octets }
     ensures accepted { IsAccepted config.now }
     ensures ready { result ≡ Pumped.Ended → receiver.new.has_stopped ≡ false }
     ensures ended { result ≡ Pumped.Ended → S.ended source.new ≡ true }
@@ -120,7 +122,7 @@ fn receive_pieces<R: Threads + Sync, S: Source, T: ItemTaker>(
     end
 }
 
-// Hands over the items of what the source gives, up to the limit, and at the end of the input those that are left.
+// Hands over what is due for what the source gives, up to the limit, and at the end of the input what is left.
 fn receive_input<R: Threads + Sync, S: Source, T: ItemTaker>(
     rt: &R,
     config: &Config,
@@ -133,7 +135,7 @@ fn receive_input<R: Threads + Sync, S: Source, T: ItemTaker>(
     requires new { StandsFor receiver.old [] [] }
     ensures received { (octets : List ℕ) × Gave (S.given source.old) (S.given source.new) (S.left source.old) (S.left source.new) octets
         × (length octets ≤ config.now.limit + 1)
-        × ReceivedUpTo (λ items. HandedOver T.took taker.old items taker.new) (λ items. HandedPart T.took T.broke taker.old items taker.new) config.now result octets }
+        × ReceivedUpTo (λ handed. HandedOver (on_handed T.took_phase T.took) taker.old handed taker.new) (λ handed. HandedPart (on_handed T.took_phase T.took) (on_handed T.broke_phase T.broke) taker.old handed taker.new) config.now result octets }
     ensures accepted { IsAccepted config.now }
     ensures ended { (count : ℕ) → result ≡ Received.Ended count → S.ended source.new ≡ true }
     ensures at_end { (count : ℕ) → result ≡ Received.Ended count → IsAtEnd (S.left source.new) }
@@ -156,8 +158,9 @@ fn receive_input<R: Threads + Sync, S: Source, T: ItemTaker>(
     }
 }
 
-/// Hands over the items of the soft octets of a source, up to the limit in octets. After a fault of the source or of the taker
-/// nothing more is read or handed over. It takes all its memory before it reads; where there is not enough, it reads nothing.
+/// Hands over the symbol phase of the soft octets of a source, where it is to be found, and their items, up to the limit in
+/// octets. After a fault of the source or of the taker nothing more is read or handed over. It takes all its memory before it
+/// reads; where there is not enough, it reads nothing.
 pub fn receive<R: Threads + Sync, S: Source, T: ItemTaker>(
     rt: &R,
     alloc: Global,
@@ -167,7 +170,7 @@ pub fn receive<R: Threads + Sync, S: Source, T: ItemTaker>(
 ) -> Result<Received, NoMemory>
     ensures received { IfOk result (λ received. (octets : List ℕ) × Gave (S.given source.old) (S.given source.new) (S.left source.old) (S.left source.new) octets
         × (length octets ≤ config.now.limit + 1)
-        × ReceivedUpTo (λ items. HandedOver T.took taker.old items taker.new) (λ items. HandedPart T.took T.broke taker.old items taker.new) config.now received octets) }
+        × ReceivedUpTo (λ handed. HandedOver (on_handed T.took_phase T.took) taker.old handed taker.new) (λ handed. HandedPart (on_handed T.took_phase T.took) (on_handed T.broke_phase T.broke) taker.old handed taker.new) config.now received octets) }
     ensures memory { OnErr result ((source.new ≡ source.old) × (taker.new ≡ taker.old)) }
     ensures accepted { IfOk result (λ _. IsAccepted config.now) }
     ensures ended { IfOk result (λ received. (count : ℕ) → received ≡ Received.Ended count → S.ended source.new ≡ true) }

@@ -5,6 +5,7 @@ ghost use Rattle.tm_base.specs.Outside.{Rose};
 ghost use Rattle.tm_base.specs.Written.{Gave};
 ghost use Rattle.tm_config.specs.Accepted.{IsAccepted};
 ghost use Rattle.tm_cli.specs.Command.Command.{Report as ReportCommand};
+ghost use Rattle.tm_base.specs.Handed.{Handed};
 ghost use Rattle.tm_channel.specs.Items.{ItemValue};
 ghost use Rattle.tm_cli.specs.Ending.{Ends};
 ghost use Rattle.tm_cli.specs.Receiving.{ReceivedUpTo, ToldEnd};
@@ -18,9 +19,9 @@ use crate::takers::Report;
 use std::alloc::Global;
 use std::thread::Threads;
 use tm_base::{Failed, NoMemory, Sink, Source};
-use tm_channel::{Config, due_items_law, first_items_law, items_law};
+use tm_channel::{Config, received_law};
 
-// Writes a line for each item of what the source gives, up to the limit. Answers how receiving ended, and what was counted.
+// Writes a line for what is handed over of what the source gives, up to the limit. Answers how receiving ended, and what was counted.
 fn report_items<R: Threads + Sync, S: Source, O: Sink>(
     rt: &R,
     alloc: Global,
@@ -59,8 +60,8 @@ fn report_items<R: Threads + Sync, S: Source, O: Sink>(
 /// Writes the end of the report of `bits` received bits, whose items gave these counts and whose lines the sink has taken. Answers
 /// how the command has ended by that.
 pub fn tell_end<N: Sink>(lines: &mut N, counts: Counts, bits: u64) -> Ending
-    ensures told { (start : Standing) (items : List ItemValue) → ReportedAll start (standing (N.taken lines.old) (N.faults lines.old)) no_counts counts items
-        → ToldEnd result items bits start (standing (N.taken lines.new) (N.faults lines.new)) (N.is_last lines.new) }
+    ensures told { (start : Standing) (handed : List (Handed ItemValue)) → ReportedAll start (standing (N.taken lines.old) (N.faults lines.old)) no_counts counts handed
+        → ToldEnd result handed bits start (standing (N.taken lines.new) (N.faults lines.new)) (N.is_last lines.new) }
     ensures answers { (result ≡ Ending.Done) ⊎ (result ≡ Ending.Bad) ⊎ (result ≡ Ending.SinkFault) }
     ensures fault { result ≡ Ending.SinkFault → Rose (N.faults lines.old) (N.faults lines.new) (N.is_last lines.new) }
     ensures later { N.faults lines.old ≤ N.faults lines.new }
@@ -74,8 +75,8 @@ pub fn tell_end<N: Sink>(lines: &mut N, counts: Counts, bits: u64) -> Ending
 }
 
 /// Writes a line for each codeblock that is found in the soft octets of the source, up to the limit in octets, and at the end of
-/// the input the end of the report. `Bad` comes where a codeblock has a column beyond repair. After a fault nothing more is read or
-/// written. It takes all its memory before it reads.
+/// the input the end of the report. Where the symbol phase is to be found, its line comes first. `Bad` comes where a codeblock
+/// has a column beyond repair. After a fault nothing more is read or written. It takes all its memory before it reads.
 pub fn report<R: Threads + Sync, S: Source, O: Sink>(
     rt: &R,
     alloc: Global,
@@ -98,9 +99,7 @@ pub fn report<R: Threads + Sync, S: Source, O: Sink>(
     ensures out_later { O.faults out.old ≤ O.faults out.new }
     ensures out_same { IfOk result (λ ending. (ending ≡ Ending.SinkFault → ⊥) → O.faults out.new ≡ O.faults out.old) }
 {
-    items_law();
-    due_items_law();
-    first_items_law();
+    received_law();
     let Ok((end, counts)) = report_items(rt, alloc, config, source, out) else {
         return Err(NoMemory);
     };

@@ -7,12 +7,14 @@ ghost use Rattle.tm_config.specs.Accepted.{IsAccepted};
 ghost use Rattle.tm_config.specs.Configuration.{Configuration};
 ghost use Rattle.tm_inner.specs.Sending.{StandsFor as SenderStandsFor};
 ghost use Rattle.tm_inner.specs.Symbols.{symbols_of_octets};
+ghost use Rattle.tm_base.specs.Handed.{Handed, items_of};
+ghost use Rattle.tm_channel.specs.Handing.{AreReceived};
 ghost use Rattle.tm_channel.specs.Items.{ItemValue};
 ghost use Rattle.tm_channel.specs.OctetReceiving.{StandsFor};
 ghost use Rattle.tm_cli.specs.Generated.{generated};
 ghost use Rattle.tm_cli.specs.Output.{HasBad};
-ghost use Rattle.tm_cli.specs.Receiving.{AreAll, HandedDue};
-ghost use Rattle.tm_cli.specs.Soak.{soak_refusal, Counted, counts_of, IsSoakLine};
+ghost use Rattle.tm_cli.specs.Receiving.{HandedDue};
+ghost use Rattle.tm_cli.specs.Soak.{soak_refusal, CountedHanded, counts_of, IsSoakLine};
 ghost use Rattle.tm_cli.specs.Taken.{no_counts};
 ghost use Rattle.tm_cli.specs.declared.counts.Counts.{Counts};
 
@@ -25,7 +27,7 @@ use rand_pcg::Lcg64Xsh32;
 use std::alloc::Global;
 use std::thread::Threads;
 use tm_base::{Failed, NoMemory, Sink};
-use tm_channel::{Config, InnerSender, Item, ItemTaker, OpenGate, Receiver, items_law};
+use tm_channel::{Config, InnerSender, Item, ItemTaker, OpenGate, Receiver, received_law};
 
 // The most octets of a unit.
 const MOST: usize = 2044;
@@ -74,8 +76,8 @@ fn pass_unit<R: Threads + Sync>(
     ensures stands { (given : List ℕ) → SenderStandsFor sender.old given → SenderStandsFor sender.new (given ++ unit.now) }
     ensures ready { receiver.new.has_stopped ≡ false }
     ensures handed { (c : Configuration) (start : Counts) (given : List ℕ) → SenderStandsFor sender.old given
-        → HandedDue c receiver.old (λ items. HandedOver Counted start items counts.old) (symbols_of_octets sender.old.config given)
-        → HandedDue c receiver.new (λ items. HandedOver Counted start items counts.new) (symbols_of_octets sender.old.config (given ++ unit.now)) }
+        → HandedDue c receiver.old (λ handed. HandedOver CountedHanded start handed counts.old) (symbols_of_octets sender.old.config given)
+        → HandedDue c receiver.new (λ handed. HandedOver CountedHanded start handed counts.new) (symbols_of_octets sender.old.config (given ++ unit.now)) }
 {
     let mut symbols = UnitSymbols::new();
     let sent = sender.push(unit, &mut symbols);
@@ -85,6 +87,7 @@ fn pass_unit<R: Threads + Sync>(
 }
 
 // Sends generated frames, and receives them. Answers what was counted of the items that are due.
+#[tactic(auto, using(crate::proofs::Soaking::unit_few))]
 fn pass_frames<R: Threads + Sync>(
     rt: &R,
     config: &Config,
@@ -100,7 +103,7 @@ fn pass_frames<R: Threads + Sync>(
     ensures accepted { IsAccepted config.now }
     ensures few { length (generated config.now seed frames hits) ≤ 2 ^ 15 * frames }
     ensures ready { receiver.new.has_stopped ≡ false }
-    ensures handed { HandedDue config.now receiver.new (λ items. HandedOver Counted no_counts items result) (generated config.now seed frames hits) }
+    ensures handed { HandedDue config.now receiver.new (λ handed. HandedOver CountedHanded no_counts handed result) (generated config.now seed frames hits) }
 {
     let mut draws = Lcg64Xsh32::new(seed, 0);
     let mut sender = InnerSender::new(config);
@@ -129,8 +132,8 @@ fn count_frames<R: Threads + Sync>(
     requires config { receiver.old.config ≡ config.now }
     requires new { StandsFor receiver.old [] [] }
     ensures accepted { IsAccepted config.now }
-    ensures counted { (items : List ItemValue) × AreAll config.now result.1 (generated config.now seed frames hits) items
-        × (result.0 ≡ counts_of items) }
+    ensures counted { (handed : List (Handed ItemValue)) × AreReceived config.now (generated config.now seed frames hits) handed result.1
+        × (result.0 ≡ counts_of (items_of handed)) }
 {
     let mut counts = pass_frames(rt, config, seed, frames, hits, receiver);
     let bits = receiver.finish(rt, &mut counts, &OpenGate).unwrap();
@@ -161,7 +164,7 @@ pub fn soak<R: Threads + Sync, O: Sink>(
     ensures later { O.faults out.old ≤ O.faults out.new }
     ensures same { IfOk result (λ ending. (ending ≡ Ending.SinkFault → ⊥) → O.faults out.new ≡ O.faults out.old) }
 {
-    items_law();
+    received_law();
     let Ok(mut receiver) = Receiver::open(alloc, *config) else {
         return Err(NoMemory);
     };

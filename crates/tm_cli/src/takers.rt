@@ -5,7 +5,7 @@ use tm_base::{Failed, Sink, put_all};
 use tm_channel::{Item, ItemTaker};
 use tm_viterbi::{Block, BlockTaker};
 
-/// Writes a line for each item, and counts the items.
+/// Writes a line for the symbol phase and one for each item, and counts the items.
 #[derive(Drop)]
 pub struct Report<'a, N> {
     pub lines: &'a mut N,
@@ -47,7 +47,8 @@ impl<'a, N: Sink> ItemTaker for Report<'a, N> {
     }
 }
 
-/// Writes the frame of each item to one sink and then its line to another, and counts the items.
+/// Writes the frame of each item to one sink and then its line to another, which takes the line of the symbol phase too, and
+/// counts the items.
 #[derive(Drop)]
 pub struct Decoding<'a, 'b, O, N> {
     pub out: &'a mut O,
@@ -93,7 +94,7 @@ impl<'a, 'b, O: Sink, N: Sink> ItemTaker for Decoding<'a, 'b, O, N> {
     }
 }
 
-/// Writes a line for each window of the soft decoder, and counts the windows.
+/// Writes a line for the symbol phase and one for each window of the soft decoder, and counts the windows.
 #[derive(Drop)]
 pub struct Trace<'a, O> {
     pub lines: &'a mut O,

@@ -24,9 +24,11 @@ use tm_base::{NoMemory, Sink, Source};
 ///
 /// - `encode` sends the transfer frames of the source to `out`, as octets of marked codeblocks or of symbols (CCSDS 131.0-B).
 /// - `decode` receives such octets, a soft one for each symbol: `out` gets the frame of each codeblock that is found and repaired,
-///   and the notes a report, which has a line for each codeblock and one for all.
+///   and the notes a report, which has a line for each codeblock and one for all, and before them one for the symbol phase where it
+///   is to be found.
 /// - `report` does so without the frames, and writes the report to `out`.
-/// - `trace` writes to `out` a line for each window of the soft decoder, and one for all.
+/// - `trace` writes to `out` a line for each window of the soft decoder, and one for all, and before them one for the symbol phase
+///   where it is to be found.
 /// - `erased` repairs words with erased symbols, each an octet a symbol and a flag for each behind them, and writes a line for each
 ///   to `out`: `fixed A B HEX`, or `beyond`.
 /// - `word` repairs one word, which stands in its words in hexadecimal, and writes it to `out`: `fixed D HEX`, or `beyond`.

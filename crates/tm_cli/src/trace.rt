@@ -1,15 +1,16 @@
-// The command `trace`: the windows of the soft decoder, a line each.
+// The command `trace`: the symbol phase, where it is to be found, and the windows of the soft decoder, a line each.
 ghost use Rattle.std.specs.Prelude.{◌≡◌, ◌⊎◌, ℕ, ◌+◌, ◌≤◌, List, [], length, Option, true, false, OnOk, OnErr, IfOk};
 ghost use Rattle.std.specs.Io.KnownBytes.{IsAtEnd};
 ghost use Rattle.tm_base.specs.Outside.{HasCause, Rose};
 ghost use Rattle.tm_base.specs.Written.{Gave};
 ghost use Rattle.tm_config.specs.Accepted.{IsAccepted};
 ghost use Rattle.tm_config.specs.Configuration.{Configuration};
+ghost use Rattle.tm_inner.specs.Receiving.{StandsFor};
 ghost use Rattle.tm_cli.specs.Command.Command.{Trace as TraceCommand};
 ghost use Rattle.tm_cli.specs.Ending.{Ends};
 ghost use Rattle.tm_cli.specs.Reading.{FedUpTo};
 ghost use Rattle.tm_cli.specs.Taken.{Standing, standing};
-ghost use Rattle.tm_cli.specs.Tracing.{Traces, TraceFails, TracedWhole, WroteTrace, WroteTraceFront, StandsAt};
+ghost use Rattle.tm_cli.specs.Tracing.{Traces, TraceFails, TracedWhole, WroteTrace, WroteTraceFront};
 
 use crate::ending::Ending;
 use crate::ends::end_trace;
@@ -20,9 +21,10 @@ use std::alloc::Global;
 use tm_base::{Failed, NoMemory, Sink, Source};
 use tm_channel::Config;
 use tm_inner::{InnerEnd, InnerReceiver};
+use tm_phase::{phase_law, whole_window_law};
 use tm_viterbi::{closed_windows_law, due_law, one_list_law};
 
-// An inner receiver, and what takes its windows.
+// An inner receiver, and what takes its phase and windows.
 struct Tracing<'a, 'b, O> {
     receiver: &'a mut InnerReceiver,
     trace: Trace<'b, O>,
@@ -31,23 +33,24 @@ struct Tracing<'a, 'b, O> {
 impl<'a, 'b, O: Sink> Feed for Tracing<'a, 'b, O> {
     ghost use Rattle.std.specs.Prelude.{◌≡◌, false, refl, []};
     ghost use Rattle.std.proofs.Common.{◌∙◌};
-    ghost use Rattle.tm_inner.specs.Receiving.{AreInnerFirst, Hands, HandsFront};
+    ghost use Rattle.tm_inner.specs.Handing.{AreHandedFirst};
+    ghost use Rattle.tm_inner.specs.Receiving.{Hands, HandsFront};
     ghost use Rattle.tm_inner.proofs.GivenPieces.{hands-none, hands-more, hands-front};
-    ghost use Rattle.tm_cli.specs.Lines.{block_text};
-    ghost use Rattle.tm_cli.specs.Taken.{standing, Traced, BrokeText};
+    ghost use Rattle.tm_cli.specs.Report.{handed_block_text};
+    ghost use Rattle.tm_cli.specs.Taken.{standing, TracedHanded, BrokeText};
     ghost use Rattle.tm_cli.specs.Tracing.{StandsAt};
 
     ghost fed = { λ a b octets. (b.receiver.now.config ≡ a.receiver.now.config)
-        × Hands (λ x block y. (y.lines.ghost_name ≡ x.lines.ghost_name)
-        × Traced (standing (O.taken x.lines.now) (O.faults x.lines.now)) (standing (O.taken y.lines.now) (O.faults y.lines.now)) x.count y.count block)
+        × Hands (λ x handed y. (y.lines.ghost_name ≡ x.lines.ghost_name)
+        × TracedHanded (standing (O.taken x.lines.now) (O.faults x.lines.now)) (standing (O.taken y.lines.now) (O.faults y.lines.now)) x.count y.count handed)
         StandsAt a.receiver.now b.receiver.now a.trace b.trace octets };
 
     ghost broke = { λ a b octets. (config : Configuration) → a.receiver.now.config ≡ config
-        → HandsFront (λ x block y. (y.lines.ghost_name ≡ x.lines.ghost_name)
-        × Traced (standing (O.taken x.lines.now) (O.faults x.lines.now)) (standing (O.taken y.lines.now) (O.faults y.lines.now)) x.count y.count block)
-        (λ x block y. (y.lines.ghost_name ≡ x.lines.ghost_name)
-        × BrokeText (standing (O.taken x.lines.now) (O.faults x.lines.now)) (standing (O.taken y.lines.now) (O.faults y.lines.now)) (O.is_last y.lines.now) [] (block_text x.count block))
-        StandsAt (AreInnerFirst config 0) a.receiver.now a.trace b.trace octets };
+        → HandsFront (λ x handed y. (y.lines.ghost_name ≡ x.lines.ghost_name)
+        × TracedHanded (standing (O.taken x.lines.now) (O.faults x.lines.now)) (standing (O.taken y.lines.now) (O.faults y.lines.now)) x.count y.count handed)
+        (λ x handed y. (y.lines.ghost_name ≡ x.lines.ghost_name)
+        × BrokeText (standing (O.taken x.lines.now) (O.faults x.lines.now)) (standing (O.taken y.lines.now) (O.faults y.lines.now)) (O.is_last y.lines.now) [] (handed_block_text x.count handed))
+        StandsAt (AreHandedFirst config) a.receiver.now a.trace b.trace octets };
 
     ghost same = { λ a b. (b.receiver.ghost_name ≡ a.receiver.ghost_name) × (b.trace.lines.ghost_name ≡ a.trace.lines.ghost_name) };
 
@@ -65,7 +68,7 @@ impl<'a, 'b, O: Sink> Feed for Tracing<'a, 'b, O> {
 
     ghost fed_more = { λ a b c first second p q. (q.0 ∙ p.0, hands-more _ StandsAt a.receiver.now b.receiver.now c.receiver.now a.trace b.trace c.trace first second p.1 q.1) };
 
-    ghost broke_more = { λ a b c first second p q. λ config is. hands-front _ _ StandsAt (AreInnerFirst config 0) a.receiver.now b.receiver.now a.trace b.trace c.trace first second p.1 (q config (p.0 ∙ is)) };
+    ghost broke_more = { λ a b c first second p q. λ config is. hands-front _ _ StandsAt (AreHandedFirst config) a.receiver.now b.receiver.now a.trace b.trace c.trace first second p.1 (q config (p.0 ∙ is)) };
 
     fn feed(&mut self, piece: &[u8]) -> Result<(), Failed> {
         match self.receiver.feed(piece, &mut self.trace) {
@@ -84,7 +87,7 @@ fn trace_windows<S: Source, O: Sink>(
 ) -> (Pumped, u64)
     requires ready { receiver.old.has_stopped ≡ false }
     requires config { receiver.old.config ≡ config.now }
-    requires new { StandsAt receiver.old [] [] }
+    requires new { StandsFor receiver.old [] [] }
     ensures traced { (octets : List ℕ) × Gave (S.given source.old) (S.given source.new) (S.left source.old) (S.left source.new) octets
         × (length octets ≤ config.now.limit + 1)
         × FedUpTo (Traces config.now receiver.new result.1 (standing (O.taken out.old) (O.faults out.old)) (standing (O.taken out.new) (O.faults out.new)))
@@ -115,7 +118,7 @@ fn trace_windows<S: Source, O: Sink>(
     (end, count)
 }
 
-// Traces the last window behind `count` others. Answers what came of all octets, and how many windows were traced.
+// Traces what is left at the end, behind `count` windows. Answers what came of all octets, and how many windows were traced.
 fn trace_last<O: Sink>(
     receiver: &mut InnerReceiver,
     count: u64,
@@ -130,6 +133,8 @@ fn trace_last<O: Sink>(
         → WroteTraceFront c start (standing (O.taken out.new) (O.faults out.new)) octets) }
     ensures cause { HasCause (O.faults out.old) (O.faults out.new) (O.is_last out.new) result }
 {
+    one_list_law();
+    due_law();
     let mut trace = Trace { lines: out, count };
     let end = receiver.finish(&mut trace);
     let Trace { lines: _, count } = trace;
@@ -139,7 +144,7 @@ fn trace_last<O: Sink>(
     }
 }
 
-// Traces the last window behind `count` others, and writes the end of the trace.
+// Traces what is left at the end, behind `count` windows, and writes the end of the trace.
 fn trace_end<O: Sink>(receiver: &mut InnerReceiver, count: u64, out: &mut O) -> Result<(), Failed>
     requires { receiver.old.has_stopped ≡ false }
     ensures whole { OnOk result ((c : Configuration) (start : Standing) (octets : List ℕ) → IsAccepted c
@@ -165,7 +170,7 @@ fn trace_input<S: Source, O: Sink>(
 ) -> Ending
     requires ready { receiver.old.has_stopped ≡ false }
     requires config { receiver.old.config ≡ config.now }
-    requires new { StandsAt receiver.old [] [] }
+    requires new { StandsFor receiver.old [] [] }
     ensures ends { (octets : List ℕ) × Gave (S.given source.old) (S.given source.new) (S.left source.old) (S.left source.new) octets
         × (length octets ≤ config.now.limit + 1)
         × ((noted : Option (List ℕ)) → Ends result TraceCommand config.now octets (O.taken out.old) (O.taken out.new) noted noted) }
@@ -182,6 +187,8 @@ fn trace_input<S: Source, O: Sink>(
     one_list_law();
     due_law();
     closed_windows_law();
+    phase_law();
+    whole_window_law();
     let (end, count) = trace_windows(config, receiver, source, out);
     match end {
         Pumped::Ended => match trace_end(receiver, count, out) {
@@ -194,8 +201,9 @@ fn trace_input<S: Source, O: Sink>(
     }
 }
 
-/// Writes a line for each window of the soft octets of the source, up to the limit in octets, and at the end of the input the end of
-/// the trace. After a fault nothing more is read or written. It takes all its memory before it reads.
+/// Writes a line for the symbol phase of the soft octets of the source, where it is to be found, and one for each window, up to the
+/// limit in octets, and at the end of the input the end of the trace. After a fault nothing more is read or written. It takes all
+/// its memory before it reads.
 pub fn trace<S: Source, O: Sink>(
     alloc: Global,
     config: &Config,
@@ -216,7 +224,6 @@ pub fn trace<S: Source, O: Sink>(
     ensures out_later { O.faults out.old ≤ O.faults out.new }
     ensures out_same { IfOk result (λ ending. (ending ≡ Ending.SinkFault → ⊥) → O.faults out.new ≡ O.faults out.old) }
 {
-    due_law();
     let Ok(mut receiver) = InnerReceiver::open(alloc, config) else {
         return Err(NoMemory);
     };

@@ -2,17 +2,16 @@ use Rattle.std.proofs.Common.{◌≡◌, ◌*◌, ◌≤◌, ◌++◌, length, L
 use Rattle.std.proofs.lemmas.Grind.{common_steps}
 use Rattle.tm_base.specs.Takers.{HandedOver}
 use Rattle.tm_config.specs.Configuration.{codeblock_length}
-use Rattle.tm_config.proofs.Lengths.{codeblock_length-le}
 use Rattle.tm_inner.specs.Sending.{StandsFor}
 use Rattle.tm_inner.specs.Symbols.{symbols_of_octets}
 use Rattle.tm_cli.specs.Generated.{generator_of, drawn, draw_count, generated_units}
 use Rattle.tm_cli.specs.Receiving.{HandedDue}
-use Rattle.tm_cli.specs.Soak.{Counted}
+use Rattle.tm_cli.specs.Soak.{CountedHanded}
 use Rattle.tm_cli.specs.Taken.{no_counts}
 use Rattle.tm_cli.specs.declared.counts.Counts.{Counts}
 use Rattle.tm_cli.proofs.FewSymbols.{length-symbols}
 use Rattle.tm_cli.proofs.Generating.{drawn-none, units-none, units-more, draws-frames}
-use Rattle.tm_cli.proofs.Soaking.{handed-none, handed-more, units-long}
+use Rattle.tm_cli.proofs.Soaking.{unit_few, handed-none, handed-more, units-long}
 use Rattle.tm_cli.proofs.soak.pass_frames.Goals as goal
 
 pub loop-frame-init : goal.loop-frame-init
@@ -27,15 +26,20 @@ loop-frame-init g c =
       stands = subst (StandsFor c.new-sender.result) (sym (units-none config c.args.hits start)) c.new-sender.ensures.stands;
       few = omega (arith, ap length (units-none config c.args.hits start));
       ready = c.requires.ready;
-      handed = subst (λ (k : Counts). HandedDue config c.args.receiver.now (λ items. HandedOver Counted no_counts items k) (symbols_of_octets config (generated_units config 0 c.args.hits start)))
-          (sym c.new-counts.ensures) (handed-none config c.args.hits c.args.receiver.now c.requires.config c.requires.new start);
+      handed = subst (λ (k : Counts). HandedDue config c.args.receiver.now (λ handed. HandedOver CountedHanded no_counts handed k) (symbols_of_octets config (generated_units config 0 c.args.hits start)))
+          (sym c.new-counts.ensures) (handed-none config c.args.hits c.args.receiver.now c.depth.ensures.accepted c.requires.config c.requires.new start);
     }
+
+pub slice_bounds-unit-end : goal.slice_bounds-unit-end
+slice_bounds-unit-end g c =
+    let most = unit_few c.args.config.now c.depth.result c.word_length.result c.depth.ensures.accepted c.depth.ensures.value c.word_length.ensures.value in
+    grind (arith, common_steps)
 
 pub generate_unit-requires-clause-unit : goal.generate_unit-requires-clause-unit
 generate_unit-requires-clause-unit g c =
     let size : c.depth.result * c.word_length.result ≡ codeblock_length c.args.config.now =
     ap (λ d. d * c.word_length.result) c.depth.ensures.value ∙ ap (λ n. c.args.config.now.depth * n) c.word_length.ensures.value in
-    let most = codeblock_length-le c.args.config.now c.depth.ensures.accepted in
+    let most = unit_few c.args.config.now c.depth.result c.word_length.result c.depth.ensures.accepted c.depth.ensures.value c.word_length.ensures.value in
     let long = c.loop-frame.auto.unit in
     grind (arith, common_steps)
 
@@ -75,5 +79,5 @@ returns-clause-handed g c =
     let config = c.args.config.now in
     let start = generator_of c.args.seed in
     let end : c.loop-frame._frame ≡ c.args.frames = omega (arith, c.loop-frame.auto._frame-end, c.loop-frame-test.false) in
-    subst (λ n. HandedDue config c.loop-frame.receiver (λ items. HandedOver Counted no_counts items c.loop-frame.counts) (symbols_of_octets config (generated_units config n c.args.hits start)))
+    subst (λ n. HandedDue config c.loop-frame.receiver (λ handed. HandedOver CountedHanded no_counts handed c.loop-frame.counts) (symbols_of_octets config (generated_units config n c.args.hits start)))
     end c.loop-frame.invariant.handed

@@ -4,7 +4,7 @@ use Rattle.tm_inner.specs.Sending.{StandsFor}
 use Rattle.tm_inner.specs.Symbols.{symbols_of_octets}
 use Rattle.tm_cli.specs.Generated.{generator_of, drawn, draw_count, generated_units}
 use Rattle.tm_cli.specs.Receiving.{HandedDue}
-use Rattle.tm_cli.specs.Soak.{Counted}
+use Rattle.tm_cli.specs.Soak.{CountedHanded}
 use Rattle.tm_cli.specs.Taken.{no_counts}
 use Rattle.tm_cli.proofs.soak.pass_frames.Given as goal
 
@@ -16,5 +16,5 @@ invariant-loop-frame g l = record {
   stands : StandsFor l.sender (generated_units l.config l._frame l.hits (generator_of l.seed));
   few : length (generated_units l.config l._frame l.hits (generator_of l.seed)) ≤ 2044 * l._frame;
   ready : l.receiver.has_stopped ≡ false;
-  handed : HandedDue l.config l.receiver (λ items. HandedOver Counted no_counts items l.counts) (symbols_of_octets l.config (generated_units l.config l._frame l.hits (generator_of l.seed)));
+  handed : HandedDue l.config l.receiver (λ handed. HandedOver CountedHanded no_counts handed l.counts) (symbols_of_octets l.config (generated_units l.config l._frame l.hits (generator_of l.seed)));
 }

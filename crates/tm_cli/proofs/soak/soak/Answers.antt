@@ -22,7 +22,7 @@ returns-in-Ok-frames_line-clause-done g c = λ _.
     let sent = generated c.args.config.now c.args.seed c.args.frames c.args.hits in
     let all = c.count_frames-bits.ensures in
     let counted = all.counted in
-    not_bad c.items_law.ensures.one c.args.config.now c.count_frames-bits.result.1 sent counted.0 all.accepted counted.1 (ap (λ k. k.bad) (sym counted.2) ∙ c.if-counts-eq0.true)
+    not_bad c.received_law.ensures.one c.args.config.now c.count_frames-bits.result.1 sent counted.0 all.accepted counted.1 (ap (λ k. k.bad) (sym counted.2) ∙ c.if-counts-eq0.true)
 
 pub returns-in-Ok-2-clause-line : goal.returns-in-Ok-2-clause-line
 returns-in-Ok-2-clause-line g c =

@@ -47,6 +47,8 @@ returns-in-Ok-clause-answered g c = λ job asked _.
       ends = h.3;
       clean = λ is. c.link_law.ensures.clean ending c.status.result config h.0 taken now noted noted_now read.2 c.status.ensures (decodes is);
       disturbed = λ is. c.link_law.ensures.disturbed ending c.status.result config h.0 taken now noted noted_now read.2 c.status.ensures (decodes is);
+      turned_input = λ is. c.link_law.ensures.turned_input ending c.status.result config h.0 taken now noted noted_now read.2 c.status.ensures (decodes is);
+      turned_symbols = λ is. c.link_law.ensures.turned_symbols ending c.status.result config h.0 taken now noted noted_now read.2 c.status.ensures (decodes is);
     } in (
       h.0,
       h.1,

@@ -41,7 +41,7 @@ returns-in-SourceFault-clause-ends g c =
     let before = standing (g.O.Sink.taken c.args.out.now) (g.O.Sink.faults c.args.out.now) in
     let now = standing (g.O.Sink.taken c.trace_windows-end.new.out) (g.O.Sink.faults c.trace_windows-end.new.out) in
     let so = subst (λ (end : Pumped). FedUpTo (Traces config receiver count before now) (TraceFails config before now (g.O.Sink.is_last c.trace_windows-end.new.out)) config.limit end h.0) c.in-SourceFault.is h.3 in
-    (h.0, h.1, h.2, λ noted. (ends-early c.one_list_law.ensures.exists c.closed_windows_law.ensures c.due_law.ensures.first config receiver count h.0 before now noted c.trace_windows-end.ensures.accepted so.0, so.1))
+    (h.0, h.1, h.2, λ noted. (ends-early c.one_list_law.ensures.exists c.due_law.ensures.first c.phase_law.ensures.exists c.phase_law.ensures.one c.closed_windows_law.ensures c.whole_window_law.ensures.front config receiver count h.0 before now noted c.trace_windows-end.ensures.accepted so.0, so.1))
 
 pub returns-in-FeedFault-clause-ends : goal.returns-in-FeedFault-clause-ends
 returns-in-FeedFault-clause-ends g c =
@@ -53,7 +53,7 @@ returns-in-FeedFault-clause-ends g c =
     let now = standing (g.O.Sink.taken c.trace_windows-end.new.out) (g.O.Sink.faults c.trace_windows-end.new.out) in
     let last = g.O.Sink.is_last c.trace_windows-end.new.out in
     let so = subst (λ (end : Pumped). FedUpTo (Traces config receiver count before now) (TraceFails config before now last) config.limit end h.0) c.in-FeedFault.is h.3 in
-    (h.0, h.1, h.2, λ noted. ends-fed c.one_list_law.ensures.exists c.closed_windows_law.ensures c.due_law.ensures.first config h.0 before now last noted c.trace_windows-end.ensures.accepted so)
+    (h.0, h.1, h.2, λ noted. ends-fed c.one_list_law.ensures.exists c.due_law.ensures.first c.phase_law.ensures.exists c.phase_law.ensures.one config h.0 before now last noted c.trace_windows-end.ensures.accepted so)
 
 pub returns-in-PastLimit-clause-ends : goal.returns-in-PastLimit-clause-ends
 returns-in-PastLimit-clause-ends g c =
@@ -64,4 +64,4 @@ returns-in-PastLimit-clause-ends g c =
     let before = standing (g.O.Sink.taken c.args.out.now) (g.O.Sink.faults c.args.out.now) in
     let now = standing (g.O.Sink.taken c.trace_windows-end.new.out) (g.O.Sink.faults c.trace_windows-end.new.out) in
     let so = subst (λ (end : Pumped). FedUpTo (Traces config receiver count before now) (TraceFails config before now (g.O.Sink.is_last c.trace_windows-end.new.out)) config.limit end h.0) c.in-PastLimit.is h.3 in
-    (h.0, h.1, h.2, λ noted. (ends-early c.one_list_law.ensures.exists c.closed_windows_law.ensures c.due_law.ensures.first config receiver count (take config.limit h.0) before now noted c.trace_windows-end.ensures.accepted so.0, so.1))
+    (h.0, h.1, h.2, λ noted. (ends-early c.one_list_law.ensures.exists c.due_law.ensures.first c.phase_law.ensures.exists c.phase_law.ensures.one c.closed_windows_law.ensures c.whole_window_law.ensures.front config receiver count (take config.limit h.0) before now noted c.trace_windows-end.ensures.accepted so.0, so.1))
