@@ -39,7 +39,34 @@ struct Row<'a> {
     notes: &'a str,
 }
 
-static ROWS: [Row; 18] = [
+static ROWS: [Row; 21] = [
+    Row {
+        name: "out has room for a part of the phase's line",
+        line: "tmchan report --phase find",
+        input: &[&[0, 0xFF, 0, 0xFF]],
+        fault: Fault::OutRoom(5),
+        status: 4,
+        out: &[b"phase"],
+        notes: "",
+    },
+    Row {
+        name: "the same of a trace",
+        line: "tmchan trace --phase find",
+        input: &[&[0, 0xFF, 0, 0xFF]],
+        fault: Fault::OutRoom(5),
+        status: 4,
+        out: &[b"phase"],
+        notes: "",
+    },
+    Row {
+        name: "the notes have room for a part of the phase's line",
+        line: "tmchan decode --phase find --inner none",
+        input: &[&[0, 0xFF, 0, 0xFF]],
+        fault: Fault::NotesRoom(5),
+        status: 4,
+        out: &[],
+        notes: "phase",
+    },
     Row {
         name: "out has room for ten octets",
         line: "tmchan encode --inner none --randomize off --length 1",

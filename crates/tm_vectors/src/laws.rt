@@ -25,6 +25,7 @@ fn laws(_rt: HostRuntime) {
     tm_channel::items_law();
     tm_channel::due_items_law();
     tm_channel::first_items_law();
+    tm_channel::received_law();
     tm_channel::clean_law();
     tm_channel::disturbed_law();
     tm_channel::polarity_law();

@@ -19,6 +19,8 @@ mod layers;
 #[cfg(test)]
 mod option_words;
 #[cfg(test)]
+mod phase;
+#[cfg(test)]
 mod received;
 #[cfg(test)]
 mod receivers;

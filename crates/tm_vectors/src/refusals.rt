@@ -75,9 +75,8 @@ static WORDS: [(&str, &str, &str); 22] = [
     ),
 ];
 
-// The same of values outside their lists and ranges. A phase that is to be found is outside until the search
-// for it stands.
-static VALUES: [(&str, &str, &str); 23] = [
+// The same of values outside their lists and ranges.
+static VALUES: [(&str, &str, &str); 22] = [
     (
         "a depth out of the list",
         "tmchan encode --depth 6 --inner none",
@@ -163,11 +162,6 @@ static VALUES: [(&str, &str, &str); 23] = [
         "too many steps ahead",
         "tmchan encode --inner none --ahead 4097",
         "ahead",
-    ),
-    (
-        "a phase that is to be found",
-        "tmchan encode --inner none --phase find",
-        "phase",
     ),
     (
         "columns without a code",
