@@ -3,6 +3,7 @@ pub mod Paths
 pub mod Words
 mod Unique
 mod HasBest
+pub mod LeastColumns
 pub mod Clean
 mod Starts
 mod Complement

@@ -1,5 +1,5 @@
 -- How many symbols steps send.
-use Rattle.std.proofs.Common.{◌≡◌, ℕ, ◌+◌, ◌/◌, ◌%◌, ◌<◌, ◌≤◌, ◌-◌, min, sym, ap, ◌∙◌, arith, length, List, [], ◌∷◌, zero, suc, refl, Bool, true, false, cond, eqb, ◌||◌, ◌&&◌, get_or}
+use Rattle.std.proofs.Common.{◌*◌, ◌≡◌, ℕ, ◌+◌, ◌/◌, ◌%◌, ◌<◌, ◌≤◌, ◌-◌, min, sym, ap, ◌∙◌, arith, length, List, [], ◌∷◌, zero, suc, refl, Bool, true, false, cond, eqb, ◌||◌, ◌&&◌, get_or}
 use Rattle.tm_conv.specs.declared.rates.Rate.{Rate}
 use Rattle.tm_conv.specs.declared.rates.Rate.TheVariants.{R12, R23, R34, R56, R78}
 use Rattle.tm_conv.specs.Path.{period, step_size, steps_size, c1_pattern, c2_pattern}
@@ -131,3 +131,39 @@ steps_size-counted rate (suc n) =
 pub steps_size-is : (rate : Rate) (n : ℕ) → steps_size rate 0 n ≡ n + (n / period rate + min 1 (n % period rate))
 unfolding counted
 steps_size-is rate n = steps_size-counted rate n
+
+-- the symbols of steps, and of further ones
+pub steps_size-add : (rate : Rate) (t a b : ℕ) → steps_size rate t (a + b) ≡ steps_size rate t a + steps_size rate (t + a) b
+unfolding steps_size
+steps_size-add rate t zero b =
+    let e : t + 0 ≡ t = omega arith in
+    let f : 0 + b ≡ b = omega arith in
+    rw (e, f) (omega arith)
+steps_size-add rate t (suc a) b =
+    let e : t + suc a ≡ t + 1 + a = omega arith in
+    let f : suc a + b ≡ suc (a + b) = omega arith in
+    let h : steps_size rate (t + 1) (a + b) ≡ steps_size rate (t + 1) a + steps_size rate (t + 1 + a) b = steps_size-add rate (t + 1) a b in
+    let goal : step_size rate t + steps_size rate (t + 1) (a + b) ≡ step_size rate t + steps_size rate (t + 1) a + steps_size rate (t + 1 + a) b = omega (arith, h) in
+    rw (e, f) goal
+
+pub steps_size-le : (rate : Rate) (t i n : ℕ) → i ≤ n → steps_size rate t i ≤ steps_size rate t n
+steps_size-le rate t i n le =
+    let whole : i + (n - i) ≡ n = omega arith in
+    omega (arith, steps_size-add rate t i (n - i), ap (steps_size rate t) whole)
+
+-- a step sends one symbol or two
+pub steps_size-most : (rate : Rate) (t n : ℕ) → steps_size rate t n ≤ 2 * n
+unfolding steps_size
+steps_size-most rate t zero = omega arith
+steps_size-most rate t (suc n) =
+    let h : steps_size rate (t + 1) n ≤ 2 * n = steps_size-most rate (t + 1) n in
+    let goal : step_size rate t + steps_size rate (t + 1) n ≤ 2 * suc n = omega (arith, h, step_size-is rate t) in
+    goal
+
+pub steps_size-least : (rate : Rate) (t n : ℕ) → n ≤ steps_size rate t n
+unfolding steps_size
+steps_size-least rate t zero = omega arith
+steps_size-least rate t (suc n) =
+    let h : n ≤ steps_size rate (t + 1) n = steps_size-least rate (t + 1) n in
+    let goal : suc n ≤ step_size rate t + steps_size rate (t + 1) n = omega (arith, h, step_size-is rate t) in
+    goal

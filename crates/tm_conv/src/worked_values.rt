@@ -129,4 +129,5 @@ fn laws(_rt: HostRuntime) {
     complement_law();
     six_pairs_law();
     best_path_law();
+    columns_law();
 }

@@ -41,10 +41,3 @@ whole_steps R78 n size h =
     let a : steps_size R78 0 m ≡ m + (m / 7 + min 1 (m % 7)) = steps_size-is R78 m in
     let b : steps_size R78 0 (m + 1) ≡ m + 1 + ((m + 1) / 7 + min 1 ((m + 1) % 7)) = steps_size-is R78 (m + 1) in
     (m, record { is = omega (arith, a); fits = omega arith; most = omega (arith, b) })
-
-pub steps_size-few : (rate : Rate) (n : ℕ) → steps_size rate 0 n ≤ 2 * n
-steps_size-few R12 n = let a : steps_size R12 0 n ≡ n + (n / 1 + min 1 (n % 1)) = steps_size-is R12 n in omega (arith, a)
-steps_size-few R23 n = let a : steps_size R23 0 n ≡ n + (n / 2 + min 1 (n % 2)) = steps_size-is R23 n in omega (arith, a)
-steps_size-few R34 n = let a : steps_size R34 0 n ≡ n + (n / 3 + min 1 (n % 3)) = steps_size-is R34 n in omega (arith, a)
-steps_size-few R56 n = let a : steps_size R56 0 n ≡ n + (n / 5 + min 1 (n % 5)) = steps_size-is R56 n in omega (arith, a)
-steps_size-few R78 n = let a : steps_size R78 0 n ≡ n + (n / 7 + min 1 (n % 7)) = steps_size-is R78 n in omega (arith, a)
