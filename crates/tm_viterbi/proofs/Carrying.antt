@@ -3,7 +3,6 @@ use Rattle.std.proofs.Common.{◌≡◌, ℕ, zero, suc, ◌+◌, ◌-◌, ◌*�
 use Rattle.std.proofs.lemmas.List.{reverse-append, append-nil, length-take-le, take_more_set, ext_get_or, take_all}
 use Rattle.std.proofs.lemmas.Slice.{take-put_mid}
 use borrow.Rule.Slice.PartMut.{put_mid, same_len_mid}
-use Rattle.tm_viterbi.proofs.PassSteps.{steps_size-le}
 use Rattle.std.proofs.Math.Seq.{take-add}
 use Rattle.std.proofs.lemmas.Bool.Decides.{nat_tests}
 use mathlib.Core.List.{reverse}
@@ -16,19 +15,7 @@ use Rattle.tm_viterbi.proofs.Walk.{AreBest-more, AreBest-none}
 use Rattle.tm_viterbi.proofs.Totals.{Grows-total_of}
 use Rattle.tm_conv.proofs.Paths.{steps_size-more, steps_size-zero}
 use Rattle.tm_viterbi.specs.Carries.{Carries, lifted}
-
-pub steps_size-add : (rate : Rate) (t a b : ℕ) → steps_size rate t (a + b) ≡ steps_size rate t a + steps_size rate (t + a) b
-unfolding steps_size
-steps_size-add rate t zero b =
-    let e : t + 0 ≡ t = omega arith in
-    let f : 0 + b ≡ b = omega arith in
-    rw (e, f) (omega arith)
-steps_size-add rate t (suc a) b =
-    let e : t + suc a ≡ t + 1 + a = omega arith in
-    let f : suc a + b ≡ suc (a + b) = omega arith in
-    let h : steps_size rate (t + 1) (a + b) ≡ steps_size rate (t + 1) a + steps_size rate (t + 1 + a) b = steps_size-add rate (t + 1) a b in
-    let goal : step_size rate t + steps_size rate (t + 1) (a + b) ≡ step_size rate t + steps_size rate (t + 1) a + steps_size rate (t + 1 + a) b = omega (arith, h) in
-    rw (e, f) goal
+use Rattle.tm_conv.proofs.Sizes.{steps_size-add, steps_size-le}
 
 pub Carries-none : (rate : Rate) (invert : Bool) (t : ℕ) (sums : List ℕ) → Carries rate invert t [] sums sums []
 Carries-none rate invert t sums = record {

@@ -7,10 +7,10 @@ use Rattle.tm_conv.specs.Path.{steps_size, path}
 use Rattle.tm_conv.specs.Best.{IsBest}
 use Rattle.tm_conv.specs.Cost.{cost}
 use Rattle.tm_viterbi.specs.Starts.{starts_from}
-use Rattle.tm_viterbi.proofs.PassSteps.{steps_size-le}
 use Rattle.tm_viterbi.specs.WindowBlock.{WindowBlock}
 use Rattle.tm_viterbi.specs.Blocks.{window_steps, kept_steps}
 use Rattle.tm_viterbi.specs.Due.{Place, Closes, Closed, behind}
+use Rattle.tm_conv.proofs.Sizes.{steps_size-le}
 
 unfoldable pub more_octets : Place → List ℕ → Place
 more_octets at octets = record { starts = at.starts; t = at.t; octets = at.octets ++ octets }

@@ -7,8 +7,8 @@ use Rattle.tm_viterbi.specs.WindowBlock.{WindowBlock}
 use Rattle.tm_viterbi.specs.Due.{Place, Closed, AreDue, AreFirst}
 use Rattle.tm_viterbi.specs.Streaming.{Reaches, IsOpenStep, settings_of, waiting_octets}
 use Rattle.tm_viterbi.specs.declared.stream.Stream.{Stream}
-use Rattle.tm_viterbi.proofs.PassSteps.{steps_size-le}
 use Rattle.tm_viterbi.proofs.Closing.{Closed-append, more_octets}
+use Rattle.tm_conv.proofs.Sizes.{steps_size-le}
 
 further_closed : (s : Stream) (all whole piece : List ℕ) (done : List WindowBlock)
     → Closed s.flow.window.rate s.flow.window.invert s.flow.window.keep s.flow.window.ahead (record { starts = first_start s.start; t = 0; octets = all }) done

@@ -1,12 +1,12 @@
 -- One more window closed, by the window that follows.
-use Rattle.std.proofs.Common.{◌≡◌, ℕ, ◌+◌, ◌<◌, ◌≤◌, ◌∙◌, sym, ap, subst, refl, arith, get_or, zero, suc, append_assoc, List, [], ◌∷◌, ◌++◌, Bool, drop, length, length-append, Result, Ok, Err, IsErr, OnOk, OnErr, Option, Some, None, IsTrue}
+use Rattle.std.proofs.Common.{◌≡◌, ℕ, ◌+◌, ◌<◌, ◌≤◌, ◌∙◌, sym, ap, subst, refl, arith, get_or, append_assoc, List, [], ◌∷◌, ◌++◌, Bool, drop, length, length-append, Result, Ok, Err, IsErr, OnOk, OnErr, Option, Some, None, IsTrue}
 use Rattle.std.specs.Option.{ForSome}
 use Rattle.std.proofs.lemmas.List.{drop-append-le}
 use Rattle.std.proofs.lemmas.Bool.Decides.{nat_tests}
 use Rattle.tm_conv.specs.declared.rates.Rate.{Rate}
 use Rattle.tm_conv.specs.Path.{steps_size, step_size}
 use Rattle.tm_conv.proofs.Paths.{steps_size-more}
-use Rattle.tm_conv.proofs.Sizes.{step_size_pos}
+use Rattle.tm_conv.proofs.Sizes.{steps_size-le}
 use Rattle.tm_viterbi.specs.Starts.{starts_from}
 use Rattle.tm_viterbi.specs.WindowBlock.{WindowBlock}
 use Rattle.tm_viterbi.specs.Settings.{Settings}
@@ -14,7 +14,6 @@ use Rattle.tm_viterbi.specs.Streaming.{settings_of}
 use Rattle.tm_viterbi.specs.declared.block.Start.{Start}
 use Rattle.tm_viterbi.specs.declared.stream.Stream.{Stream}
 use Rattle.tm_viterbi.specs.Due.{Place, Closes, Closed, behind}
-use Rattle.tm_viterbi.proofs.PassSteps.{steps_size-le}
 use Rattle.tm_viterbi.proofs.Closing.{Closed-push}
 
 pub on_ok : {T E : Type 0} (r : Result T E) (P Q : Type 0) → (P → Q) → OnOk r P → OnOk r Q
@@ -64,15 +63,6 @@ closed_on rate rate' invert invert' keep keep' ahead ahead' t t' n starts starts
     (subst (λ (v : Bool). Closed rate' v keep ahead from all to) (sym ei)
     (subst (λ (v : Rate). Closed v invert keep ahead from all to) (sym er)
     (subst (λ (p : Place). Closed rate invert keep ahead from all p) there pushed))))
-
--- each step sends a symbol
-pub steps_size-large : (rate : Rate) (t count : ℕ) → count ≤ steps_size rate t count
-unfolding steps_size
-steps_size-large rate t zero = omega arith
-steps_size-large rate t (suc count) =
-    let h : count ≤ steps_size rate (t + 1) count = steps_size-large rate (t + 1) count in
-    let goal : suc count ≤ step_size rate t + steps_size rate (t + 1) count = omega (arith, h, step_size_pos rate t) in
-    goal
 
 -- the octets that were still to be taken stand in the window now
 pub moved_on : (whole waiting taken rest octets : List ℕ) → octets ≡ waiting ++ taken → whole ++ (waiting ++ (taken ++ rest)) ≡ (whole ++ octets) ++ rest

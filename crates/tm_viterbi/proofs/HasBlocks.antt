@@ -7,7 +7,7 @@ use Rattle.tm_conv.specs.declared.rates.Rate.{Rate}
 use Rattle.tm_conv.specs.Path.{steps_size, path, register_after}
 use Rattle.tm_conv.specs.Cost.{cost}
 use Rattle.tm_conv.specs.Best.{IsBest}
-use Rattle.tm_conv.proofs.Sizes.{steps_size_ge}
+use Rattle.tm_conv.proofs.Sizes.{steps_size_ge, steps_size-le}
 use Rattle.tm_conv.proofs.Paths.{steps_size-zero}
 use Rattle.tm_conv.proofs.Clean.{digits}
 use Rattle.tm_viterbi.specs.declared.block.Start.{Start}
@@ -16,7 +16,6 @@ use Rattle.tm_viterbi.specs.Starts.{starts_from, first_start}
 use Rattle.tm_viterbi.specs.Settings.{Settings}
 use Rattle.tm_viterbi.specs.WindowBlock.{WindowBlock}
 use Rattle.tm_viterbi.specs.Blocks.{IsBlock, AreBlocks, AreBlocksOf, AreSteps, window_steps, kept_steps}
-use Rattle.tm_viterbi.proofs.PassSteps.{steps_size-le}
 use Rattle.tm_viterbi.proofs.OneList.{steps_behind}
 use Rattle.tm_viterbi.proofs.CleanBlocks.{digits-take, register-small}
 

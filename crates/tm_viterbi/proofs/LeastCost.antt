@@ -5,8 +5,7 @@ use Rattle.std.proofs.Math.Seq.{take-add}
 use Rattle.tm_conv.specs.declared.rates.Rate.{Rate}
 use Rattle.tm_conv.specs.Path.{steps_size, step_size}
 use Rattle.tm_conv.proofs.Paths.{steps_size-more}
-use Rattle.tm_conv.proofs.Sizes.{step_size_pos}
-use Rattle.tm_viterbi.proofs.PassSteps.{steps_size-le}
+use Rattle.tm_conv.proofs.Sizes.{step_size_pos, steps_size-le}
 
 next_step : (rate : Rate) (n : ℕ) → steps_size rate 0 (n + 1) ≡ steps_size rate 0 n + step_size rate n
 next_step rate n =

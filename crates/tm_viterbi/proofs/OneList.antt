@@ -6,15 +6,13 @@ use Rattle.tm_conv.specs.declared.rates.Rate.{Rate}
 use Rattle.tm_conv.specs.Path.{steps_size, path, register_after}
 use Rattle.tm_conv.specs.Cost.{cost}
 use Rattle.tm_conv.specs.Best.{IsBest}
-use Rattle.tm_conv.proofs.Sizes.{step_size_pos}
+use Rattle.tm_conv.proofs.Sizes.{step_size_pos, steps_size-add, steps_size-le}
 use Rattle.tm_conv.proofs.Paths.{steps_size-zero, steps_size-more}
 use Rattle.tm_viterbi.specs.Starts.{starts_from, first_start}
 use Rattle.tm_viterbi.specs.Settings.{Settings}
 use Rattle.tm_viterbi.specs.WindowBlock.{WindowBlock}
 use Rattle.tm_viterbi.specs.Blocks.{IsBlock, AreBlocks, AreBlocksOf, AreSteps, kept_steps}
 use Rattle.tm_viterbi.specs.Due.{Place, Closed, behind, first_place, AreDue, AreFirst}
-use Rattle.tm_viterbi.proofs.PassSteps.{steps_size-le}
-use Rattle.tm_viterbi.proofs.Carrying.{steps_size-add}
 use Rattle.tm_viterbi.proofs.Closing.{kept_is, Closed-append, more_octets}
 use Rattle.tm_viterbi.proofs.WholeBlocks.{closed_block}
 

@@ -7,8 +7,7 @@ use lib.Seq.{paste}
 use Rattle.tm_conv.specs.declared.rates.Rate.{Rate}
 use Rattle.tm_conv.specs.Path.{steps_size}
 use Rattle.tm_conv.proofs.Paths.{steps_size-zero}
-use Rattle.tm_viterbi.proofs.PassSteps.{steps_size-le, steps_size-small}
-use Rattle.tm_viterbi.proofs.Carrying.{steps_size-add}
+use Rattle.tm_conv.proofs.Sizes.{steps_size-add, steps_size-le, steps_size-most}
 
 -- the window's rate, step and keep after the call are given by equations, as a call's clauses give them
 pub tail_more : (rate rate' : Rate) (t t' n n' keep keep' count : ℕ) (given octets tail tail' : List ℕ)
@@ -43,7 +42,7 @@ tail_size_none rate t count len none is = is ∙ sym (steps_size-zero rate t) �
 pub tail_fits : (rate : Rate) (t n keep ahead count len size room : ℕ) → keep ≤ n → n + count ≤ keep + ahead → 2 * ahead ≤ room
     → len ≡ steps_size rate (t + keep) (n - keep) → size ≡ steps_size rate (t + n) count → len + size ≤ room
 tail_fits rate t n keep ahead count len size room le few enough is more =
-    omega (arith, is, more, steps_size-small rate (t + keep) (n - keep), steps_size-small rate (t + n) count)
+    omega (arith, is, more, steps_size-most rate (t + keep) (n - keep), steps_size-most rate (t + n) count)
 
 -- the tail of the next window, which begins with the whole tail
 pub tail_turned : (rate rate' : Rate) (t t' n keep keep' ahead cut : ℕ) (given tail tail' : List ℕ)

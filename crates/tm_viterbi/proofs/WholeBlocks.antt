@@ -12,9 +12,8 @@ use Rattle.tm_viterbi.specs.WindowBlock.{WindowBlock}
 use Rattle.tm_viterbi.specs.Blocks.{IsBlock, AreBlocks, AreBlocksOf, window_steps, kept_steps}
 use Rattle.tm_viterbi.specs.Due.{Place, Closes, Closed, behind, first_place}
 use Rattle.tm_viterbi.specs.Streaming.{waiting_octets}
-use Rattle.tm_viterbi.proofs.PassSteps.{steps_size-le}
-use Rattle.tm_viterbi.proofs.Carrying.{steps_size-add}
 use Rattle.tm_viterbi.proofs.Closing.{kept_is, kept_at}
+use Rattle.tm_conv.proofs.Sizes.{steps_size-add, steps_size-le}
 
 -- so many steps lie between two places
 pub record Between (rate : Rate) (from to : Place) (count : ℕ) : Type 0 where

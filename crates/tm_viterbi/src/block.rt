@@ -38,7 +38,7 @@ impl<'a> Model for Block<'a> {
     ghost view = { λ b. record { start = b.start; steps = b.steps; kept = b.kept; metric = b.metric; bits = b.bits.now; end_state = b.end_state } };
 }
 
-/// What takes blocks, one after another. It counts its faults, and the count never falls.
+/// What takes the symbol phase, where it is to be found, and then blocks, one after another. It counts its faults, and the count never falls.
 pub trait BlockTaker {
     /// How often a call has failed.
     ghost faults: { Self → ℕ };
@@ -52,7 +52,7 @@ pub trait BlockTaker {
     /// What a block does at which the taker fails.
     ghost broke: { Self → WindowBlock → Self → Type 0 };
 
-    /// What taking the symbol phase does: how many octets are skipped, and what they cost.
+    /// What taking the symbol phase does: how many octets are skipped, and what the best path behind them costs.
     ghost took_phase: { Self → ℕ → ℕ → Self → Type 0 };
 
     /// What a symbol phase does at which the taker fails.
@@ -64,7 +64,7 @@ pub trait BlockTaker {
         ensures err { OnErr result (broke self.old b.now self.new) }
         ensures cause { HasCause (faults self.old) (faults self.new) (is_last self.new) result };
 
-    /// Takes the symbol phase that was chosen, `skip` octets at this cost. `Failed` comes only where the count of faults rose.
+    /// Takes the symbol phase that was chosen: `skip` octets are skipped, and the best path behind them costs `cost`. `Failed` comes only where the count of faults rose.
     fn phase(&mut self, skip: u8, cost: u64) -> Result<(), Failed>
         ensures ok { OnOk result (took_phase self.old skip cost self.new) }
         ensures err { OnErr result (broke_phase self.old skip cost self.new) }

@@ -65,6 +65,7 @@ fn store_halves(low: Simd<u32, 32>, high: Simd<u32, 32>, next: &mut [u32; 64])
     high.copy_to_slice(&mut next[32..]);
 }
 
+/// The same as `plain_column`, by lanes of 32 registers.
 pub fn lane_column(sums: &[u32; 64], costs: &[u32; 4], next: &mut [u32; 64]) -> u64
     requires { (s k : ℕ) → s < 64 → k < 4 → slice_index sums.now s + slice_index costs.now k < 2 ^ 32 }
     ensures sums { IsNextSums sums.now costs.now next.new }

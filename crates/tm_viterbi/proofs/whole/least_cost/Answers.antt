@@ -11,13 +11,13 @@ use Rattle.tm_viterbi.specs.Walk.{AreBest, past_of, start_of}
 use Rattle.tm_viterbi.specs.Totals.{total_of}
 use Rattle.tm_viterbi.specs.declared.block.Start.{Start}
 use Rattle.tm_viterbi.specs.declared.block.Start.TheVariants.{Zero, Any}
-use Rattle.tm_viterbi.proofs.PassSteps.{steps_size-small}
 use Rattle.tm_viterbi.proofs.Walk.{AreBest-none}
 use Rattle.tm_viterbi.proofs.WholeBlocks.{from_zero}
-use Rattle.tm_viterbi.proofs.Handing.{some_start, steps_size-large}
+use Rattle.tm_viterbi.proofs.Handing.{some_start}
 use Rattle.tm_viterbi.proofs.LeastCost.{steps_le, step_left, front_and_piece}
 use Rattle.tm_viterbi.proofs.Final.{IsBest-from_columns}
 use Rattle.tm_viterbi.proofs.whole.least_cost.Goals as goal
+use Rattle.tm_conv.proofs.Sizes.{steps_size-least, steps_size-most}
 
 small : (b : Bool) → cond b 0 (2 ^ 30) ≤ 2 ^ 30
 small true = omega arith
@@ -30,7 +30,7 @@ register_small Any = λ register is. absurd (cc)
 pub loop-at-smaller : goal.loop-at-smaller
 loop-at-smaller c =
     let found = c.whole_steps-count.ensures in
-    omega (arith, found.some, found.size, c.loop-at-test.true, steps_size-large c.args.rate c.loop-at.done c.whole_steps-count.result.0)
+    omega (arith, found.some, found.size, c.loop-at-test.true, steps_size-least c.args.rate c.loop-at.done c.whole_steps-count.result.0)
 
 pub loop-at-init : goal.loop-at-init
 loop-at-init c = record {
@@ -91,7 +91,7 @@ returns c =
     let best = subst (λ (v : List ℕ). AreBest (total_of c.args.rate c.args.invert 0 c.first_sums-sums.result v) c.loop-at.done c.loop-at.sums i.best.0)
     (take_all c.loop-at.at soft c.loop-at-test.false) i.best.1 in
     let h = IsBest-from_columns starts c.args.rate c.args.invert 0 c.loop-at.done s c.first_sums-sums.result soft c.loop-at.sums i.best.0
-    c.first_sums-sums.ensures some.0 some.1 some.2 size bytes (omega (arith, size, i.few, steps_size-small c.args.rate 0 c.loop-at.done)) best c.least_register.ensures in
+    c.first_sums-sums.ensures some.0 some.1 some.2 size bytes (omega (arith, size, i.few, steps_size-most c.args.rate 0 c.loop-at.done)) best c.least_register.ensures in
     let first = start_of i.best.0 s in
     let bits = reverse (past_of i.best.0 s) in
     (first, bits, subst (λ (o : Option ℕ). IsBest (starts_from o) c.args.rate c.args.invert 0 soft first bits) c.first_start.ensures h.0, c.from.ensures ∙ h.1)

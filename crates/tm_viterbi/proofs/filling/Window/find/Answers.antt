@@ -8,10 +8,10 @@ use Rattle.tm_conv.specs.Path.{path, steps_size}
 use Rattle.tm_viterbi.specs.Walk.{past_of, start_of}
 use Rattle.tm_viterbi.specs.Starts.{starts_from}
 use Rattle.tm_viterbi.proofs.Walk.{past_of_small}
-use Rattle.tm_viterbi.proofs.PassSteps.{steps_size-small}
 use Rattle.tm_conv.proofs.Words.{All-reverse}
 use Rattle.tm_viterbi.proofs.Final.{IsBest-from_columns}
 use Rattle.tm_viterbi.proofs.filling.Window.find.Goals as goal
+use Rattle.tm_conv.proofs.Sizes.{steps_size-most}
 
 pub register_behind-end_state-requires-clause-bits : goal.register_behind-end_state-requires-clause-bits
 register_behind-end_state-requires-clause-bits c =
@@ -29,7 +29,7 @@ returns-clause-block c h after remaining holds filled_is kept_is =
     let columns = reverse (take w.filled w.columns.items) in
     let best = IsBest-from_columns (starts_from w.starts) w.rate w.invert w.t w.filled s holds.firsts h w.sums columns
     holds.are_firsts c.requires.start.0 c.requires.start.1 c.requires.start.2
-    holds.size holds.bytes (omega (arith, holds.size, steps_size-small w.rate w.t w.filled)) holds.best c.least_register-last.ensures in
+    holds.size holds.bytes (omega (arith, holds.size, steps_size-most w.rate w.t w.filled)) holds.best c.least_register-last.ensures in
     let same : take (steps_size w.rate w.t w.filled) (h ++ after) ≡ h = take_at h after (steps_size w.rate w.t w.filled) holds.size in
     let P : List ℕ → ℕ → List ℕ → Type 0 = λ v r bits. IsBest (starts_from w.starts) w.rate w.invert w.t v r bits × (get_or w.sums s 0 ≡ cost (path w.rate w.invert w.t r bits) v) in
     let found = subst (λ (v : List ℕ). P v c.trace_back-start.result c.trace_back-start.new.bits) (sym same)

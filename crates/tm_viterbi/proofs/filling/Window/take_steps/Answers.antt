@@ -4,9 +4,10 @@ use Rattle.std.proofs.lemmas.List.Elements.{All-append, All-from_get_or}
 use borrow.Rule.Slice.PartMut.{put_mid}
 use Rattle.tm_viterbi.specs.Walk.{AreBest}
 use Rattle.tm_viterbi.specs.Totals.{total_of}
-use Rattle.tm_viterbi.proofs.Carrying.{steps_size-add, length-mid}
+use Rattle.tm_viterbi.proofs.Carrying.{length-mid}
 use Rattle.tm_viterbi.proofs.Filled.{filled_on}
 use Rattle.tm_viterbi.proofs.filling.Window.take_steps.Goals as goal
+use Rattle.tm_conv.proofs.Sizes.{steps_size-add}
 
 pub returns-clause-holds : goal.returns-clause-holds
 returns-clause-holds c given holds =

@@ -3,8 +3,9 @@ use Rattle.std.proofs.lemmas.List.{take-append-drop}
 use Rattle.tm_viterbi.specs.Streaming.{Reaches, waiting_octets}
 use Rattle.tm_viterbi.proofs.Carrying.{one_step}
 use Rattle.tm_viterbi.proofs.PassSteps.{step_size_le}
-use Rattle.tm_viterbi.proofs.Handing.{steps_size-large, head_rest}
+use Rattle.tm_viterbi.proofs.Handing.{head_rest}
 use Rattle.tm_viterbi.proofs.stream.Stream.take_some.Goals as goal
+use Rattle.tm_conv.proofs.Sizes.{steps_size-least}
 
 pub take_steps-requires-clause-size : goal.take_steps-requires-clause-size
 take_steps-requires-clause-size c =
@@ -25,7 +26,7 @@ pub returns-clause-some : goal.returns-clause-some
 returns-clause-some c =
     let w = c.args.self.now.flow.window in
     let found = c.whole_steps-count.ensures in
-    (omega (arith, found.some.0, found.size, steps_size-large w.rate (w.t + w.filled) c.whole_steps-count.result.0), found.fits)
+    (omega (arith, found.some.0, found.size, steps_size-least w.rate (w.t + w.filled) c.whole_steps-count.result.0), found.fits)
 
 pub returns-clause-reaches : goal.returns-clause-reaches
 returns-clause-reaches c all done r =
@@ -39,4 +40,4 @@ pub returns-clause-counted : goal.returns-clause-counted
 returns-clause-counted c =
     let w = c.args.self.now.flow.window in
     let found = c.whole_steps-count.ensures in
-    omega (arith, found.size, steps_size-large w.rate (w.t + w.filled) c.whole_steps-count.result.0, ap length c.take_steps-2.ensures.waiting, c.take_steps-2.ensures.steps, c.take_steps-2.ensures.same)
+    omega (arith, found.size, steps_size-least w.rate (w.t + w.filled) c.whole_steps-count.result.0, ap length c.take_steps-2.ensures.waiting, c.take_steps-2.ensures.steps, c.take_steps-2.ensures.same)
