@@ -1,10 +1,10 @@
 -- The cost of a path, a step at a time; how many symbols steps send.
-use Rattle.std.proofs.Common.{◌≡◌, ℕ, zero, suc, ◌+◌, ◌-◌, ◌*◌, ◌<◌, ◌≤◌, Bool, List, ◌∷◌, ◌++◌, length, take, drop, refl, sym, ap, ◌∙◌, arith, get_or}
+use Rattle.std.proofs.Common.{◌≡◌, ℕ, suc, ◌+◌, ◌-◌, ◌<◌, ◌≤◌, Bool, List, ◌∷◌, ◌++◌, length, take, drop, refl, sym, ap, ◌∙◌, arith, get_or}
 use Rattle.std.proofs.lemmas.List.{take-append-drop, at_drop_more, drop-drop, length-drop, length-take-le}
 use Rattle.tm_conv.specs.declared.rates.Rate.{Rate}
 use Rattle.tm_conv.specs.Path.{next_register, step_symbols, step_size, steps_size, path}
 use Rattle.tm_conv.specs.Cost.{cost}
-use Rattle.tm_conv.proofs.Sizes.{step_size-is, steps_size-suc}
+use Rattle.tm_conv.proofs.Sizes.{steps_size-suc}
 use Rattle.tm_conv.proofs.Paths.{cost-append, length-step_symbols}
 
 pub steps_size-none : (rate : Rate) (t : ℕ) → steps_size rate t 0 ≡ 0
@@ -14,15 +14,6 @@ steps_size-none rate t = refl
 pub steps_size-next : (rate : Rate) (t count : ℕ) → steps_size rate t (suc count) ≡ step_size rate t + steps_size rate (t + 1) count
 unfolding steps_size
 steps_size-next rate t count = refl
-
--- a step sends one symbol or two
-pub steps_size-most : (rate : Rate) (t count : ℕ) → steps_size rate t count ≤ 2 * count
-steps_size-most rate t zero = omega (arith, steps_size-none rate t)
-steps_size-most rate t (suc count) = omega (arith, steps_size-next rate t count, step_size-is rate t, steps_size-most rate (t + 1) count)
-
-pub steps_size-least : (rate : Rate) (t count : ℕ) → count ≤ steps_size rate t count
-steps_size-least rate t zero = omega (arith, steps_size-none rate t)
-steps_size-least rate t (suc count) = omega (arith, steps_size-next rate t count, step_size-is rate t, steps_size-least rate (t + 1) count)
 
 -- a path costs what its first step costs, and what the rest costs
 pub cost-step : (rate : Rate) (invert : Bool) (t register bit : ℕ) (bits octets : List ℕ) → step_size rate t ≤ length octets

@@ -1,4 +1,6 @@
 mod Costs
 mod Bounds
+mod Edges
 mod Pushed
 mod Rows
+mod Decisions

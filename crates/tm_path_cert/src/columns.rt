@@ -1,6 +1,6 @@
 // The tests of one column.
-ghost use Rattle.std.specs.Prelude.{◌≡◌, ◌↔◌, ℕ, ◌≤◌, ◌<◌, IsTrue, slice_index};
-ghost use Rattle.tm_conv.specs.Path.{step_symbols};
+ghost use Rattle.std.specs.Prelude.{◌≡◌, ◌↔◌, ℕ, ◌+◌, ◌*◌, ◌^◌, ◌≤◌, ◌<◌, IsTrue, slice_index};
+ghost use Rattle.tm_conv.specs.Path.{c1, c2, step_symbols};
 ghost use Rattle.tm_conv.specs.Cost.{cost};
 ghost use Rattle.tm_path_cert.specs.Claim as claim;
 ghost use Rattle.tm_path_cert.specs.Tests.{IsFirstFailing, KeepsAt, StartsAt};
@@ -8,8 +8,8 @@ ghost use Rattle.tm_path_cert.specs.Tests.{IsFirstFailing, KeepsAt, StartsAt};
 use crate::steps::Step;
 use crate::verdicts::Starts;
 
-// Whether a path may start from a register.
-fn is_start(starts: Starts, register: u8) -> bool
+/// Whether a path may start from a register.
+pub fn is_start(starts: Starts, register: u8) -> bool
     ensures { result ≡ claim.is_start starts register }
 {
     match starts {
@@ -44,10 +44,52 @@ fn is_kept(step: &Step<'_>, before: &[u32; 64], sums: &[u32; 64], register: u8) 
     sum <= by_even && sum <= by_odd
 }
 
+// The two sums of a step from register 2 * j by bit 0, as 2 * first + second: at 2 * (j / 4) + j % 2. They are the same from
+// register 2 * j + 1 by bit 1, and both are turned over on the other two edges from these registers.
+static PAIRS: [usize; 16] = [0, 1, 3, 2, 3, 2, 0, 1, 2, 3, 1, 0, 1, 0, 2, 3];
+
+// How far the four edges from registers 2 * j and 2 * j + 1 are above the sums that they lead to, all in the bits of one
+// number: an edge that undercuts its sum sets the top bit.
+fn margins(near: u32, far: u32, before: &[u32; 64], sums: &[u32; 64], j: usize) -> u64
+    requires { j < 32 }
+    ensures low { result < 2 ^ 63 → (slice_index sums.now j ≤ slice_index before.now (2 * j) + near) × (slice_index sums.now j ≤ slice_index before.now (2 * j + 1) + far) }
+    ensures high { result < 2 ^ 63 → (slice_index sums.now (j + 32) ≤ slice_index before.now (2 * j) + far) × (slice_index sums.now (j + 32) ≤ slice_index before.now (2 * j + 1) + near) }
+{
+    let near = u64::from(near);
+    let far = u64::from(far);
+    let even = u64::from(before[2 * j]);
+    let odd = u64::from(before[2 * j + 1]);
+    let low = u64::from(sums[j]);
+    let high = u64::from(sums[j + 32]);
+    (even + near).wrapping_sub(low)
+        | (odd + far).wrapping_sub(low)
+        | (even + far).wrapping_sub(high)
+        | (odd + near).wrapping_sub(high)
+}
+
+// Yes only where no edge undercuts any sum. What an edge costs is at the pair of its two sums.
+fn are_kept(costs: &[u32; 4], before: &[u32; 64], sums: &[u32; 64]) -> bool
+    ensures { IsTrue result → (register : ℕ) → register < 64 → KeepsAt (λ from bit. slice_index costs.now (2 * c1 from bit + c2 from bit)) before.now sums.now register }
+{
+    let mut all = 0;
+    for k in 0..8usize {
+        // The compiler takes these four side by side.
+        for i in 0..4usize {
+            let pair = PAIRS[2 * k + i % 2];
+            all |= margins(costs[pair], costs[3 - pair], before, sums, 4 * k + i);
+        }
+    }
+    all < 1 << 63
+}
+
 // The least register whose sum an edge of a step undercuts.
 pub(crate) fn first_undercut(step: &Step<'_>, before: &[u32; 64], sums: &[u32; 64]) -> Option<u8>
     ensures { IsFirstFailing (λ register. KeepsAt (λ from bit. cost (step_symbols step.now.rate step.now.invert step.now.t from bit) step.now.octets.now) before.now sums.now register) result }
 {
+    // Mostly no edge does, and that is seen at less cost than where.
+    if are_kept(&step.costs(), before, sums) {
+        return None;
+    }
     for register in 0..64u8 {
         if !is_kept(step, before, sums, register) {
             return Some(register);

@@ -5,10 +5,13 @@
 
 mod checking;
 mod columns;
+mod laws;
 mod steps;
 mod verdicts;
 
 pub use checking::Check;
+pub use columns::is_start;
+pub use laws::verdict_law;
 pub use verdicts::{Starts, Verdict};
 
 #[cfg(test)]

@@ -1,6 +1,6 @@
 // What the steps of a path cost.
-ghost use Rattle.std.specs.Prelude.{◌≡◌, ◌≤◌, ◌<◌, ◌^◌, length};
-ghost use Rattle.tm_conv.specs.Path.{c1, c2, sent_c2, step_size, step_symbols, steps_size, AreBits, path};
+ghost use Rattle.std.specs.Prelude.{◌≡◌, ℕ, ◌+◌, ◌*◌, ◌≤◌, ◌<◌, ◌^◌, length, slice_index};
+ghost use Rattle.tm_conv.specs.Path.{c1, c2, sent, step_size, step_symbols, steps_size, AreBits, path};
 ghost use Rattle.tm_conv.specs.Cost as metric;
 
 use tm_conv::{Rate, kept, step_len};
@@ -21,14 +21,13 @@ fn first_sum(register: u8, bit: u8) -> u8
     (bit + register / 32 + register / 16 + register / 8 + register) % 2
 }
 
-// The second sum of a step, as it is sent.
-fn second_sum(invert: bool, register: u8, bit: u8) -> u8
+// The second sum of a step.
+fn second_sum(register: u8, bit: u8) -> u8
     requires register { register < 64 }
     requires bit { bit < 2 }
-    ensures { result ≡ sent_c2 invert (c2 register bit) }
+    ensures { result ≡ c2 register bit }
 {
-    let sum = (bit + register / 16 + register / 8 + register / 2 + register) % 2;
-    if invert { 1 - sum } else { sum }
+    (bit + register / 16 + register / 8 + register / 2 + register) % 2
 }
 
 // A step and its soft octets.
@@ -42,6 +41,22 @@ pub(crate) struct Step<'a> {
 }
 
 impl<'a> Step<'a> {
+    // What the step costs with these two sums.
+    fn cost_of(&self, first: u8, second: u8) -> u32
+        requires first { first < 2 }
+        requires second { second < 2 }
+        ensures cost { result ≡ metric.cost (sent self.now.rate self.now.invert self.now.t first second) self.now.octets.now }
+        ensures small { result ≤ 510 }
+    {
+        let second = if self.invert { 1 - second } else { second };
+        match kept(self.rate, self.t) {
+            (true, true) => distance(first, self.octets[0]) + distance(second, self.octets[1]),
+            (true, false) => distance(first, self.octets[0]),
+            (false, true) => distance(second, self.octets[0]),
+            (false, false) => 0,
+        }
+    }
+
     // What the step costs from a register by a bit.
     pub(crate) fn cost(&self, register: u8, bit: u8) -> u32
         requires register { register < 64 }
@@ -49,14 +64,20 @@ impl<'a> Step<'a> {
         ensures cost { result ≡ metric.cost (step_symbols self.now.rate self.now.invert self.now.t register bit) self.now.octets.now }
         ensures small { result ≤ 510 }
     {
-        let first = first_sum(register, bit);
-        let second = second_sum(self.invert, register, bit);
-        match kept(self.rate, self.t) {
-            (true, true) => distance(first, self.octets[0]) + distance(second, self.octets[1]),
-            (true, false) => distance(first, self.octets[0]),
-            (false, true) => distance(second, self.octets[0]),
-            (false, false) => 0,
-        }
+        self.cost_of(first_sum(register, bit), second_sum(register, bit))
+    }
+
+    // What it costs with each pair of sums, at 2 * first + second.
+    pub(crate) fn costs(&self) -> [u32; 4]
+        ensures { (register bit : ℕ) → register < 64 → bit < 2
+            → slice_index result (2 * c1 register bit + c2 register bit) ≡ metric.cost (step_symbols self.now.rate self.now.invert self.now.t register bit) self.now.octets.now }
+    {
+        [
+            self.cost_of(0, 0),
+            self.cost_of(0, 1),
+            self.cost_of(1, 0),
+            self.cost_of(1, 1),
+        ]
     }
 }
 

@@ -1,7 +1,8 @@
 use Rattle.std.proofs.Common.{rules, ◌≡◌, ◌≤◌, ◌<◌, length, ◌+◌, ◌-◌, ◌*◌, arith, get_or, ap, ◌∙◌}
 use Rattle.std.proofs.lemmas.List.Elements.{All-get_or}
-use Rattle.tm_path_cert.proofs.Costs.{step_fits, step_left, sum-step, steps_size-least}
+use Rattle.tm_path_cert.proofs.Costs.{step_fits, step_left, sum-step}
 use Rattle.tm_path_cert.proofs.steps.path_sum.Goals as goal
+use Rattle.tm_conv.proofs.Sizes.{steps_size-least}
 
 pub slice_bounds-step-end : goal.slice_bounds-step-end
 slice_bounds-step-end c =

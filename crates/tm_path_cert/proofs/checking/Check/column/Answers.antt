@@ -3,8 +3,8 @@ use Rattle.tm_conv.specs.Path.{steps_size}
 use Rattle.tm_path_cert.specs.Tests.{first_place}
 use Rattle.tm_path_cert.specs.Checking.{Checking}
 use Rattle.tm_path_cert.proofs.Pushed.{StandsFor-push}
-use Rattle.tm_path_cert.proofs.Costs.{steps_size-least}
 use Rattle.tm_path_cert.proofs.checking.Check.column.Goals as goal
+use Rattle.tm_conv.proofs.Sizes.{steps_size-least}
 
 pub overflow_add-self-2 : goal.overflow_add-self-2
 overflow_add-self-2 c =

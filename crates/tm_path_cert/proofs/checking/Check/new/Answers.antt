@@ -1,6 +1,7 @@
 use Rattle.std.proofs.Common.{sym, arith}
-use Rattle.tm_path_cert.proofs.Costs.{steps_size-none, steps_size-most}
+use Rattle.tm_path_cert.proofs.Costs.{steps_size-none}
 use Rattle.tm_path_cert.proofs.checking.Check.new.Goals as goal
+use Rattle.tm_conv.proofs.Sizes.{steps_size-most}
 
 pub invariant_of-result : goal.invariant_of-result
 invariant_of-result c =
