@@ -7,7 +7,7 @@ use Rattle.tm_base.proofs.Packing.{length-bits_of}
 use Rattle.tm_config.specs.Configuration.{Configuration}
 use Rattle.tm_conv.specs.declared.rates.Rate.{Rate}
 use Rattle.tm_conv.specs.Path.{steps_size}
-use Rattle.tm_conv.proofs.Sizes.{steps_size_ge}
+use Rattle.tm_conv.proofs.Sizes.{steps_size_ge, steps_size-add}
 use Rattle.tm_viterbi.specs.WindowBlock.{WindowBlock}
 use Rattle.tm_viterbi.specs.Clean.{kept_bits}
 use Rattle.tm_viterbi.specs.Due.{Place, Closed, behind, first_place}
@@ -16,7 +16,7 @@ use Rattle.tm_viterbi.proofs.CleanBlocks.{steps-mono}
 use Rattle.tm_inner.specs.Symbols.{rate_of}
 use Rattle.tm_inner.specs.Inner.{settings_of, soft_octets, BlocksAt, DueAt, bits_at, AreInnerBlocks, AreInnerDue, inner_bits}
 use Rattle.tm_inner.specs.Receiving.{FirstAt, AreInnerFirst}
-use Rattle.tm_inner.proofs.ReceivedBits.{block-bits, kept-le, kept-count, length-soft, steps_size-add}
+use Rattle.tm_inner.proofs.ReceivedBits.{block-bits, kept-le, kept-count, length-soft}
 use Rattle.tm_inner.proofs.DueBits.{kept-append}
 
 pub closed-few : (rate : Rate) (invert : Bool) (keep ahead : ℕ) (from to : Place) (blocks : List WindowBlock) → Closed rate invert keep ahead from blocks to

@@ -16,7 +16,7 @@ use Rattle.tm_viterbi.specs.declared.decoder.FeedError.TheVariants.{Taker, Stopp
 use Rattle.tm_inner.specs.Symbols.{rate_of}
 use Rattle.tm_inner.specs.Inner.{soft_value, soft_octets, BlocksAt, DueAt, AreInnerBlocks, AreInnerDue}
 use Rattle.tm_inner.specs.Phase.{skipped_at, phase_octets}
-use Rattle.tm_inner.specs.Receiving.{IsDecoderOf, Decodes, DecodesFor, FindsFirst, FirstAt, AreInnerFirst, Hands, HandsFront, HeldOctets, from_form, soft_form}
+use Rattle.tm_inner.specs.Receiving.{IsDecoderOf, Decodes, DecodesFor, FindsFirst, FirstAt, AreInnerFirst, Hands, HandsFront, HeldOctets, InnerReceiving, from_form, soft_form}
 use Rattle.tm_inner.proofs.DueBits.{drop-split}
 
 -- ---- pieces, one after another
@@ -176,6 +176,19 @@ phase_octets-more c given octets skipped is =
     let n = skipped_at (rate_of c.inner) c in
     ap (map (soft_value c)) (drop-split n given octets) ∙ map-append (soft_value c) (drop n given) (drop (n - length given) octets)
     ∙ ap (λ l. phase_octets c given ++ map (soft_value c) l) (sym (drop-least (n - length given) octets) ∙ ap (λ k. drop k octets) (sym is))
+
+-- the next octets, turned
+pub soft-turned : (r : InnerReceiving) (soft skipped : ℕ) (given octets now : List ℕ) → soft ≡ r.config.soft → length given ≡ r.count
+    → skipped ≡ min (skipped_at (rate_of r.config.inner) r.config - r.count) (length now) → now ≡ from_form (not (soft == 0)) octets
+    → phase_octets r.config (given ++ octets) ≡ phase_octets r.config given ++ drop skipped now
+soft-turned r soft skipped given octets now same count skip is =
+    let c = r.config in
+    let form : now ≡ soft_form c octets = is ∙ ap (λ (n : ℕ). from_form (not (n == 0)) octets) same ∙ sym (soft-formed c octets) in
+    let size : length now ≡ length octets = ap length form ∙ length-map octets (soft_value c) in
+    let skips : skipped ≡ min (skipped_at (rate_of c.inner) c - length given) (length octets) =
+    skip ∙ ap (λ (n : ℕ). min (skipped_at (rate_of c.inner) c - n) (length now)) (sym count) ∙ ap (min (skipped_at (rate_of c.inner) c - length given)) size in
+    phase_octets-more c given octets skipped skips
+    ∙ ap (λ l. phase_octets c given ++ l) (sym (drop-map (soft_value c) skipped octets) ∙ ap (drop skipped) (sym form))
 
 pub few-soft : (c : Configuration) (given : List ℕ) → length (phase_octets c given) ≤ length given
 few-soft c given = omega (arith, length-map (drop (skipped_at (rate_of c.inner) c) given) (soft_value c), length-drop (skipped_at (rate_of c.inner) c) given)

@@ -1,5 +1,5 @@
 -- How many bits octets come to.
-use Rattle.std.proofs.Common.{◌≡◌, ℕ, zero, suc, ◌+◌, ◌-◌, ◌*◌, ◌/◌, ◌%◌, ◌<◌, ◌≤◌, ◌==◌, min, Bool, List, [], ◌∷◌, ◌++◌, length, take, drop, map, sym, ap, ◌∙◌, subst, arith, Option, Some, None, length-append, length-drop, length-take, inl, inr}
+use Rattle.std.proofs.Common.{◌≡◌, ℕ, ◌+◌, ◌-◌, ◌*◌, ◌/◌, ◌%◌, ◌<◌, ◌≤◌, ◌==◌, min, Bool, List, [], ◌∷◌, ◌++◌, length, take, drop, map, sym, ap, ◌∙◌, subst, arith, Option, Some, None, length-append, length-drop, length-take, inl, inr}
 use Rattle.std.proofs.lemmas.List.{length-map}
 use Rattle.std.proofs.lemmas.Bool.{cases_lt}
 use Rattle.std.proofs.lemmas.Bool.Decides.{nat_tests}
@@ -10,7 +10,7 @@ use Rattle.tm_conv.specs.declared.rates.Rate.{Rate}
 use Rattle.tm_conv.specs.declared.rates.Rate.TheVariants.{R12, R23, R34, R56, R78}
 use Rattle.tm_conv.specs.Path.{period, steps_size}
 use Rattle.tm_conv.proofs.Paths.{length-path}
-use Rattle.tm_conv.proofs.Sizes.{steps_size-is, same_from_steps_size}
+use Rattle.tm_conv.proofs.Sizes.{steps_size-is, same_from_steps_size, steps_size-add}
 use Rattle.tm_viterbi.specs.WindowBlock.{WindowBlock}
 use Rattle.tm_viterbi.specs.Blocks.{IsBlock, AreBlocks, AreBlocksOf, kept_steps, window_steps}
 use Rattle.tm_viterbi.specs.Clean.{kept_bits}
@@ -21,20 +21,6 @@ use Rattle.tm_inner.specs.Symbols.{rate_of}
 use Rattle.tm_inner.specs.Inner.{settings_of, soft_value, soft_octets, BlocksAt, bits_at, AreInnerBlocks, inner_bits}
 
 -- ---- the whole steps of symbols
-
-pub steps_size-add : (rate : Rate) (t a b : ℕ) → steps_size rate t (a + b) ≡ steps_size rate t a + steps_size rate (t + a) b
-unfolding steps_size
-steps_size-add rate t zero b =
-    let none : 0 + b ≡ b = omega arith in
-    let same : t ≡ t + 0 = omega arith in
-    let both : steps_size rate t (0 + b) ≡ steps_size rate (t + 0) b = ap (steps_size rate t) none ∙ ap (λ u. steps_size rate u b) same in
-    omega (arith, both)
-steps_size-add rate t (suc a) b =
-    let next : suc a + b ≡ suc (a + b) = omega arith in
-    let same : t + 1 + a ≡ t + suc a = omega arith in
-    let rest = steps_size-add rate (t + 1) a b in
-    let behind = ap (λ u. steps_size rate u b) same in
-    ap (steps_size rate t) next ∙ omega (arith, rest, behind)
 
 -- of a period and one more symbol each period has its steps, and behind the whole periods each symbol but the first ends a step
 abbrev steps_of : ℕ → ℕ → ℕ

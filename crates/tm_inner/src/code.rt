@@ -6,7 +6,7 @@ ghost use Rattle.tm_inner.specs.Sending.{IsEncoderOf, KeepsFor};
 use tm_config::Config;
 use tm_conv::{Encoder, Rate};
 
-// The rate of the inner code, or None where there is none.
+/// The rate of the inner code of a configuration, or None where there is none.
 pub fn rate_of(config: &Config) -> Option<Rate>
     ensures { result ≡ rate_of config.now.inner }
 {
@@ -20,7 +20,7 @@ pub fn rate_of(config: &Config) -> Option<Rate>
     }
 }
 
-// Whether each second sum is sent inverted: as it was chosen, and else at rate 1/2 alone.
+/// Whether each second sum of the convolutional code is sent inverted: as it was chosen, 1 for yes, and where nothing was at rate 1/2 alone.
 pub fn is_inverted(rate: Rate, chosen: Option<u64>) -> bool
     ensures { result ≡ is_inverted rate chosen }
 {

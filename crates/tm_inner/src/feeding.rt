@@ -145,7 +145,7 @@ fn feed_signed<B: BlockTaker>(
 }
 
 // Turns signed octets to unsigned ones.
-fn turn(octets: &mut [u8])
+pub fn turn(octets: &mut [u8])
     ensures { octets.new ≡ from_form true octets.old }
 {
     for k in 0..octets.len() {

@@ -15,6 +15,7 @@ mod sender;
 mod tests;
 mod whole;
 
+pub use code::{is_inverted, rate_of};
 pub use laws::{clean_inner_law, due_bits_law, inner_law, metric_law};
 pub use receiver::{InnerEnd, InnerReceiver};
 pub use sender::{InnerSender, SendError};

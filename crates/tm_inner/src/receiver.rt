@@ -1,5 +1,5 @@
 // The receiver's first stage.
-ghost use Rattle.std.specs.Prelude.{◌≡◌, ◌≢◌, ◌↔◌, ◌++◌, ℕ, ◌+◌, ◌-◌, ◌*◌, ◌^◌, ◌<◌, ◌≤◌, IsTrue, List, [], true, false, IfOk, OnOk, IsErrOf, Err, None, length, drop};
+ghost use Rattle.std.specs.Prelude.{◌≡◌, ◌≢◌, ◌↔◌, ◌++◌, ℕ, ◌+◌, ◌-◌, ◌*◌, ◌^◌, ◌<◌, ◌≤◌, IsTrue, List, [], true, false, IfOk, OnOk, IsErrOf, Err, None, length, drop, min};
 ghost use Rattle.std.specs.Option.{is_some};
 ghost use Rattle.tm_base.specs.Bits.{bits_of};
 ghost use Rattle.tm_base.specs.Handed.{Handed, items_of, on_handed};
@@ -7,13 +7,14 @@ ghost use Rattle.tm_base.specs.Outside.{Rose};
 ghost use Rattle.tm_base.specs.Takers.{HandedOver, HandedPart};
 ghost use Rattle.tm_viterbi.specs.WindowBlock.{WindowBlock};
 ghost use Rattle.tm_inner.specs.Inner.{inner_bits};
-ghost use Rattle.tm_inner.specs.Phase.{IsChosen, IsChosenSoFar, skipped_at};
+ghost use Rattle.tm_inner.specs.Phase.{IsChosen, IsChosenSoFar, phase_octets, skipped_at};
 ghost use Rattle.tm_inner.specs.Symbols.{rate_of};
 ghost use Rattle.tm_inner.specs.Receiving.{StandsFor};
 ghost use Rattle.tm_inner.specs.Handing.{AreHanded, AreHandedDue, AreHandedFirst, AreHandedFront};
 
 use crate::code::rate_of;
 use crate::counting::count_bits;
+use crate::feeding::turn;
 use crate::phased::Phased;
 use std::alloc::Global;
 use std::marker::Model;
@@ -98,7 +99,7 @@ impl InnerReceiver {
         if self.has_stopped {
             return Err(FeedError::Stopped);
         }
-        let skipped = self.octets_to_skip().min(octets.len() as u64) as usize;
+        let skipped = self.octets_to_skip(octets.len());
         self.count = self.count.saturating_add(octets.len() as u64);
         match self.phased.feed(&octets[skipped..], blocks) {
             Ok(()) => Ok(()),
@@ -170,12 +171,28 @@ impl InnerReceiver {
             .saturating_sub(self.count.saturating_mul(8))
     }
 
-    // How many of the next octets are still to be skipped; with no inner code none, as bits are.
-    fn octets_to_skip(&self) -> u64
-        ensures { result ≡ skipped_at (rate_of self.now.config.inner) self.now.config - self.now.count }
+    /// Turns the next octets, before they are fed, to soft octets of which 0 is the surest 0 and 255 the surest 1. Answers how many at the
+    /// front are still to be skipped. The symbol phase, where it is to be found, is found in those behind them.
+    pub fn turn_soft(&self, octets: &mut [u8]) -> usize
+        ensures size { length octets.new ≡ length octets.old }
+        ensures skipped { result ≤ length octets.old }
+        ensures soft { (given : List ℕ) (done : List (Handed WindowBlock)) → StandsFor self.now given done
+            → phase_octets self.now.config (given ++ octets.old) ≡ phase_octets self.now.config given ++ drop result octets.new }
+    {
+        let is_signed = self.config.soft() != 0;
+        if is_signed {
+            turn(octets);
+        }
+        self.octets_to_skip(octets.len())
+    }
+
+    // How many of the next octets, so many, are still to be skipped; with no inner code none, as bits are.
+    fn octets_to_skip(&self, count: usize) -> usize
+        ensures { result ≡ min (skipped_at (rate_of self.now.config.inner) self.now.config - self.now.count) count }
     {
         if self.has_inner_code() {
-            self.config.skip().saturating_sub(self.count)
+            let left = self.config.skip().saturating_sub(self.count);
+            left.min(count as u64) as usize
         } else {
             0
         }

@@ -1,4 +1,4 @@
-use Rattle.std.proofs.Common.{◌≡◌, ◌++◌, ◌∙◌, ◌-◌, ℕ, List, length, take, drop, min, refl, sym, ap, subst, arith}
+use Rattle.std.proofs.Common.{◌≡◌, ◌++◌, ◌-◌, ℕ, List, length, take, drop, min, refl, sym, subst, arith}
 use Rattle.std.proofs.lemmas.List.{take_rest}
 use Rattle.tm_base.specs.Handed.{on_handed}
 use Rattle.tm_config.specs.Configuration.{Configuration}
@@ -10,18 +10,17 @@ use Rattle.tm_inner.proofs.HandedPieces.{chosen-further, stands-further, front-f
 use Rattle.tm_inner.proofs.receiver.InnerReceiver.feed.Goals as goal
 
 -- how many octets a receiver of this view skips
-skips : (before view : InnerReceiving) (to_skip skipped n : ℕ) → before ≡ view → to_skip ≡ skipped_at (rate_of view.config.inner) view.config - view.count → skipped ≡ min to_skip n
+skips : (before view : InnerReceiving) (skipped n : ℕ) → before ≡ view → skipped ≡ min (skipped_at (rate_of view.config.inner) view.config - view.count) n
     → skipped ≡ min (skipped_at (rate_of before.config.inner) before.config - before.count) n
-skips before view to_skip skipped n same all is =
-    is ∙ ap (λ (k : ℕ). min k n) (subst (λ (r : InnerReceiving). to_skip ≡ skipped_at (rate_of r.config.inner) r.config - r.count) (sym same) all)
+skips before view skipped n same = subst (λ (r : InnerReceiving). skipped ≡ min (skipped_at (rate_of r.config.inner) r.config - r.count) n) (sym same)
 
 pub returns-in-Ok-clause-chosen : goal.returns-in-Ok-clause-chosen
 returns-in-Ok-clause-chosen g c = λ given done stood _.
     let s = c.self.inside in
     let octets = c.args.octets.now in
-    let n = c.min-skipped.result in
+    let n = c.octets_to_skip-skipped.result in
     let before : InnerReceiving = record { config = s.config; phased = s.phased; count = s.count; has_stopped = s.has_stopped } in
-    let skip = skips before c.args.self.now c.octets_to_skip.result n (length octets) c.self.view_is c.octets_to_skip.ensures c.min-skipped.ensures in
+    let skip = skips before c.args.self.now n (length octets) c.self.view_is c.octets_to_skip-skipped.ensures in
     subst (λ (r : InnerReceiving). StandsFor r given done → IsChosenSoFar r.config (given ++ octets) c.feed.new.self.chosen) c.self.view_is
     (chosen-further before c.feed.new.self.chosen octets (take (length octets - n) (drop n octets)) n c.self.invariant.0 (take_rest octets n) skip c.feed.ensures.chosen given done) stood
 
@@ -30,12 +29,12 @@ returns-in-Ok-clause-handed g c =
     let s = c.self.inside in
     let t = g.B.BlockTaker in
     let octets = c.args.octets.now in
-    let n = c.min-skipped.result in
+    let n = c.octets_to_skip-skipped.result in
     let start = c.args.blocks.now in
     let last = c.feed.new.blocks in
     let before : InnerReceiving = record { config = s.config; phased = s.phased; count = s.count; has_stopped = s.has_stopped } in
     let now : InnerReceiving = record { config = s.config; phased = c.feed.new.self; count = c.saturating_add-self-inside.result; has_stopped = s.has_stopped } in
-    let skip = skips before c.args.self.now c.octets_to_skip.result n (length octets) c.self.view_is c.octets_to_skip.ensures c.min-skipped.ensures in
+    let skip = skips before c.args.self.now n (length octets) c.self.view_is c.octets_to_skip-skipped.ensures in
     let p = subst (λ (l : List ℕ). Hands (on_handed t.took_phase t.took) PhasesFor s.phased c.feed.new.self start last (soft_form s.config l)) (take_rest octets n)
     (subst (λ (k : Configuration). Hands (on_handed t.took_phase t.took) PhasesFor s.phased c.feed.new.self start last (soft_form k (take (length octets - n) (drop n octets)))) c.self.invariant.0 c.in-Ok.ensures.handed) in (
       p.more,
@@ -52,9 +51,9 @@ pub returns-in-Err-clause-chosen : goal.returns-in-Err-clause-chosen
 returns-in-Err-clause-chosen g c = λ given done stood _.
     let s = c.self.inside in
     let octets = c.args.octets.now in
-    let n = c.min-skipped.result in
+    let n = c.octets_to_skip-skipped.result in
     let before : InnerReceiving = record { config = s.config; phased = s.phased; count = s.count; has_stopped = s.has_stopped } in
-    let skip = skips before c.args.self.now c.octets_to_skip.result n (length octets) c.self.view_is c.octets_to_skip.ensures c.min-skipped.ensures in
+    let skip = skips before c.args.self.now n (length octets) c.self.view_is c.octets_to_skip-skipped.ensures in
     subst (λ (r : InnerReceiving). StandsFor r given done → IsChosenSoFar r.config (given ++ octets) c.feed.new.self.chosen) c.self.view_is
     (chosen-further before c.feed.new.self.chosen octets (take (length octets - n) (drop n octets)) n c.self.invariant.0 (take_rest octets n) skip c.feed.ensures.chosen given done) stood
 
@@ -63,11 +62,11 @@ returns-in-Err-clause-front g c = λ _.
     let s = c.self.inside in
     let t = g.B.BlockTaker in
     let octets = c.args.octets.now in
-    let n = c.min-skipped.result in
+    let n = c.octets_to_skip-skipped.result in
     let start = c.args.blocks.now in
     let last = c.feed.new.blocks in
     let before : InnerReceiving = record { config = s.config; phased = s.phased; count = s.count; has_stopped = s.has_stopped } in
-    let skip = skips before c.args.self.now c.octets_to_skip.result n (length octets) c.self.view_is c.octets_to_skip.ensures c.min-skipped.ensures in
+    let skip = skips before c.args.self.now n (length octets) c.self.view_is c.octets_to_skip-skipped.ensures in
     let p = subst (λ (l : List ℕ). HandsFront (on_handed t.took_phase t.took) (on_handed t.broke_phase t.broke) PhasesFor (IsFirstBy s.config) s.phased start last (soft_form s.config l)) (take_rest octets n)
     (subst (λ (k : Configuration). HandsFront (on_handed t.took_phase t.took) (on_handed t.broke_phase t.broke) PhasesFor (IsFirstBy k) s.phased start last (soft_form k (take (length octets - n) (drop n octets)))) c.self.invariant.0 c.in-Err.ensures.front) in (
       p.tried,
