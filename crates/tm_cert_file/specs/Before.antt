@@ -1,0 +1,46 @@
+-- What a certificate is read by, and what its next window has to agree with.
+use Rattle.std.specs.Prelude.{ℕ, ◌+◌, ◌||◌, Bool, if◌then◌else◌, List, [], take, drop, nat_lt}
+use Rattle.tm_conv.specs.declared.rates.Rate.{Rate}
+use Rattle.tm_conv.specs.Path.{steps_size, register_after}
+use Rattle.tm_path_cert.specs.declared.verdicts.Starts.{Starts}
+use Rattle.tm_path_cert.specs.declared.verdicts.Starts.TheVariants.{One}
+use Rattle.tm_cert_file.specs.declared.seen.Next.{Next}
+use Rattle.tm_cert_file.specs.declared.seen.Next.TheVariants.{May, Must, Never}
+use Rattle.tm_cert_file.specs.Window.{Window}
+
+-- the rate, whether each second sum was sent inverted, where the first path may start, and how many steps of a window are kept and how many
+-- stand behind them
+pub record Rules : Type 0 where
+  pub rate : Rate
+  pub invert : Bool
+  pub starts : Starts
+  pub keep : ℕ
+  pub ahead : ℕ
+
+-- the first step of the next window, where its path may start, the soft octets with which it begins, and whether there is one
+pub record Before : Type 0 where
+  pub t : ℕ
+  pub starts : Starts
+  pub octets : List ℕ
+  pub next : Next
+
+-- before the first window
+abbrev pub at_first : Rules → Before
+at_first rules = record { t = 0; starts = rules.starts; octets = []; next = May }
+
+-- whether a window comes behind one of so many steps, of which so many are kept: where some are not kept; a window of fewer steps than
+-- there may be, or with all of its steps kept, is the last; where no steps stand behind the kept ones nothing tells
+abbrev pub next_after : Rules → (steps kept : ℕ) → Next
+next_after rules steps kept =
+    if nat_lt kept steps then Must
+    else if nat_lt steps (rules.keep + rules.ahead) || nat_lt 0 rules.ahead then Never
+    else May
+
+-- behind a window: the next one begins behind the kept steps, from the register after them alone
+abbrev pub behind : Rules → Before → Window → Before
+behind rules before w = record {
+  t = before.t + w.kept;
+  starts = One (register_after w.start (take w.kept w.bits));
+  octets = drop (steps_size rules.rate before.t w.kept) w.octets;
+  next = next_after rules w.steps w.kept;
+}

@@ -1,0 +1,72 @@
+-- What contracts see of a certificate that is being written.
+use Rattle.std.specs.Prelude.{◌≡◌, ℕ, ◌+◌, ◌^◌, ◌<◌, ◌≤◌, Bool, List, [], ◌∷◌, ◌++◌, Option, length, take}
+use Rattle.tm_base.specs.Written.{Wrote, WroteFront}
+use Rattle.tm_conv.specs.declared.rates.Rate.{Rate}
+use Rattle.tm_conv.specs.Path.{steps_size}
+use Rattle.tm_viterbi.specs.WindowBlock.{WindowBlock}
+use Rattle.tm_viterbi.specs.Due.{Place, behind}
+use Rattle.tm_cert_file.specs.Certificate.{IsCertified, AreCertified}
+
+-- where the next window begins, with the soft octets from there on, and how many octets there is room for
+pub record Certifying : Type 0 where
+  pub rate : Rate
+  pub invert : Bool
+  pub place : Place
+  pub room : ℕ
+
+-- the next window begins at another place
+abbrev pub with_place : Certifying → Place → Certifying
+with_place c place = record { rate = c.rate; invert = c.invert; place = place; room = c.room }
+
+-- with these soft octets from there on
+abbrev pub with_octets : Certifying → List ℕ → Certifying
+with_octets c octets = with_place c (record { starts = c.place.starts; t = c.place.t; octets = octets })
+
+-- behind the kept steps of a block
+abbrev pub turned : Certifying → WindowBlock → Certifying
+turned c block = with_place c (behind c.rate c.place block)
+
+-- this is the block of a window whose octets are there
+pub record Fits (c : Certifying) (block : WindowBlock) : Type 0 where
+  pub steps : block.steps ≤ 69632
+  pub kept : block.kept ≤ block.steps
+  pub few : c.place.t + block.steps ≤ 2 ^ 44
+  pub bits : length block.bits ≡ block.steps
+  pub octets : steps_size c.rate c.place.t block.steps ≤ length c.place.octets
+  pub start : block.start < 64
+  pub end_state : block.end_state < 64
+
+-- the window that certifies the block
+abbrev pub IsNext : Certifying → WindowBlock → List ℕ → Type 0
+IsNext c block text =
+    IsCertified c.rate c.invert c.place.starts c.place.t (take (steps_size c.rate c.place.t block.steps) c.place.octets) block text
+
+-- a sink took the window that certifies a block whose window's octets are there, and the next window begins
+abbrev pub WroteBlock : (before now : Certifying) → WindowBlock → (taken taken_now : Option (List ℕ)) → Type 0
+WroteBlock before now block taken taken_now =
+    Fits before block → (now ≡ turned before block) × (text : List ℕ) × IsNext before block text × Wrote taken taken_now text
+
+-- a sink took a front of it
+abbrev pub WroteBlockFront : Certifying → WindowBlock → (taken taken_now : Option (List ℕ)) → Type 0
+WroteBlockFront before block taken taken_now = Fits before block × (text : List ℕ) × IsNext before block text × WroteFront taken taken_now text
+
+-- the windows that certify blocks, one behind the other
+abbrev pub AreNext : Certifying → List WindowBlock → List ℕ → Type 0
+AreNext c = AreCertified c.rate c.invert c.place.starts c.place.t c.place.octets
+
+-- a sink took the windows of blocks, one after another
+abbrev pub WroteBlocks : (before now : Certifying) → List WindowBlock → (taken taken_now : Option (List ℕ)) → Type 0
+WroteBlocks before now [] taken taken_now = (now ≡ before) × (taken_now ≡ taken)
+WroteBlocks before now (block ∷ blocks) taken taken_now =
+    (middle : Certifying) × (taken_then : Option (List ℕ)) × WroteBlock before middle block taken taken_then × WroteBlocks middle now blocks taken_then taken_now
+
+-- a sink took the windows of some of the blocks, and a front of the next one
+pub record WroteBlocksFront (before : Certifying) (blocks : List WindowBlock) (taken taken_now : Option (List ℕ)) : Type 0 where
+  pub front : List WindowBlock
+  pub next : WindowBlock
+  pub rest : List WindowBlock
+  pub split : blocks ≡ front ++ next ∷ rest
+  pub middle : Certifying
+  pub taken_then : Option (List ℕ)
+  pub wrote : WroteBlocks before middle front taken taken_then
+  pub broke : WroteBlockFront middle next taken_then taken_now

@@ -1,0 +1,78 @@
+-- A window of a certificate, and its octets. Of each number the most significant octet comes first.
+use Rattle.std.specs.Prelude.{ℕ, zero, suc, ◌+◌, ◌*◌, List, [], ◌∷◌, ◌++◌, take, drop, flat_map, slice_index}
+use Rattle.std.specs.Int.{w32, w64, to_be_bytes, from_be_bytes}
+use Rattle.tm_conv.specs.declared.rates.Rate.{Rate}
+use Rattle.tm_conv.specs.Path.{steps_size}
+
+-- its steps and how many of them are kept, the register its path starts from, what the path costs and its bits, the soft octets of the
+-- window, and a column of 64 numbers before its first step and one behind each
+pub record Window : Type 0 where
+  pub steps : ℕ
+  pub kept : ℕ
+  pub start : ℕ
+  pub metric : ℕ
+  pub bits : List ℕ
+  pub octets : List ℕ
+  pub columns : List (List ℕ)
+
+-- what stands before the bits: 17 octets
+abbrev pub header_octets : (steps kept start metric : ℕ) → List ℕ
+header_octets steps kept start metric = to_be_bytes w32 steps ++ to_be_bytes w32 kept ++ start ∷ to_be_bytes w64 metric
+
+abbrev pub column_octets : List ℕ → List ℕ
+column_octets column = flat_map (to_be_bytes w32) column
+
+abbrev pub window_octets : Window → List ℕ
+window_octets w = header_octets w.steps w.kept w.start w.metric ++ w.bits ++ w.octets ++ flat_map column_octets w.columns
+
+-- ---- the window that octets begin with
+
+abbrev pub steps_in : List ℕ → ℕ
+steps_in octets = from_be_bytes w32 octets
+
+abbrev pub kept_in : List ℕ → ℕ
+kept_in octets = from_be_bytes w32 (drop 4 octets)
+
+abbrev pub start_in : List ℕ → ℕ
+start_in octets = slice_index octets 8
+
+abbrev pub metric_in : List ℕ → ℕ
+metric_in octets = from_be_bytes w64 (drop 9 octets)
+
+-- how many octets come before the soft octets, and before the columns, of a window of so many steps from step t
+abbrev pub bits_end : ℕ → ℕ
+bits_end steps = 17 + steps
+
+abbrev pub soft_end : Rate → ℕ → ℕ → ℕ
+soft_end rate t steps = bits_end steps + steps_size rate t steps
+
+-- how many octets the window has
+abbrev pub window_size : Rate → ℕ → ℕ → ℕ
+window_size rate t steps = soft_end rate t steps + 256 * (steps + 1)
+
+abbrev pub bits_in : List ℕ → List ℕ
+bits_in octets = take (steps_in octets) (drop 17 octets)
+
+abbrev pub soft_in : Rate → ℕ → List ℕ → List ℕ
+soft_in rate t octets = take (steps_size rate t (steps_in octets)) (drop (bits_end (steps_in octets)) octets)
+
+-- the first numbers of octets, four octets each
+unfoldable pub numbers_in : ℕ → List ℕ → List ℕ
+numbers_in zero octets = []
+numbers_in (suc count) octets = from_be_bytes w32 octets ∷ numbers_in count (drop 4 octets)
+
+-- the first columns of octets, 256 octets each
+unfoldable pub columns_in : ℕ → List ℕ → List (List ℕ)
+columns_in zero octets = []
+columns_in (suc count) octets = numbers_in 64 octets ∷ columns_in count (drop 256 octets)
+
+abbrev pub window_in : Rate → ℕ → List ℕ → Window
+window_in rate t octets = record {
+  steps = steps_in octets;
+  kept = kept_in octets;
+  start = start_in octets;
+  metric = metric_in octets;
+  bits = bits_in octets;
+  octets = soft_in rate t octets;
+  columns = columns_in (steps_in octets + 1) (drop (soft_end rate t (steps_in octets)) octets);
+}

@@ -1,0 +1,120 @@
+// The tests of a window's octets.
+ghost use Rattle.std.specs.Prelude.{◌≡◌, ◌+◌, ◌*◌, ◌^◌, ◌<◌, ◌≤◌, ℕ, IsTrue, length};
+ghost use Rattle.tm_conv.specs.Path.{AreBits, steps_size, register_after};
+ghost use Rattle.tm_path_cert.specs.Checking.{IsVerdict};
+ghost use Rattle.tm_path_cert.specs.Claim.{AreRegisters, is_start};
+ghost use Rattle.tm_cert_file.specs.Before as before;
+ghost use Rattle.tm_cert_file.specs.Seen as seen;
+ghost use Rattle.tm_cert_file.specs.Window.{columns_in};
+
+use crate::numbers::{COLUMN, read_column};
+use crate::seen::{Next, Reason, Seen};
+use tm_conv::Rate;
+use tm_path_cert::{Check, Starts, Verdict, is_start};
+
+/// Whether the numbers before a window's bits are those of a window.
+pub(crate) fn has_shape(keep: u32, ahead: u32, next: Next, steps: u32, kept: u32, start: u8) -> bool
+    requires { (keep ≤ 65536) × (ahead ≤ 4096) }
+    ensures { (rules : before.Rules) → rules.keep ≡ keep → rules.ahead ≡ ahead → result ≡ seen.has_shape rules next steps kept start }
+{
+    let most = keep + ahead;
+    let is_after = match next {
+        Next::Must => true,
+        Next::May | Next::Never => false,
+    };
+    0 < steps
+        && steps <= most
+        && (kept == steps || kept == keep && steps == most)
+        && start < 64
+        && (!is_after || ahead < steps)
+}
+
+/// Whether each octet is a bit.
+pub(crate) fn are_bits(bits: &[u8]) -> bool
+    ensures { result ≡ seen.are_bits bits.now }
+{
+    for bit in bits {
+        if *bit >= 2 {
+            return false;
+        }
+    }
+    true
+}
+
+/// Whether a path starts where it may, and the soft octets begin with those behind the kept ones before.
+pub(crate) fn is_joined(starts: Starts, start: u8, octets: &[u8], tail: &[u8]) -> bool
+    ensures { (rest : before.Before) → rest.starts ≡ starts → rest.octets ≡ tail.now → result ≡ seen.is_joined rest start octets.now }
+{
+    is_start(starts, start) && octets.starts_with(tail)
+}
+
+/// Whether a window comes behind one of so many steps, of which so many are kept.
+pub(crate) fn next_after(keep: u32, ahead: u32, steps: u32, kept: u32) -> Next
+    requires { (keep ≤ 65536) × (ahead ≤ 4096) }
+    ensures { (rules : before.Rules) → rules.keep ≡ keep → rules.ahead ≡ ahead → result ≡ before.next_after rules steps kept }
+{
+    if kept < steps {
+        Next::Must
+    } else if steps < keep + ahead || 0 < ahead {
+        Next::Never
+    } else {
+        Next::May
+    }
+}
+
+/// The register behind these bits.
+pub(crate) fn register_after(start: u8, bits: &[u8]) -> u8
+    requires register { start < 64 }
+    requires bits { AreBits bits.now }
+    ensures value { result ≡ register_after start bits.now }
+    ensures small { result < 64 }
+{
+    let mut register = start;
+    for bit in bits {
+        register = register / 2 + 32 * *bit;
+    }
+    register
+}
+
+/// What is to be answered of a path and its metric by the columns of a window, whose octets are given.
+pub(crate) fn verdict_on(
+    rate: Rate,
+    invert: bool,
+    first: u64,
+    starts: Starts,
+    soft: &[u8],
+    columns: &[u8],
+    bits: &[u8],
+    start: u8,
+    metric: u64,
+) -> Verdict
+    requires few { length bits.now ≤ 69632 }
+    requires bits { AreBits bits.now }
+    requires first { first ≤ 2 ^ 44 }
+    requires starts { AreRegisters starts }
+    requires soft { length soft.now ≡ steps_size rate first (length bits.now) }
+    requires columns { length columns.now ≡ 256 * (length bits.now + 1) }
+    requires register { start < 64 }
+    requires start { IsTrue (is_start starts start) }
+    ensures { IsVerdict (record { rate = rate; invert = invert; first = first; starts = starts; soft = soft.now })
+        (columns_in (length bits.now + 1) columns.now) start bits.now metric result }
+{
+    let mut check = Check::new(rate, invert, first, starts, soft);
+    let mut at = 0;
+    while at < columns.len() {
+        check.column(&read_column(&columns[at..at + COLUMN]));
+        at += COLUMN;
+    }
+    check.finish(bits, start, metric)
+}
+
+/// What is seen of a window by what is answered of its path.
+pub(crate) fn seen_by(verdict: Verdict) -> Seen
+    ensures { result ≡ seen.seen_by verdict }
+{
+    match verdict {
+        Verdict::Yes => Seen::Passed,
+        Verdict::No(column, register) => Seen::Failed(Reason::Edge(column, register)),
+        Verdict::Sum(sum) => Seen::Failed(Reason::Sum(sum)),
+    }
+}

@@ -1,0 +1,288 @@
+// A certificate that is being read, window by window.
+ghost use Rattle.std.specs.Prelude.{◌≡◌, ◌++◌, ◌∷◌, ◌+◌, ◌-◌, ◌*◌, ◌^◌, ◌<◌, ◌≤◌, ℕ, List, [], IfOk, length, take};
+ghost use Rattle.tm_conv.specs.Path.{register_after};
+ghost use Rattle.tm_path_cert.specs.Claim.{AreRegisters};
+ghost use Rattle.tm_cert_file.specs.Window.{Window, steps_in, kept_in, metric_in, window_in};
+ghost use Rattle.tm_cert_file.specs.Before.{at_first, behind};
+ghost use Rattle.tm_cert_file.specs.Seen.{IsSeen};
+ghost use Rattle.tm_cert_file.specs.File.{is_cut, kept_octets};
+ghost use Rattle.tm_cert_file.specs.Reading.{IsOpen, HasPassed, StandsFor};
+
+use crate::certifying::span;
+use crate::held::Held;
+use crate::judging::{
+    are_bits, has_shape, is_joined, next_after, register_after, seen_by, verdict_on,
+};
+use crate::numbers::{COLUMN, HEADER, read_u32, read_u64};
+use crate::seen::{Next, Reason, Seen};
+use std::alloc::Global;
+use std::marker::Model;
+use tm_base::NoMemory;
+use tm_conv::Rate;
+use tm_path_cert::Starts;
+
+/// Reads a certificate in pieces, and checks each of its windows once it is whole. It keeps the octets of one window, and of the one before
+/// those behind its kept steps. It takes its memory at `open`: 259 octets for each step of a window, two for each step behind the kept
+/// ones, and 273.
+#[derive(Drop)]
+pub struct Reader {
+    rate: Rate,
+    invert: bool,
+    // Where the first path may start.
+    first: Starts,
+    keep: u32,
+    ahead: u32,
+    // What the windows before leave to the next one.
+    t: u64,
+    starts: Starts,
+    tail: Held,
+    next: Next,
+    octets: Held,
+}
+
+impl Model for Reader {
+    ghost use Rattle.std.specs.Prelude.{◌≤◌, ◌<◌, ◌+◌, ◌*◌, ◌^◌, length};
+    ghost use Rattle.tm_path_cert.specs.Claim.{AreRegisters};
+    ghost use Rattle.tm_cert_file.specs.Reading.{Reading};
+
+    ghost Value = { Reading };
+
+    ghost view = { λ r. record {
+      rules = record { rate = r.rate; invert = r.invert; starts = r.first; keep = r.keep; ahead = r.ahead };
+      before = record { t = r.t; starts = r.starts; octets = r.tail.octets; next = r.next };
+      octets = r.octets.octets;
+    } };
+
+    ghost invariant = { λ r. (r.keep ≤ 65536) × (r.ahead ≤ 4096) × (r.t ≤ 2 ^ 43) × AreRegisters r.starts
+        × (2 * r.ahead ≤ r.tail.room) × (273 + 259 * (r.keep + r.ahead) ≤ r.octets.room) };
+}
+
+impl Reader {
+    /// A reader of the certificates of windows of `keep` steps, 64 to 65,536, and `ahead` more, at most 4,096. Where `invert` is set each second sum
+    /// was sent inverted. It fails only where there isn't enough memory.
+    pub fn open(
+        alloc: Global,
+        rate: Rate,
+        invert: bool,
+        starts: Starts,
+        keep: u32,
+        ahead: u32,
+    ) -> Result<Reader, NoMemory>
+        requires keep { keep ≤ 65536 }
+        requires ahead { ahead ≤ 4096 }
+        requires start { AreRegisters starts }
+        ensures rules { IfOk result (λ r. r.rules ≡ record { rate = rate; invert = invert; starts = starts; keep = keep; ahead = ahead }) }
+        ensures fresh { IfOk result (λ r. (r.before ≡ at_first r.rules) × (r.octets ≡ []) × IsOpen r) }
+        ensures stands { IfOk result (λ r. StandsFor r [] []) }
+    {
+        let steps = (keep + ahead) as usize;
+        let Ok(octets) = Held::open(alloc, HEADER + 3 * steps + COLUMN * (steps + 1)) else {
+            return Err(NoMemory);
+        };
+        let Ok(tail) = Held::open(alloc, 2 * ahead as usize) else {
+            return Err(NoMemory);
+        };
+        Ok(Reader {
+            rate,
+            invert,
+            first: starts,
+            keep,
+            ahead,
+            t: 0,
+            starts,
+            tail,
+            next: Next::May,
+            octets,
+        })
+    }
+
+    /// Takes octets from the front of `piece`, until something is seen of the window, and answers how many and what is seen by them. It may be called
+    /// while nothing is seen yet.
+    pub fn push(&mut self, piece: &[u8]) -> (usize, Seen)
+        requires open { IsOpen self.old }
+        ensures taken { result.0 ≤ length piece.now }
+        ensures some { 0 < length piece.now → 0 < result.0 }
+        ensures octets { self.new.octets ≡ self.old.octets ++ take result.0 piece.now }
+        ensures rules { self.new.rules ≡ self.old.rules }
+        ensures before { self.new.before ≡ self.old.before }
+        ensures seen { IsSeen self.old.rules self.old.before self.new.octets result.1 }
+        ensures all { result.1 ≡ Seen.More → result.0 ≡ length piece.now }
+        ensures just { result.1 ≡ Seen.Passed → HasPassed self.new }
+        ensures stands { (given : List ℕ) (windows : List Window) → StandsFor self.old given windows → StandsFor self.new (given ++ take result.0 piece.now) windows }
+    {
+        let mut taken = 0;
+        while taken < piece.len() {
+            let goal = self.goal();
+            taken += self
+                .octets
+                .fill(&piece[taken..], goal - self.octets.as_slice().len());
+            match self.look() {
+                Seen::More => {}
+                seen => return (taken, seen),
+            }
+        }
+        (taken, Seen::More)
+    }
+
+    // How many octets the window has once more of it can be seen.
+    fn goal(&self) -> usize
+        requires { IsOpen self.now }
+        ensures more { length self.now.octets < result }
+        ensures room { result ≤ 273 + 259 * (self.now.rules.keep + self.now.rules.ahead) }
+        ensures open { (more : List ℕ) → length self.now.octets + length more < result
+            → IsSeen self.now.rules self.now.before (self.now.octets ++ more) Seen.More }
+    {
+        let held = self.octets.as_slice();
+        match self.next {
+            Next::Never => return 1,
+            Next::May | Next::Must => {}
+        }
+        if held.len() < HEADER {
+            return HEADER;
+        }
+        let steps = read_u32(held);
+        let bits_end = HEADER + steps as usize;
+        if held.len() < bits_end {
+            return bits_end;
+        }
+        let soft_end = bits_end + span(self.rate, self.t, u64::from(steps));
+        if held.len() < soft_end {
+            return soft_end;
+        }
+        soft_end + COLUMN * (steps as usize + 1)
+    }
+
+    // What is seen of the window by its octets, at least one, where nothing was seen before the last of them.
+    fn look(&self) -> Seen
+        requires some { 0 < length self.now.octets }
+        requires open { IsSeen self.now.rules self.now.before (take (length self.now.octets - 1) self.now.octets) Seen.More }
+        ensures seen { IsSeen self.now.rules self.now.before self.now.octets result }
+        ensures just { result ≡ Seen.Passed → HasPassed self.now }
+    {
+        let held = self.octets.as_slice();
+        match self.next {
+            Next::Never => return Seen::Failed(Reason::Shape),
+            Next::May | Next::Must => {}
+        }
+        if held.len() < HEADER {
+            return Seen::More;
+        }
+        let steps = read_u32(held);
+        if held.len() == HEADER {
+            let is_right = has_shape(
+                self.keep,
+                self.ahead,
+                self.next,
+                steps,
+                read_u32(&held[4..]),
+                held[8],
+            );
+            return if is_right {
+                Seen::More
+            } else {
+                Seen::Failed(Reason::Shape)
+            };
+        }
+        let bits_end = HEADER + steps as usize;
+        if held.len() == bits_end {
+            let is_right = are_bits(&held[HEADER..]);
+            return if is_right {
+                Seen::More
+            } else {
+                Seen::Failed(Reason::Shape)
+            };
+        }
+        let soft_end = bits_end + span(self.rate, self.t, u64::from(steps));
+        if held.len() == soft_end {
+            let tail = self.tail.as_slice();
+            let is_right = is_joined(self.starts, held[8], &held[bits_end..], tail);
+            return if is_right {
+                Seen::More
+            } else {
+                Seen::Failed(Reason::Joint)
+            };
+        }
+        if held.len() < soft_end + COLUMN * (steps as usize + 1) {
+            return Seen::More;
+        }
+        let verdict = verdict_on(
+            self.rate,
+            self.invert,
+            self.t,
+            self.starts,
+            &held[bits_end..soft_end],
+            &held[soft_end..],
+            &held[HEADER..bits_end],
+            held[8],
+            read_u64(&held[9..]),
+        );
+        seen_by(verdict)
+    }
+
+    /// How many steps the window has that passed.
+    pub fn steps(&self) -> u32
+        requires { HasPassed self.now }
+        ensures { result ≡ steps_in self.now.octets }
+    {
+        read_u32(self.octets.as_slice())
+    }
+
+    /// How many of them are kept.
+    pub fn kept(&self) -> u32
+        requires { HasPassed self.now }
+        ensures { result ≡ kept_in self.now.octets }
+    {
+        read_u32(&self.octets.as_slice()[4..])
+    }
+
+    /// What the window's path costs.
+    pub fn metric(&self) -> u64
+        requires { HasPassed self.now }
+        ensures { result ≡ metric_in self.now.octets }
+    {
+        read_u64(&self.octets.as_slice()[9..])
+    }
+
+    /// The soft octets of the kept steps of the window that passed.
+    pub fn kept_octets(&self) -> &[u8]
+        requires { HasPassed self.now }
+        ensures { result.now ≡ kept_octets self.now.rules.rate self.now.before.t (window_in self.now.rules.rate self.now.before.t self.now.octets) }
+    {
+        let first = HEADER + self.steps() as usize;
+        let size = span(self.rate, self.t, u64::from(self.kept()));
+        &self.octets.as_slice()[first..first + size]
+    }
+
+    /// Begins the next window, behind the kept steps of the one that passed. Of all windows fewer than 2^43 steps are to be kept.
+    pub fn turn(&mut self)
+        requires { HasPassed self.old }
+        ensures rules { self.new.rules ≡ self.old.rules }
+        ensures octets { self.new.octets ≡ [] }
+        ensures open { IsOpen self.new }
+        ensures before { self.old.before.t + kept_in self.old.octets ≤ 2 ^ 43
+            → self.new.before ≡ behind self.old.rules self.old.before (window_in self.old.rules.rate self.old.before.t self.old.octets) }
+        ensures stands { (given : List ℕ) (windows : List Window) → self.old.before.t + kept_in self.old.octets ≤ 2 ^ 43 → StandsFor self.old given windows
+            → StandsFor self.new given (windows ++ window_in self.old.rules.rate self.old.before.t self.old.octets ∷ []) }
+    {
+        let steps = self.steps();
+        let kept = self.kept();
+        let held = self.octets.as_slice();
+        let bits_end = HEADER + steps as usize;
+        let first = bits_end + span(self.rate, self.t, u64::from(kept));
+        let end = bits_end + span(self.rate, self.t, u64::from(steps));
+        self.tail.clear();
+        let _ = self.tail.fill(&held[first..end], end - first);
+        let register = register_after(held[8], &held[HEADER..HEADER + kept as usize]);
+        self.starts = Starts::One(register);
+        self.next = next_after(self.keep, self.ahead, steps, kept);
+        self.t = (self.t + u64::from(kept)).min(1 << 43);
+        self.octets.clear();
+    }
+
+    /// Whether the certificate may not end here: it would end inside of a window, or where one is missing.
+    pub fn is_cut(&self) -> bool
+        ensures { result ≡ is_cut self.now.before.next self.now.octets }
+    {
+        !self.octets.as_slice().is_empty() || self.next == Next::Must
+    }
+}

@@ -1,0 +1,54 @@
+// A worked certificate: one step at rate 1/2, inverted, from register 0, with soft octets 80 and 00.
+use super::*;
+use std::alloc::Global;
+use std::process::Abort;
+use tm_base::MemSink;
+use tm_conv::Rate;
+use tm_viterbi::{Block, BlockTaker, Start};
+
+// The certificate.
+fn certificate(rt: &impl Abort, alloc: Global) -> MemSink {
+    let mut out = MemSink::new(alloc, 1000, Vec::new(alloc)).expect(rt, "memory");
+    let mut certifying = Certifying::open(alloc, Rate::R12, true, Start::Zero, 64, 3).expect(
+        rt, "memory",
+    );
+    certifying.give(&[0x80, 0x00]);
+    let mut certifier = Certifier {
+        certifying: &mut certifying,
+        out: &mut out,
+    };
+    let taken = certifier.block(&Block {
+        start: 0,
+        steps: 1,
+        kept: 1,
+        metric: 127,
+        bits: &[1],
+        end_state: 32,
+    });
+    taken.expect(rt, "room");
+    out
+}
+
+#[test]
+fn a_window_is_written(rt: HostRuntime) {
+    let out = certificate(&rt, rt.alloc());
+    let octets = out.octets();
+    assert_eq!(rt; octets.len(), 532);
+    assert_eq!(rt;
+        &octets[..20],
+        [
+            0, 0, 0, 1, 0, 0, 0, 1, 0, 0, 0, 0, 0, 0, 0, 0, 0x7F, 1, 0x80, 0
+        ]
+        .as_slice()
+    );
+    for s in 0..64usize {
+        let before = if s == 0 {
+            [0, 0, 0, 0]
+        } else {
+            [0x40, 0, 0, 0]
+        };
+        assert_eq!(rt; &octets[20 + 4 * s..24 + 4 * s], before.as_slice());
+    }
+    assert_eq!(rt; &octets[276..280], [0, 0, 1, 0x7F].as_slice());
+    assert_eq!(rt; &octets[404..408], [0, 0, 0, 0x7F].as_slice());
+}
