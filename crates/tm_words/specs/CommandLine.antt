@@ -5,7 +5,7 @@ use Rattle.clap.specs.Words.{App, Shape, Rule, Text, new_rule}
 use Rattle.clap.specs.Simple.{new_shape}
 use Rattle.clap.specs.Faults.{fault_of}
 use Rattle.tm_words.specs.declared.job.JobKind.{JobKind}
-use Rattle.tm_words.specs.declared.job.JobKind.TheVariants.{Encode, Decode, Report, Trace, Word, Soak, Erased}
+use Rattle.tm_words.specs.declared.job.JobKind.TheVariants.{Encode, Decode, Report, Trace, Word, Soak, Erased, Certify, Check}
 use Rattle.clap.specs.declared.builder.action.ArgAction.TheVariants.{Set}
 
 -- the options of every command
@@ -68,6 +68,8 @@ commands =
     ∷ (codes "word", Word)
     ∷ (codes "soak", Soak)
     ∷ (codes "erased", Erased)
+    ∷ (codes "certify", Certify)
+    ∷ (codes "check", Check)
     ∷ []
 
 -- the program with its commands: one of them is required, and there is no help or version

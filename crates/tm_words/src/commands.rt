@@ -34,7 +34,7 @@ static OPTIONS: [&str; 19] = [
 // The options that `soak` has besides.
 static SOAK_OPTIONS: [&str; 3] = ["seed", "frames", "hits"];
 
-static COMMANDS: [(&str, JobKind); 7] = [
+static COMMANDS: [(&str, JobKind); 9] = [
     ("encode", JobKind::Encode),
     ("decode", JobKind::Decode),
     ("report", JobKind::Report),
@@ -42,6 +42,8 @@ static COMMANDS: [(&str, JobKind); 7] = [
     ("word", JobKind::Word),
     ("soak", JobKind::Soak),
     ("erased", JobKind::Erased),
+    ("certify", JobKind::Certify),
+    ("check", JobKind::Check),
 ];
 
 // An option of one value.

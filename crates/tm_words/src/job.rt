@@ -22,6 +22,10 @@ pub enum JobKind {
     Soak,
     /// Words with erased symbols are repaired.
     Erased,
+    /// The windows of the soft decoder are certified.
+    Certify,
+    /// A certificate is checked.
+    Check,
 }
 
 /// The bytes of a word that is to be hexadecimal. They are not tested yet.

@@ -227,6 +227,8 @@ fn gives_a_whole_job(rt: HostRuntime) -> Result<(), Fail> {
         ("any report --skip 3", JobKind::Report),
         ("any trace --skip 3", JobKind::Trace),
         ("any erased --skip 3", JobKind::Erased),
+        ("any certify --skip 3", JobKind::Certify),
+        ("any check --skip 3", JobKind::Check),
     ];
     for (line, kind) in rows {
         match read(rt.alloc(), line)? {
@@ -339,6 +341,9 @@ fn refuses_words(rt: HostRuntime) -> Result<(), Fail> {
         "tmchan soak --seed",
         "tmchan erased 00",
         "tmchan erased --hits 1",
+        "tmchan certify 00",
+        "tmchan check 00",
+        "tmchan check --hits 1",
     ];
     let alloc = rt.alloc();
     for line in lines {
