@@ -15,7 +15,7 @@ use Rattle.tm_cli.specs.Lines.{left_over_text}
 use Rattle.tm_cli.specs.Output.{Output, left_over}
 use Rattle.tm_cli.specs.Ending.{Ends, WroteEarly}
 use Rattle.tm_cli.specs.declared.ending.Ending.{Ending}
-use Rattle.tm_cli.specs.declared.ending.Ending.TheVariants.{Done, Bad, LeftOver, SourceFault, SinkFault, PastLimit}
+use Rattle.tm_cli.specs.declared.ending.Ending.TheVariants.{Done, Bad, BadWindow, LeftOver, SourceFault, SinkFault, PastLimit}
 
 -- nothing was written
 pub wrote-nothing : (known : Option (List ℕ)) → Wrote known known []
@@ -52,6 +52,10 @@ ended-by SinkFault c octets rest taken taken_now noted noted_now Rose all within
   inr all,
 )
 ended-by Bad c octets rest taken taken_now noted noted_now Rose all within is done left fault answers = elim answers [
+  | inl a ↦ cc a
+  | inr b ↦ elim b [ inl x ↦ cc x | inr y ↦ cc y ]
+]
+ended-by BadWindow c octets rest taken taken_now noted noted_now Rose all within is done left fault answers = elim answers [
   | inl a ↦ cc a
   | inr b ↦ elim b [ inl x ↦ cc x | inr y ↦ cc y ]
 ]

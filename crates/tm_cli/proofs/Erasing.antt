@@ -30,7 +30,7 @@ use Rattle.tm_cli.specs.Lines.{left_over_text}
 use Rattle.tm_cli.specs.Output.{Output, IsOutput, WroteFronts}
 use Rattle.tm_cli.specs.Reading.{FedUpTo}
 use Rattle.tm_cli.specs.declared.ending.Ending.{Ending}
-use Rattle.tm_cli.specs.declared.ending.Ending.TheVariants.{Done, Bad, LeftOver, SourceFault, SinkFault, PastLimit}
+use Rattle.tm_cli.specs.declared.ending.Ending.TheVariants.{Done, Bad, BadWindow, LeftOver, SourceFault, SinkFault, PastLimit}
 use Rattle.tm_cli.specs.declared.turns.Pumped.{Pumped}
 use Rattle.tm_cli.specs.declared.turns.Pumped.TheVariants.{Ended, SourceFault as InSource, FeedFault, PastLimit as Past}
 use Rattle.tm_cli.proofs.Endings.{wrote-nothing, wrote-front, wrote-no_front}
@@ -354,6 +354,10 @@ told-all SinkFault bad c octets nearest rest taken now noted noted_now Rose are 
       inr all,
     )
 told-all Bad bad c octets nearest rest taken now noted noted_now Rose are all known short within is done left fault answers = elim answers [
+  | inl a ↦ cc a
+  | inr b ↦ elim b [ inl x ↦ cc x | inr y ↦ cc y ]
+]
+told-all BadWindow bad c octets nearest rest taken now noted noted_now Rose are all known short within is done left fault answers = elim answers [
   | inl a ↦ cc a
   | inr b ↦ elim b [ inl x ↦ cc x | inr y ↦ cc y ]
 ]

@@ -1,5 +1,5 @@
 -- How many octets are sent for octets: sixteen for one at most.
-use Rattle.std.proofs.Common.{◌≡◌, ℕ, zero, suc, ◌+◌, ◌*◌, ◌/◌, ◌≤◌, Bool, true, false, cond, List, ◌++◌, length, Option, Some, None, sym, ap, ◌∙◌, arith, length-append}
+use Rattle.std.proofs.Common.{◌≡◌, ℕ, ◌+◌, ◌*◌, ◌/◌, ◌≤◌, List, ◌++◌, length, Option, Some, None, sym, ap, ◌∙◌, arith, length-append}
 use Rattle.std.proofs.lemmas.List.{length-map}
 use Rattle.tm_base.specs.Bits.{bits_of}
 use Rattle.tm_base.specs.Pieces.{further}
@@ -7,26 +7,11 @@ use Rattle.tm_base.proofs.Packing.{length-bits_of, length-octets_of}
 use Rattle.tm_config.specs.Configuration.{Configuration}
 use Rattle.tm_conv.specs.declared.rates.Rate.{Rate}
 use Rattle.tm_conv.specs.Encoding.{bit_numbers}
-use Rattle.tm_conv.specs.Path.{path, step_size, steps_size, keeps_c1, keeps_c2}
+use Rattle.tm_conv.specs.Path.{path, steps_size}
 use Rattle.tm_conv.proofs.Paths.{length-path}
+use Rattle.tm_conv.proofs.Sizes.{steps_size-add, steps_size-most}
 use Rattle.tm_inner.specs.Symbols.{rate_of, is_inverted, symbols_by, symbols_of_octets}
-use Rattle.tm_inner.proofs.ReceivedBits.{steps_size-add}
 use Rattle.tm_inner.proofs.Symbols.{symbols-go_on}
-
-at_most_two : (k l : Bool) → cond k 1 0 + cond l 1 0 ≤ 2
-at_most_two true true = omega arith
-at_most_two true false = omega arith
-at_most_two false true = omega arith
-at_most_two false false = omega arith
-
-steps_size-few : (rate : Rate) (t n : ℕ) → steps_size rate t n ≤ 2 * n
-unfolding steps_size
-steps_size-few rate t zero = omega arith
-steps_size-few rate t (suc n) =
-    let one : step_size rate t ≤ 2 = at_most_two (keeps_c1 rate t) (keeps_c2 rate t) in
-    let rest : steps_size rate (t + 1) n ≤ 2 * n = steps_size-few rate (t + 1) n in
-    let goal : step_size rate t + steps_size rate (t + 1) n ≤ 2 * suc n = omega (arith, one, rest) in
-    goal
 
 -- how many octets are sent for bits
 size_of : Option Rate → ℕ → ℕ
@@ -47,13 +32,13 @@ size_of-more None a b = omega arith
 size_of-more (Some rate) a b =
     let sum : 8 * (a + b) ≡ 8 * a + 8 * b = omega arith in
     let parts : steps_size rate 0 (8 * (a + b)) ≡ steps_size rate 0 (8 * a) + steps_size rate (0 + 8 * a) (8 * b) = ap (steps_size rate 0) sum ∙ steps_size-add rate 0 (8 * a) (8 * b) in
-    let few : steps_size rate (0 + 8 * a) (8 * b) ≤ 2 * (8 * b) = steps_size-few rate (0 + 8 * a) (8 * b) in
+    let few : steps_size rate (0 + 8 * a) (8 * b) ≤ 2 * (8 * b) = steps_size-most rate (0 + 8 * a) (8 * b) in
     omega (arith, parts, few)
 
 size_of-few : (rate : Option Rate) (n : ℕ) → size_of rate (8 * n) ≤ 16 * n
 unfolding size_of
 size_of-few None n = omega arith
-size_of-few (Some rate) n = omega (arith, steps_size-few rate 0 (8 * n))
+size_of-few (Some rate) n = omega (arith, steps_size-most rate 0 (8 * n))
 
 -- of all octets
 pub length-symbols : (c : Configuration) (octets : List ℕ) → length (symbols_of_octets c octets) ≤ 16 * length octets

@@ -16,3 +16,11 @@ pub mod Soaking
 mod SentPhase
 pub mod Links
 pub mod Erasing
+pub mod Certificates
+pub mod CheckedWindows
+pub mod Checking
+pub mod CertifierTook
+pub mod CertifyingPlace
+pub mod CertifyingPieces
+pub mod CertifyingEnd
+pub mod CertifyEndings

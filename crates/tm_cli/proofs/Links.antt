@@ -35,7 +35,7 @@ use Rattle.tm_cli.specs.Output.{HasBad, WroteOutput}
 use Rattle.tm_cli.specs.Ending.{Ends, status_of}
 use Rattle.tm_cli.specs.Link.{KeepsCleanLink, KeepsDisturbedLink, KeepsTurnedInput, KeepsTurnedSymbols, sent_phase}
 use Rattle.tm_cli.specs.declared.ending.Ending.{Ending}
-use Rattle.tm_cli.specs.declared.ending.Ending.TheVariants.{Done, Bad, LeftOver, SourceFault, SinkFault, PastLimit}
+use Rattle.tm_cli.specs.declared.ending.Ending.TheVariants.{Done, Bad, BadWindow, LeftOver, SourceFault, SinkFault, PastLimit}
 use Rattle.tm_cli.proofs.SentPhase.{Complements, phase-sent, phase-turned}
 
 -- octets come to one list of bits, which there is, and to one list of items
@@ -202,6 +202,7 @@ good-status : (e : Ending) (status : ℕ) (c : Configuration) (octets : List ℕ
 good-status Done status c octets taken taken_now noted noted_now told ends read good = told
 good-status Bad status c octets taken taken_now noted noted_now told ends read good = absurd (good ends.2)
 good-status LeftOver status c octets taken taken_now noted noted_now told ends read good = absurd ends.2
+good-status BadWindow status c octets taken taken_now noted noted_now told ends read good = absurd (cc ends.0)
 good-status SourceFault status c octets taken taken_now noted noted_now told ends read good = absurd (omega (arith, told, read))
 good-status SinkFault status c octets taken taken_now noted noted_now told ends read good = absurd (omega (arith, told, read))
 good-status PastLimit status c octets taken taken_now noted noted_now told ends read good = absurd (omega (arith, told, read))
@@ -212,6 +213,7 @@ whole-output : (e : Ending) (status : ℕ) (c : Configuration) (octets : List �
 whole-output Done status c octets taken taken_now noted noted_now told ends read = ends.0
 whole-output Bad status c octets taken taken_now noted noted_now told ends read = ends.0
 whole-output LeftOver status c octets taken taken_now noted noted_now told ends read = ends.0
+whole-output BadWindow status c octets taken taken_now noted noted_now told ends read = absurd (cc ends.0)
 whole-output SourceFault status c octets taken taken_now noted noted_now told ends read = absurd (omega (arith, told, read))
 whole-output SinkFault status c octets taken taken_now noted noted_now told ends read = absurd (omega (arith, told, read))
 whole-output PastLimit status c octets taken taken_now noted noted_now told ends read = absurd (omega (arith, told, read))

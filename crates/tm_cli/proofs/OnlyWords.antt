@@ -13,7 +13,7 @@ use Rattle.tm_cli.specs.Ending.{Ends}
 use Rattle.tm_cli.specs.Soak.{IsSoakLine}
 use Rattle.tm_cli.specs.Word.{IsWordLine, IsBeyond}
 use Rattle.tm_cli.specs.declared.ending.Ending.{Ending}
-use Rattle.tm_cli.specs.declared.ending.Ending.TheVariants.{Done, Bad, LeftOver, SourceFault, SinkFault, PastLimit}
+use Rattle.tm_cli.specs.declared.ending.Ending.TheVariants.{Done, Bad, BadWindow, LeftOver, SourceFault, SinkFault, PastLimit}
 use Rattle.tm_cli.proofs.Endings.{wrote-nothing, wrote-no_front}
 
 -- a source that stayed as it was gave nothing
@@ -51,6 +51,7 @@ line-ends SinkFault command c line taken now noted is whole order told =
       subst (λ (l : List ℕ). IsInOrder command c l (line-output line) taken now noted noted) (sym none) order,
     )
 line-ends LeftOver command c line taken now noted is whole order told = absurd (no-other LeftOver told.4 (λ e. cc e) (λ e. cc e) (λ e. cc e))
+line-ends BadWindow command c line taken now noted is whole order told = absurd (no-other BadWindow told.4 (λ e. cc e) (λ e. cc e) (λ e. cc e))
 line-ends SourceFault command c line taken now noted is whole order told = absurd (no-other SourceFault told.4 (λ e. cc e) (λ e. cc e) (λ e. cc e))
 line-ends PastLimit command c line taken now noted is whole order told = absurd (no-other PastLimit told.4 (λ e. cc e) (λ e. cc e) (λ e. cc e))
 

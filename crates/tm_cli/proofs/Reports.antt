@@ -18,7 +18,7 @@ use Rattle.tm_cli.specs.Receiving.{ReceivedUpTo, DecodedAll, DecodingFaults, Tol
 use Rattle.tm_cli.specs.Taken.{Standing, TookText, BrokeText, no_counts, number_of, Reported, ReportedHanded, ReportedAll, ReportBroke, handed_frames, DecodingBroke}
 use Rattle.tm_cli.specs.declared.counts.Counts.{Counts}
 use Rattle.tm_cli.specs.declared.ending.Ending.{Ending}
-use Rattle.tm_cli.specs.declared.ending.Ending.TheVariants.{Done, Bad, LeftOver, SourceFault, SinkFault, PastLimit}
+use Rattle.tm_cli.specs.declared.ending.Ending.TheVariants.{Done, Bad, BadWindow, LeftOver, SourceFault, SinkFault, PastLimit}
 use Rattle.tm_cli.specs.declared.receiving.Received.{Received}
 use Rattle.tm_cli.specs.declared.receiving.Received.TheVariants.{Ended, SourceFault as InSource, TakerFault, PastLimit as Past}
 use Rattle.tm_cli.proofs.Endings.{wrote-nothing, wrote-front, wrote-no_front}
@@ -339,6 +339,7 @@ report-told one SinkFault c count octets handed before now last noted accepted a
       wrote-nothing noted,
     )
 report-told one LeftOver c count octets handed before now last noted accepted all within told = absurd told
+report-told one BadWindow c count octets handed before now last noted accepted all within told = absurd told
 report-told one SourceFault c count octets handed before now last noted accepted all within told = absurd told
 report-told one PastLimit c count octets handed before now last noted accepted all within told = absurd told
 
@@ -454,5 +455,6 @@ decode-told one SinkFault c count octets handed out out_now notes notes_now last
       ),
     )
 decode-told one LeftOver c count octets handed out out_now notes notes_now last accepted all within frames told = absurd told
+decode-told one BadWindow c count octets handed out out_now notes notes_now last accepted all within frames told = absurd told
 decode-told one SourceFault c count octets handed out out_now notes notes_now last accepted all within frames told = absurd told
 decode-told one PastLimit c count octets handed out out_now notes notes_now last accepted all within frames told = absurd told

@@ -14,6 +14,8 @@ pub data Command : Type 0 where
   -- the seed, how many frames are generated, and how many symbols of each codeword are changed
   Soak : (seed frames hits : ℕ) → Command
   Erased : Command
+  Certify : Command
+  Check : Command
 
 abbrev pub command_by : JobKind → Job → Command
 command_by kind.Encode job = Encode
@@ -23,6 +25,8 @@ command_by kind.Trace job = Trace
 command_by kind.Word job = Word job.hex
 command_by kind.Soak job = Soak job.seed job.frames job.hits
 command_by kind.Erased job = Erased
+command_by kind.Certify job = Certify
+command_by kind.Check job = Check
 
 -- the command that a job asks for
 abbrev pub command_of : Job → Command

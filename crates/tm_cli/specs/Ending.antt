@@ -2,9 +2,10 @@
 use Rattle.std.specs.Prelude.{◌≡◌, ℕ, ◌+◌, ◌≤◌, List, ◌++◌, length, take, Option}
 use Rattle.tm_config.specs.Configuration.{Configuration}
 use Rattle.tm_cli.specs.Command.{Command}
+use Rattle.tm_cli.specs.Command.Command.{Check}
 use Rattle.tm_cli.specs.Output.{Output, IsOutput, IsPartial, IsBad, IsInOrder, WroteFronts, WroteOutput, WroteDue}
 use Rattle.tm_cli.specs.declared.ending.Ending.{Ending}
-use Rattle.tm_cli.specs.declared.ending.Ending.TheVariants.{Done, Bad, LeftOver, SourceFault, SinkFault, PastLimit}
+use Rattle.tm_cli.specs.declared.ending.Ending.TheVariants.{Done, Bad, BadWindow, LeftOver, SourceFault, SinkFault, PastLimit}
 
 -- What is due for these octets was written. Whatever octets come behind them, their output begins with it.
 abbrev pub WroteEarly : Command → Configuration → List ℕ → (taken taken_now noted noted_now : Option (List ℕ)) → Type 0
@@ -20,7 +21,10 @@ Ends Done command c octets taken taken_now noted noted_now =
 -- the same where a codeblock is beyond repair
 Ends Bad command c octets taken taken_now noted noted_now =
     WroteOutput command c octets taken taken_now noted noted_now × (length octets ≤ c.limit) × IsBad command c octets
--- the same of an input that is not whole
+-- the output of a certificate in which a window fails, as it shows up to the limit
+Ends BadWindow command c octets taken taken_now noted noted_now =
+    (command ≡ Check) × WroteOutput command c (take c.limit octets) taken taken_now noted noted_now × IsBad command c (take c.limit octets)
+-- the whole output of an input that is within the limit but not whole
 Ends LeftOver command c octets taken taken_now noted noted_now =
     WroteOutput command c octets taken taken_now noted noted_now × (length octets ≤ c.limit) × IsPartial command c octets
 -- what is due for the octets so far
@@ -37,6 +41,7 @@ Ends PastLimit command c octets taken taken_now noted noted_now =
 abbrev pub status_of : Ending → ℕ
 status_of Done = 0
 status_of Bad = 1
+status_of BadWindow = 1
 status_of SourceFault = 3
 status_of SinkFault = 4
 status_of LeftOver = 6

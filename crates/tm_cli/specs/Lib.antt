@@ -10,10 +10,15 @@ pub mod Generated
 pub mod HeldSymbols
 pub mod Soak
 pub mod Erased
+pub mod Certified
+pub mod Checked
 pub mod Output
 pub mod Encoding
 pub mod Erasing
 pub mod Tracing
+pub mod Certifying
+pub mod Checking
 pub mod Ending
 pub mod Link
+pub mod Shown
 pub mod Run

@@ -4,6 +4,8 @@ use Rattle.tm_rs_solve.specs.declared.answers.Answer.{Answer}
 use Rattle.tm_rs_solve.specs.declared.answers.Answer.TheVariants.{Fixed, Beyond}
 use Rattle.tm_channel.specs.Items.{ItemValue}
 use Rattle.tm_viterbi.specs.WindowBlock.{WindowBlock}
+use Rattle.tm_cert_file.specs.declared.seen.Reason.{Reason}
+use Rattle.tm_cert_file.specs.declared.seen.Reason.TheVariants.{Shape, Joint, Edge, Sum}
 
 -- how many octets stand behind the last whole frame; no line where there are none
 abbrev pub left_over_text : ℕ → List ℕ
@@ -39,10 +41,14 @@ abbrev pub report_end_text : (good bad fixed bits : ℕ) → List ℕ
 report_end_text good bad fixed bits =
     codes "frames " ++ decimal good ++ codes " bad " ++ decimal bad ++ codes " fixed " ++ decimal fixed ++ codes " bits " ++ decimal bits ++ 10 ∷ []
 
--- a window of the soft decoder: its steps, how many of them are kept, and what its path costs
+-- a window: its steps, how many of them are kept, and what its path costs
+abbrev pub window_text : (number steps kept metric : ℕ) → List ℕ
+window_text number steps kept metric =
+    codes "block " ++ decimal number ++ codes " steps " ++ decimal steps ++ codes " kept " ++ decimal kept ++ codes " metric " ++ decimal metric ++ 10 ∷ []
+
+-- a window of the soft decoder
 abbrev pub block_text : ℕ → WindowBlock → List ℕ
-block_text number block =
-    codes "block " ++ decimal number ++ codes " steps " ++ decimal block.steps ++ codes " kept " ++ decimal block.kept ++ codes " metric " ++ decimal block.metric ++ 10 ∷ []
+block_text number block = window_text number block.steps block.kept block.metric
 
 -- the end of a trace: the windows, the bits received, and the octets behind the last step
 abbrev pub trace_end_text : (blocks bits leftover : ℕ) → List ℕ
@@ -51,3 +57,18 @@ trace_end_text blocks bits leftover = codes "blocks " ++ decimal blocks ++ codes
 -- the symbol phase that was chosen: the octets skipped, and what the best path behind them costs
 abbrev pub phase_text : (skip cost : ℕ) → List ℕ
 phase_text skip cost = codes "phase " ++ decimal skip ++ codes " cost " ++ decimal cost ++ 10 ∷ []
+
+-- why a window of a certificate fails
+abbrev pub reason_text : Reason → List ℕ
+reason_text Shape = codes "shape"
+reason_text Joint = codes "joint"
+reason_text (Edge column register) = codes "edge " ++ decimal column ++ codes " " ++ decimal register
+reason_text (Sum sum) = codes "sum " ++ decimal sum
+
+-- the window of a certificate that fails, and why
+abbrev pub bad_text : ℕ → Reason → List ℕ
+bad_text number reason = codes "bad " ++ decimal number ++ codes " " ++ reason_text reason ++ 10 ∷ []
+
+-- the window of a certificate that is not whole or missing
+abbrev pub cut_text : ℕ → List ℕ
+cut_text number = codes "cut at block " ++ decimal number ++ 10 ∷ []

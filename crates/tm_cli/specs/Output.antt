@@ -6,11 +6,18 @@ use Rattle.tm_base.specs.Handed.{Handed, items_of}
 use Rattle.tm_viterbi.specs.WindowBlock.{WindowBlock}
 use Rattle.tm_inner.specs.Inner.{inner_bits}
 use Rattle.tm_inner.specs.Handing.{AreHanded, AreHandedDue}
+use Rattle.tm_inner.specs.Symbols.{rate_of}
+use Rattle.tm_cert_file.specs.declared.seen.Reason.{Reason}
+use Rattle.tm_cert_file.specs.declared.seen.Seen.{Seen}
+use Rattle.tm_cert_file.specs.Window.{Window}
+use Rattle.tm_cert_file.specs.File.{IsRead, IsBroken, IsCut}
 use Rattle.tm_channel.specs.Sent.{sent}
 use Rattle.tm_channel.specs.Items.{ItemValue}
 use Rattle.tm_channel.specs.Handing.{AreReceived, AreReceivedDue}
 use Rattle.tm_cli.specs.Command.{Command}
-use Rattle.tm_cli.specs.Command.Command.{Encode, Decode, Report, Trace, Word, Soak, Erased}
+use Rattle.tm_cli.specs.Command.Command.{Encode, Decode, Report, Trace, Word, Soak, Erased, Certify, Check}
+use Rattle.tm_cli.specs.Certified.{IsCertifiedAll, IsCertifiedDue}
+use Rattle.tm_cli.specs.Checked.{ReadAt, IsChecked, IsCheckedDue, AreInTurn}
 use Rattle.tm_cli.specs.Erased.{AreLines, AreLinesDue, HasBeyond, record_rest}
 use Rattle.tm_cli.specs.Generated.{generated}
 use Rattle.tm_cli.specs.Lines.{left_over_text}
@@ -67,6 +74,8 @@ IsOutput Trace c octets output = IsTrace c octets output
 IsOutput (Word text) c octets output = IsWordLine c text output.out × (output.notes ≡ [])
 IsOutput (Soak seed frames hits) c octets output = IsSoakLine c seed frames hits output.out × (output.notes ≡ [])
 IsOutput Erased c octets output = AreLines c octets output.out × (output.notes ≡ left_over_text (record_rest c octets))
+IsOutput Certify c octets output = IsCertifiedAll c octets output.out × (output.notes ≡ [])
+IsOutput Check c octets output = ReadAt (λ rules. IsChecked rules octets output.out output.notes) (rate_of c.inner) c
 
 -- what a command that reads has to write for the octets so far, before the end of its input is known
 abbrev pub IsDue : Command → Configuration → List ℕ → Output → Type 0
@@ -77,8 +86,11 @@ IsDue Trace c octets output = IsTraceDue c octets output
 IsDue (Word text) c octets output = ⊥
 IsDue (Soak seed frames hits) c octets output = ⊥
 IsDue Erased c octets output = AreLinesDue c octets output.out × (output.notes ≡ [])
+IsDue Certify c octets output = IsCertifiedDue c octets output.out × (output.notes ≡ [])
+IsDue Check c octets output = ReadAt (λ rules. IsCheckedDue rules octets output.out output.notes) (rate_of c.inner) c
 
--- the octets of a whole input do not end with a whole frame or record, where frames or records are read
+-- The octets of a whole input do not end with a whole frame or record, where frames or records are read. A certificate, of which no window
+-- fails, ends inside of a window or where one is missing.
 abbrev pub IsPartial : Command → Configuration → List ℕ → Type 0
 IsPartial Encode c octets = left_over c octets ≡ 0 → ⊥
 IsPartial Decode c octets = ⊥
@@ -87,13 +99,15 @@ IsPartial Trace c octets = ⊥
 IsPartial (Word text) c octets = ⊥
 IsPartial (Soak seed frames hits) c octets = ⊥
 IsPartial Erased c octets = record_rest c octets ≡ 0 → ⊥
+IsPartial Certify c octets = ⊥
+IsPartial Check c octets = ReadAt (λ rules. (windows : List Window) × IsCut rules octets windows) (rate_of c.inner) c
 
 -- a codeblock that was received with these octets has a column beyond repair
 abbrev pub HasBad : Configuration → List ℕ → Type 0
 HasBad c octets = (handed : List (Handed ItemValue)) × ((bits : ℕ) × AreReceived c octets handed bits) × (bad (items_of handed) ≡ 0 → ⊥)
 
 -- the same of the commands that repair codeblocks, those of generated frames too; a word, or that of a record where all are whole, is
--- beyond repair
+-- beyond repair; a window of a certificate fails
 abbrev pub IsBad : Command → Configuration → List ℕ → Type 0
 IsBad Encode c octets = ⊥
 IsBad Decode c octets = HasBad c octets
@@ -102,6 +116,8 @@ IsBad Trace c octets = ⊥
 IsBad (Word text) c octets = IsBeyond c text
 IsBad (Soak seed frames hits) c octets = HasBad c (generated c seed frames hits)
 IsBad Erased c octets = (record_rest c octets ≡ 0) × HasBeyond c octets
+IsBad Certify c octets = ⊥
+IsBad Check c octets = ReadAt (λ rules. (windows : List Window) × (reason : Reason) × IsBroken rules octets windows reason) (rate_of c.inner) c
 
 -- each sink took the whole of its part
 pub record WroteBoth (output : Output) (taken taken_now noted noted_now : Option (List ℕ)) : Type 0 where
@@ -131,7 +147,7 @@ pub record AreInOrder (handed : List (Handed ItemValue)) (taken taken_now noted 
   pub lines : WroteFront noted noted_now (items_text 0 front) ⊎ (rest ≡ [])
 
 -- What `encode` and `erased` write on the notes comes last, once the output has taken the whole of its part. The line of an item comes behind its
--- frame. The other commands write no notes.
+-- frame, and that of a window that is checked behind its octets. The other commands write no notes.
 abbrev pub IsInOrder : Command → Configuration → List ℕ → Output → (taken taken_now noted noted_now : Option (List ℕ)) → Type 0
 IsInOrder Encode c octets output taken taken_now noted noted_now = Wrote noted noted_now [] ⊎ Wrote taken taken_now output.out
 IsInOrder Decode c octets output taken taken_now noted noted_now =
@@ -141,3 +157,6 @@ IsInOrder Trace c octets output taken taken_now noted noted_now = Wrote noted no
 IsInOrder (Word text) c octets output taken taken_now noted noted_now = Wrote noted noted_now []
 IsInOrder (Soak seed frames hits) c octets output taken taken_now noted noted_now = Wrote noted noted_now []
 IsInOrder Erased c octets output taken taken_now noted noted_now = Wrote noted noted_now [] ⊎ Wrote taken taken_now output.out
+IsInOrder Certify c octets output taken taken_now noted noted_now = Wrote noted noted_now []
+IsInOrder Check c octets output taken taken_now noted noted_now = ReadAt (λ rules. (windows : List Window) × (seen : Seen) × IsRead rules octets windows seen
+    × AreInTurn rules windows taken taken_now noted noted_now) (rate_of c.inner) c

@@ -11,7 +11,7 @@ use Rattle.tm_words.specs.CommandLine.{command_line}
 use Rattle.tm_words.specs.Job.{job_of_words}
 use Rattle.tm_words.specs.declared.job.Job.{Job}
 use Rattle.tm_cli.specs.Command.{Command, command_of}
-use Rattle.tm_cli.specs.Command.Command.{Word, Soak, Erased}
+use Rattle.tm_cli.specs.Command.Command.{Word, Soak, Erased, Check}
 use Rattle.tm_cli.specs.Soak.{soak_refusal, soak_reason}
 use Rattle.tm_cli.specs.Word.{word_refusal, word_reason}
 use Rattle.tm_cli.specs.declared.refusal.Refusal.{Refusal}
@@ -22,6 +22,7 @@ abbrev pub refusal_of_command : Configuration → Command → Option Refusal
 refusal_of_command c (Word text) = option_map OfWord (word_refusal c text)
 refusal_of_command c (Soak seed frames hits) = option_map OfSoak (soak_refusal c seed frames hits)
 refusal_of_command c Erased = if c.code == 0 then Some (Value Code) else None
+refusal_of_command c Check = if c.inner == 0 then Some (Value Inner) else None
 refusal_of_command c command = None
 
 -- the refusal for the first value of the configuration that is outside its list or range, and behind these for what a command alone has

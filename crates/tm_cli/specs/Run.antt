@@ -3,10 +3,11 @@ use Rattle.std.specs.Prelude.{◌≡◌, ◌⊎◌, ℕ, ◌+◌, ◌≤◌, Lis
 use Rattle.tm_base.specs.Written.{Wrote, WroteFront}
 use Rattle.tm_config.specs.Configuration.{Configuration}
 use Rattle.tm_cli.specs.Command.{Command}
-use Rattle.tm_cli.specs.Command.Command.{Decode}
+use Rattle.tm_cli.specs.Command.Command.{Decode, Check}
 use Rattle.tm_cli.specs.Ending.{Ends, status_of}
 use Rattle.tm_cli.specs.Link.{KeepsCleanLink, KeepsDisturbedLink, KeepsTurnedInput, KeepsTurnedSymbols}
 use Rattle.tm_cli.specs.Refusal.{reason_of}
+use Rattle.tm_cli.specs.Shown.{ShowsLeast, PassesCertified}
 use Rattle.tm_cli.specs.Lines.{refusal_text}
 use Rattle.tm_cli.specs.declared.ending.Ending.{Ending}
 use Rattle.tm_cli.specs.declared.refusal.Refusal.{Refusal}
@@ -23,6 +24,9 @@ pub record Answers (status : ℕ) (command : Command) (c : Configuration) (octet
   -- in the other polarity too
   pub turned_input : command ≡ Decode → (status ≡ 0) ⊎ (status ≡ 1) → KeepsTurnedInput c octets taken taken_now noted noted_now
   pub turned_symbols : command ≡ Decode → (status ≡ 0) ⊎ (status ≡ 1) → KeepsTurnedSymbols status c octets taken taken_now noted noted_now
+  -- where `check` answers 0, the paths of the certificate cost the least; what `certify` writes passes
+  pub shown : command ≡ Check → status ≡ 0 → ShowsLeast c octets taken taken_now
+  pub passes : command ≡ Check → PassesCertified status c octets noted noted_now
 
 -- the line of a refusal was written, or a front of it by notes that failed
 abbrev pub WroteRefusal : Refusal → (noted noted_now : Option (List ℕ)) → (same rose : Type 0) → Type 0

@@ -9,7 +9,9 @@ pub enum Ending {
     Done,
     /// The same, and a word, or a column of a codeblock that was received, is beyond repair.
     Bad,
-    /// All is written, but the input is not whole frames, or not whole records.
+    /// A window of a certificate fails. What was written comes before it, and nothing more was read.
+    BadWindow,
+    /// All is written, but the input is not whole frames, or not whole records, or a certificate that is cut.
     LeftOver,
     /// The source failed.
     SourceFault,
@@ -27,6 +29,7 @@ impl Ending {
         match self {
             Ending::Done => 0,
             Ending::Bad => 1,
+            Ending::BadWindow => 1,
             Ending::SourceFault => 3,
             Ending::SinkFault => 4,
             Ending::LeftOver => 6,

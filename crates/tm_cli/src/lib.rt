@@ -3,6 +3,9 @@
 //! command; a command answers how it ended (`Ending`), and `run` the status.
 #![tactic(auto)]
 
+mod certificate;
+mod certify;
+mod check;
 mod counts;
 mod decode;
 mod encode;

@@ -7,6 +7,8 @@ ghost use Rattle.tm_cli.specs.Command.{command_of, reads};
 ghost use Rattle.tm_cli.specs.Ending.{Ends};
 ghost use Rattle.tm_cli.specs.Refusal.{refusal_of_command};
 
+use crate::certify::certify;
+use crate::check::check;
 use crate::decode::decode;
 use crate::encode::encode;
 use crate::ending::Ending;
@@ -39,7 +41,8 @@ pub fn obey<R: Threads + Sync, S: Source, O: Sink, N: Sink>(
     ensures unread { reads (command_of job.now) ≡ false → (source.new ≡ source.old) × (notes.new ≡ notes.old) }
     ensures ended { reads (command_of job.now) ≡ true → IfOk result (λ ending. (ending ≡ Ending.Done) ⊎ (ending ≡ Ending.Bad) ⊎ (ending ≡ Ending.LeftOver) → S.ended source.new ≡ true) }
     ensures at_end { reads (command_of job.now) ≡ true → IfOk result (λ ending. (ending ≡ Ending.Done) ⊎ (ending ≡ Ending.Bad) ⊎ (ending ≡ Ending.LeftOver) → IsAtEnd (S.left source.new)) }
-    ensures unended { IfOk result (λ ending. (ending ≡ Ending.SourceFault) ⊎ (ending ≡ Ending.PastLimit) → S.ended source.new ≡ S.ended source.old) }
+    ensures unended { IfOk result (λ ending. (ending ≡ Ending.SourceFault) ⊎ (ending ≡ Ending.PastLimit) ⊎ (ending ≡ Ending.BadWindow) → S.ended source.new ≡ S.ended source.old) }
+    ensures not_bad { job.now.kind ≡ JobKind.Check → IfOk result (λ ending. ending ≡ Ending.Bad → ⊥) }
     ensures source_fault { IfOk result (λ ending. ending ≡ Ending.SourceFault → Rose (S.faults source.old) (S.faults source.new) (S.is_last source.new)) }
     ensures source_later { S.faults source.old ≤ S.faults source.new }
     ensures source_same { IfOk result (λ ending. (ending ≡ Ending.SourceFault → ⊥) → S.faults source.new ≡ S.faults source.old) }
@@ -61,5 +64,7 @@ pub fn obey<R: Threads + Sync, S: Source, O: Sink, N: Sink>(
         JobKind::Word => Ok(word(config, job.hex.as_bytes(), out)),
         JobKind::Soak => soak(rt, alloc, config, job.seed, job.frames, job.hits, out),
         JobKind::Erased => erased(rt, alloc, config, source, out, notes),
+        JobKind::Certify => certify(alloc, config, source, out),
+        JobKind::Check => check(alloc, config, source, out, notes),
     }
 }

@@ -91,6 +91,7 @@ fn test_command(job: &Job, config: &Config) -> Option<Refusal>
             None => None,
         },
         JobKind::Erased if config.code() == 0 => Some(Refusal::Value(ConfigError::Code)),
+        JobKind::Check if config.inner() == 0 => Some(Refusal::Value(ConfigError::Inner)),
         _ => None,
     }
 }

@@ -5,13 +5,14 @@ ghost use Rattle.tm_base.specs.Outside.{Rose};
 ghost use Rattle.tm_base.specs.Written.{Gave};
 ghost use Rattle.tm_config.specs.Configuration.{configuration_of};
 ghost use Rattle.tm_words.specs.declared.job.Job.{Job};
-ghost use Rattle.tm_words.specs.declared.job.JobKind.TheVariants.{Encode};
+ghost use Rattle.tm_words.specs.declared.job.JobKind.TheVariants.{Encode, Check};
 ghost use Rattle.tm_cli.specs.Command.{command_of, reads};
 ghost use Rattle.tm_cli.specs.Refusal.{refusal_of, IsAsked};
 ghost use Rattle.tm_cli.specs.Output.{IsPartial};
 ghost use Rattle.tm_cli.specs.Run.{Answers, WroteRefusal};
 ghost use Rattle.tm_cli.specs.declared.refusal.Refusal.{Refusal};
 
+use crate::certificate::certificate_law;
 use crate::lines::refusal_line;
 use crate::link::link_law;
 use crate::obey::obey;
@@ -31,6 +32,9 @@ use tm_base::{NoMemory, Sink, Source};
 ///   where it is to be found.
 /// - `erased` repairs words with erased symbols, each an octet a symbol and a flag for each behind them, and writes a line for each
 ///   to `out`: `fixed A B HEX`, or `beyond`.
+/// - `certify` writes to `out` a certificate of the windows of the soft decoder, which shows that no path costs less than theirs.
+/// - `check` reads such a certificate, without the decoder: `out` gets the soft octets of the windows that pass, and the notes a line for
+///   each, and one for all.
 /// - `word` repairs one word, which stands in its words in hexadecimal, and writes it to `out`: `fixed D HEX`, or `beyond`.
 /// - `soak` sends frames that it generates, changes some symbols of each codeword on the way, receives them, and writes the end of the
 ///   report to `out`.
@@ -41,14 +45,16 @@ use tm_base::{NoMemory, Sink, Source};
 ///
 /// - 0: the source was read to its end by a command that reads, and the whole output is written.
 /// - 1: the same, and a codeblock that `decode`, `report` or `soak` found has a column beyond repair, or the word of `word` or of a
-///   record is.
+///   record is. Or a window of the certificate of `check` fails: nothing more is read, and the notes get the line `bad ` with its number and
+///   the reason.
 /// - 2: the words are refused. Nothing is read, and `out` stays as it was; the notes get the line `refused: ` with the first
 ///   reason, or a front of it where they fail.
 /// - 3: the source failed. What is due for the octets before is written, and nothing more.
 /// - 4: `out` or `notes` failed, and nothing more is read or written. What was written is a front of the output.
 /// - 5: there was not enough memory. Nothing is read or written.
 /// - 6: the input of `encode` is not whole frames, or that of `erased` not whole records. All is written for those that are, and the
-///   notes get the line `left over ` with the number of octets behind them.
+///   notes get the line `left over ` with the number of octets behind them. Or the certificate of `check` ends inside of a window or where
+///   one is missing, and the notes get the line `cut at block ` with its number.
 /// - 7: the source gave an octet past the limit. What is due for the octets up to the limit is written.
 pub fn run<R: Threads + Sync, S: Source, O: Sink, N: Sink>(
     rt: &R,
@@ -76,9 +82,10 @@ pub fn run<R: Threads + Sync, S: Source, O: Sink, N: Sink>(
     ensures only_words { (job : Job) → IsAsked (map string_bytes words.now) job → reads (command_of job) ≡ false
         → (source.new ≡ source.old) × (notes.new ≡ notes.old) }
     ensures ended { (job : Job) → IsAsked (map string_bytes words.now) job → reads (command_of job) ≡ true
-        → (result ≡ 0) ⊎ (result ≡ 1) ⊎ (result ≡ 6) → S.ended source.new ≡ true }
+        → (result ≡ 0) ⊎ ((result ≡ 1) × (job.kind ≡ Check → ⊥)) ⊎ (result ≡ 6) → S.ended source.new ≡ true }
     ensures at_end { (job : Job) → IsAsked (map string_bytes words.now) job → reads (command_of job) ≡ true
-        → (result ≡ 0) ⊎ (result ≡ 1) ⊎ (result ≡ 6) → IsAtEnd (S.left source.new) }
+        → (result ≡ 0) ⊎ ((result ≡ 1) × (job.kind ≡ Check → ⊥)) ⊎ (result ≡ 6) → IsAtEnd (S.left source.new) }
+    ensures stopped { (job : Job) → IsAsked (map string_bytes words.now) job → job.kind ≡ Check → result ≡ 1 → S.ended source.new ≡ S.ended source.old }
     ensures unended { (result ≡ 3) ⊎ (result ≡ 7) → S.ended source.new ≡ S.ended source.old }
     ensures complete { (job : Job) → IsAsked (map string_bytes words.now) job
         → (Rose (S.faults source.old) (S.faults source.new) (S.is_last source.new) → ⊥)
@@ -107,6 +114,7 @@ pub fn run<R: Threads + Sync, S: Source, O: Sink, N: Sink>(
     ensures notes_same { (result ≡ 4 → ⊥) → (result ≡ 2 → ⊥) → N.faults notes.new ≡ N.faults notes.old }
 {
     link_law();
+    certificate_law();
     match ask(alloc, words) {
         Asked::Command(job, config) => match obey(rt, alloc, &job, &config, source, out, notes) {
             Ok(ending) => ending.status(),

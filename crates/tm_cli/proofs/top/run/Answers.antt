@@ -3,15 +3,16 @@ use Rattle.std.specs.Option.{IsSome}
 use Rattle.std.proofs.Common.{◌⊎◌, inl, inr, ◌≡◌, true, false, ℕ, List, map, string_bytes, Some, None, refl, sym, ◌∙◌, ap, subst, arith}
 use Rattle.tm_config.specs.Configuration.{Configuration, configuration_of}
 use Rattle.tm_words.specs.declared.job.Job.{Job}
+use Rattle.tm_words.specs.declared.job.JobKind.TheVariants as kind
 use Rattle.tm_cli.specs.Command.{Command, command_of, reads}
-use Rattle.tm_cli.specs.Command.Command.{Decode}
+use Rattle.tm_cli.specs.Command.Command.{Decode, Check}
 use Rattle.tm_cli.specs.declared.ending.Ending.{Ending}
-use Rattle.tm_cli.specs.declared.ending.Ending.TheVariants.{Done, Bad, LeftOver, SourceFault, SinkFault, PastLimit}
+use Rattle.tm_cli.specs.declared.ending.Ending.TheVariants.{Done, Bad, BadWindow, LeftOver, SourceFault, SinkFault, PastLimit}
 use Rattle.tm_cli.specs.Ending.{Ends, status_of}
 use Rattle.tm_cli.specs.Refusal.{IsAsked}
 use Rattle.tm_cli.specs.declared.refusal.Refusal.{Refusal}
 use Rattle.tm_cli.specs.Run.{Answers}
-use Rattle.tm_cli.proofs.Answering.{ended-told, sink-told, left-reads, without-fault, whole-input_told}
+use Rattle.tm_cli.proofs.Answering.{of-check, ended-told, window-checks, window-told, sink-told, left-reads, without-fault, whole-input_told}
 use Rattle.tm_cli.proofs.top.run.Goals as goal
 
 -- words ask for one job
@@ -22,6 +23,7 @@ same-job words a b p q = let e : Some a ≡ Some b = sym p.read ∙ q.read in cc
 no-ending : (e : Ending) → status_of e ≡ 5 → ⊥
 no-ending Done is = omega arith
 no-ending Bad is = omega arith
+no-ending BadWindow is = omega arith
 no-ending LeftOver is = omega arith
 no-ending SourceFault is = omega arith
 no-ending SinkFault is = omega arith
@@ -40,6 +42,7 @@ returns-in-Ok-clause-answered g c = λ job asked _.
     let noted = g.N.Sink.taken c.args.notes.now in
     let noted_now = g.N.Sink.taken c.obey.new.notes in
     let decodes : command ≡ Decode → Ends ending Decode config h.0 taken now noted noted_now = λ is. subst (λ (k : Command). Ends ending k config h.0 taken now noted noted_now) is h.3 in
+    let checks : command ≡ Check → Ends ending Check config h.0 taken now noted noted_now = λ is. subst (λ (k : Command). Ends ending k config h.0 taken now noted noted_now) is h.3 in
     let answer : Answers c.status.result command config h.0 taken now noted noted_now = record {
       at_most = h.2;
       ending = ending;
@@ -49,6 +52,8 @@ returns-in-Ok-clause-answered g c = λ job asked _.
       disturbed = λ is. c.link_law.ensures.disturbed ending c.status.result config h.0 taken now noted noted_now read.2 c.status.ensures (decodes is);
       turned_input = λ is. c.link_law.ensures.turned_input ending c.status.result config h.0 taken now noted noted_now read.2 c.status.ensures (decodes is);
       turned_symbols = λ is. c.link_law.ensures.turned_symbols ending c.status.result config h.0 taken now noted noted_now read.2 c.status.ensures (decodes is);
+      shown = λ is. c.certificate_law.ensures.shown ending c.status.result config h.0 taken now noted noted_now c.status.ensures (checks is);
+      passes = λ is. c.certificate_law.ensures.passes ending c.status.result config h.0 taken now noted noted_now read.2 c.status.ensures (checks is);
     } in (
       h.0,
       h.1,
@@ -88,13 +93,27 @@ pub returns-in-Ok-clause-ended : goal.returns-in-Ok-clause-ended
 returns-in-Ok-clause-ended g c = λ job asked some which.
     let read = c.in-Command.ensures.command c.in-Command.job c.in-Command.config refl in
     let same : job ≡ c.in-Command.job = same-job (map string_bytes c.args.words.now) job c.in-Command.job asked read.0 in
-    c.in-Ok.ensures.ended (subst (λ (j : Job). reads (command_of j) ≡ true) same some) (ended-told c.in-Ok.ending c.status.result c.status.ensures which)
+    let ends = c.in-Ok.ensures.ends in
+    c.in-Ok.ensures.ended (subst (λ (j : Job). reads (command_of j) ≡ true) same some)
+    (ended-told c.in-Ok.ending c.status.result (job.kind ≡ kind.Check) c.status.ensures (λ is. ap (λ (j : Job). j.kind) same
+    ∙ of-check c.in-Command.job (window-checks c.in-Ok.ending (command_of c.in-Command.job) c.in-Command.config ends.0 (g.O.Sink.taken c.args.out.now) (g.O.Sink.taken c.obey.new.out)
+    (g.N.Sink.taken c.args.notes.now) (g.N.Sink.taken c.obey.new.notes) ends.3 is)) which)
 
 pub returns-in-Ok-clause-at_end : goal.returns-in-Ok-clause-at_end
 returns-in-Ok-clause-at_end g c = λ job asked some which.
     let read = c.in-Command.ensures.command c.in-Command.job c.in-Command.config refl in
     let same : job ≡ c.in-Command.job = same-job (map string_bytes c.args.words.now) job c.in-Command.job asked read.0 in
-    c.in-Ok.ensures.at_end (subst (λ (j : Job). reads (command_of j) ≡ true) same some) (ended-told c.in-Ok.ending c.status.result c.status.ensures which)
+    let ends = c.in-Ok.ensures.ends in
+    c.in-Ok.ensures.at_end (subst (λ (j : Job). reads (command_of j) ≡ true) same some)
+    (ended-told c.in-Ok.ending c.status.result (job.kind ≡ kind.Check) c.status.ensures (λ is. ap (λ (j : Job). j.kind) same
+    ∙ of-check c.in-Command.job (window-checks c.in-Ok.ending (command_of c.in-Command.job) c.in-Command.config ends.0 (g.O.Sink.taken c.args.out.now) (g.O.Sink.taken c.obey.new.out)
+    (g.N.Sink.taken c.args.notes.now) (g.N.Sink.taken c.obey.new.notes) ends.3 is)) which)
+
+pub returns-in-Ok-clause-stopped : goal.returns-in-Ok-clause-stopped
+returns-in-Ok-clause-stopped g c = λ job asked checks one.
+    let read = c.in-Command.ensures.command c.in-Command.job c.in-Command.config refl in
+    let same : job ≡ c.in-Command.job = same-job (map string_bytes c.args.words.now) job c.in-Command.job asked read.0 in
+    c.in-Ok.ensures.unended (inr (inr (window-told c.in-Ok.ending c.status.result c.status.ensures (c.in-Ok.ensures.not_bad (ap (λ (j : Job). j.kind) (sym same) ∙ checks)) one)))
 
 pub returns-in-Ok-clause-encode_stops : goal.returns-in-Ok-clause-encode_stops
 returns-in-Ok-clause-encode_stops g c = λ job asked encodes four.

@@ -1,0 +1,62 @@
+-- The command `check`: a certificate that is read, and what its windows show.
+use Rattle.std.specs.Prelude.{◌≡◌, ◌⊎◌, ℕ, ◌+◌, ◌==◌, Bool, true, false, if◌then◌else◌, List, [], ◌∷◌, ◌++◌, length, take, Option, Some, None}
+use Rattle.tm_base.specs.Written.{Wrote, WroteFront}
+use Rattle.tm_config.specs.Configuration.{Configuration}
+use Rattle.tm_conv.specs.declared.rates.Rate.{Rate}
+use Rattle.tm_path_cert.specs.declared.verdicts.Starts.TheVariants.{Any, One}
+use Rattle.tm_inner.specs.Symbols.{is_inverted}
+use Rattle.tm_cert_file.specs.declared.seen.Seen.{Seen}
+use Rattle.tm_cert_file.specs.declared.seen.Seen.TheVariants.{More, Failed}
+use Rattle.tm_cert_file.specs.Window.{Window}
+use Rattle.tm_cert_file.specs.Before.{Rules}
+use Rattle.tm_cert_file.specs.File.{IsRead, all_kept, is_cut}
+use Rattle.tm_cli.specs.Lines.{window_text, trace_end_text, bad_text, cut_text}
+
+-- what a certificate is read by
+abbrev pub rules_of : Configuration → Rate → Rules
+rules_of c rate = record { rate = rate; invert = is_inverted rate c.invert; starts = if c.start == 0 then One 0 else Any; keep = c.keep; ahead = c.ahead }
+
+-- a property of how octets are read as a certificate; with no inner code none is read
+abbrev pub ReadAt : (Rules → Type 0) → Option Rate → Configuration → Type 0
+ReadAt P None c = ⊥
+ReadAt P (Some rate) c = P (rules_of c rate)
+
+-- the lines of windows, numbered from `number` on
+abbrev pub windows_text : ℕ → List Window → List ℕ
+windows_text number [] = []
+windows_text number (w ∷ windows) = window_text number w.steps w.kept w.metric ++ windows_text (number + 1) windows
+
+-- how many of their steps are kept
+abbrev pub bits_kept : List Window → ℕ
+bits_kept [] = 0
+bits_kept (w ∷ windows) = w.kept + bits_kept windows
+
+-- what is told behind the lines of the windows that pass: the window that fails, or that is not whole or missing, or what they come to
+abbrev pub end_text : Seen → Bool → List Window → List ℕ
+end_text (Failed reason) cut windows = bad_text (length windows) reason
+end_text seen true windows = cut_text (length windows)
+end_text seen false windows = trace_end_text (length windows) (bits_kept windows) 0
+
+-- the soft octets of the kept steps of the windows that pass, and what is told of the certificate
+pub record IsChecked (rules : Rules) (octets out notes : List ℕ) : Type 0 where
+  pub windows : List Window
+  pub seen : Seen
+  pub read : IsRead rules octets windows seen
+  pub is_out : out ≡ all_kept rules.rate 0 windows
+  pub are_notes : notes ≡ windows_text 0 windows ++ end_text seen (is_cut read.before.next read.rest) windows
+
+-- those of the windows that are whole, where none fails
+pub record IsCheckedDue (rules : Rules) (octets out notes : List ℕ) : Type 0 where
+  pub windows : List Window
+  pub read : IsRead rules octets windows More
+  pub is_out : out ≡ all_kept rules.rate 0 windows
+  pub are_notes : notes ≡ windows_text 0 windows
+
+-- The output took the soft octets of the first windows, and maybe a part of those behind them. The notes hold no more than the lines of
+-- these first windows, or these are all.
+pub record AreInTurn (rules : Rules) (windows : List Window) (taken taken_now noted noted_now : Option (List ℕ)) : Type 0 where
+  pub front : List Window
+  pub rest : List Window
+  pub split : windows ≡ front ++ rest
+  pub kept : (count : ℕ) × Wrote taken taken_now (all_kept rules.rate 0 front ++ take count (all_kept rules.rate (bits_kept front) rest))
+  pub lines : WroteFront noted noted_now (windows_text 0 front) ⊎ (rest ≡ [])
