@@ -186,7 +186,7 @@ static VALUES: [(&str, &str, &str); 22] = [
 ];
 
 // The same of commands that read nothing.
-static UNREAD: [(&str, &str, &str); 24] = [
+static UNREAD: [(&str, &str, &str); 26] = [
     ("no text for a word", "tmchan word", "words"),
     ("two texts", "tmchan word 00 00", "words"),
     ("a text where none belongs", "tmchan soak 00", "words"),
@@ -214,6 +214,16 @@ static UNREAD: [(&str, &str, &str); 24] = [
         "records without a code, and a value before it",
         "tmchan erased --code none --inner none --workers 0",
         "workers",
+    ),
+    (
+        "a certificate without an inner code",
+        "tmchan check --inner none",
+        "inner",
+    ),
+    (
+        "a certificate without an inner code, and a value before it",
+        "tmchan check --inner none --keep 63",
+        "keep",
     ),
     ("too short a word", "tmchan word 7b", "word"),
     (
