@@ -106,6 +106,7 @@ impl Reader {
         ensures rules { self.new.rules ≡ self.old.rules }
         ensures before { self.new.before ≡ self.old.before }
         ensures seen { IsSeen self.old.rules self.old.before self.new.octets result.1 }
+        ensures first { (count : ℕ) → count < result.0 → IsSeen self.old.rules self.old.before (self.old.octets ++ take count piece.now) Seen.More }
         ensures all { result.1 ≡ Seen.More → result.0 ≡ length piece.now }
         ensures just { result.1 ≡ Seen.Passed → HasPassed self.new }
         ensures stands { (given : List ℕ) (windows : List Window) → StandsFor self.old given windows → StandsFor self.new (given ++ take result.0 piece.now) windows }

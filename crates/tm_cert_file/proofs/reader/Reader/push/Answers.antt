@@ -1,6 +1,8 @@
-use Rattle.std.proofs.Common.{◌≡◌, ◌+◌, ◌-◌, ◌<◌, ◌≤◌, ◌++◌, length, take, drop, min, sym, ap, ◌∙◌, arith}
-use Rattle.std.proofs.lemmas.List.{length-take-le, length-drop}
+use Rattle.std.proofs.Common.{◌≡◌, ℕ, ◌+◌, ◌-◌, ◌<◌, ◌≤◌, ◌++◌, length, take, drop, min, refl, sym, ap, ◌∙◌, arith, inl, inr}
+use Rattle.std.proofs.lemmas.Bool.{cases_lt}
+use Rattle.std.proofs.lemmas.List.{length-take, length-take-le, length-drop}
 use Rattle.tm_cert_file.specs.declared.seen.Seen.TheVariants.{More}
+use Rattle.tm_cert_file.specs.Seen.{IsSeen}
 use Rattle.tm_cert_file.proofs.Pushing.{same_seen, before_last, taken_more, stands_more}
 use Rattle.tm_cert_file.proofs.reader.Reader.push.Goals as goal
 use Rattle.tm_cert_file.proofs.reader.Reader.push.Goals.{After-fill-taken}
@@ -27,6 +29,24 @@ module _ (c : After-fill-taken) where
       taken_more c.loop-taken.taken c.fill-taken.result c.args.self.now.octets c.self.inside.octets.octets c.fill-taken.new.self.octets c.args.piece.now
       (ap (λ v. v.octets) c.self.view_is ∙ c.loop-taken.invariant.octets) c.fill-taken.ensures.octets
 
+  -- nothing was seen by fewer octets
+  first : (count : ℕ) → count < c.loop-taken.taken + c.fill-taken.result → IsSeen c.args.self.now.rules c.args.self.now.before (c.args.self.now.octets ++ take count c.args.piece.now) More
+  first number less = elim (cases_lt number c.loop-taken.taken) [
+    | inl lt ↦ c.loop-taken.invariant.first number lt
+    | inr le ↦
+        let piece = c.args.piece.now in
+        let v = c.loop-taken.self in
+        let taken = c.loop-taken.taken in
+        let rest = take (length piece - taken) (drop taken piece) in
+        let part = take (number - taken) rest in
+        let is : v.octets ++ part ≡ c.args.self.now.octets ++ take (taken + (number - taken)) piece =
+        taken_more taken (number - taken) c.args.self.now.octets v.octets (v.octets ++ part) piece c.loop-taken.invariant.octets refl in
+        let all : taken + (number - taken) ≡ number = omega arith in
+        same_seen v.rules _ v.before _ (v.octets ++ part) _ More c.loop-taken.invariant.rules c.loop-taken.invariant.before
+        (is ∙ ap (λ n. c.args.self.now.octets ++ take n piece) all)
+        (c.goal-goal.ensures.open part (omega (arith, length-take (number - taken) rest, count, c.goal-goal.ensures.more)))
+  ]
+
 -- ---- the answers
 
 pub look-requires-clause-open : goal.look-requires-clause-open
@@ -52,6 +72,7 @@ loop-taken-preserved c =
       before = ap (λ v. v.before) c.self.view_is ∙ c.loop-taken.invariant.before;
       octets = octets_are k;
       seen = c.in-More.ensures.seen;
+      first = first k;
     }
 
 pub returns-in_default : goal.returns-in_default
@@ -66,6 +87,7 @@ returns-in_default c =
       rules = rules;
       before = before;
       seen = same_seen _ c.args.self.now.rules _ c.args.self.now.before c.fill-taken.new.self.octets c.fill-taken.new.self.octets c.look.result rules before (λ i. c.fill-taken.new.self.octets) c.look.ensures.seen;
+      first = first k;
       all = λ e. absurd (c.in_default.not-More e);
       just = c.look.ensures.just;
       stands = stands_more c.args.self.now.rules _ c.args.self.now.before _ c.args.self.now.octets c.fill-taken.new.self.octets (take (c.loop-taken.taken + c.fill-taken.result) c.args.piece.now) rules before (octets_are k);
