@@ -2,7 +2,6 @@
 use Rattle.std.proofs.Common.{◌≡◌, ℕ, ◌+◌, ◌-◌, ◌^◌, ◌<◌, ◌≤◌, ◌∙◌, refl, sym, ap, subst, arith, List, [], ◌∷◌, ◌++◌, Option, take, drop, length, length-drop}
 use Rattle.std.proofs.lemmas.List.{length-take-le}
 use Rattle.std.proofs.lemmas.List.Elements.{All-head, All-tail, All-take}
-use Rattle.tm_base.specs.Takers.{HandedOver, HandedPart}
 use Rattle.tm_base.specs.Written.{Wrote, WroteFront}
 use Rattle.tm_base.proofs.Known.{append_known-nil}
 use Rattle.tm_conv.specs.Path.{AreBits, next_register, steps_size, register_after}
@@ -11,7 +10,7 @@ use Rattle.tm_conv.proofs.Paths.{length-path}
 use Rattle.tm_viterbi.specs.WindowBlock.{WindowBlock}
 use Rattle.tm_viterbi.specs.Blocks.{IsBlock, AreBlocks}
 use Rattle.tm_viterbi.specs.Due.{Place, Closed, behind}
-use Rattle.tm_cert_file.specs.Certifying.{Certifying, Fits, AreNext, WroteBlock, WroteBlockFront, WroteBlocks, WroteBlocksFront, turned, with_place}
+use Rattle.tm_cert_file.specs.Certifying.{Certifying, Fits, AreNext, WroteBlockFront, WroteBlocks, WroteBlocksFront, turned, with_place}
 use Rattle.tm_cert_file.proofs.WrittenFronts.{wrote-more, front-longer, front-more}
 use Rattle.tm_cert_file.proofs.ColumnLists.{HasColumn}
 use Rattle.tm_cert_file.proofs.ManyWindows.{AreThere, IsThere, there-block, kept-inside, whole-behind, certified-exists}
@@ -118,27 +117,3 @@ took-blocks_front exists c blocks taken taken_now fit part =
     let P : List WindowBlock → Type 0 = λ v. (text : List ℕ) × AreNext c v text × WroteFront taken taken_now text in
     subst P (sym part.split)
     (took-front exists c part.middle part.front part.rest part.next taken part.taken_then taken_now (subst (λ (v : List WindowBlock). AllFit c v) part.split fit) part.wrote part.broke)
-
--- ---- what was handed to a taker that keeps a certificate and a sink
-
-pub handed-blocks : {T : Type 0} (certifying : T → Certifying) (taken : T → Option (List ℕ)) (took : T → WindowBlock → T → Type 0)
-    → ((a : T) (block : WindowBlock) (b : T) → took a block b → WroteBlock (certifying a) (certifying b) block (taken a) (taken b))
-    → (before now : T) (blocks : List WindowBlock) → HandedOver took before blocks now → WroteBlocks (certifying before) (certifying now) blocks (taken before) (taken now)
-handed-blocks certifying taken took wrote before now [] handed = (ap certifying (sym handed), ap taken (sym handed))
-handed-blocks certifying taken took wrote before now (block ∷ blocks) handed =
-    (certifying handed.0, taken handed.0, wrote before block handed.0 handed.1, handed-blocks certifying taken took wrote handed.0 now blocks handed.2)
-
-pub handed-part : {T : Type 0} (certifying : T → Certifying) (taken : T → Option (List ℕ)) (took broke : T → WindowBlock → T → Type 0)
-    → ((a : T) (block : WindowBlock) (b : T) → took a block b → WroteBlock (certifying a) (certifying b) block (taken a) (taken b))
-    → ((a : T) (block : WindowBlock) (b : T) → broke a block b → WroteBlockFront (certifying a) block (taken a) (taken b))
-    → (before now : T) (blocks : List WindowBlock) → HandedPart took broke before blocks now → WroteBlocksFront (certifying before) blocks (taken before) (taken now)
-handed-part certifying taken took broke wrote wrote_front before now blocks part = record {
-  front = part.front;
-  next = part.next;
-  rest = part.rest;
-  split = part.split;
-  middle = certifying part.middle;
-  taken_then = taken part.middle;
-  wrote = handed-blocks certifying taken took wrote before part.middle part.front part.handed;
-  broke = wrote_front part.middle part.next now part.failed;
-}

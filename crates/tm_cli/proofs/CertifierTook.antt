@@ -98,7 +98,7 @@ module _ {T K L O : Type 0} (name : T → K) (sink : T → L) (certifying : T �
 
 -- ---- blocks behind a phase
 
-wrote-items : (before now : Certifying) (items : List WindowBlock) (taken taken_now : Option (List ℕ)) → WroteHanded before now (map Item items) taken taken_now
+pub wrote-items : (before now : Certifying) (items : List WindowBlock) (taken taken_now : Option (List ℕ)) → WroteHanded before now (map Item items) taken taken_now
     → WroteBlocks before now items taken taken_now
 wrote-items before now [] taken taken_now wrote = wrote
 wrote-items before now (item ∷ items) taken taken_now wrote = (wrote.0, wrote.1, wrote.2, wrote-items wrote.0 now items wrote.1 taken_now wrote.3)
@@ -108,10 +108,6 @@ pub wrote-turn : (before now : Certifying) (chosen : Option Chosen) (items : Lis
 wrote-turn before now None items taken taken_now wrote = wrote-items before now items taken taken_now wrote
 wrote-turn before now (Some chosen) items taken taken_now wrote =
     wrote-items (with_octets before (drop chosen.skip before.place.octets)) now items taken taken_now wrote
-
-pub wrote-behind : (before now : Certifying) (items : List WindowBlock) (taken taken_now : Option (List ℕ)) → WroteHanded before now (map Item items) taken taken_now
-    → WroteBlocks before now items taken taken_now
-wrote-behind = wrote-items
 
 -- items that begin with these have no phase in these
 wrote-first : (before now : Certifying) (items : List WindowBlock) (front : List (Handed WindowBlock)) (next : WindowBlock) (rest : List (Handed WindowBlock)) (taken taken_now : Option (List ℕ))

@@ -44,10 +44,6 @@ pub first-some : (c : Configuration) (rate : Rate) (phase : ℕ) (octets : List 
     → AreFirst (settings_of c rate) (soft_octets c phase octets) blocks
 first-some c rate phase octets blocks is first = subst (λ (r : Option Rate). FirstAt r c phase octets blocks) is first
 
-nil-first : {A : Type 0} (xs ys : List A) → xs ++ ys ≡ [] → xs ≡ []
-nil-first [] ys is = refl
-nil-first (x ∷ xs) ys is = absurd cc
-
 nil-second : {A : Type 0} (xs ys : List A) → xs ++ ys ≡ [] → ys ≡ []
 nil-second [] ys is = is
 nil-second (x ∷ xs) ys is = absurd cc

@@ -20,7 +20,7 @@ use Rattle.tm_inner.proofs.GivenPieces.{soft-behind}
 use Rattle.tm_inner.proofs.ReceivedBits.{kept-le, length-soft}
 use Rattle.tm_cert_file.specs.Certificate.{AreCertified, IsCertificate}
 use Rattle.tm_cert_file.specs.Certifying.{Certifying, AreNext, WroteBlocks, WroteBlocksFront, with_octets, with_place}
-use Rattle.tm_cli.proofs.CertifierTook.{WroteHanded, WroteHandedFront, wrote-turn, wrote-behind, front-turn, front-behind}
+use Rattle.tm_cli.proofs.CertifierTook.{WroteHanded, WroteHandedFront, wrote-turn, wrote-items, front-turn, front-behind}
 
 -- ---- closed windows, and those behind them
 
@@ -200,7 +200,7 @@ from-going c rate given octets soft other all handed more text choice are s g =
       is_room = s.is_room;
       closed = behind.0;
       is_text = behind.1;
-      wrote = λ now taken taken_now wrote. wrote-behind given now on.rest taken taken_now (subst (λ (l : List (Handed WindowBlock)). WroteHanded given now l taken taken_now) on.are wrote);
+      wrote = λ now taken taken_now wrote. wrote-items given now on.rest taken taken_now (subst (λ (l : List (Handed WindowBlock)). WroteHanded given now l taken taken_now) on.are wrote);
       broke = λ taken taken_now part. front-behind given on.rest taken taken_now (subst (λ (l : List (Handed WindowBlock)). WroteHandedFront given l taken taken_now) on.are part);
     }
 

@@ -17,15 +17,12 @@ use crate::feed::Feed;
 use crate::turns::{Pumped, pump};
 use std::alloc::Global;
 use tm_base::{Failed, NoMemory, Sink, Source};
-use tm_cert_file::{Certifier, Certifying, certified_law};
+use tm_cert_file::{Certifier, Certifying, PIECE, certified_law};
 use tm_channel::Config;
 use tm_conv::Rate;
 use tm_inner::{InnerReceiver, is_inverted, rate_of};
 use tm_phase::{phase_law, whole_window_law};
 use tm_viterbi::{Start, closed_windows_law, due_law, one_list_law};
-
-// The most octets that are given at a time.
-const PIECE: usize = 256;
 
 // Where the first window's path may start.
 fn start_of(config: &Config) -> Start
