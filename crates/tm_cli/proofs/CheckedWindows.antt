@@ -1,6 +1,6 @@
 -- A certificate, window by window, and what is written for it.
-use Rattle.std.proofs.Common.{◌≡◌, inl, inr, ℕ, suc, ◌+◌, ◌^◌, ◌-◌, ◌<◌, ◌≤◌, List, [], ◌∷◌, ◌++◌, length, take, drop, min, Option, None, refl, sym, ap, ◌∙◌, subst, arith, append_assoc, length-append}
-use Rattle.std.proofs.lemmas.List.{append-nil, drop_all, length-drop, length-take-le, take_rest}
+use Rattle.std.proofs.Common.{◌≡◌, inl, inr, ℕ, suc, ◌+◌, ◌^◌, ◌-◌, ◌<◌, ◌≤◌, List, [], ◌∷◌, ◌++◌, length, take, drop, min, Option, None, refl, sym, ap, ◌∙◌, subst, arith, append_assoc, length-append, take-append-drop}
+use Rattle.std.proofs.lemmas.List.{append-nil, drop_all, length-drop, length-take-le, take_rest, take-append-le}
 use Rattle.tm_base.specs.Written.{Wrote, WroteFront}
 use Rattle.tm_conv.specs.declared.rates.Rate.{Rate}
 use Rattle.tm_cert_file.specs.declared.seen.Reason.{Reason}
@@ -10,12 +10,13 @@ use Rattle.tm_cert_file.specs.Window.{Window, kept_in, steps_in, window_size}
 use Rattle.tm_cert_file.specs.Before.{Rules, Before, at_first, behind}
 use Rattle.tm_cert_file.specs.Seen.{IsSeen}
 use Rattle.tm_cert_file.specs.File.{ArePassed, IsRead, all_kept, kept_octets}
-use Rattle.tm_cert_file.specs.Reading.{Reading, HasPassed, StandsFor}
+use Rattle.tm_cert_file.specs.Reading.{Reading, HasPassed, IsOpen, StandsFor}
 use Rattle.tm_cert_file.proofs.Stages.{Holds-from_none}
 use Rattle.tm_cert_file.proofs.Looking.{Shaped-from_shape, seen_none}
 use Rattle.tm_cert_file.proofs.Passing.{passed-push}
 use Rattle.tm_cli.specs.Checked.{bits_kept, windows_text}
-use Rattle.tm_cli.specs.Checking.{Passes, Breaks, Fails, StopsBy, WroteWindow, WroteWindowFront, window_of}
+use Rattle.tm_cli.specs.Checking.{Passes, Breaks, Fails, NoneFails, StopsBy, WroteWindow, WroteWindowFront, window_of}
+use Rattle.tm_cli.specs.Reading.{but_last_turn}
 use Rattle.tm_cli.specs.Lines.{window_text}
 use Rattle.tm_cli.specs.declared.check.Progress.{Progress}
 use Rattle.tm_cli.proofs.Endings.{wrote-front}
@@ -227,15 +228,32 @@ read-so_far rules r p start taken was noted given seen h is stops =
 abbrev pub ReadStays : Type 0
 ReadStays = (rules : Rules) (octets more : List ℕ) (windows : List Window) (reason : Reason) → IsRead rules octets windows (Failed reason) → IsRead rules (octets ++ more) windows (Failed reason)
 
+-- octets are read in one way
+abbrev pub ReadOne : Type 0
+ReadOne = (rules : Rules) (octets : List ℕ) (windows others : List Window) (seen other : Seen) (read : IsRead rules octets windows seen) (again : IsRead rules octets others other)
+    → (windows ≡ others) × (seen ≡ other) × (read.before ≡ again.before) × (read.rest ≡ again.rest)
+
+-- while a window is read none fails before
+pub none-fails : ReadStays → ReadOne → (rules : Rules) (r : Reading) (p : Progress) (start taken was noted : Option (List ℕ)) (given piece : List ℕ) → length piece ≤ 4096
+    → IsOpen r → Passes rules r p start taken was noted given → NoneFails rules (but_last_turn (given ++ piece))
+none-fails stays one rules r p start taken was noted given piece few is_open h = λ windows reason broken.
+    let n = length (given ++ piece) - 4096 in
+    let front = take-append-le n given piece (omega (arith, length-append given piece)) in
+    let early = stays rules (take n given) (drop n given) windows reason (subst (λ o. IsRead rules o windows (Failed reason)) front broken) in
+    let all = subst (λ o. IsRead rules o windows (Failed reason)) (take-append-drop n given) early in
+    let same = one rules given windows h.windows (Failed reason) More all (read-so_far rules r p start taken was noted given More h is_open (λ no. cc no)) in
+    cc same.1
+
 -- the window fails
 pub fails-now : ReadStays → (rules : Rules) (r : Reading) (p now : Progress) (start taken was noted : Option (List ℕ)) (given more : List ℕ) (reason : Reason)
     → now.count ≡ p.count → IsSeen r.rules r.before r.octets (Failed reason)
-    → Passes rules r p start taken was noted given → Fails rules reason now.count start taken was noted (given ++ more)
-fails-now stays rules r p now start taken was noted given more reason same is h = record {
+    → Passes rules r p start taken was noted given → NoneFails rules (but_last_turn (given ++ more)) → Fails rules reason now.count start taken was noted (given ++ more)
+fails-now stays rules r p now start taken was noted given more reason same is h late = record {
   windows = h.windows;
   broken = stays rules given more h.windows reason (read-so_far rules r p start taken was noted given (Failed reason) h is (λ no. cc no));
   wrote = h.wrote;
   counted = same ∙ h.count;
+  late = late;
 }
 
 -- a sink failed, and no window

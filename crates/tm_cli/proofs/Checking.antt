@@ -23,6 +23,7 @@ use Rattle.tm_cli.specs.Lines.{bad_text, cut_text, trace_end_text}
 use Rattle.tm_cli.specs.Output.{Output, IsOutput, IsInOrder, WroteFronts}
 use Rattle.tm_cli.specs.Reading.{FedUpTo}
 use Rattle.tm_cli.specs.declared.check.Progress.{Progress}
+use Rattle.tm_cli.specs.Reading.{but_last_turn}
 use Rattle.tm_cli.specs.declared.ending.Ending.TheVariants.{Done, BadWindow, LeftOver, SinkFault}
 use Rattle.tm_cli.specs.declared.turns.Pumped.{Pumped}
 use Rattle.tm_cli.specs.declared.turns.Pumped.TheVariants.{Ended, SourceFault as InSource, FeedFault, PastLimit as Past}
@@ -260,6 +261,9 @@ module _ (c : Configuration) (k : Rate) (is : rate_of c.inner ≡ Some k) where
       },
     ),
     at-rate (λ r'. (windows : List Window) × (why : Reason) × IsBroken r' (take c.limit octets) windows why) (rate_of c.inner) c k is (f.windows, reason, f.broken),
+    λ bad.
+        let early = from-rate (λ r'. (windows : List Window) × (why : Reason) × IsBroken r' (but_last_turn (take c.limit octets)) windows why) (rate_of c.inner) c k is bad in
+        f.late early.0 early.1 early.2,
   )
 
   -- the notes failed in it

@@ -9,6 +9,7 @@ use Rattle.tm_cert_file.specs.File.{IsRead, IsBroken, all_kept, kept_octets}
 use Rattle.tm_cert_file.specs.Reading.{Reading, StandsFor}
 use Rattle.tm_cli.specs.Checked.{AreInTurn, bits_kept, windows_text}
 use Rattle.tm_cli.specs.Lines.{window_text}
+use Rattle.tm_cli.specs.Reading.{but_last_turn}
 use Rattle.tm_cli.specs.declared.check.Progress.{Progress}
 
 -- the window that is read
@@ -52,12 +53,17 @@ pub record Breaks (rules : Rules) (taken taken_now noted noted_now : Option (Lis
   pub lines : WroteFront noted noted_now (windows_text 0 windows)
   pub turn : AreInTurn rules windows taken taken_now noted noted_now
 
--- behind so many windows, which the sinks took, the next one fails
+-- no window of these octets fails
+abbrev pub NoneFails : Rules → List ℕ → Type 0
+NoneFails rules octets = (windows : List Window) (reason : Reason) → IsBroken rules octets windows reason → ⊥
+
+-- behind so many windows, which the sinks took, the next one fails, which does not show before the last turn
 pub record Fails (rules : Rules) (reason : Reason) (count : ℕ) (taken taken_now noted noted_now : Option (List ℕ)) (octets : List ℕ) : Type 0 where
   pub windows : List Window
   pub broken : IsBroken rules octets windows reason
   pub wrote : WroteWindows rules windows taken taken_now noted noted_now
   pub counted : count ≡ length windows
+  pub late : NoneFails rules (but_last_turn octets)
 
 -- checking stopped at a window that fails, where there is a reason, or else at a sink
 abbrev pub StopsBy : Option Reason → Rules → ℕ → (taken taken_now noted noted_now : Option (List ℕ)) → List ℕ → Type 0

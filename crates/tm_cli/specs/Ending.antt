@@ -3,6 +3,7 @@ use Rattle.std.specs.Prelude.{◌≡◌, ℕ, ◌+◌, ◌≤◌, List, ◌++◌
 use Rattle.tm_config.specs.Configuration.{Configuration}
 use Rattle.tm_cli.specs.Command.{Command}
 use Rattle.tm_cli.specs.Command.Command.{Check}
+use Rattle.tm_cli.specs.Reading.{but_last_turn}
 use Rattle.tm_cli.specs.Output.{Output, IsOutput, IsPartial, IsBad, IsInOrder, WroteFronts, WroteOutput, WroteDue}
 use Rattle.tm_cli.specs.declared.ending.Ending.{Ending}
 use Rattle.tm_cli.specs.declared.ending.Ending.TheVariants.{Done, Bad, BadWindow, LeftOver, SourceFault, SinkFault, PastLimit}
@@ -21,9 +22,10 @@ Ends Done command c octets taken taken_now noted noted_now =
 -- the same where a codeblock is beyond repair
 Ends Bad command c octets taken taken_now noted noted_now =
     WroteOutput command c octets taken taken_now noted noted_now × (length octets ≤ c.limit) × IsBad command c octets
--- the output of a certificate in which a window fails, as it shows up to the limit
+-- the output of a certificate in which a window fails, as it shows up to the limit, and not before the last turn
 Ends BadWindow command c octets taken taken_now noted noted_now =
     (command ≡ Check) × WroteOutput command c (take c.limit octets) taken taken_now noted noted_now × IsBad command c (take c.limit octets)
+    × (IsBad command c (but_last_turn (take c.limit octets)) → ⊥)
 -- the whole output of an input that is within the limit but not whole
 Ends LeftOver command c octets taken taken_now noted noted_now =
     WroteOutput command c octets taken taken_now noted noted_now × (length octets ≤ c.limit) × IsPartial command c octets

@@ -106,6 +106,7 @@ fn check_window<O: Sink, N: Sink>(
     requires open { IsOpen reader.old }
     requires right { progress.old.failed ≡ None }
     requires some { 0 < length piece.now }
+    requires few { length piece.now ≤ 4096 }
     ensures open { OnOk result (IsOpen reader.new) }
     ensures right { OnOk result (progress.new.failed ≡ None) }
     ensures count { IfOk result (λ count. (0 < count) × (count ≤ length piece.now)) }
@@ -150,6 +151,7 @@ fn check_octets<O: Sink, N: Sink>(
 ) -> Result<(), Failed>
     requires open { IsOpen reader.old }
     requires right { progress.old.failed ≡ None }
+    requires few { length octets.now ≤ 4096 }
     ensures open { OnOk result (IsOpen reader.new) }
     ensures right { OnOk result (progress.new.failed ≡ None) }
     ensures ok { OnOk result ((rules : Rules) (start noted : Option (List ℕ)) (given : List ℕ) → length given + length octets.now < 2 ^ 43

@@ -1,5 +1,5 @@
 // What takes a stream of octets in pieces.
-ghost use Rattle.std.specs.Prelude.{◌≡◌, ℕ, List, [], ◌++◌, OnOk, OnErr};
+ghost use Rattle.std.specs.Prelude.{◌≡◌, ℕ, ◌≤◌, List, [], ◌++◌, length, OnOk, OnErr};
 ghost use Rattle.tm_base.specs.Outside.{HasCause};
 
 use tm_base::Failed;
@@ -24,9 +24,10 @@ pub trait Feed {
     /// It may be fed.
     ghost is_ready: { Self → Type 0 };
 
-    /// Takes the next octets.
+    /// Takes the next octets, at most those of a turn.
     fn feed(&mut self, piece: &[u8]) -> Result<(), Failed>
-        requires { is_ready self.old }
+        requires ready { is_ready self.old }
+        requires few { length piece.now ≤ 4096 }
         ensures same { same self.old self.new }
         ensures ready { OnOk result (is_ready self.new) }
         ensures fed { OnOk result (fed self.old self.new piece.now) }

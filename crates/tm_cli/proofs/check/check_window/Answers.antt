@@ -1,8 +1,9 @@
-use Rattle.std.proofs.Common.{◌^◌, ◌<◌, ◌++◌, ◌∙◌, length, take, drop, refl, subst, arith, length-append}
+use Rattle.std.proofs.Common.{◌^◌, ◌<◌, ◌++◌, ◌∙◌, length, take, drop, refl, sym, subst, arith, length-append}
 use Rattle.std.proofs.lemmas.List.{length-take-le}
 use Rattle.tm_cert_file.specs.declared.seen.Seen.TheVariants.{Failed}
-use Rattle.tm_cli.specs.Checking.{Breaks, Fails}
-use Rattle.tm_cli.proofs.CheckedWindows.{breaks-longer, fails-now, passes-more, seen-now, stops-none}
+use Rattle.tm_cli.specs.Checking.{Breaks, Fails, NoneFails}
+use Rattle.tm_cli.specs.Reading.{but_last_turn}
+use Rattle.tm_cli.proofs.CheckedWindows.{breaks-longer, fails-now, none-fails, passes-more, seen-now, stops-none}
 use Rattle.tm_cli.proofs.Erasing.{piece-all}
 use Rattle.tm_cli.proofs.check.check_window.Goals as goal
 
@@ -31,4 +32,6 @@ returns-in-Failed-clause-err g c = λ rules start noted given short h.
     (fails-now c.read_law.ensures.stays rules c.push-taken.new.self c.args.progress.now c.args.progress.now start taken noted told (given ++ take n piece) (drop n piece) reason refl
     (seen-now c.args.reader.now c.push-taken.new.self c.push-taken.result.1 (Failed reason) c.push-taken.ensures.rules c.push-taken.ensures.before c.in-Failed.is c.push-taken.ensures.seen)
     (passes-more rules c.args.reader.now c.push-taken.new.self c.args.progress.now start taken noted told given (take n piece)
-    c.push-taken.ensures.rules (λ windows. c.push-taken.ensures.stands given windows) h))
+    c.push-taken.ensures.rules (λ windows. c.push-taken.ensures.stands given windows) h)
+    (subst (λ o. NoneFails rules (but_last_turn o)) (sym (piece-all given piece n))
+    (none-fails c.read_law.ensures.stays c.read_law.ensures.one rules c.args.reader.now c.args.progress.now start taken noted told given piece c.requires.few c.requires.open h)))
