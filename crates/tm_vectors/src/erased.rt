@@ -22,8 +22,8 @@ const ERASED: [u8; 32] = [1; 32];
 
 static ROWS: [Row; 8] = [
     Row {
-        name: "all check symbols are erased",
-        line: "tmchan erased --length 1",
+        name: "all check symbols are erased, whatever the phase",
+        line: "tmchan erased --length 1 --phase find",
         input: &[&[0x7B], &[0; 32], &[0], &ERASED],
         status: 0,
         out: &[b"fixed 0 32 ", DIGITS],

@@ -89,6 +89,23 @@ fn the_phase_is_told_first(rt: HostRuntime) -> Result<(), Fail> {
     check_rows(&rt, rt.alloc(), &ROWS)
 }
 
+// Where the read behind so many octets fails, the phase was told if these are a whole window behind each phase.
+#[test]
+fn the_phase_is_due_at_the_read_that_ends_the_window(rt: HostRuntime) -> Result<(), Fail> {
+    let line = "tmchan report --phase find --keep 64 --ahead 0";
+    for count in 0..132 {
+        let mut given = Given::new(line, &[0; 131], 1);
+        given.failing_read = Some(count);
+        let out: &[u8] = if count < 129 {
+            &[]
+        } else {
+            b"phase 0 cost 3570\n"
+        };
+        check_call(&rt, rt.alloc(), "a read fails", &given, 3, &[out], "")?;
+    }
+    Ok(())
+}
+
 // The symbols of bits, by the octets of a 0 and of a 1.
 fn symbols_of(alloc: Global, packed: &[u8], levels: [u8; 2]) -> Result<Vec<u8>, AllocError> {
     let mut symbols = Vec::new(alloc);

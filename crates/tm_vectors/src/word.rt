@@ -11,8 +11,8 @@ static ROWS: [(&str, &str, u8, &str); 11] = [
         "fixed 0 7b47325f864a18a07883fab95c5f4fecfeec4f5f5cb9fa8378a0184a865f32477b\n",
     ),
     (
-        "a codeword without repair, whatever the length",
-        "tmchan word 7b47325f864a18a07883fab95c5f4fecfeec4f5f5cb9fa8378a0184a865f32477b --length 7 --repair 0",
+        "a codeword without repair, whatever the length and the phase",
+        "tmchan word 7b47325f864a18a07883fab95c5f4fecfeec4f5f5cb9fa8378a0184a865f32477b --length 7 --repair 0 --phase find",
         0,
         "fixed 0 7b47325f864a18a07883fab95c5f4fecfeec4f5f5cb9fa8378a0184a865f32477b\n",
     ),
