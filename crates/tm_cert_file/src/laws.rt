@@ -28,6 +28,8 @@ use tm_path_cert::verdict_law;
 pub fn certified_law()
     ensures exists { (s : Settings) (octets : List ℕ) (blocks : List WindowBlock) (left : ℕ) → AreBlocksOf s octets blocks left
         → (text : List ℕ) × IsCertificate s octets blocks text }
+    ensures first { (rate : Rate) (invert : Bool) (keep ahead : ℕ) (from to : Place) (blocks : List WindowBlock) → Closed rate invert keep ahead from blocks to
+        → (text : List ℕ) × AreCertified rate invert from.starts from.t from.octets blocks text }
     ensures one { (rate : Rate) (invert : Bool) (starts : Option ℕ) (t : ℕ) (octets : List ℕ) (blocks : List WindowBlock) (text other : List ℕ)
         → AreCertified rate invert starts t octets blocks text → AreCertified rate invert starts t octets blocks other → text ≡ other }
     ensures append { (rate : Rate) (invert : Bool) (keep ahead : ℕ) (from to : Place) (first rest : List WindowBlock) (text more : List ℕ)

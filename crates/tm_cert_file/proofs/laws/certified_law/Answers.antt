@@ -1,9 +1,13 @@
-use Rattle.tm_cert_file.proofs.ManyWindows.{there-closed, certificate-exists, certified-one, certified-append, certified-split, certified-longer}
+use Rattle.tm_cert_file.proofs.ManyWindows.{there-closed, certified-exists, certificate-exists, certified-one, certified-append, certified-split, certified-longer}
 use Rattle.tm_cert_file.proofs.WrittenBlocks.{fits-closed, fits-last, took-blocks, took-blocks_front, place-behind}
 use Rattle.tm_cert_file.proofs.laws.certified_law.Goals as goal
 
 pub returns-clause-exists : goal.returns-clause-exists
 returns-clause-exists c = certificate-exists c.columns_law.ensures.exists
+
+pub returns-clause-first : goal.returns-clause-first
+returns-clause-first c rate invert keep ahead from to blocks closed =
+    certified-exists c.columns_law.ensures.exists rate invert from blocks (there-closed rate invert keep ahead from to blocks closed)
 
 pub returns-clause-one : goal.returns-clause-one
 returns-clause-one c = certified-one c.columns_law.ensures.one
