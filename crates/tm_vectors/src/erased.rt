@@ -20,9 +20,17 @@ const GOOD: [u8; 33] = [0; 33];
 
 const ERASED: [u8; 32] = [1; 32];
 
-static ROWS: [Row; 8] = [
+static ROWS: [Row; 9] = [
     Row {
-        name: "all check symbols are erased, whatever the phase",
+        name: "all check symbols are erased",
+        line: "tmchan erased --length 1",
+        input: &[&[0x7B], &[0; 32], &[0], &ERASED],
+        status: 0,
+        out: &[b"fixed 0 32 ", DIGITS],
+        notes: "",
+    },
+    Row {
+        name: "no phase is found of records",
         line: "tmchan erased --length 1 --phase find",
         input: &[&[0x7B], &[0; 32], &[0], &ERASED],
         status: 0,

@@ -3,7 +3,7 @@ use crate::runs::check_unread;
 use std::test::Fail;
 
 // What the row shows, the line, its status, and what it writes.
-static ROWS: [(&str, &str, u8, &str); 11] = [
+static ROWS: [(&str, &str, u8, &str); 12] = [
     (
         "a codeword in capitals",
         "tmchan word 7B47325F864A18A07883FAB95C5F4FECFEEC4F5F5CB9FA8378A0184A865F32477B --length 1 --inner none --randomize off",
@@ -11,8 +11,14 @@ static ROWS: [(&str, &str, u8, &str); 11] = [
         "fixed 0 7b47325f864a18a07883fab95c5f4fecfeec4f5f5cb9fa8378a0184a865f32477b\n",
     ),
     (
-        "a codeword without repair, whatever the length and the phase",
-        "tmchan word 7b47325f864a18a07883fab95c5f4fecfeec4f5f5cb9fa8378a0184a865f32477b --length 7 --repair 0 --phase find",
+        "a codeword without repair, whatever the length",
+        "tmchan word 7b47325f864a18a07883fab95c5f4fecfeec4f5f5cb9fa8378a0184a865f32477b --length 7 --repair 0",
+        0,
+        "fixed 0 7b47325f864a18a07883fab95c5f4fecfeec4f5f5cb9fa8378a0184a865f32477b\n",
+    ),
+    (
+        "no phase is found of a word",
+        "tmchan word 7b47325f864a18a07883fab95c5f4fecfeec4f5f5cb9fa8378a0184a865f32477b --phase find",
         0,
         "fixed 0 7b47325f864a18a07883fab95c5f4fecfeec4f5f5cb9fa8378a0184a865f32477b\n",
     ),
