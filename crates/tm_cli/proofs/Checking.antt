@@ -21,13 +21,12 @@ use Rattle.tm_cli.specs.Command.Command.{Check}
 use Rattle.tm_cli.specs.Ending.{Ends, WroteEarly}
 use Rattle.tm_cli.specs.Lines.{bad_text, cut_text, trace_end_text}
 use Rattle.tm_cli.specs.Output.{Output, IsOutput, IsInOrder, WroteFronts}
-use Rattle.tm_cli.specs.Reading.{FedUpTo}
+use Rattle.tm_cli.specs.Reading.{FedUpTo, but_last_turn}
 use Rattle.tm_cli.specs.declared.check.Progress.{Progress}
-use Rattle.tm_cli.specs.Reading.{but_last_turn}
 use Rattle.tm_cli.specs.declared.ending.Ending.TheVariants.{Done, BadWindow, LeftOver, SinkFault}
 use Rattle.tm_cli.specs.declared.turns.Pumped.{Pumped}
 use Rattle.tm_cli.specs.declared.turns.Pumped.TheVariants.{Ended, SourceFault as InSource, FeedFault, PastLimit as Past}
-use Rattle.tm_cli.proofs.CheckedWindows.{windows_text-append, all_kept-append, from-none, read-so_far}
+use Rattle.tm_cli.proofs.CheckedWindows.{ReadOne, windows_text-append, all_kept-append, from-none, read-so_far}
 use Rattle.tm_cli.proofs.Endings.{wrote-front, wrote-nothing}
 use Rattle.tm_cli.proofs.Erasing.{wrote-then, wrote-then_front}
 use Rattle.tm_cli.proofs.Reporting.{part-of}
@@ -57,8 +56,7 @@ passes-first r p start was stands count bits =
 -- what is known of how octets are read
 pub record ReadOnce : Type 0 where
   pub exists : (rules : Rules) (octets : List ℕ) → (windows : List Window) × (seen : Seen) × IsRead rules octets windows seen
-  pub one : (rules : Rules) (octets : List ℕ) (windows others : List Window) (seen other : Seen) (read : IsRead rules octets windows seen) (again : IsRead rules octets others other)
-      → (windows ≡ others) × (seen ≡ other) × (read.before ≡ again.before) × (read.rest ≡ again.rest)
+  pub one : ReadOne
   pub longer : (rules : Rules) (octets more : List ℕ) (windows all : List Window) (seen last : Seen)
       → IsRead rules octets windows seen → IsRead rules (octets ++ more) all last → (rest : List Window) × (all ≡ windows ++ rest)
 
