@@ -17,6 +17,3 @@ pub use laws::{certified_law, passes_law, read_law, shown_law};
 pub use reader::Reader;
 pub use seen::{Next, Reason, Seen};
 pub use writing::write_window;
-
-#[cfg(test)]
-mod tests;

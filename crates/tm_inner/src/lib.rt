@@ -11,8 +11,6 @@ mod laws;
 mod phased;
 mod receiver;
 mod sender;
-#[cfg(test)]
-mod tests;
 mod whole;
 
 pub use code::{is_inverted, rate_of};

@@ -2,5 +2,4 @@ mod Costs
 mod Bounds
 mod Edges
 mod Pushed
-mod Rows
 mod Decisions

@@ -13,6 +13,3 @@ pub use checking::Check;
 pub use columns::is_start;
 pub use laws::verdict_law;
 pub use verdicts::{Starts, Verdict};
-
-#[cfg(test)]
-mod worked_values;

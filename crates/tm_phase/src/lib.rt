@@ -8,6 +8,3 @@ mod laws;
 
 pub use choosing::{Chosen, choose, octets_needed};
 pub use laws::{phase_law, whole_window_law};
-
-#[cfg(test)]
-mod tests;

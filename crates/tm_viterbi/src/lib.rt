@@ -28,6 +28,3 @@ pub use lanes::lane_column;
 pub use laws::{due_law, one_list_law};
 pub use sums::Sums;
 pub use whole::{AllError, decode_all, least_cost};
-
-#[cfg(test)]
-mod tests;

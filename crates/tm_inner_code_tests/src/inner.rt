@@ -3,12 +3,12 @@ mod takers;
 
 ghost use Rattle.std.specs.Prelude.{◌≤◌};
 
-use crate::{InnerEnd, InnerReceiver, inner_all};
 use std::alloc::{AllocError, Global};
 use std::process::Abort;
 use std::test::Fail;
 use takers::{Collector, Kept};
 use tm_config::{Config, Raw};
+use tm_inner::{InnerEnd, InnerReceiver, inner_all};
 use tm_phase::Chosen;
 use tm_viterbi::FeedError;
 

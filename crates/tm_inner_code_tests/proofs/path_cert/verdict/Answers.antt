@@ -1,8 +1,8 @@
 use Rattle.std.proofs.Common.{◌+◌, sym, ap, ◌∙◌, arith}
 use Rattle.tm_conv.specs.declared.rates.Rate.TheVariants.{R12}
 use Rattle.tm_path_cert.proofs.Costs.{steps_size-none}
-use Rattle.tm_path_cert.proofs.Rows.{one_step, room, room_end}
-use Rattle.tm_path_cert.proofs.worked_values.verdict.Goals as goal
+use Rattle.tm_inner_code_tests.proofs.Rows.{one_step, room, room_end}
+use Rattle.tm_inner_code_tests.proofs.path_cert.verdict.Goals as goal
 
 pub new-check-requires-clause-steps : goal.new-check-requires-clause-steps
 new-check-requires-clause-steps c = (1, omega arith, sym (one_step 0))

@@ -2,7 +2,7 @@ use Rattle.std.proofs.Common.{ℕ, ◌≡◌, ◌≤◌, ◌∙◌, refl, arith,
 use Rattle.tm_conv.specs.declared.rates.Rate.{Rate}
 use Rattle.tm_conv.specs.declared.rates.Rate.TheVariants.{R12, R23, R34, R56, R78}
 use Rattle.tm_conv.specs.Path.{steps_size}
-use Rattle.tm_viterbi.proofs.tests.cost_at.Goals as goal
+use Rattle.tm_inner_code_tests.proofs.viterbi.cost_at.Goals as goal
 
 -- 24 symbols are whole steps
 whole : (rate : Rate) → (steps : ℕ) × steps ≤ 69632 × 24 ≡ steps_size rate 0 steps

@@ -1,6 +1,7 @@
 // Worked values, and values from a program outside that walks each candidate's trellis with numbers of its own.
-use super::*;
+
 use tm_conv::Rate;
+use tm_phase::{Chosen, choose, octets_needed, phase_law, whole_window_law};
 
 // The symbols of the marker 1A CF FC 1D at rate 1/2, the second of each pair inverted.
 const MARKER_SYMBOLS: u64 = 0x56081C971AA73D3E;

@@ -1,24 +1,30 @@
 // Worked values, and the decoder beside plain programs that know nothing of columns or windows that are filled.
-ghost use Rattle.std.specs.Prelude.{◌+◌, ◌<◌, ◌^◌, ℕ, IfSome, slice_index};
+ghost use Rattle.std.specs.Prelude.{◌↔◌, ◌+◌, ◌<◌, ◌^◌, ℕ, All, IsTrue, IfSome, slice_index};
 
 mod plain;
 mod takers;
 
-use crate::*;
 use plain::{best_listed, best_walked, step_symbols};
 use std::alloc::{AllocError, Global};
 use std::process::Abort;
 use std::test::Fail;
 use takers::{Collector, Kept};
 use tm_conv::Rate;
+use tm_viterbi::{
+    AllError, Decoder, FeedError, Start, Sums, decode_all, lane_column, least_cost, plain_column,
+};
 
 const RATES: [Rate; 5] = [Rate::R12, Rate::R23, Rate::R34, Rate::R56, Rate::R78];
 
+// The next number of the sequence.
+fn next_number(seed: u64) -> u64 {
+    seed.wrapping_mul(6364136223846793005)
+        .wrapping_add(1442695040888963407)
+}
+
 // A drawn octet, often one at which symbols tie, and the next number of the sequence.
 fn drawn(seed: u64) -> (u8, u64) {
-    let next = seed
-        .wrapping_mul(6364136223846793005)
-        .wrapping_add(1442695040888963407);
+    let next = next_number(seed);
     let octet = match (next >> 40) % 8 {
         0 | 1 => 0,
         2 | 3 => 255,
@@ -281,6 +287,56 @@ fn columns_of_zeros(rt: HostRuntime) {
     let mut next = [1; 64];
     assert_eq!(rt; lane_column(&sums, &costs, &mut next), 0);
     assert_eq!(rt; next, [0; 64]);
+}
+
+// Sums and costs that are drawn, each below 2^(31 - shift), and the next number of the sequence.
+fn drawn_sums(seed: u64, shift: u32) -> ([u32; 64], [u32; 4], u64) {
+    let mut now = seed;
+    let mut sums = [0; 64];
+    for sum in sums.iter_mut() {
+        now = next_number(now);
+        *sum = ((now >> 33) as u32).wrapping_shr(shift);
+    }
+    let mut costs = [0; 4];
+    for cost in costs.iter_mut() {
+        now = next_number(now);
+        *cost = ((now >> 33) as u32).wrapping_shr(shift);
+    }
+    (sums, costs, now)
+}
+
+// Whether each of the numbers is below 2^31.
+fn are_small(numbers: &[u32]) -> bool
+    ensures { IsTrue result ↔ All (λ n. n < 2 ^ 31) numbers.now }
+{
+    numbers.iter().all(|&n| n < 1 << 31)
+}
+
+// Both forms of a column: the sums and the survivors.
+fn columns(sums: &[u32; 64], costs: &[u32; 4]) -> [([u32; 64], u64); 2]
+    requires sums { All (λ n. n < 2 ^ 31) sums.now }
+    requires costs { All (λ n. n < 2 ^ 31) costs.now }
+{
+    let mut plain = [1; 64];
+    let plain_survivors = plain_column(sums, costs, &mut plain);
+    let mut lanes = [2; 64];
+    let lane_survivors = lane_column(sums, costs, &mut lanes);
+    [(plain, plain_survivors), (lanes, lane_survivors)]
+}
+
+// Each form of a column beside the other: sums up to the greatest, and small ones, many of which tie.
+#[test]
+fn columns_by_lanes(rt: HostRuntime) {
+    let mut seed = 3000u64;
+    for shift in [0, 15, 23, 28, 29, 30] {
+        for _ in 0..100 {
+            let (sums, costs, next) = drawn_sums(seed, shift);
+            seed = next;
+            assert!(rt; are_small(&sums) && are_small(&costs));
+            let [plain, lanes] = columns(&sums, &costs);
+            assert_eq!(rt; lanes, plain, "{sums:?} {costs:?}");
+        }
+    }
 }
 
 // The least cost of the one step that a pair of octets is at rate 1/2.

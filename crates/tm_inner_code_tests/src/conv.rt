@@ -1,7 +1,10 @@
 // Worked values: the first steps of the marker, the punctured rates, the patterns, the numbers of symbols.
 ghost use Rattle.std.specs.Prelude.{◌≤◌};
 
-use super::*;
+use tm_conv::{
+    Encoder, Rate, Symbols, best_path_law, clean_symbols_law, columns_law, complement_law, kept,
+    plain_encode, six_pairs_law, symbols_of,
+};
 
 // The marker 1A CF FC 1D.
 const MARKER_BITS: u64 = 0x1ACFFC1D;

@@ -1,8 +1,9 @@
 // A worked certificate: one step at rate 1/2, inverted, from register 0, with soft octets 80 and 00.
-use super::*;
+
 use std::alloc::Global;
 use std::process::Abort;
 use tm_base::MemSink;
+use tm_cert_file::{Certifier, Certifying};
 use tm_conv::Rate;
 use tm_viterbi::{Block, BlockTaker, Start};
 

@@ -1,8 +1,8 @@
 // Worked values: one step at rate 1/2, inverted, from register 0, with soft octets 80 and 00.
 ghost use Rattle.std.specs.Prelude.{◌<◌};
 
-use super::*;
 use tm_conv::Rate;
+use tm_path_cert::{Check, Starts, Verdict};
 
 static SOFT: [u8; 2] = [0x80, 0x00];
 

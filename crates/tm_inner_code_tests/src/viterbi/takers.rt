@@ -1,10 +1,10 @@
 // A taker that keeps the blocks.
 ghost use Rattle.std.specs.Prelude.{◌≡◌, ◌-◌, ◌^◌};
 
-use crate::{Block, BlockTaker};
 use std::alloc::{AllocError, Global};
 use std::process::Abort;
 use tm_base::Failed;
+use tm_viterbi::{Block, BlockTaker};
 
 // A block that was handed over.
 #[derive(Debug, Drop)]
