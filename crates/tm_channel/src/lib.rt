@@ -18,8 +18,6 @@ mod slot;
 mod store;
 mod stream;
 mod taking;
-#[cfg(test)]
-mod tests;
 
 pub use cadus::{basis_of, cadu};
 pub use item::{Item, ItemTaker};

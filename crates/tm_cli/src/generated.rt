@@ -73,6 +73,3 @@ pub fn generate_unit(draws: &mut Lcg64Xsh32, config: &Config, hits: u64, unit: &
     cadu(config, frame, unit);
     change_columns(draws, config, hits, &mut unit[MARKER.len()..]);
 }
-
-#[cfg(test)]
-mod tests;

@@ -30,9 +30,10 @@ mod turns;
 mod unit_symbols;
 mod word;
 
+pub use counts::Counts;
+pub use ends::{end_report, end_trace};
+pub use generated::generate_unit;
 pub use lines::{block_line, blocks_line, frame_line, frames_line, phase_line};
+pub use takers::{Decoding, Report, Trace};
 pub use tm_words::{HexText, Job, JobKind, WordsError, read_words};
 pub use top::run;
-
-#[cfg(test)]
-mod tests;

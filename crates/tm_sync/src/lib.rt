@@ -10,6 +10,3 @@ mod search;
 pub use found::{Awaited, Before, Found};
 pub use laws::{clean_law, longer_law, marked_law, one_polarity_law, polarity_law};
 pub use search::Search;
-
-#[cfg(test)]
-mod tests;

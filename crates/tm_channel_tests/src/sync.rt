@@ -1,11 +1,11 @@
 // Worked streams, and the search beside a plain reading of the definition over the whole list.
 ghost use Rattle.std.specs.Prelude.{◌≡◌};
 
-use crate::*;
 use std::alloc::{AllocError, Global};
 use std::process::Abort;
 use std::test::Fail;
 use tm_base::{BitReader, MARKER};
+use tm_sync::{Found, Search, clean_law, longer_law, marked_law, one_polarity_law, polarity_law};
 
 // The coefficients of the generator of the (255,223) code in the dual basis: a codeblock of 264 bits.
 const CODEBLOCK: [u8; 33] = [

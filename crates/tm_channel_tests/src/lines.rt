@@ -1,13 +1,13 @@
 // The forms of the lines, what the takers write behind one another, and sinks that fail.
-use crate::counts::Counts;
-use crate::ends::{end_report, end_trace};
-use crate::takers::{Decoding, Report, Trace};
-use crate::{block_line, blocks_line, frame_line, frames_line, phase_line};
 use std::alloc::{AllocError, Global};
 use std::process::Abort;
 use std::test::Fail;
 use tm_base::{Failed, MemSink};
 use tm_channel::{Answer, Item, ItemTaker};
+use tm_cli::{
+    Counts, Decoding, Report, Trace, block_line, blocks_line, end_report, end_trace, frame_line,
+    frames_line, phase_line,
+};
 use tm_viterbi::{Block, BlockTaker};
 
 const MOST: u64 = 18_446_744_073_709_551_615;

@@ -1,10 +1,11 @@
 // What comes of columns with wrong octets, and of symbols whose phase is to be found.
-use crate::{Answer, Config, Item, ItemTaker, Raw, Sender, receive_all};
+
 use std::alloc::Global;
 use std::process::Abort;
 use std::test::Fail;
 use std::thread::Threads;
 use tm_base::{Failed, MemSink, Sink};
+use tm_channel::{Answer, Config, Item, ItemTaker, Raw, Sender, receive_all};
 
 // The sync marker, and the codeblock of the frame 7B: the coefficients of the generator of the code that corrects 16
 // errors, in the dual basis.

@@ -1,8 +1,8 @@
 // The draws of generated frames, by `bench/soak_draws.py`.
-use crate::generated::generate_unit;
 use rand_pcg::Lcg64Xsh32;
 use tm_base::MARKER;
 use tm_channel::{Config, Raw, cadu};
+use tm_cli::generate_unit;
 
 #[test]
 fn draws_frames(rt: HostRuntime) {
