@@ -93,22 +93,38 @@ first_blocks one s octets first blocks left closed all =
     let h = front_of one s.rate s.invert s.keep s.ahead (first_place s octets) closed.0 blocks first all.count closed.1 all.steps all.are in
     (h.rest, h.is)
 
+-- behind closed windows a step is left
+left_behind : (rate : Rate) (invert : Bool) (keep ahead : ℕ) (from to : Place) (b : WindowBlock) (first : List WindowBlock)
+    → Closed rate invert keep ahead from (b ∷ first) to → steps_size rate to.t 1 ≤ length to.octets
+left_behind rate invert keep ahead from to b [] closed =
+    let kept : b.kept ≡ keep = closed.0.is_block.kept ∙ kept_is keep ahead in
+    let long = length-drop (steps_size rate from.t b.kept) from.octets in
+    let sum : b.kept + (ahead + 1) ≡ keep + ahead + 1 = omega arith in
+    subst (λ (v : Place). steps_size rate v.t 1 ≤ length v.octets) closed.1
+    (omega (arith, long, closed.0.room, steps_size-add rate from.t b.kept (ahead + 1), ap (steps_size rate from.t) sum, steps_size-le rate (from.t + b.kept) 1 (ahead + 1) (omega arith)))
+left_behind rate invert keep ahead from to b (d ∷ first) closed = left_behind rate invert keep ahead (behind rate from b) to d first closed.1
+
 -- at most keep+ahead steps are one window, or none
 last_alone : (rate : Rate) (invert : Bool) (keep ahead : ℕ) (starts : Option ℕ) (t n : ℕ) (octets : List ℕ) (blocks first rest : List WindowBlock) → n ≤ keep + ahead
-    → blocks ≡ first ++ rest → AreBlocks rate invert keep ahead starts t n octets rest → (blocks ≡ first ++ []) ⊎ ((last : WindowBlock) × (blocks ≡ first ++ last ∷ []))
-last_alone rate invert keep ahead starts t n octets blocks first [] few is are = inl is
-last_alone rate invert keep ahead starts t n octets blocks first (b ∷ []) few is are = inr (b, is)
-last_alone rate invert keep ahead starts t n octets blocks first (b ∷ d ∷ rest) few is are =
+    → ((b : WindowBlock) (bs : List WindowBlock) → first ≡ b ∷ bs → 1 ≤ n)
+    → blocks ≡ first ++ rest → AreBlocks rate invert keep ahead starts t n octets rest → ((blocks ≡ []) × (first ≡ [])) ⊎ ((last : WindowBlock) × (blocks ≡ first ++ last ∷ []))
+last_alone rate invert keep ahead starts t n octets blocks [] [] few some is are = inl (is, refl)
+last_alone rate invert keep ahead starts t n octets blocks (b ∷ first) [] few some is are = absurd (omega (arith, some b first refl, are))
+last_alone rate invert keep ahead starts t n octets blocks first (b ∷ []) few some is are = inr (b, is)
+last_alone rate invert keep ahead starts t n octets blocks first (b ∷ d ∷ rest) few some is are =
     let kept : kept_steps keep ahead n ≡ n = grind (arith, nat_tests) in
     absurd (omega (arith, are.2.0, are.1.kept, kept))
 
 pub all_but_last : OneBest → (s : Settings) (octets : List ℕ) (due blocks : List WindowBlock) (left : ℕ)
-    → AreDue s octets due → AreBlocksOf s octets blocks left → (blocks ≡ due ++ []) ⊎ ((last : WindowBlock) × (blocks ≡ due ++ last ∷ []))
+    → AreDue s octets due → AreBlocksOf s octets blocks left → ((blocks ≡ []) × (due ≡ [])) ⊎ ((last : WindowBlock) × (blocks ≡ due ++ last ∷ []))
 all_but_last one s octets due blocks left h all =
     let k = front_of one s.rate s.invert s.keep s.ahead (first_place s octets) h.to blocks due all.count h.closed all.steps all.are in
     let less : length h.to.octets < steps_size s.rate h.to.t (s.keep + s.ahead + 1) = h.few in
     last_alone s.rate s.invert s.keep s.ahead h.to.starts h.to.t k.count h.to.octets blocks due k.rest
-    (many s.rate h.to.t (s.keep + s.ahead) k.count (length h.to.octets) less k.steps.whole) k.is k.are
+    (many s.rate h.to.t (s.keep + s.ahead) k.count (length h.to.octets) less k.steps.whole)
+    (λ (b : WindowBlock) (bs : List WindowBlock) (e : due ≡ b ∷ bs). many s.rate h.to.t k.count 1 (length h.to.octets) k.steps.most
+    (left_behind s.rate s.invert s.keep s.ahead (first_place s octets) h.to b bs (subst (λ (v : List WindowBlock). Closed s.rate s.invert s.keep s.ahead (first_place s octets) v h.to) e h.closed)))
+    k.is k.are
 
 -- ---- the only list
 

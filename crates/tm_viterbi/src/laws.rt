@@ -18,14 +18,14 @@ pub fn one_list_law()
     best_path_law();
 }
 
-/// The blocks of closed windows are the first of all blocks, those that are due are all of them or all but the last, and those
+/// The blocks of closed windows are the first of all blocks. Those that are due are all but the last, where there are blocks. Those
 /// that are due for octets that go on begin with those that are due for a front. It does nothing.
 pub fn due_law()
     ensures none { (s : Settings) → AreDue s [] [] }
     ensures first { (s : Settings) (octets : List ℕ) (first blocks : List WindowBlock) (left : ℕ)
         → AreFirst s octets first → AreBlocksOf s octets blocks left → (rest : List WindowBlock) × (blocks ≡ first ++ rest) }
     ensures due { (s : Settings) (octets : List ℕ) (due blocks : List WindowBlock) (left : ℕ)
-        → AreDue s octets due → AreBlocksOf s octets blocks left → (blocks ≡ due ++ []) ⊎ ((last : WindowBlock) × (blocks ≡ due ++ last ∷ [])) }
+        → AreDue s octets due → AreBlocksOf s octets blocks left → ((blocks ≡ []) × (due ≡ [])) ⊎ ((last : WindowBlock) × (blocks ≡ due ++ last ∷ [])) }
     ensures longer { (s : Settings) (octets more : List ℕ) (due later : List WindowBlock)
         → AreDue s octets due → AreDue s (octets ++ more) later → (rest : List WindowBlock) × (later ≡ due ++ rest) }
 {
