@@ -81,7 +81,7 @@ pub took-blocks : (c now : Certifying) (blocks : List WindowBlock) (taken taken_
     → (text : List ℕ) × AreNext c blocks text × Wrote taken taken_now text
 took-blocks c now [] taken taken_now fit wrote = ([], refl, wrote.1 ∙ sym (append_known-nil taken))
 took-blocks c now (block ∷ blocks) taken taken_now fit wrote =
-    let one = wrote.2 fit.0 in
+    let one = wrote.2.0 fit.0 in
     let rest = took-blocks wrote.0 now blocks wrote.1 taken_now (subst (λ (v : Certifying). AllFit v blocks) (sym one.0) fit.1) wrote.3 in
     let next = subst (λ (v : Certifying). AreNext v blocks rest.0) one.0 rest.1 in
     (one.1 ++ rest.0, (one.1, rest.0, one.2, next, refl), wrote-more taken wrote.1 taken_now one.1 rest.0 one.3 rest.2)
@@ -91,7 +91,7 @@ pub place-behind : (c now : Certifying) (keep ahead : ℕ) (to : Place) (blocks 
     → Closed c.rate c.invert keep ahead c.place blocks to → WroteBlocks c now blocks taken taken_now → now ≡ with_place c to
 place-behind c now keep ahead to [] taken taken_now fit closed wrote = wrote.0 ∙ ap (with_place c) closed
 place-behind c now keep ahead to (block ∷ blocks) taken taken_now fit closed wrote =
-    let one = wrote.2 fit.0 in
+    let one = wrote.2.0 fit.0 in
     let P : Certifying → Type 0 = λ v. AllFit v blocks × Closed v.rate v.invert keep ahead v.place blocks to in
     let next = subst P (sym one.0) (fit.1, closed.1) in
     place-behind wrote.0 now keep ahead to blocks wrote.1 taken_now next.0 next.1 wrote.3 ∙ ap (λ (v : Certifying). with_place v to) one.0
@@ -106,7 +106,7 @@ took-front exists c middle [] rest next taken taken_then taken_now fit wrote bro
     let others = certified-exists exists c.rate c.invert (behind c.rate c.place next) rest (there-fit (turned c next) rest fit.1) in
     (at.1 ++ others.0, (at.1, others.0, at.2, others.1, refl), front-longer taken taken_now at.1 others.0 part)
 took-front exists c middle (block ∷ front) rest next taken taken_then taken_now fit wrote broke =
-    let one = wrote.2 fit.0 in
+    let one = wrote.2.0 fit.0 in
     let h = took-front exists wrote.0 middle front rest next wrote.1 taken_then taken_now (subst (λ (v : Certifying). AllFit v (front ++ next ∷ rest)) (sym one.0) fit.1) wrote.3 broke in
     let others = subst (λ (v : Certifying). AreNext v (front ++ next ∷ rest) h.0) one.0 h.1 in
     (one.1 ++ h.0, (one.1, h.0, one.2, others, refl), front-more taken wrote.1 taken_now one.1 h.0 one.3 h.2)

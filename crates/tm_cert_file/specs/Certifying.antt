@@ -41,10 +41,12 @@ abbrev pub IsNext : Certifying → WindowBlock → List ℕ → Type 0
 IsNext c block text =
     IsCertified c.rate c.invert c.place.starts c.place.t (take (steps_size c.rate c.place.t block.steps) c.place.octets) block text
 
--- a sink took the window that certifies a block whose window's octets are there, and the next window begins
+-- a sink took the window that certifies a block whose window's octets are there, and the next window begins; of any other block it took
+-- nothing, and the next window begins where it did
 abbrev pub WroteBlock : (before now : Certifying) → WindowBlock → (taken taken_now : Option (List ℕ)) → Type 0
 WroteBlock before now block taken taken_now =
-    Fits before block → (now ≡ turned before block) × (text : List ℕ) × IsNext before block text × Wrote taken taken_now text
+    (Fits before block → (now ≡ turned before block) × (text : List ℕ) × IsNext before block text × Wrote taken taken_now text)
+    × ((Fits before block → ⊥) → (now ≡ before) × (taken_now ≡ taken))
 
 -- a sink took a front of it
 abbrev pub WroteBlockFront : Certifying → WindowBlock → (taken taken_now : Option (List ℕ)) → Type 0

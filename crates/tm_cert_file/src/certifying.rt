@@ -118,8 +118,9 @@ impl Certifying {
             && block.end_state < 64
     }
 
-    /// Writes the window of the next block, whose octets are there, and begins the next window behind its kept steps. `Failed` comes only
-    /// where the sink's count of faults rose; a front of the window was then written.
+    /// Writes the window of the next block, whose octets are there, and begins the next window behind its kept steps. Of a block whose
+    /// octets are not there it writes nothing, and nothing changes. `Failed` comes only where the sink's count of faults rose; a front of
+    /// the window was then written.
     pub fn write<O: Sink>(&mut self, block: &Block<'_>, out: &mut O) -> Result<(), Failed>
         ensures ok { OnOk result (WroteBlock self.old self.new block.now (O.taken out.old) (O.taken out.new)) }
         ensures err { OnErr result (WroteBlockFront self.old block.now (O.taken out.old) (O.taken out.new)) }
