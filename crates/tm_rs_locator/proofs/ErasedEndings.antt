@@ -1,5 +1,5 @@
 -- What the recurrence over the modified syndromes says of patterns with erased places.
-use Rattle.std.proofs.Common.{◌≡◌, ◌≢◌, ◌<◌, ◌≤◌, ◌+◌, ◌-◌, ◌*◌, ℕ, zero, suc, List, [], ◌∷◌, length, take, get_or, arith, ap, sym, ◌∙◌, refl, inl, inr, true, false, Bool}
+use Rattle.std.proofs.Common.{◌≡◌, ◌≢◌, ◌<◌, ◌≤◌, ◌+◌, ◌-◌, ◌*◌, ℕ, zero, suc, List, [], ◌∷◌, length, take, get_or, arith, ap, sym, ◌∙◌, refl, subst, inl, inr, true, false, Bool}
 use Rattle.std.proofs.lemmas.Bool.{cases_eq}
 use Rattle.tm_gf256.specs.declared.Gf.{Gf}
 use Rattle.tm_gf256.specs.Field.{times}
@@ -23,6 +23,27 @@ pub modified_is : (e : ℕ) (fs : List Bool) (s t c : ℕ → ℕ) (count known 
     → listing c 0 (suc count) ≡ locator_of (marks fs) → ((m : ℕ) → m < known → t m ≡ discrepancy c s (m + count) (suc count)) → AreModified e fs s t
 modified_is e fs s t c count known ec ek listed h m lt =
     h m (omega arith) ∙ discrepancy-window c s count m ∙ ap (λ (ys : List ℕ). window ys s m) listed
+
+-- ---- how many steps
+
+-- of a factor for each of s places, s + 1 products for each of k syndromes, and the recurrence over these
+most : (s k a b c d : ℕ) → 2 * b ≡ 2 * a + s * (s + 1) → c ≡ b + k * (s + 1) → d ≤ c + k * (k + 3) → d ≤ a + (s * (s + 1) + k * (k + s + 4))
+most s k a b c d factors modified rest = grind arith
+
+pub most_steps : (e s e' s' a b c d : ℕ) → e' ≡ e → s' ≡ s → 2 * b ≡ 2 * a + s' * (s' + 1) → c ≡ b + (2 * e' - s') * (s' + 1)
+    → d ≤ c + (2 * e' - s') * (2 * e' - s' + 3) → s ≤ 2 * e → d ≤ a + (s * (s + 1) + (2 * e - s) * (2 * e + 4))
+most_steps e s e' s' a b c d same_e same_s factors modified rest few =
+    let all : 2 * e - s + s ≡ 2 * e = omega (arith, few) in
+    let P : ℕ → ℕ → Type 0 = λ x y. (2 * b ≡ 2 * a + y * (y + 1)) × (c ≡ b + (2 * x - y) * (y + 1)) × (d ≤ c + (2 * x - y) * (2 * x - y + 3)) in
+    let h = subst (λ x. P x s) same_e (subst (P e') same_s (factors, modified, rest)) in
+    subst (λ t. d ≤ a + (s * (s + 1) + (2 * e - s) * (t + 4))) all (most s (2 * e - s) a b c d h.0 h.1 h.2)
+
+pub least_steps : (e s e' s' a b c d : ℕ) → e' ≡ e → s' ≡ s → 2 * b ≡ 2 * a + s' * (s' + 1) → c ≡ b + (2 * e' - s') * (s' + 1) → c ≤ d
+    → 2 * a + s * (s + 1) + 2 * ((2 * e - s) * (s + 1)) ≤ 2 * d
+least_steps e s e' s' a b c d same_e same_s factors modified later =
+    let P : ℕ → ℕ → Type 0 = λ x y. (2 * b ≡ 2 * a + y * (y + 1)) × (c ≡ b + (2 * x - y) * (y + 1)) in
+    let h = subst (λ x. P x s) same_e (subst (P e') same_s (factors, modified)) in
+    omega (arith, h.0, h.1, later)
 
 -- ---- zeros by index
 

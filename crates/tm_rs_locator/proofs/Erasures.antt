@@ -125,14 +125,15 @@ pub degree_below : (fs : List Bool) (p d count : ℕ) → p < length fs → d �
     → get_or fs (length fs - 1 - p) false ≡ true → d + 1 ≤ count
 degree_below fs p d count h e f g = omega (arith, count_next fs p true h g, count_drop fs (length fs - (p + 1)))
 
-pub cost_more : (a b i d c : ℕ) → a ≤ i + d * (c + 1) → b ≤ a + (d + 2) → d + 1 ≤ c → b ≤ i + (d + 1) * (c + 1)
-cost_more a b i d c h l m = grind arith
+-- a factor more costs a step for each coefficient
+pub cost_more : (a b i d : ℕ) → 2 * a ≡ 2 * i + d * (d + 1) → b ≡ a + (d + 1) → 2 * b ≡ 2 * i + (d + 1) * (d + 1 + 1)
+cost_more a b i d h l = grind arith
 
 pub product_as : (xs ys : List Gf) (d d' : ℕ) (u : List ℕ) → xs ≡ ys → d ≡ d' → IsProduct (entry ys) d' u → IsProduct (entry xs) d u
 product_as xs ys d d' u e f h = subst (λ (k : ℕ). IsProduct (entry xs) k u) (sym f) (subst (λ (zs : List Gf). IsProduct (entry zs) d' u) (sym e) h)
 
-pub cost_as : (a b i d d' c : ℕ) → a ≡ b → d ≡ d' → b ≤ i + d' * (c + 1) → a ≤ i + d * (c + 1)
-cost_as a b i d d' c e f h = rw (e, f) h
+pub cost_as : (a b i d d' : ℕ) → a ≡ b → d ≡ d' → 2 * b ≡ 2 * i + d' * (d' + 1) → 2 * a ≡ 2 * i + d * (d + 1)
+cost_as a b i d d' e f h = rw (e, f) h
 
 pub none_dropped : (fs : List Bool) → drop (length fs - 0) fs ≡ []
 none_dropped fs = let e : length fs - 0 ≡ length fs = omega arith in ap (λ (j : ℕ). drop j fs) e ∙ drop_all fs

@@ -1,5 +1,5 @@
 // The locator of the wrong symbols of a word with erased places.
-ghost use Rattle.std.specs.Prelude.{◌≡◌, ◌<◌, ◌≤◌, ◌+◌, ◌*◌, ◌↔◌, ℕ, suc, List, length, IfNone, IfSome, IsTrue};
+ghost use Rattle.std.specs.Prelude.{◌≡◌, ◌<◌, ◌≤◌, ◌+◌, ◌-◌, ◌*◌, ◌↔◌, ℕ, suc, List, length, IfNone, IfSome, IsTrue};
 ghost use Rattle.tm_gf256.specs.Poly.{entry};
 ghost use Rattle.tm_rs_code.specs.Erasures.{IsErasedPattern, count_erased as count_of_erased, marks};
 ghost use Rattle.tm_rs_code.specs.Pattern.{locator_of};
@@ -8,7 +8,8 @@ ghost use Rattle.tm_rs_code.specs.Recurrence.{discrepancy, listing};
 ghost use Rattle.tm_rs_locator.specs.Locator.{AvoidsErased, LocatesErased};
 
 use crate::counter::Steps;
-use crate::recurrence::{mismatch, patch, shortest};
+use crate::factors::times_factor;
+use crate::recurrence::{mismatch, shortest};
 use crate::roots::count_roots;
 use crate::solving::Locator;
 use std::sync::ledger::Ledger;
@@ -23,7 +24,7 @@ fn erasure_locator<L: Ledger>(erased: &[bool], count: usize, steps: &mut Steps<L
     ensures room { length result ≡ 33 }
     ensures locator { listing (entry result) 0 (suc count) ≡ locator_of (marks erased.now) }
     ensures beyond { (i : ℕ) → suc count ≤ i → entry result i ≡ 0 }
-    ensures cost { steps.new ≤ steps.old + count * (count + 1) }
+    ensures cost { 2 * steps.new ≡ 2 * steps.old + count * (count + 1) }
 {
     let mut coefs = [Gf(0); 33];
     coefs[0] = Gf(1);
@@ -31,15 +32,7 @@ fn erasure_locator<L: Ledger>(erased: &[bool], count: usize, steps: &mut Steps<L
     let n = erased.len();
     for p in 0..n {
         if erased[n - 1 - p] {
-            let before = coefs;
-            patch(
-                &mut coefs,
-                &before,
-                Gf::exp(11 * p as u32),
-                1,
-                degree + 2,
-                steps,
-            );
+            times_factor(&mut coefs, degree, Gf::exp(11 * p as u32), steps);
             degree += 1;
         }
     }
@@ -58,7 +51,7 @@ fn modified<L: Ledger>(
     ensures room { length result ≡ 32 }
     ensures values { (m : ℕ) → m < known
         → entry result m ≡ discrepancy (entry erasures.now) (entry syndromes.now) (m + count) (suc count) }
-    ensures cost { steps.new ≤ steps.old + known * (count + 1) }
+    ensures cost { steps.new ≡ steps.old + known * (count + 1) }
 {
     let mut values = [Gf(0); 32];
     for m in 0..known {
@@ -86,6 +79,7 @@ fn avoids_erased(values: &[u8; 256], erased: &[bool]) -> bool
 /// 2e syndromes are given: of the word that has these syndromes, any symbols at the erased places, and
 /// so few others that are not 0 that twice their number and the number of erased places is at most 2e.
 /// None where there is no such word. The first flag of `erased` is that of the first symbol.
+/// At least the products of the locator of the erased places and of the modified syndromes are counted.
 pub fn solve_erased<L: Ledger>(
     params: &Params,
     syndromes: &[Gf; 32],
@@ -99,6 +93,10 @@ pub fn solve_erased<L: Ledger>(
         LocatesErased params.now.e erased.now (entry syndromes.now) l.coefs l.degree) }
     ensures cost { steps.new ≤ steps.old
         + (2 * params.now.e * (4 * params.now.e + 3) + 8 * params.now.e * params.now.e) }
+    ensures most { let count = count_of_erased erased.now in count ≤ 2 * params.now.e
+        → steps.new ≤ steps.old + (count * (count + 1) + (2 * params.now.e - count) * (2 * params.now.e + 4)) }
+    ensures least { let count = count_of_erased erased.now in count ≤ 2 * params.now.e
+        → 2 * steps.old + count * (count + 1) + 2 * ((2 * params.now.e - count) * (count + 1)) ≤ 2 * steps.new }
 {
     let all = 2 * params.e() as usize;
     let n = params.n() as usize;

@@ -5,12 +5,14 @@
 
 mod counter;
 mod erasing;
+mod factors;
 mod recurrence;
 mod roots;
 mod solving;
 
 pub use counter::Steps;
 pub use erasing::solve_erased;
+pub use factors::times_factor;
 pub use solving::{Locator, solve};
 
 #[cfg(test)]

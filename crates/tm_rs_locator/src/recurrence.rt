@@ -46,6 +46,7 @@ pub fn patch<L: Ledger>(
         → entry coefs.new i ≡ patched (entry coefs.old) q.0 m (entry other.now) i }
     ensures rest { (i : ℕ) → end ≤ i → entry coefs.new i ≡ entry coefs.old i }
     ensures cost { steps.new ≤ steps.old + end }
+    ensures least { steps.old + (end - m) ≤ steps.new }
 {
     for i in m..end {
         coefs[i] = coefs[i].add(steps.product(q, other[i - m]));
@@ -82,6 +83,7 @@ fn advance<L: Ledger>(
         (entry state.new.previous) state.new.len state.new.gap state.new.scale.0 (k + 1)) }
     ensures none { OnFalse result (Unexplained count (entry terms.now)) }
     ensures cost { steps.new ≤ steps.old + (count + 3) }
+    ensures later { steps.old ≤ steps.new }
 {
     let failure = mismatch(&state.current, terms, k, state.len, steps);
     if failure.0 == 0 {
@@ -133,6 +135,7 @@ pub fn shortest<L: Ledger>(
     ensures room { IfSome result (λ r. length r.current ≡ 17) }
     ensures some { IfSome result (λ r. IsShortest count (entry terms.now) (entry r.current) r.len) }
     ensures cost { steps.new ≤ steps.old + count * (count + 3) }
+    ensures later { steps.old ≤ steps.new }
 {
     let mut start = [Gf(0); 17];
     start[0] = Gf(1);

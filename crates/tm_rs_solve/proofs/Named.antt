@@ -1,8 +1,9 @@
 -- The places that are erased or roots, one after another, and the errors at erased places.
-use Rattle.std.proofs.Common.{◌≡◌, ◌<◌, ◌≤◌, ◌+◌, ◌-◌, ◌*◌, ℕ, zero, suc, List, [], ◌∷◌, length, drop, take, get_or, arith, ap, sym, ◌∙◌, refl, subst, add-one, eqb, cond, true, false, Bool, ◌||◌}
+use Rattle.std.proofs.Common.{◌≡◌, ◌<◌, ◌≤◌, ◌+◌, ◌-◌, ◌*◌, ℕ, zero, suc, List, [], ◌∷◌, length, drop, take, get_or, arith, ap, sym, ◌∙◌, refl, subst, add-one, eqb, cond, inl, inr, true, false, Bool, ◌||◌}
+use Rattle.std.proofs.Math.Nat.{mul-le-mul}
 use Rattle.tm_gf256.specs.declared.Gf.{Gf}
 use Rattle.tm_gf256.specs.Poly.{entry, numbers, value_at}
-use Rattle.tm_rs_code.specs.Code.{place_of, weight}
+use Rattle.tm_rs_code.specs.Code.{IsStrength, place_of, weight}
 use Rattle.tm_rs_code.specs.Erasures.{IsErasedPattern, inside, outside, places_named}
 use Rattle.tm_rs_code.specs.ErrorValues.{IsLocated, symbol_at}
 use Rattle.tm_rs_code.specs.Pattern.{locator_of}
@@ -78,3 +79,29 @@ named_few e fs s g w short p is = located_few (located_erased e fs s g w short p
   where
     located_few : IsLocated e s (locator_of (places_named g fs)) (places_named g fs) w → weight (places_named g fs) ≤ 2 * e
     located_few h = h.few
+
+-- ---- how many steps
+
+-- with so many products for s erased places, and for the locator of d places in all, all at most t
+most : (t s d a b c : ℕ) → s ≤ t → d ≤ t → b ≤ a + (s * (s + 1) + (t - s) * (t + 4)) → 2 * c ≡ 2 * b + d * (d + 1)
+    → 2 * c ≤ 2 * a + (2 * (t * (t + 1)) + 2 * (t * (t + 4)) + t * (t + 1))
+most t s d a b c few places before whole =
+    let erased : s * (s + 1) ≤ t * (t + 1) = mul-le-mul few (omega (arith, few)) in
+    let left : (t - s) * (t + 4) ≤ t * (t + 4) = mul-le-mul (omega arith) (omega arith) in
+    let all : d * (d + 1) ≤ t * (t + 1) = mul-le-mul places (omega (arith, places)) in
+    omega (arith, erased, left, all, before, whole)
+
+pub most_steps : (e s d a b c : ℕ) → IsStrength e → s ≤ 2 * e → d ≤ 2 * e → b ≤ a + (s * (s + 1) + (2 * e - s) * (2 * e + 4)) → 2 * c ≡ 2 * b + d * (d + 1)
+    → c ≤ a + (2 * e * (4 * e + 3) + 8 * e * e)
+most_steps e s d a b c strength few places before whole = elim strength [
+  | inl is ↦ at 16 is (λ h. omega (arith, h))
+  | inr is ↦ at 8 is (λ h. omega (arith, h))
+]
+  where
+    at : (n : ℕ) → e ≡ n
+        → (2 * c ≤ 2 * a + (2 * (2 * n * (2 * n + 1)) + 2 * (2 * n * (2 * n + 4)) + 2 * n * (2 * n + 1)) → c ≤ a + (2 * n * (4 * n + 3) + 8 * n * n))
+        → c ≤ a + (2 * e * (4 * e + 3) + 8 * e * e)
+    at n is enough =
+        subst (λ m. c ≤ a + (2 * m * (4 * m + 3) + 8 * m * m)) (sym is)
+        (enough (most (2 * n) s d a b c (subst (λ m. s ≤ 2 * m) is few) (subst (λ m. d ≤ 2 * m) is places)
+        (subst (λ m. b ≤ a + (s * (s + 1) + (2 * m - s) * (2 * m + 4))) is before) whole))

@@ -2,10 +2,10 @@
 ghost use Rattle.std.specs.Prelude.{◌≡◌, ◌<◌, ◌≤◌, ◌+◌, ◌-◌, ◌*◌, ◌==◌, ◌||◌, ℕ, suc, List, length, if◌then◌else◌, slice_index_or, false};
 ghost use Rattle.tm_gf256.specs.Poly.{entry, numbers, value_at};
 ghost use Rattle.tm_rs_code.specs.Code.{place_of, root, weight};
-ghost use Rattle.tm_rs_code.specs.Erasures.{IsNearestErased, inside, places_named};
+ghost use Rattle.tm_rs_code.specs.Erasures.{IsNearestErased, count_erased as count_of_erased, inside, places_named};
 ghost use Rattle.tm_rs_code.specs.ErrorValues.{IsLocated, symbol_at};
 ghost use Rattle.tm_rs_code.specs.Pattern.{locator_of};
-ghost use Rattle.tm_rs_code.specs.Recurrence.{listing, patched};
+ghost use Rattle.tm_rs_code.specs.Recurrence.{listing};
 ghost use Rattle.tm_rs_solve.specs.Answers.{found_erased};
 
 use crate::answers::ErasedAnswer;
@@ -14,21 +14,7 @@ use crate::values::{correct, error_at};
 use std::sync::ledger::Ledger;
 use tm_gf256::{Gf, see_range};
 use tm_rs_code::{Params, count_erased, short_syndromes, syndromes, values_at_places};
-use tm_rs_locator::{Steps, solve_erased};
-
-// Multiplies a polynomial of this degree by 1 + x z.
-fn times_factor(coefs: &mut [Gf; 33], degree: usize, x: Gf)
-    requires { degree + 2 ≤ 33 }
-    ensures room { length coefs.new ≡ 33 }
-    ensures factor { (i : ℕ) → i < degree + 2
-        → entry coefs.new i ≡ patched (entry coefs.old) x.0 1 (entry coefs.old) i }
-    ensures rest { (i : ℕ) → degree + 2 ≤ i → entry coefs.new i ≡ entry coefs.old i }
-{
-    let before = *coefs;
-    for i in 1..degree + 2 {
-        coefs[i] = before[i].add(x.mul(before[i - 1]));
-    }
-}
+use tm_rs_locator::{Steps, solve_erased, times_factor};
 
 // Whether a place is erased, or a root of the polynomial that has this value there.
 fn names_place(erased: bool, value: u8) -> bool
@@ -43,8 +29,8 @@ struct Places {
     degree: usize,
 }
 
-// The locator of the places that are erased or roots of a polynomial.
-fn all_places(poly: &[Gf], erased: &[bool]) -> Places
+// The locator of the places that are erased or roots of a polynomial. Each product is counted.
+fn all_places<L: Ledger>(poly: &[Gf], erased: &[bool], steps: &mut Steps<L>) -> Places
     requires degree { length poly.now ≤ 33 }
     requires short { length erased.now ≤ 255 }
     requires few { weight (places_named (numbers poly.now) erased.now) ≤ 32 }
@@ -52,6 +38,7 @@ fn all_places(poly: &[Gf], erased: &[bool]) -> Places
     ensures degree { result.degree ≡ weight (places_named (numbers poly.now) erased.now) }
     ensures locator { listing (entry result.coefs) 0 (suc result.degree)
         ≡ locator_of (places_named (numbers poly.now) erased.now) }
+    ensures cost { 2 * steps.new ≡ 2 * steps.old + result.degree * (result.degree + 1) }
 {
     let mut coefs = [Gf(0); 33];
     coefs[0] = Gf(1);
@@ -60,7 +47,7 @@ fn all_places(poly: &[Gf], erased: &[bool]) -> Places
     let values = values_at_places(poly, n);
     for p in 0..n {
         if names_place(erased[n - 1 - p], values[p]) {
-            times_factor(&mut coefs, degree, Gf::exp(11 * p as u32));
+            times_factor(&mut coefs, degree, Gf::exp(11 * p as u32), steps);
             degree += 1;
         }
     }
@@ -119,7 +106,7 @@ fn count_inside(erased: &[bool], locator: &[Gf], syndromes: &[Gf; 32], e: usize)
 /// where a codeword differs from the word in `a` places that are not erased, at most `repair`, and
 /// twice `a` and the number of erased places is at most 2e. The answer is then `Fixed` of `a` and of
 /// the number of erased places that differ. Everywhere else it is `Beyond`, and the word is as it was.
-/// It takes no memory. The first flag of `erased` is that of the first symbol.
+/// It takes no memory. The first flag of `erased` is that of the first symbol. Each product for a locator is counted.
 pub fn decode_erased<L: Ledger>(
     params: &Params,
     repair: u8,
@@ -136,6 +123,8 @@ pub fn decode_erased<L: Ledger>(
     ensures same_size { length word.new ≡ length word.old }
     ensures cost { steps.new ≤ steps.old
         + (2 * params.now.e * (4 * params.now.e + 3) + 8 * params.now.e * params.now.e) }
+    ensures least { let count = count_of_erased erased.now in (result ≡ ErasedAnswer.Fixed 0 0 → ⊥) → count ≤ 2 * params.now.e
+        → 2 * steps.old + count * (count + 1) + 2 * ((2 * params.now.e - count) * (count + 1)) ≤ 2 * steps.new }
 {
     see_range(word);
     let e = params.e() as usize;
@@ -168,6 +157,8 @@ pub fn plain_decode_erased<L: Ledger>(
     ensures same_size { length word.new ≡ length word.old }
     ensures cost { steps.new ≤ steps.old
         + (2 * params.now.e * (4 * params.now.e + 3) + 8 * params.now.e * params.now.e) }
+    ensures least { let count = count_of_erased erased.now in count ≤ 2 * params.now.e
+        → 2 * steps.old + count * (count + 1) + 2 * ((2 * params.now.e - count) * (count + 1)) ≤ 2 * steps.new }
 {
     let values = syndromes(params, word);
     repaired(params, repair, erased, word, &values, steps)
@@ -193,6 +184,8 @@ fn repaired<L: Ledger>(
     ensures same_size { length word.new ≡ length word.old }
     ensures cost { steps.new ≤ steps.old
         + (2 * params.now.e * (4 * params.now.e + 3) + 8 * params.now.e * params.now.e) }
+    ensures least { let count = count_of_erased erased.now in count ≤ 2 * params.now.e
+        → 2 * steps.old + count * (count + 1) + 2 * ((2 * params.now.e - count) * (count + 1)) ≤ 2 * steps.new }
 {
     see_range(word);
     let e = params.e() as usize;
@@ -203,7 +196,7 @@ fn repaired<L: Ledger>(
             if l.degree > repair {
                 return ErasedAnswer::Beyond;
             }
-            let places = all_places(&l.coefs[..l.degree as usize + 1], erased);
+            let places = all_places(&l.coefs[..l.degree as usize + 1], erased, steps);
             let locator = &places.coefs[..places.degree + 1];
             let inside = count_inside(erased, locator, values, e);
             correct(word, locator, values, e);

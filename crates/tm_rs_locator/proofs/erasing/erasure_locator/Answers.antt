@@ -18,34 +18,25 @@ pub overflow_add-degree : goal.overflow_add-degree
 overflow_add-degree g c =
     omega (arith, degree_below c.args.erased.now c.loop-p.p c.loop-p.degree c.args.count (omega arith) c.loop-p.invariant.counted c.requires.counted c.if-erased-n.true)
 
-pub patch-requires-clause-inside : goal.patch-requires-clause-inside
-patch-requires-clause-inside g c =
-    omega (arith, c.loop-p.invariant.room, degree_below c.args.erased.now c.loop-p.p c.loop-p.degree c.args.count (omega arith) c.loop-p.invariant.counted c.requires.counted c.if-erased-n.true)
-
-pub patch-requires-clause-other_inside : goal.patch-requires-clause-other_inside
-patch-requires-clause-other_inside g c =
-    omega (arith, c.loop-p.invariant.room, degree_below c.args.erased.now c.loop-p.p c.loop-p.degree c.args.count (omega arith) c.loop-p.invariant.counted c.requires.counted c.if-erased-n.true)
-
-pub overflow_add-degree-then-erased-n : goal.overflow_add-degree-then-erased-n
-overflow_add-degree-then-erased-n g c =
+pub times_factor-requires : goal.times_factor-requires
+times_factor-requires g c =
     omega (arith, degree_below c.args.erased.now c.loop-p.p c.loop-p.degree c.args.count (omega arith) c.loop-p.invariant.counted c.requires.counted c.if-erased-n.true)
 
 pub loop-p-preserved : goal.loop-p-preserved
 loop-p-preserved g c =
     elim c.if-erased-n.branch [
       | then-erased-n w ↦ record {
-        product = product_as c.if-erased-n.coefs w.patch.new.coefs c.if-erased-n.degree (c.loop-p.degree + 1)
+        product = product_as c.if-erased-n.coefs w.times_factor.new.coefs c.if-erased-n.degree (c.loop-p.degree + 1)
             (marks (drop (length c.args.erased.now - (c.loop-p.p + 1)) c.args.erased.now)) w.coefs-is w.degree-is
-            (product_more (entry c.loop-p.coefs) (entry w.patch.new.coefs) c.loop-p.degree w.exp.result.0 c.loop-p.p
+            (product_more (entry c.loop-p.coefs) (entry w.times_factor.new.coefs) c.loop-p.degree w.exp.result.0 c.loop-p.p
             (marks (drop (length c.args.erased.now - c.loop-p.p) c.args.erased.now)) (marks (drop (length c.args.erased.now - (c.loop-p.p + 1)) c.args.erased.now))
             c.loop-p.invariant.product w.exp.ensures (length_next c.args.erased.now c.loop-p.p (omega arith))
             (marks_next c.args.erased.now c.loop-p.p true (omega arith) w.if-erased-n.true)
-            w.patch.ensures.patched w.patch.ensures.rest);
+            w.times_factor.ensures.factor w.times_factor.ensures.rest);
         counted = omega (arith, w.degree-is, c.loop-p.invariant.counted, count_next c.args.erased.now c.loop-p.p true (omega arith) w.if-erased-n.true);
-        room = ap length w.coefs-is ∙ w.patch.ensures.room ∙ c.loop-p.invariant.room;
-        cost = cost_as c.if-erased-n.steps w.patch.new.steps c.args.steps.now c.if-erased-n.degree (c.loop-p.degree + 1) c.args.count w.steps-is w.degree-is
-            (cost_more c.loop-p.steps w.patch.new.steps c.args.steps.now c.loop-p.degree c.args.count c.loop-p.invariant.cost w.patch.ensures.cost
-            (degree_below c.args.erased.now c.loop-p.p c.loop-p.degree c.args.count (omega arith) c.loop-p.invariant.counted c.requires.counted w.if-erased-n.true));
+        room = ap length w.coefs-is ∙ w.times_factor.ensures.room;
+        cost = cost_as c.if-erased-n.steps w.times_factor.new.steps c.args.steps.now c.if-erased-n.degree (c.loop-p.degree + 1) w.steps-is w.degree-is
+            (cost_more c.loop-p.steps w.times_factor.new.steps c.args.steps.now c.loop-p.degree c.loop-p.invariant.cost w.times_factor.ensures.cost);
       }
       | else-erased-n w ↦ record {
         product = product_as c.if-erased-n.coefs c.loop-p.coefs c.if-erased-n.degree c.loop-p.degree
@@ -55,6 +46,6 @@ loop-p-preserved g c =
             c.loop-p.invariant.product (marks_next c.args.erased.now c.loop-p.p false (omega arith) w.if-erased-n.false));
         counted = omega (arith, w.degree-is, c.loop-p.invariant.counted, count_next c.args.erased.now c.loop-p.p false (omega arith) w.if-erased-n.false);
         room = ap length w.coefs-is ∙ c.loop-p.invariant.room;
-        cost = cost_as c.if-erased-n.steps c.loop-p.steps c.args.steps.now c.if-erased-n.degree c.loop-p.degree c.args.count w.steps-is w.degree-is c.loop-p.invariant.cost;
+        cost = cost_as c.if-erased-n.steps c.loop-p.steps c.args.steps.now c.if-erased-n.degree c.loop-p.degree w.steps-is w.degree-is c.loop-p.invariant.cost;
       }
     ]

@@ -6,7 +6,7 @@ use Rattle.tm_rs_code.specs.Pattern.{roots_below}
 use Rattle.tm_rs_code.specs.PlaceValues.{AreValues}
 use Rattle.tm_rs_locator.specs.State.{IsShortest, Unexplained}
 use Rattle.tm_rs_locator.proofs.Endings.{elements_of}
-use Rattle.tm_rs_locator.proofs.ErasedEndings.{modified_is, none_unexplained, none_by_roots, none_by_erased, some_erased}
+use Rattle.tm_rs_locator.proofs.ErasedEndings.{least_steps, most_steps, modified_is, none_unexplained, none_by_roots, none_by_erased, some_erased}
 use Rattle.tm_rs_locator.proofs.erasing.solve_erased.Goals as goal
 
 -- how many syndromes are left
@@ -61,3 +61,43 @@ returns-clause-some g c =
     (elements_of c.args.syndromes.now c.see_range.ensures) (elements_of c.modified-terms.result c.see_range-2.ensures)
     (sym (same_roots c.in-Some.found.current c.in-Some.found.len c.n-n.result (length c.args.erased.now) (c.n-n.ensures.value ∙ sym c.requires)) ∙ sym (c.count_roots.ensures (numbers (take (c.in-Some.found.len + 1) c.in-Some.found.current)) c.values_at_places-values.ensures.values) ∙ c.if-count_roots-found.false)
     ((c.if-not-avoids_erased.ensures (numbers (take (c.in-Some.found.len + 1) c.in-Some.found.current)) (subst (λ (n : ℕ). AreValues (numbers (take (c.in-Some.found.len + 1) c.in-Some.found.current)) n c.values_at_places-values.result) (c.n-n.ensures.value ∙ sym c.requires) c.values_at_places-values.ensures.values)).0 refl)
+
+pub returns-in_default-clause-most : goal.returns-in_default-clause-most
+returns-in_default-clause-most g c =
+    most_steps c.args.params.now.e (count_erased c.args.erased.now) _ _ _ _ _ _ c.e.ensures.value c.count_erased-count.ensures
+    c.erasure_locator-erasures.ensures.cost c.modified-terms.ensures.cost c.in_default.ensures.cost
+
+pub returns-in_default-clause-least : goal.returns-in_default-clause-least
+returns-in_default-clause-least g c few =
+    least_steps c.args.params.now.e (count_erased c.args.erased.now) _ _ _ _ _ _ c.e.ensures.value c.count_erased-count.ensures
+    c.erasure_locator-erasures.ensures.cost c.modified-terms.ensures.cost c.in_default.ensures.later
+
+pub returns-then-count_roots-found-clause-most : goal.returns-then-count_roots-found-clause-most
+returns-then-count_roots-found-clause-most g c =
+    most_steps c.args.params.now.e (count_erased c.args.erased.now) _ _ _ _ _ _ c.e.ensures.value c.count_erased-count.ensures
+    c.erasure_locator-erasures.ensures.cost c.modified-terms.ensures.cost c.in-Some.ensures.cost
+
+pub returns-then-count_roots-found-clause-least : goal.returns-then-count_roots-found-clause-least
+returns-then-count_roots-found-clause-least g c few =
+    least_steps c.args.params.now.e (count_erased c.args.erased.now) _ _ _ _ _ _ c.e.ensures.value c.count_erased-count.ensures
+    c.erasure_locator-erasures.ensures.cost c.modified-terms.ensures.cost c.in-Some.ensures.later
+
+pub returns-then-not-avoids_erased-clause-most : goal.returns-then-not-avoids_erased-clause-most
+returns-then-not-avoids_erased-clause-most g c =
+    most_steps c.args.params.now.e (count_erased c.args.erased.now) _ _ _ _ _ _ c.e.ensures.value c.count_erased-count.ensures
+    c.erasure_locator-erasures.ensures.cost c.modified-terms.ensures.cost c.in-Some.ensures.cost
+
+pub returns-then-not-avoids_erased-clause-least : goal.returns-then-not-avoids_erased-clause-least
+returns-then-not-avoids_erased-clause-least g c few =
+    least_steps c.args.params.now.e (count_erased c.args.erased.now) _ _ _ _ _ _ c.e.ensures.value c.count_erased-count.ensures
+    c.erasure_locator-erasures.ensures.cost c.modified-terms.ensures.cost c.in-Some.ensures.later
+
+pub returns-clause-most : goal.returns-clause-most
+returns-clause-most g c =
+    most_steps c.args.params.now.e (count_erased c.args.erased.now) _ _ _ _ _ _ c.e.ensures.value c.count_erased-count.ensures
+    c.erasure_locator-erasures.ensures.cost c.modified-terms.ensures.cost c.in-Some.ensures.cost
+
+pub returns-clause-least : goal.returns-clause-least
+returns-clause-least g c few =
+    least_steps c.args.params.now.e (count_erased c.args.erased.now) _ _ _ _ _ _ c.e.ensures.value c.count_erased-count.ensures
+    c.erasure_locator-erasures.ensures.cost c.modified-terms.ensures.cost c.in-Some.ensures.later

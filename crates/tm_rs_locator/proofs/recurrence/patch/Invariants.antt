@@ -9,6 +9,6 @@ invariant-loop-i g l = record {
   room : length l.coefs ≡ length l.initial.coefs;
   left : (j : ℕ) → l.i ≤ j → entry l.coefs j ≡ entry l.initial.coefs j;
   behind : (j : ℕ) → l.end ≤ j → entry l.coefs j ≡ entry l.initial.coefs j;
-  counted : l.steps + l.m ≤ l.initial.steps + l.i;
+  counted : l.steps + l.m ≡ l.initial.steps + l.i;
   most : l.steps ≤ l.initial.steps + l.end;
 }

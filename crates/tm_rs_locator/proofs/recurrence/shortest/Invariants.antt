@@ -9,4 +9,5 @@ invariant-loop-k g l = record {
   room : length l.state.current ≡ 17;
   before : length l.state.previous ≡ 17;
   counted : l.steps ≤ l.initial.steps + l.k * (l.count + 3);
+  later : l.initial.steps ≤ l.steps;
 }

@@ -2,7 +2,7 @@ use Rattle.std.proofs.Common.{◌≡◌, ℕ, get_or, eqb, ◌||◌, ◌+◌, �
 use Rattle.tm_gf256.specs.Poly.{entry, numbers, value_at}
 use Rattle.tm_rs_code.specs.Code.{place_of, weight}
 use Rattle.tm_rs_code.specs.Erasures.{places_named}
-use Rattle.tm_rs_locator.proofs.Erasures.{product_as, product_more, product_same, product_start, none_dropped}
+use Rattle.tm_rs_locator.proofs.Erasures.{cost_as, cost_more, product_as, product_more, product_same, product_start, none_dropped}
 use Rattle.tm_rs_locator.proofs.Starts.{start, start_beyond}
 use Rattle.tm_rs_solve.proofs.Named.{named_next, length_left, degree_named}
 use Rattle.tm_rs_solve.proofs.erasing.all_places.Goals as goal
@@ -13,22 +13,23 @@ at_value : (g : List ℕ) (f : Bool) (p v : ℕ) (b : Bool) → v ≡ value_at g
 at_value g f p v b e is = sym (is ∙ ap (λ (y : ℕ). f || eqb y 0) e)
 
 pub loop-p-init : goal.loop-p-init
-loop-p-init c = record {
+loop-p-init g c = record {
   product = product_start (entry start) refl start_beyond (places_named (numbers c.args.poly.now) (drop (length c.args.erased.now - 0) c.args.erased.now)) (ap (places_named (numbers c.args.poly.now)) (none_dropped c.args.erased.now));
   counted = sym (ap (λ (fs : List Bool). weight (places_named (numbers c.args.poly.now) fs)) (none_dropped c.args.erased.now));
   room = refl;
+  cost = omega arith;
 }
 
 pub times_factor-requires : goal.times_factor-requires
-times_factor-requires c =
+times_factor-requires g c =
     omega (arith, c.requires.few, degree_named (numbers c.args.poly.now) c.args.erased.now c.loop-p.p c.loop-p.degree (omega arith) c.loop-p.invariant.counted (at_value (numbers c.args.poly.now) (get_or c.args.erased.now (length c.args.erased.now - 1 - c.loop-p.p) false) c.loop-p.p (get_or c.values_at_places-values.result c.loop-p.p 0) c.names_place.result (c.values_at_places-values.ensures.values c.loop-p.p (omega arith)) c.names_place.ensures ∙ c.if-names_place.true))
 
 pub overflow_add-degree : goal.overflow_add-degree
-overflow_add-degree c =
+overflow_add-degree g c =
     omega (arith, c.requires.few, degree_named (numbers c.args.poly.now) c.args.erased.now c.loop-p.p c.loop-p.degree (omega arith) c.loop-p.invariant.counted (at_value (numbers c.args.poly.now) (get_or c.args.erased.now (length c.args.erased.now - 1 - c.loop-p.p) false) c.loop-p.p (get_or c.values_at_places-values.result c.loop-p.p 0) c.names_place.result (c.values_at_places-values.ensures.values c.loop-p.p (omega arith)) c.names_place.ensures ∙ c.if-names_place.true))
 
 pub loop-p-preserved : goal.loop-p-preserved
-loop-p-preserved c =
+loop-p-preserved g c =
     elim c.if-names_place.branch [
       | then-names_place w ↦ record {
         product = product_as c.if-names_place.coefs w.times_factor.new.coefs c.if-names_place.degree (c.loop-p.degree + 1)
@@ -41,6 +42,8 @@ loop-p-preserved c =
             w.times_factor.ensures.factor w.times_factor.ensures.rest);
         counted = omega (arith, w.degree-is, c.loop-p.invariant.counted, ap weight (named_next (numbers c.args.poly.now) c.args.erased.now c.loop-p.p true (omega arith) (at_value (numbers c.args.poly.now) (get_or c.args.erased.now (length c.args.erased.now - 1 - c.loop-p.p) false) c.loop-p.p (get_or c.values_at_places-values.result c.loop-p.p 0) c.names_place.result (c.values_at_places-values.ensures.values c.loop-p.p (omega arith)) c.names_place.ensures ∙ w.if-names_place.true)));
         room = ap length w.coefs-is ∙ w.times_factor.ensures.room;
+        cost = cost_as c.if-names_place.steps w.times_factor.new.steps c.args.steps.now c.if-names_place.degree (c.loop-p.degree + 1) w.steps-is w.degree-is
+            (cost_more c.loop-p.steps w.times_factor.new.steps c.args.steps.now c.loop-p.degree c.loop-p.invariant.cost w.times_factor.ensures.cost);
       }
       | else-names_place w ↦ record {
         product = product_as c.if-names_place.coefs c.loop-p.coefs c.if-names_place.degree c.loop-p.degree
@@ -52,5 +55,6 @@ loop-p-preserved c =
             (named_next (numbers c.args.poly.now) c.args.erased.now c.loop-p.p false (omega arith) (at_value (numbers c.args.poly.now) (get_or c.args.erased.now (length c.args.erased.now - 1 - c.loop-p.p) false) c.loop-p.p (get_or c.values_at_places-values.result c.loop-p.p 0) c.names_place.result (c.values_at_places-values.ensures.values c.loop-p.p (omega arith)) c.names_place.ensures ∙ w.if-names_place.false)));
         counted = omega (arith, w.degree-is, c.loop-p.invariant.counted, ap weight (named_next (numbers c.args.poly.now) c.args.erased.now c.loop-p.p false (omega arith) (at_value (numbers c.args.poly.now) (get_or c.args.erased.now (length c.args.erased.now - 1 - c.loop-p.p) false) c.loop-p.p (get_or c.values_at_places-values.result c.loop-p.p 0) c.names_place.result (c.values_at_places-values.ensures.values c.loop-p.p (omega arith)) c.names_place.ensures ∙ w.if-names_place.false)));
         room = ap length w.coefs-is ∙ c.loop-p.invariant.room;
+        cost = cost_as c.if-names_place.steps c.loop-p.steps c.args.steps.now c.if-names_place.degree c.loop-p.degree w.steps-is w.degree-is c.loop-p.invariant.cost;
       }
     ]

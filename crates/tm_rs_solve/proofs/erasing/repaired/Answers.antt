@@ -1,11 +1,11 @@
-use Rattle.std.proofs.Common.{◌+◌, ℕ, List, take, arith, sym, ◌∙◌}
+use Rattle.std.proofs.Common.{◌≤◌, ◌+◌, ◌*◌, ℕ, List, take, arith, sym, ◌∙◌}
 use Rattle.tm_gf256.specs.Poly.{entry, numbers}
 use Rattle.tm_gf256.proofs.PolyLemmas.{length-numbers}
-use Rattle.tm_rs_code.specs.Erasures.{places_named}
+use Rattle.tm_rs_code.specs.Erasures.{count_erased, places_named}
 use Rattle.tm_rs_code.specs.ErrorValues.{IsLocated}
 use Rattle.tm_rs_code.proofs.Numbers.{AreElements-numbers}
 use Rattle.tm_rs_code.proofs.ErasedWords.{fixed_erased, beyond_erased_far, beyond_erased_none}
-use Rattle.tm_rs_solve.proofs.Named.{located_for, named_few}
+use Rattle.tm_rs_solve.proofs.Named.{located_for, most_steps, named_few}
 use Rattle.tm_rs_solve.proofs.erasing.repaired.Goals as goal
 
 pub returns-then-l-repair-clause-nearest : goal.returns-then-l-repair-clause-nearest
@@ -97,6 +97,20 @@ returns-else-l-repair-clause-nearest g c =
     (length-numbers c.args.word.now ∙ c.requires.size ∙ sym c.requires.flags) (AreElements-numbers c.args.word.now c.see_range.ensures) (λ k lt. sym (c.requires.syndromes k lt))
     found.1 found.2.places (c.count_inside-inside.ensures.count named found.0 whole found.1.size) (omega arith)
     (c.correct.ensures named found.0 whole (found.1.size ∙ c.requires.flags ∙ sym c.requires.size))
+
+pub returns-else-l-repair-clause-cost : goal.returns-else-l-repair-clause-cost
+returns-else-l-repair-clause-cost g c =
+    let found = c.in-Some.ensures.some in
+    let few : count_erased c.args.erased.now ≤ 2 * c.args.params.now.e = omega (arith, found.1.few) in
+    let places : c.all_places-places.result.degree ≤ 2 * c.args.params.now.e =
+    omega (
+      arith,
+      c.all_places-places.ensures.degree,
+      named_few c.args.params.now.e c.args.erased.now (entry c.args.values.now) (numbers (take (c.in-Some.l.degree + 1) c.in-Some.l.coefs)) found.0
+          (omega (arith, c.n-n.ensures.range.1, c.requires.flags)) found.1 found.2.product,
+    ) in
+    most_steps c.args.params.now.e (count_erased c.args.erased.now) c.all_places-places.result.degree c.args.steps.now c.solve_erased.new.steps c.all_places-places.new.steps c.e-e.ensures.strength
+    few places (c.in-Some.ensures.most few) c.all_places-places.ensures.cost
 
 pub returns-in-None-clause-nearest : goal.returns-in-None-clause-nearest
 returns-in-None-clause-nearest g c =
