@@ -5,6 +5,7 @@ pub mod Codeblocks
 pub mod SentCodeblocks
 pub mod Repairs
 pub mod CleanStreams
+pub mod DisturbedOctets
 pub mod Polarity
 pub mod OnlyItems
 mod HasItems

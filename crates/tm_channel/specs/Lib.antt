@@ -7,6 +7,7 @@ pub mod Due
 pub mod Receive
 pub mod Handing
 pub mod SentStream
+pub mod Disturbed
 pub mod Receiving
 pub mod OctetReceiving
 pub mod ColumnWords

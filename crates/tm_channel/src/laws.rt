@@ -1,18 +1,21 @@
 // What holds of received octets, over the definitions alone.
-ghost use Rattle.std.specs.Prelude.{◌≡◌, ◌++◌, ℕ, Bool, List, map};
+ghost use Rattle.std.specs.Prelude.{◌≡◌, ◌++◌, ℕ, Bool, true, false, List, [], ◌∷◌, None, map, replicate};
 ghost use Rattle.std.specs.List.{concat};
-ghost use Rattle.tm_base.specs.Bits.{AreOctets};
+ghost use Rattle.tm_base.specs.Bits.{AreOctets, bits_of};
 ghost use Rattle.tm_base.specs.Handed.{Handed};
 ghost use Rattle.tm_config.specs.Accepted.{IsAccepted};
 ghost use Rattle.tm_config.specs.Configuration.{Configuration};
 ghost use Rattle.tm_inner.specs.Inner.{Inner, IsStartKnown};
 ghost use Rattle.tm_viterbi.specs.Clean.{turned_octets};
+ghost use Rattle.tm_inner.specs.Phase.{IsChosen};
 ghost use Rattle.tm_channel.specs.Frames.{whole_frames};
 ghost use Rattle.tm_channel.specs.Sent.{sent};
 ghost use Rattle.tm_channel.specs.Items.{ItemValue, frames_of, turned_item};
 ghost use Rattle.tm_channel.specs.Handing.{AreReceived, AreReceivedDue, AreReceivedFirst, AreReceivedFront};
 ghost use Rattle.tm_channel.specs.Receive.{Receive, ReceiveDue, ReceiveFirst, ReceiveFront};
-ghost use Rattle.tm_channel.specs.SentStream.{AreAsSent, AreNear, IsSent, SentUnit, clean_items, unit_frames, unit_places};
+ghost use Rattle.tm_channel.specs.SentStream.{AreAsSent, AreNear, AreWithin, IsSent, SentUnit, clean_items, sent_columns, unit_frames, unit_places};
+ghost use Rattle.tm_channel.specs.ReceivedCodeblock.{received_columns};
+ghost use Rattle.tm_channel.specs.Disturbed as disturbed;
 
 use tm_inner::{clean_inner_law, due_bits_law, inner_law};
 use tm_phase::{phase_law, whole_window_law};
@@ -84,6 +87,21 @@ pub fn disturbed_law()
 {
     inner_law();
 }
+
+/// There are octets of which `disturbed_law` speaks: of an accepted configuration with no inner code and a given phase. In them stands a unit
+/// with a wrong bit in its marker and a wrong symbol, right behind it one whose marker is bridged, and behind a gap an inverted one. No column
+/// is disturbed beyond the repair bound. It does nothing.
+pub fn disturbed_octets_law()
+    ensures accepted { IsAccepted disturbed.link }
+    ensures phase { IsChosen disturbed.link disturbed.octets None }
+    ensures inner { Inner disturbed.link 0 disturbed.octets (bits_of disturbed.octets) }
+    ensures sent { IsSent disturbed.link (bits_of disturbed.octets) disturbed.units disturbed.last }
+    ensures places { unit_places disturbed.link disturbed.units ≡ record { place = 0; distance = 1; bridged = false; inverted = false }
+        ∷ record { place = 168; distance = 19; bridged = true; inverted = false }
+        ∷ record { place = 337; distance = 0; bridged = false; inverted = true } ∷ [] }
+    ensures wrong { AreWithin 0 (received_columns disturbed.link (0 ∷ 0 ∷ 1 ∷ replicate 14 0)) (sent_columns disturbed.link disturbed.frame) → ⊥ }
+    ensures near { AreNear disturbed.link (unit_places disturbed.link disturbed.units) disturbed.units }
+{}
 
 /// The items of what is sent for octets, where none is skipped, nothing was disturbed and it is known where the first path starts:
 /// the whole frames of the octets, in order and with nothing wrong. Their frames joined are these. It does nothing.

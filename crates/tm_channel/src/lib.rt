@@ -22,7 +22,8 @@ mod taking;
 pub use cadus::{basis_of, cadu};
 pub use item::{Item, ItemTaker};
 pub use laws::{
-    clean_law, disturbed_law, due_items_law, first_items_law, items_law, polarity_law, received_law,
+    clean_law, disturbed_law, disturbed_octets_law, due_items_law, first_items_law, items_law,
+    polarity_law, received_law,
 };
 pub use receiver::{Receiver, RecvError, receive_all};
 pub use sender::Sender;

@@ -1,0 +1,145 @@
+-- The octets of disturbed units meet what is asked of them.
+use Rattle.std.proofs.Common.{◌≡◌, ◌<◌, ℕ, zero, suc, Bool, true, false, List, [], ◌∷◌, replicate, None, refl, sym, ap, subst, arith, inl, inr}
+use Rattle.std.proofs.lemmas.List.Elements.{All-cons, All-nil}
+use Rattle.tm_base.specs.Bits.{bits_of, low_bits}
+use Rattle.tm_config.specs.Accepted.{IsAccepted}
+use Rattle.tm_inner.specs.Inner.{Inner}
+use Rattle.tm_inner.specs.Phase.{IsChosen}
+use Rattle.tm_rs_code.specs.Code.{AreElements, IsSystematic, root}
+use Rattle.tm_rs_code.proofs.Register.{value_at-zeros}
+use Rattle.tm_rs_code.proofs.Systematic.{systematic_only}
+use Rattle.tm_sync.specs.Bits.{complement, marker_bits}
+use Rattle.tm_sync.specs.Places.{match_of, wrong_bits}
+use Rattle.tm_sync.specs.Marked.{Entry, joined, HasNoMarker, IsMarked}
+use Rattle.tm_channel.specs.Cadu.{coded_octets, codeblock_of}
+use Rattle.tm_channel.specs.ReceivedCodeblock.{rules_of, codeblock_in, received_columns}
+use Rattle.tm_channel.specs.SentStream.{AreNear, AreWithin, IsFrame, IsNear, IsSent, entries_of, sent_columns, unit_places}
+use Rattle.tm_channel.specs.Disturbed.{link, octets, frame, units, last}
+
+pub accepted : IsAccepted link
+accepted = record {
+  code = inr (inl refl);
+  some_depth = omega arith;
+  depth = omega arith;
+  no_depth = λ none. refl;
+  whole = refl;
+  some_data = omega arith;
+  data_fits = omega arith;
+  inner = inl refl;
+  invert = λ x some. absurd cc;
+  randomize = omega arith;
+  basis = omega arith;
+  tolerance = omega arith;
+  repair = omega arith;
+  soft = omega arith;
+  start = omega arith;
+  skip = omega arith;
+  some_workers = omega arith;
+  workers = omega arith;
+  some_limit = omega arith;
+  limit = omega arith;
+  fly = omega arith;
+  some_keep = omega arith;
+  keep = omega arith;
+  ahead = omega arith;
+  phase = omega arith;
+  polarity = omega arith;
+}
+
+pub phase-given : IsChosen link octets None
+phase-given = refl
+
+pub inner-bits : Inner link 0 octets (bits_of octets)
+inner-bits = record { blocks = []; left = 0; are_blocks = (refl, refl); are_bits = refl }
+
+-- ---- the units
+
+no-gap : (bits : List Bool) → HasNoMarker (rules_of link) [] bits
+no-gap bits q below = absurd (omega arith)
+
+inverted_entry : Entry
+inverted_entry = record { gap = true ∷ []; marker = complement marker_bits; block = replicate 136 true }
+
+one-gap : HasNoMarker (rules_of link) (true ∷ []) (joined (inverted_entry ∷ []) last)
+unfolding inverted_entry match_of wrong_bits low_bits
+one-gap zero below room = refl
+one-gap (suc q) below room = absurd (omega (arith, below))
+
+last-gap : HasNoMarker (rules_of link) last last
+last-gap q below room = absurd (omega (arith, room))
+
+marked : IsMarked (rules_of link) (bits_of octets) (entries_of units) last
+unfolding inverted_entry match_of wrong_bits low_bits
+marked = record {
+  parts = refl;
+  are_entries = (
+    record { marker = refl; block = refl; gap = no-gap (joined (entries_of units) last); waits = tt; bridged = tt },
+    (
+      record { marker = refl; block = refl; gap = λ q below. absurd (omega (arith, below)); waits = tt; bridged = (refl, omega arith) },
+      (
+        record { marker = refl; block = refl; gap = one-gap; waits = inl (omega arith); bridged = tt },
+        (
+          last-gap,
+          inr (omega arith),
+        ),
+      ),
+    ),
+  );
+}
+
+is-frame : IsFrame link frame
+is-frame = (refl, All-cons (λ octet. octet < 256) 0 [] (omega arith) (All-nil (λ octet. octet < 256)))
+
+pub units-sent : IsSent link (bits_of octets) units last
+units-sent = record { marked = marked; frames = (is-frame, (is-frame, (is-frame, tt))) }
+
+-- ---- the columns
+
+zeros-systematic : IsSystematic 8 frame (replicate 17 0)
+zeros-systematic = record {
+  elements = small 17;
+  codeword = λ k below. value_at-zeros 17 (root 8 k);
+  size = refl;
+  begins = refl;
+}
+  where
+    small : (n : ℕ) → AreElements (replicate n 0)
+    small zero = tt
+    small (suc n) = (omega arith, small n)
+
+zeros-sent : codeblock_of link frame ≡ replicate 17 0
+unfolding codeblock_of coded_octets
+zeros-sent = rw (sym (systematic_only 8 frame (replicate 17 0) (omega arith) zeros-systematic)) refl
+
+columns-sent : sent_columns link frame ≡ replicate 17 0 ∷ []
+unfolding received_columns
+columns-sent = ap (received_columns link) zeros-sent
+
+pub column-wrong : AreWithin 0 (received_columns link (0 ∷ 0 ∷ 1 ∷ replicate 14 0)) (sent_columns link frame) → ⊥
+unfolding received_columns
+column-wrong within = let h = subst (AreWithin 0 ((0 ∷ 0 ∷ 1 ∷ replicate 14 0) ∷ [])) columns-sent within in omega (arith, h.0)
+
+near : (codeblock : List ℕ) → AreWithin 8 (received_columns link codeblock) (replicate 17 0 ∷ []) → IsNear link frame codeblock
+near codeblock within = record {
+  columns = subst (AreWithin 8 (received_columns link codeblock)) (sym columns-sent) within;
+  uncoded = λ none. absurd (omega (arith, none));
+}
+
+pub places-are : unit_places link units ≡ record { place = 0; distance = 1; bridged = false; inverted = false }
+    ∷ record { place = 168; distance = 19; bridged = true; inverted = false }
+    ∷ record { place = 337; distance = 0; bridged = false; inverted = true } ∷ []
+unfolding match_of wrong_bits low_bits
+places-are = refl
+
+pub units-near : AreNear link (unit_places link units) units
+unfolding match_of wrong_bits low_bits received_columns codeblock_in
+units-near = (
+  near (0 ∷ 0 ∷ 1 ∷ replicate 14 0) (omega arith, tt),
+  (
+    near (replicate 17 0) (omega arith, tt),
+    (
+      near (replicate 17 0) (omega arith, tt),
+      tt,
+    ),
+  ),
+)
