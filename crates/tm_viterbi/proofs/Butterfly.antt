@@ -37,7 +37,8 @@ low_ways sums costs even odd near far h s lt =
       second = ap (λ v. G v (s / 32)) m ∙ ap (λ v. G s v) q ∙ omega (arith, h.odds.each s lt, h.fars.each s lt);
     }
 
-pub high_ways : (sums costs even odd near far : List ℕ) → AreLanes sums costs even odd near far → (s i : ℕ) → i < 32 → s ≡ 32 + i
+pub high_ways : (sums costs even odd near far : List ℕ) → AreLanes sums costs even odd near far → (s i : ℕ) → i < 32
+    → s ≡ 32 + i
     → AreWays sums costs s (get_or even i 0 + get_or far i 0) (get_or odd i 0 + get_or near i 0)
 high_ways sums costs even odd near far h s i lt e =
     let q : s / 32 ≡ 1 = omega arith in
@@ -45,8 +46,12 @@ high_ways sums costs even odd near far h s i lt e =
     let F : ℕ → ℕ → ℕ = λ i b. sum_via sums costs (2 * i) b in
     let G : ℕ → ℕ → ℕ = λ i b. sum_via sums costs (2 * i + 1) b in
     record {
-      first = ap (λ v. F v (s / 32)) m ∙ ap (λ v. F i v) q ∙ ap (λ v. get_or sums (2 * i) 0 + get_or costs v 0) (pair_one i lt) ∙ omega (arith, h.evens.each i lt, h.fars.each i lt);
-      second = ap (λ v. G v (s / 32)) m ∙ ap (λ v. G i v) q ∙ ap (λ v. get_or sums (2 * i + 1) 0 + get_or costs v 0) (pair_other i lt) ∙ omega (arith, h.odds.each i lt, h.nears.each i lt);
+      first = ap (λ v. F v (s / 32)) m ∙ ap (λ v. F i v) q
+          ∙ ap (λ v. get_or sums (2 * i) 0 + get_or costs v 0) (pair_one i lt)
+          ∙ omega (arith, h.evens.each i lt, h.fars.each i lt);
+      second = ap (λ v. G v (s / 32)) m ∙ ap (λ v. G i v) q
+          ∙ ap (λ v. get_or sums (2 * i + 1) 0 + get_or costs v 0) (pair_other i lt)
+          ∙ omega (arith, h.odds.each i lt, h.nears.each i lt);
     }
 
 pub IsNextSums-from_lanes : (sums costs even odd near far low high : List ℕ) → AreLanes sums costs even odd near far
@@ -57,29 +62,66 @@ IsNextSums-from_lanes sums costs even odd near far low high h lows highs s lt =
     elim (cases_lt s 32) [
       | inl l ↦ (let w = low_ways sums costs even odd near far h s l in
           get_or_append_left low high 0 s (omega (arith, lows.long)) ∙ lows.each s l
-          ∙ ap (λ v. min v (get_or odd s 0 + get_or far s 0)) (sym w.first) ∙ ap (λ v. min (first_way sums costs s) v) (sym w.second))
+          ∙ ap (λ v. min v (get_or odd s 0 + get_or far s 0)) (sym w.first)
+          ∙ ap (λ v. min (first_way sums costs s) v) (sym w.second))
       | inr g ↦ (let i = s - 32 in
           let il : i < 32 = omega arith in
           let w = high_ways sums costs even odd near far h s i il (omega arith) in
           get_or-append_right low high 32 s 0 lows.long g ∙ highs.each i il
-          ∙ ap (λ v. min v (get_or odd i 0 + get_or near i 0)) (sym w.first) ∙ ap (λ v. min (first_way sums costs s) v) (sym w.second))
+          ∙ ap (λ v. min v (get_or odd i 0 + get_or near i 0)) (sym w.first)
+          ∙ ap (λ v. min (first_way sums costs s) v) (sym w.second))
     ]
 
-pub AreSurvivors-from_lanes : (sums costs even odd near far : List ℕ) (low high : ℕ) → AreLanes sums costs even odd near far
-    → ((i : ℕ) → i < 32 → low / 2 ^ i % 2 ≡ cond (ltb (get_or odd i 0 + get_or far i 0) (get_or even i 0 + get_or near i 0)) 1 0)
-    → ((i : ℕ) → i < 32 → high / 2 ^ i % 2 ≡ cond (ltb (get_or odd i 0 + get_or near i 0) (get_or even i 0 + get_or far i 0)) 1 0)
+pub AreSurvivors-from_lanes : (sums costs even odd near far : List ℕ) (low high : ℕ)
+    → AreLanes sums costs even odd near far
+    → ((i : ℕ) → i < 32 → low / 2 ^ i % 2 ≡ cond
+    (ltb (get_or odd i 0 + get_or far i 0) (get_or even i 0 + get_or near i 0)) 1 0)
+    → ((i : ℕ) → i < 32 → high / 2 ^ i % 2 ≡ cond
+    (ltb (get_or odd i 0 + get_or near i 0) (get_or even i 0 + get_or far i 0)) 1 0)
     → low < 2 ^ 32 → high < 2 ^ 32
     → AreSurvivors sums costs (low + high * 2 ^ 32 % 2 ^ 64)
 AreSurvivors-from_lanes sums costs even odd near far low high h lows highs ll hl s lt =
     let whole : low + high * 2 ^ 32 % 2 ^ 64 ≡ high * 2 ^ 32 + low = omega arith in
     ap (λ v. v / 2 ^ s % 2) whole ∙
-    elim (cases_lt s 32) as (λ _. (high * 2 ^ 32 + low) / 2 ^ s % 2 ≡ cond (ltb (second_way sums costs s) (first_way sums costs s)) 1 0) [
+    elim (cases_lt s 32) as (λ _. (high * 2 ^ 32 + low) / 2 ^ s % 2 ≡ cond
+    (ltb (second_way sums costs s) (first_way sums costs s)) 1 0) [
       | inl l ↦ (let w = low_ways sums costs even odd near far h s l in
           bit_at_cat_low high 32 low s l ∙ lows s l
-          ∙ ap (λ v. cond (ltb v (get_or even s 0 + get_or near s 0)) 1 0) (sym w.second) ∙ ap (λ v. cond (ltb (second_way sums costs s) v) 1 0) (sym w.first))
+          ∙ ap (λ v. cond (ltb v (get_or even s 0 + get_or near s 0)) 1 0) (sym w.second)
+          ∙ ap (λ v. cond (ltb (second_way sums costs s) v) 1 0) (sym w.first))
       | inr g ↦ (let i = s - 32 in
           let il : i < 32 = omega arith in
           let w = high_ways sums costs even odd near far h s i il (omega arith) in
           bit_at_cat_high high 32 low s ll g ∙ highs i il
-          ∙ ap (λ v. cond (ltb v (get_or even i 0 + get_or far i 0)) 1 0) (sym w.second) ∙ ap (λ v. cond (ltb (second_way sums costs s) v) 1 0) (sym w.first))
+          ∙ ap (λ v. cond (ltb v (get_or even i 0 + get_or far i 0)) 1 0) (sym w.second)
+          ∙ ap (λ v. cond (ltb (second_way sums costs s) v) 1 0) (sym w.first))
     ]
+
+-- the same of the sums themselves
+pub low_way : (sums costs : List ℕ) (s : ℕ) → s < 32
+    → AreWays sums costs s (get_or sums (2 * s) 0 + get_or costs (2 * c1 (2 * s) 0 + c2 (2 * s) 0) 0)
+    (get_or sums (2 * s + 1) 0 + get_or costs (2 * c1 (2 * s + 1) 0 + c2 (2 * s + 1) 0) 0)
+low_way sums costs s lt =
+    let q : s / 32 ≡ 0 = omega arith in
+    let m : s % 32 ≡ s = omega arith in
+    let F : ℕ → ℕ → ℕ = λ i b. sum_via sums costs (2 * i) b in
+    let G : ℕ → ℕ → ℕ = λ i b. sum_via sums costs (2 * i + 1) b in
+    record {
+      first = ap (λ v. F v (s / 32)) m ∙ ap (λ v. F s v) q;
+      second = ap (λ v. G v (s / 32)) m ∙ ap (λ v. G s v) q;
+    }
+
+pub high_way : (sums costs : List ℕ) (i : ℕ) → i < 32
+    → AreWays sums costs (32 + i) (get_or sums (2 * i) 0 + get_or costs (2 * c1 (2 * i + 1) 0 + c2 (2 * i + 1) 0) 0)
+    (get_or sums (2 * i + 1) 0 + get_or costs (2 * c1 (2 * i) 0 + c2 (2 * i) 0) 0)
+high_way sums costs i lt =
+    let q : (32 + i) / 32 ≡ 1 = omega arith in
+    let m : (32 + i) % 32 ≡ i = omega arith in
+    let F : ℕ → ℕ → ℕ = λ i b. sum_via sums costs (2 * i) b in
+    let G : ℕ → ℕ → ℕ = λ i b. sum_via sums costs (2 * i + 1) b in
+    record {
+      first = ap (λ v. F v ((32 + i) / 32)) m ∙ ap (λ v. F i v) q
+          ∙ ap (λ v. get_or sums (2 * i) 0 + get_or costs v 0) (pair_one i lt);
+      second = ap (λ v. G v ((32 + i) / 32)) m ∙ ap (λ v. G i v) q
+          ∙ ap (λ v. get_or sums (2 * i + 1) 0 + get_or costs v 0) (pair_other i lt);
+    }

@@ -1,12 +1,13 @@
 -- Steps one after the other, and sums less a base.
 use Rattle.std.proofs.Common.{◌≡◌, ℕ, zero, suc, ◌+◌, ◌-◌, ◌*◌, ◌/◌, ◌%◌, ◌<◌, ◌≤◌, ◌∙◌, sym, ap, subst, refl, arith, length, get_or, List, [], ◌∷◌, ◌++◌, min, cond, ltb, Bool, append_assoc, length-append, length-drop, take, drop, set}
-use Rattle.std.proofs.lemmas.List.{reverse-append, append-nil, length-take-le, take_more_set, ext_get_or, take_all}
+use Rattle.std.proofs.lemmas.List.{reverse-append, append-nil, length-take-le, take_more_set, ext_get_or, take_all, take-append-drop}
 use Rattle.std.proofs.lemmas.Slice.{take-put_mid}
 use borrow.Rule.Slice.PartMut.{put_mid, same_len_mid}
 use Rattle.std.proofs.Math.Seq.{take-add}
 use Rattle.std.proofs.lemmas.Bool.Decides.{nat_tests}
 use mathlib.Core.List.{reverse}
 use Rattle.tm_conv.specs.declared.rates.Rate.{Rate}
+use Rattle.tm_conv.specs.declared.rates.Rate.TheVariants.{R12}
 use Rattle.tm_conv.specs.Path.{c1, c2, step_size, steps_size}
 use Rattle.tm_viterbi.specs.Walk.{AreBest}
 use Rattle.tm_viterbi.specs.Column.{IsNextSums, first_way, second_way}
@@ -15,7 +16,7 @@ use Rattle.tm_viterbi.proofs.Walk.{AreBest-more, AreBest-none}
 use Rattle.tm_viterbi.proofs.Totals.{Grows-total_of}
 use Rattle.tm_conv.proofs.Paths.{steps_size-more, steps_size-zero}
 use Rattle.tm_viterbi.specs.Carries.{Carries, lifted}
-use Rattle.tm_conv.proofs.Sizes.{steps_size-add, steps_size-le}
+use Rattle.tm_conv.proofs.Sizes.{steps_size-add, steps_size-le, step_size-is}
 
 pub Carries-none : (rate : Rate) (invert : Bool) (t : ℕ) (sums : List ℕ) → Carries rate invert t [] sums sums []
 Carries-none rate invert t sums = record {
@@ -34,45 +35,60 @@ Carries-more rate invert t column octets piece sums middle next columns h len st
     let n = length columns in
     let long : length (columns ++ column ∷ []) ≡ n + 1 = length-append columns (column ∷ []) ∙ omega arith in
     record {
-      size = length-append octets piece ∙ omega (arith, h.size, len, steps_size-more rate t n) ∙ sym (ap (steps_size rate t) long);
+      size = length-append octets piece ∙ omega (arith, h.size, len, steps_size-more rate t n)
+          ∙ sym (ap (steps_size rate t) long);
       carries = λ first i firsts before past e l best.
           let there : t + n ≡ first + (i + n) = omega arith in
           let size : length (before ++ octets) ≡ steps_size rate first (i + n) =
-          length-append before octets ∙ omega (arith, l, h.size, steps_size-add rate first i n, ap (λ (v : ℕ). steps_size rate v n) e) in
-          let costs : AreCosts rate invert (first + (i + n)) piece step.costs = subst (λ (v : ℕ). AreCosts rate invert v piece step.costs) there step.are_costs in
+          length-append before octets
+          ∙ omega (arith, l, h.size, steps_size-add rate first i n, ap (λ (v : ℕ). steps_size rate v n) e) in
+          let costs : AreCosts rate invert (first + (i + n)) piece step.costs =
+          subst (λ (v : ℕ). AreCosts rate invert v piece step.costs) there step.are_costs in
           let grows = Grows-total_of rate invert first (i + n) firsts (before ++ octets) piece step.costs size costs in
-          let so : AreBest (total_of rate invert first firsts ((before ++ octets) ++ piece)) (i + n + 1) next (column ∷ (reverse columns ++ past))
-          = AreBest-more _ _ (i + n) column middle step.costs next (reverse columns ++ past) grows step.are_sums step.are_survivors (h.carries first i firsts before past e l best) in
+          let so : AreBest (total_of rate invert first firsts ((before ++ octets) ++ piece)) (i + n + 1) next
+          (column ∷ (reverse columns ++ past))
+          = AreBest-more _ _ (i + n) column middle step.costs next
+          (reverse columns ++ past) grows step.are_sums step.are_survivors
+          (h.carries first i firsts before past e l best) in
           let count : i + n + 1 ≡ i + length (columns ++ column ∷ []) = omega (arith, long) in
-          let rows : column ∷ (reverse columns ++ past) ≡ reverse (columns ++ column ∷ []) ++ past = sym (ap (λ (v : List ℕ). v ++ past) (reverse-append columns (column ∷ []))) in
+          let rows : column ∷ (reverse columns ++ past) ≡ reverse (columns ++ column ∷ []) ++ past =
+          sym (ap (λ (v : List ℕ). v ++ past) (reverse-append columns (column ∷ []))) in
           let P : List ℕ → ℕ → List ℕ → Type 0 = λ v k w. AreBest (total_of rate invert first firsts v) k next w in
           subst (λ (w : List ℕ). P (before ++ (octets ++ piece)) (i + length (columns ++ column ∷ [])) w) rows
           (subst (λ (k : ℕ). P (before ++ (octets ++ piece)) k (column ∷ (reverse columns ++ past))) count
-          (subst (λ (v : List ℕ). P v (i + n + 1) (column ∷ (reverse columns ++ past))) (append_assoc before octets piece) so));
+          (subst (λ (v : List ℕ). P v (i + n + 1) (column ∷ (reverse columns ++ past)))
+          (append_assoc before octets piece) so));
     }
 
 -- steps after steps
 pub Carries-append : (rate : Rate) (invert : Bool) (t u : ℕ) (octets piece sums middle next columns more : List ℕ)
-    → Carries rate invert t octets sums middle columns → u ≡ t + length columns → Carries rate invert u piece middle next more
+    → Carries rate invert t octets sums middle columns → u ≡ t + length columns
+    → Carries rate invert u piece middle next more
     → Carries rate invert t (octets ++ piece) sums next (columns ++ more)
 Carries-append rate invert t u octets piece sums middle next columns more h e k =
     let n = length columns in
     let m = length more in
     let long : length (columns ++ more) ≡ n + m = length-append columns more in
     record {
-      size = length-append octets piece ∙ omega (arith, h.size, k.size, steps_size-add rate t n m, ap (λ (v : ℕ). steps_size rate v m) e) ∙ sym (ap (steps_size rate t) long);
+      size = length-append octets piece
+          ∙ omega (arith, h.size, k.size, steps_size-add rate t n m, ap (λ (v : ℕ). steps_size rate v m) e)
+          ∙ sym (ap (steps_size rate t) long);
       carries = λ first i firsts before past f l best.
           let there : u ≡ first + (i + n) = omega arith in
           let size : length (before ++ octets) ≡ steps_size rate first (i + n) =
-          length-append before octets ∙ omega (arith, l, h.size, steps_size-add rate first i n, ap (λ (v : ℕ). steps_size rate v n) f) in
-          let so = k.carries first (i + n) firsts (before ++ octets) (reverse columns ++ past) there size (h.carries first i firsts before past f l best) in
+          length-append before octets
+          ∙ omega (arith, l, h.size, steps_size-add rate first i n, ap (λ (v : ℕ). steps_size rate v n) f) in
+          let so = k.carries first (i + n) firsts (before ++ octets) (reverse columns ++ past) there size
+          (h.carries first i firsts before past f l best) in
           let count : i + n + m ≡ i + length (columns ++ more) = omega (arith, long) in
           let rows : reverse more ++ (reverse columns ++ past) ≡ reverse (columns ++ more) ++ past =
-          sym (append_assoc (reverse more) (reverse columns) past) ∙ sym (ap (λ (v : List ℕ). v ++ past) (reverse-append columns more)) in
+          sym (append_assoc (reverse more) (reverse columns) past)
+          ∙ sym (ap (λ (v : List ℕ). v ++ past) (reverse-append columns more)) in
           let P : List ℕ → ℕ → List ℕ → Type 0 = λ v j w. AreBest (total_of rate invert first firsts v) j next w in
           subst (λ (w : List ℕ). P (before ++ (octets ++ piece)) (i + length (columns ++ more)) w) rows
           (subst (λ (j : ℕ). P (before ++ (octets ++ piece)) j (reverse more ++ (reverse columns ++ past))) count
-          (subst (λ (v : List ℕ). P v (i + n + m) (reverse more ++ (reverse columns ++ past))) (append_assoc before octets piece) so));
+          (subst (λ (v : List ℕ). P v (i + n + m) (reverse more ++ (reverse columns ++ past)))
+          (append_assoc before octets piece) so));
     }
 
 -- ---- sums less a base
@@ -81,15 +97,18 @@ pub length-lifted : (base : ℕ) (xs : List ℕ) → length (lifted base xs) ≡
 length-lifted base [] = refl
 length-lifted base (x ∷ xs) = ap suc (length-lifted base xs)
 
-pub get_or-lifted : (base : ℕ) (xs : List ℕ) (i : ℕ) → i < length xs → get_or (lifted base xs) i 0 ≡ base + get_or xs i 0
+pub get_or-lifted : (base : ℕ) (xs : List ℕ) (i : ℕ) → i < length xs
+    → get_or (lifted base xs) i 0 ≡ base + get_or xs i 0
 get_or-lifted base [] i lt = absurd (omega arith)
 get_or-lifted base (x ∷ xs) zero lt = refl
 get_or-lifted base (x ∷ xs) (suc i) lt = get_or-lifted base xs i (omega arith)
 
-first_lifted : (base : ℕ) (sums costs : List ℕ) (s : ℕ) → length sums ≡ 64 → s < 64 → first_way (lifted base sums) costs s ≡ base + first_way sums costs s
+first_lifted : (base : ℕ) (sums costs : List ℕ) (s : ℕ) → length sums ≡ 64 → s < 64
+    → first_way (lifted base sums) costs s ≡ base + first_way sums costs s
 first_lifted base sums costs s long lt = omega (arith, get_or-lifted base sums (2 * (s % 32)) (omega arith))
 
-second_lifted : (base : ℕ) (sums costs : List ℕ) (s : ℕ) → length sums ≡ 64 → s < 64 → second_way (lifted base sums) costs s ≡ base + second_way sums costs s
+second_lifted : (base : ℕ) (sums costs : List ℕ) (s : ℕ) → length sums ≡ 64 → s < 64
+    → second_way (lifted base sums) costs s ≡ base + second_way sums costs s
 second_lifted base sums costs s long lt = omega (arith, get_or-lifted base sums (2 * (s % 32) + 1) (omega arith))
 
 lesser_lifted : (base a b c d n m : ℕ) → a ≡ base + c → b ≡ base + d → n ≡ base + m → m ≡ min c d → n ≡ min a b
@@ -98,91 +117,158 @@ lesser_lifted base a b c d n m ea eb en em = omega arith
 less_lifted : (base a b c d : ℕ) → a ≡ base + c → b ≡ base + d → ◌≡◌ {A = ℕ} (cond (ltb d c) 1 0) (cond (ltb b a) 1 0)
 less_lifted base a b c d ea eb = grind (arith, nat_tests)
 
-pub StepsTo-lifted : (rate : Rate) (invert : Bool) (t base column : ℕ) (octets sums next : List ℕ) → length sums ≡ 64 → length next ≡ 64
-    → StepsTo rate invert t octets sums next column → StepsTo rate invert t octets (lifted base sums) (lifted base next) column
+pub StepsTo-lifted : (rate : Rate) (invert : Bool) (t base column : ℕ) (octets sums next : List ℕ) → length sums ≡ 64
+    → length next ≡ 64
+    → StepsTo rate invert t octets sums next column
+    → StepsTo rate invert t octets (lifted base sums) (lifted base next) column
 StepsTo-lifted rate invert t base column octets sums next ls ln h = record {
   costs = h.costs;
   are_costs = h.are_costs;
   are_sums = λ s lt.
-      lesser_lifted base (first_way (lifted base sums) h.costs s) (second_way (lifted base sums) h.costs s) (first_way sums h.costs s) (second_way sums h.costs s) (get_or (lifted base next) s 0) (get_or next s 0)
-      (first_lifted base sums h.costs s ls lt) (second_lifted base sums h.costs s ls lt) (get_or-lifted base next s (omega arith)) (h.are_sums s lt);
+      lesser_lifted base (first_way (lifted base sums) h.costs s) (second_way (lifted base sums) h.costs s)
+      (first_way sums h.costs s) (second_way sums h.costs s) (get_or (lifted base next) s 0) (get_or next s 0)
+      (first_lifted base sums h.costs s ls lt) (second_lifted base sums h.costs s ls lt)
+      (get_or-lifted base next s (omega arith)) (h.are_sums s lt);
   are_survivors = λ s lt. h.are_survivors s lt
-      ∙ less_lifted base (first_way (lifted base sums) h.costs s) (second_way (lifted base sums) h.costs s) (first_way sums h.costs s) (second_way sums h.costs s)
+      ∙ less_lifted base (first_way (lifted base sums) h.costs s) (second_way (lifted base sums) h.costs s)
+      (first_way sums h.costs s) (second_way sums h.costs s)
       (first_lifted base sums h.costs s ls lt) (second_lifted base sums h.costs s ls lt);
 }
 
-pub at_most_next : (sums costs next : List ℕ) (most : ℕ) → IsNextSums sums costs next → AreAtMost most sums → ((k : ℕ) → k < 4 → get_or costs k 0 ≤ 510) → AreAtMost (most + 510) next
+pub at_most_next : (sums costs next : List ℕ) (most : ℕ) → IsNextSums sums costs next → AreAtMost most sums
+    → ((k : ℕ) → k < 4 → get_or costs k 0 ≤ 510) → AreAtMost (most + 510) next
 at_most_next sums costs next most h bound small s lt =
-    omega (arith, h s lt, bound (2 * (s % 32)) (omega arith), small (2 * c1 (2 * (s % 32)) (s / 32) + c2 (2 * (s % 32)) (s / 32)) (omega arith))
+    omega (
+      arith,
+      h s lt,
+      bound (2 * (s % 32)) (omega arith),
+      small
+          (2 * c1 (2 * (s % 32)) (s / 32) + c2 (2 * (s % 32)) (s / 32)) (omega arith),
+    )
 
 -- one step more of a loop over octets and columns
 pub carried_on : (rate : Rate) (invert : Bool) (t at len i column : ℕ) (soft piece first middle next columns : List ℕ)
     → at + len ≤ length soft → len ≡ step_size rate (t + i) → piece ≡ take len (drop at soft) → i < length columns
-    → StepsTo rate invert (t + i) piece middle next column → Carries rate invert t (take at soft) first middle (take i columns)
+    → StepsTo rate invert (t + i) piece middle next column
+    → Carries rate invert t (take at soft) first middle (take i columns)
     → Carries rate invert t (take (at + len) soft) first next (take (i + 1) (set columns i column))
 carried_on rate invert t at len i column soft piece first middle next columns room size is lt step h =
     let count : length (take i columns) ≡ i = length-take-le i columns (omega arith) in
-    let long : length piece ≡ len = ap length is ∙ length-take-le len (drop at soft) (omega (arith, length-drop at soft)) in
-    let fits : length piece ≡ step_size rate (t + length (take i columns)) = long ∙ size ∙ ap (λ (n : ℕ). step_size rate (t + n)) (sym count) in
+    let long : length piece ≡ len = ap length is
+    ∙ length-take-le len (drop at soft) (omega (arith, length-drop at soft)) in
+    let fits : length piece ≡ step_size rate (t + length (take i columns)) = long ∙ size
+    ∙ ap (λ (n : ℕ). step_size rate (t + n)) (sym count) in
     let so : Carries rate invert t (take at soft ++ piece) first next (take i columns ++ column ∷ []) =
-    Carries-more rate invert t column (take at soft) piece first middle next (take i columns) h fits (subst (λ (n : ℕ). StepsTo rate invert (t + n) piece middle next column) (sym count) step) in
-    let octets : take at soft ++ piece ≡ take (at + len) soft = ap (λ (v : List ℕ). take at soft ++ v) is ∙ sym (take-add at len soft) in
-    subst (λ (w : List ℕ). Carries rate invert t (take (at + len) soft) first next w) (sym (take_more_set columns i column lt))
+    Carries-more rate invert t column (take at soft) piece first middle next (take i columns) h fits
+    (subst (λ (n : ℕ). StepsTo rate invert (t + n) piece middle next column) (sym count) step) in
+    let octets : take at soft ++ piece ≡ take (at + len) soft = ap (λ (v : List ℕ). take at soft ++ v) is
+    ∙ sym (take-add at len soft) in
+    subst (λ (w : List ℕ). Carries rate invert t (take (at + len) soft) first next w)
+    (sym (take_more_set columns i column lt))
     (subst (λ (v : List ℕ). Carries rate invert t v first next (take i columns ++ column ∷ [])) octets so)
 
-pub lifted_is : (base : ℕ) (xs ys : List ℕ) → length xs ≡ 64 → length ys ≡ 64 → ((s : ℕ) → s < 64 → base + get_or xs s 0 ≡ get_or ys s 0) → lifted base xs ≡ ys
+pub lifted_is : (base : ℕ) (xs ys : List ℕ) → length xs ≡ 64 → length ys ≡ 64
+    → ((s : ℕ) → s < 64 → base + get_or xs s 0 ≡ get_or ys s 0) → lifted base xs ≡ ys
 lifted_is base xs ys lx ly each =
     ext_get_or 0 (lifted base xs) ys (length-lifted base xs ∙ lx ∙ sym ly)
-    (λ i lt. let below : i < 64 = omega (arith, length-lifted base xs) in get_or-lifted base xs i (omega arith) ∙ each i below)
+    (λ i lt. let below : i < 64 = omega (arith, length-lifted base xs) in get_or-lifted base xs i (omega arith)
+    ∙ each i below)
 
 pub one_step : (rate : Rate) (t : ℕ) → steps_size rate t 1 ≡ step_size rate t
 one_step rate t =
     let e : 0 + 1 ≡ 1 = omega arith in
     let f : t + 0 ≡ t = omega arith in
-    ap (steps_size rate t) (sym e) ∙ steps_size-more rate t 0 ∙ ap (λ (v : ℕ). v + step_size rate (t + 0)) (steps_size-zero rate t) ∙ ap (λ (v : ℕ). 0 + step_size rate v) f ∙ omega arith
+    ap (steps_size rate t) (sym e) ∙ steps_size-more rate t 0
+    ∙ ap (λ (v : ℕ). v + step_size rate (t + 0)) (steps_size-zero rate t) ∙ ap (λ (v : ℕ). 0 + step_size rate v) f
+    ∙ omega arith
 
 pub single_set : (columns : List ℕ) (column : ℕ) → length columns ≡ 1 → set columns 0 column ≡ column ∷ []
 single_set [] column e = absurd (omega arith)
 single_set (x ∷ []) column e = refl
 single_set (x ∷ y ∷ ys) column e = absurd (omega arith)
 
-pub Carries-one : (rate : Rate) (invert : Bool) (t column : ℕ) (piece sums next : List ℕ) → length piece ≡ step_size rate t → StepsTo rate invert t piece sums next column
+pub Carries-one : (rate : Rate) (invert : Bool) (t column : ℕ) (piece sums next : List ℕ)
+    → length piece ≡ step_size rate t → StepsTo rate invert t piece sums next column
     → Carries rate invert t piece sums next (column ∷ [])
 Carries-one rate invert t column piece sums next len step =
     let f : t ≡ t + 0 = omega arith in
-    Carries-more rate invert t column [] piece sums sums next [] (Carries-none rate invert t sums) (len ∙ ap (step_size rate) f) (subst (λ (v : ℕ). StepsTo rate invert v piece sums next column) f step)
+    Carries-more rate invert t column [] piece sums sums next [] (Carries-none rate invert t sums)
+    (len ∙ ap (step_size rate) f) (subst (λ (v : ℕ). StepsTo rate invert v piece sums next column) f step)
 
 -- the octets of some more steps are there
-pub rest_fits : (rate : Rate) (t at done n k : ℕ) (soft : List ℕ) → length soft ≡ steps_size rate t k → at ≡ steps_size rate t done → done + n ≤ k
+pub rest_fits : (rate : Rate) (t at done n k : ℕ) (soft : List ℕ) → length soft ≡ steps_size rate t k
+    → at ≡ steps_size rate t done → done + n ≤ k
     → steps_size rate (t + done) n ≤ length (take (length soft - at) (drop at soft))
 rest_fits rate t at done n k soft size place le =
-    omega (arith, length-take-le (length soft - at) (drop at soft) (omega (arith, length-drop at soft)), length-drop at soft, steps_size-add rate t done n, steps_size-le rate t (done + n) k le)
+    omega (
+      arith,
+      length-take-le (length soft - at) (drop at soft)
+          (omega (arith, length-drop at soft)),
+      length-drop at soft,
+      steps_size-add rate t done n,
+      steps_size-le rate t
+          (done + n) k le,
+    )
 
 -- a block after those before
 pub blocks_on : (rate : Rate) (invert : Bool) (t at r done n m : ℕ) (soft sums middle next columns piece : List ℕ)
-    → at ≡ steps_size rate t done → at ≤ length soft → r ≤ length soft - at → done + n ≤ length columns → length piece ≡ n → m ≡ done + n
+    → at ≡ steps_size rate t done → at ≤ length soft → r ≤ length soft - at → done + n ≤ length columns
+    → length piece ≡ n → m ≡ done + n
     → Carries rate invert t (take at soft) sums middle (take done columns)
     → Carries rate invert (t + done) (take r (take (length soft - at) (drop at soft))) middle next piece
     → Carries rate invert t (take (at + r) soft) sums next (take m (put_mid done (m - done) columns piece))
 blocks_on rate invert t at r done n m soft sums middle next columns piece place room few le len me before block =
-    let rest : take (length soft - at) (drop at soft) ≡ drop at soft = take_all (length soft - at) (drop at soft) (omega (arith, length-drop at soft)) in
+    let rest : take (length soft - at) (drop at soft) ≡ drop at soft =
+    take_all (length soft - at) (drop at soft) (omega (arith, length-drop at soft)) in
     let octets : take at soft ++ take r (take (length soft - at) (drop at soft)) ≡ take (at + r) soft =
     ap (λ (v : List ℕ). take at soft ++ take r v) rest ∙ sym (take-add at r soft) in
     let count : length (take done columns) ≡ done = length-take-le done columns (omega arith) in
-    let rows : take done columns ++ piece ≡ take m (put_mid done (m - done) columns piece) = sym (take-put_mid done (m - done) columns piece m (omega arith) (omega arith)) in
+    let rows : take done columns ++ piece ≡ take m (put_mid done (m - done) columns piece) =
+    sym (take-put_mid done (m - done) columns piece m (omega arith) (omega arith)) in
     subst (λ (w : List ℕ). Carries rate invert t (take (at + r) soft) sums next w) rows
     (subst (λ (v : List ℕ). Carries rate invert t v sums next (take done columns ++ piece)) octets
-    (Carries-append rate invert t (t + done) (take at soft) (take r (take (length soft - at) (drop at soft))) sums middle next (take done columns) piece before (ap (λ (v : ℕ). t + v) (sym count)) block))
+    (Carries-append rate invert t (t + done) (take at soft)
+    (take r (take (length soft - at) (drop at soft))) sums middle next (take done columns) piece before
+    (ap (λ (v : ℕ). t + v) (sym count)) block))
 
 pub length-mid : (a k : ℕ) (xs ys : List ℕ) → a + k ≤ length xs → length ys ≡ k → length (put_mid a k xs ys) ≡ length xs
-length-mid a k xs ys le e = same_len_mid a k xs ys (e ∙ sym (length-take-le k (drop a xs) (omega (arith, length-drop a xs))))
+length-mid a k xs ys le e =
+    same_len_mid a k xs ys (e ∙ sym (length-take-le k (drop a xs) (omega (arith, length-drop a xs))))
 
 -- from the first column
 pub carried-none : (rate : Rate) (invert : Bool) (t : ℕ) (firsts octets next columns : List ℕ)
-    → Carries rate invert t octets firsts next columns → AreBest (total_of rate invert t firsts octets) (length columns) next (reverse columns)
+    → Carries rate invert t octets firsts next columns
+    → AreBest (total_of rate invert t firsts octets) (length columns) next (reverse columns)
 carried-none rate invert t firsts octets next columns h =
     let e : t ≡ t + 0 = omega arith in
     let count : 0 + length columns ≡ length columns = omega arith in
-    let so = h.carries t 0 firsts [] [] e (sym (steps_size-zero rate t)) (AreBest-none (total_of rate invert t firsts []) firsts (λ register below. omega arith)) in
-    subst (λ (w : List ℕ). AreBest (total_of rate invert t firsts octets) (length columns) next w) (append-nil (reverse columns))
+    let so = h.carries t 0 firsts [] [] e (sym (steps_size-zero rate t))
+    (AreBest-none (total_of rate invert t firsts []) firsts (λ register below. omega arith)) in
+    subst (λ (w : List ℕ). AreBest (total_of rate invert t firsts octets) (length columns) next w)
+    (append-nil (reverse columns))
     (subst (λ (n : ℕ). AreBest (total_of rate invert t firsts octets) n next (reverse columns ++ [])) count so)
+
+-- ---- rate 1/2
+
+pub half_step : (t : ℕ) → step_size R12 t ≡ 2
+half_step t = let e : t % 1 ≡ 0 = omega arith in step_size-is R12 t ∙ ap (λ k. 2 - min 1 k) e
+
+pub half_steps : (t n : ℕ) → steps_size R12 t n ≡ 2 * n
+half_steps t zero = steps_size-zero R12 t
+half_steps t (suc n) =
+    let e : n + 1 ≡ suc n = omega arith in
+    ap (steps_size R12 t) (sym e) ∙ steps_size-more R12 t n ∙ omega (arith, half_steps t n, half_step (t + n))
+
+-- two steps from the octets of both
+pub Carries-two : (invert : Bool) (t one two : ℕ) (octets sums between next : List ℕ) → length octets ≡ 4
+    → StepsTo R12 invert t (take 2 octets) sums between one
+    → StepsTo R12 invert (t + 1) (drop 2 octets) between next two
+    → Carries R12 invert t octets sums next (one ∷ two ∷ [])
+Carries-two invert t one two octets sums between next long a b =
+    let first : length (take 2 octets) ≡ step_size R12 t =
+    length-take-le 2 octets (omega arith) ∙ sym (half_step t) in
+    let second : length (drop 2 octets) ≡ step_size R12 (t + 1) =
+    length-drop 2 octets ∙ omega arith ∙ sym (half_step (t + 1)) in
+    subst (λ (v : List ℕ). Carries R12 invert t v sums next (one ∷ two ∷ [])) (take-append-drop 2 octets)
+    (Carries-more R12 invert t two (take 2 octets) (drop 2 octets) sums between next (one ∷ [])
+    (Carries-one R12 invert t one (take 2 octets) sums between first a) second b)

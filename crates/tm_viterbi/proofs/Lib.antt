@@ -10,6 +10,8 @@ mod Butterfly
 mod PassSteps
 mod Carrying
 mod NarrowLanes
+mod Halves
+mod StepsBack
 mod LeastTotals
 mod Filled
 mod Tails

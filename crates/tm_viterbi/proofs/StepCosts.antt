@@ -1,9 +1,15 @@
 -- The four costs of a step.
-use Rattle.std.proofs.Common.{◌≡◌, ℕ, ◌+◌, ◌-◌, ◌*◌, ◌<◌, cond, arith, length, List, [], ◌∷◌, ◌++◌, zero, suc, refl, Bool, true, false, get_or}
+use Rattle.std.proofs.Common.{◌%◌, ◌∙◌, sym, ap, eqb, ◌&&◌, inl, inr, ◌≡◌, ℕ, ◌+◌, ◌-◌, ◌*◌, ◌<◌, cond, arith, length, List, [], ◌∷◌, ◌++◌, zero, suc, refl, Bool, true, false, get_or}
+use Rattle.std.specs.Prelude.{bit_xor}
+use Rattle.std.proofs.lemmas.Bool.{eqb-true, agree_below, agree_below_at}
+use Rattle.tm_conv.specs.declared.rates.Rate.TheVariants.{R12}
+use Rattle.tm_conv.specs.Path.{keeps_c1, keeps_c2, c1_pattern, c2_pattern, sent, sent_c2}
 use Rattle.tm_conv.specs.Cost.{distance, cost}
+use Rattle.tm_viterbi.specs.Totals.{AreCosts}
 
 pub cost_of_pair : (k l : Bool) (c d : ℕ) (octets : List ℕ) → length octets ≡ cond k 1 0 + cond l 1 0
-    → cost (cond k (c ∷ []) [] ++ cond l (d ∷ []) []) octets ≡ cond k (distance c (get_or octets 0 0)) 0 + cond l (distance d (get_or octets (length octets - 1) 0)) 0
+    → cost (cond k (c ∷ []) [] ++ cond l (d ∷ []) []) octets ≡ cond k (distance c (get_or octets 0 0)) 0 + cond l
+    (distance d (get_or octets (length octets - 1) 0)) 0
 cost_of_pair true true c d [] e = absurd (let h : 0 ≡ 1 + 1 = e in omega arith)
 cost_of_pair true true c d (x ∷ []) e = absurd (let h : 1 ≡ 1 + 1 = e in omega arith)
 cost_of_pair true true c d (x ∷ y ∷ []) e = omega arith
@@ -26,3 +32,49 @@ at_pair f g a b x y ea eb ex ey (suc zero) (suc zero) cl dl = omega (arith, eb, 
 at_pair f g a b x y ea eb ex ey zero (suc (suc d)) cl dl = absurd (omega arith)
 at_pair f g a b x y ea eb ex ey (suc zero) (suc (suc d)) cl dl = absurd (omega arith)
 at_pair f g a b x y ea eb ex ey (suc (suc c)) d cl dl = absurd (omega arith)
+
+-- ---- octets that are xored
+
+kept_each : agree_below (λ x. eqb (bit_xor x 0) x) (λ x. true) 256 ≡ true
+kept_each = refl
+
+turned_each : agree_below (λ x. eqb (bit_xor x 255) (255 - x)) (λ x. true) 256 ≡ true
+turned_each = refl
+
+xor_none : (x : ℕ) → x < 256 → bit_xor x 0 ≡ x
+xor_none x lt = eqb-true _ _ (agree_below_at (λ x. eqb (bit_xor x 0) x) (λ x. true) 256 x kept_each lt)
+
+xor_all : (x : ℕ) → x < 256 → bit_xor x 255 ≡ 255 - x
+xor_all x lt = eqb-true _ _ (agree_below_at (λ x. eqb (bit_xor x 255) (255 - x)) (λ x. true) 256 x turned_each lt)
+
+near_second : (invert : Bool) (y : ℕ) → y < 256 → bit_xor y (cond invert 255 0) ≡ distance (sent_c2 invert 0) y
+near_second true y lt = xor_all y lt
+near_second false y lt = xor_none y lt
+
+far_second : (invert : Bool) (y : ℕ) → y < 256 → bit_xor y (cond invert 0 255) ≡ distance (sent_c2 invert 1) y
+far_second true y lt = xor_none y lt
+far_second false y lt = xor_all y lt
+
+-- both sums are sent at rate 1/2
+half_keeps : (t : ℕ) → (keeps_c1 R12 t ≡ true) × (keeps_c2 R12 t ≡ true)
+half_keeps t =
+    let e : t % 1 ≡ 0 = omega arith in
+    (ap (λ k. eqb (get_or (c1_pattern R12) k 0) 1) e, ap (λ k. eqb (get_or (c2_pattern R12) k 0) 1) e)
+
+half_cost : (invert : Bool) (t c d x y : ℕ)
+    → cost (sent R12 invert t c d) (x ∷ y ∷ []) ≡ distance c x + distance (sent_c2 invert d) y
+half_cost invert t c d x y =
+    ap (λ k. cost (cond k (c ∷ []) [] ++ cond (keeps_c2 R12 t) (sent_c2 invert d ∷ []) []) (x ∷ y ∷ []))
+    (half_keeps t).0
+    ∙ ap (λ k. cost ((c ∷ []) ++ cond k (sent_c2 invert d ∷ []) []) (x ∷ y ∷ [])) (half_keeps t).1
+    ∙ omega arith
+
+pub xored_costs : (invert : Bool) (t x y : ℕ) → x < 256 → y < 256
+    → AreCosts R12 invert t (x ∷ y ∷ [])
+    ((bit_xor x 0 + bit_xor y (cond invert 255 0)) ∷ (bit_xor x 0 + bit_xor y
+    (cond invert 0 255)) ∷ (bit_xor x 255 + bit_xor y (cond invert 255 0)) ∷ (bit_xor x 255 + bit_xor y
+    (cond invert 0 255)) ∷ [])
+xored_costs invert t x y xl yl c d cl dl =
+    at_pair (λ c. distance c x) (λ d. distance (sent_c2 invert d) y) _ _ _ _ (xor_none x xl) (xor_all x xl)
+    (near_second invert y yl) (far_second invert y yl) c d cl dl
+    ∙ sym (half_cost invert t c d x y)

@@ -26,3 +26,12 @@ AreSurvivors sums costs bits =
 pub record IsEach (lanes : List ℕ) (value : ℕ → ℕ) : Type 0 where
   pub long : length lanes ≡ 32
   pub each : (i : ℕ) → i < 32 → slice_index lanes i ≡ value i
+
+-- 16 lanes, and what each is
+pub record IsHalf (lanes : List ℕ) (value : ℕ → ℕ) : Type 0 where
+  pub long : length lanes ≡ 16
+  pub each : (i : ℕ) → i < 16 → slice_index lanes i ≡ value i
+
+-- places that bring, in each eight lanes, those at even places to the front
+abbrev pub AreSortedPlaces : List ℕ → Type 0
+AreSortedPlaces places = IsEach places (λ i. 2 * (i % 4) + i % 8 / 4)

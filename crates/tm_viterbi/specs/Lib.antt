@@ -5,6 +5,7 @@ pub mod Blocks
 pub mod Due
 pub mod Clean
 pub mod Column
+pub mod Masks
 pub mod Walk
 pub mod Totals
 pub mod Carries

@@ -1,8 +1,9 @@
-// What the four pairs of sums of a step cost.
-ghost use Rattle.std.specs.Prelude.{◌≡◌, ◌++◌, min, IsTrue, ℕ, ◌+◌, ◌-◌, ◌*◌, ◌/◌, ◌%◌, ◌^◌, ◌<◌, ◌≤◌, List, take, drop, reverse, length, slice_index, nat_lt, if◌then◌else◌};
+// The branch metrics of a step: what each of its four pairs of c1 and c2 costs.
+ghost use Rattle.std.specs.Prelude.{◌≡◌, ◌++◌, min, IsTrue, Bool, ℕ, ◌+◌, ◌-◌, ◌*◌, ◌/◌, ◌%◌, ◌^◌, ◌<◌, ◌≤◌, List, take, drop, reverse, length, slice_index, nat_lt, if◌then◌else◌};
 ghost use Rattle.tm_conv.specs.Path.{keeps_c1, keeps_c2, sent_c2, step_size};
 ghost use Rattle.tm_conv.specs.Cost.{distance};
 ghost use Rattle.tm_viterbi.specs.Totals.{AreCosts};
+ghost use Rattle.tm_viterbi.specs.Masks.{two_step_masks};
 
 use std::simd::prelude::*;
 use tm_conv::{Rate, kept};
@@ -38,7 +39,8 @@ fn c2_costs(is_sent: bool, invert: bool, octets: &[u8]) -> (u16, u16)
     }
 }
 
-// They are summed by lanes, so that the lanes of a column are shuffled from them and not set one at a time.
+// The branch metrics of step t, at index 2 * c1 + c2. They are summed by lanes, so that the lanes of a column are
+// shuffled from them and not set one at a time.
 pub(crate) fn step_costs(rate: Rate, invert: bool, t: u64, octets: &[u8]) -> Simd<u16, 4>
     requires { length octets.now ≡ step_size rate t }
     ensures costs { AreCosts rate invert t octets.now result }
@@ -52,6 +54,7 @@ pub(crate) fn step_costs(rate: Rate, invert: bool, t: u64, octets: &[u8]) -> Sim
     firsts.strict_add(seconds)
 }
 
+// The same in thirty-two bits.
 pub(crate) fn wide_costs(costs: Simd<u16, 4>) -> [u32; 4]
     ensures { result ≡ costs }
 {
@@ -62,4 +65,40 @@ pub(crate) fn wide_costs(costs: Simd<u16, 4>) -> [u32; 4]
         u32::from(each[2]),
         u32::from(each[3]),
     ]
+}
+
+// What the lanes of `two_step_costs` are xored with. An octet is its own distance from a 0, and turned over its
+// distance from a 1; c2 may be sent inverted.
+pub(crate) fn two_step_masks(invert: bool) -> Simd<u8, 16>
+    ensures { result ≡ two_step_masks invert }
+{
+    if invert {
+        u8x16::from_array([
+            0, 0, 255, 255, 0, 0, 255, 255, 255, 0, 255, 0, 255, 0, 255, 0,
+        ])
+    } else {
+        u8x16::from_array([
+            0, 0, 255, 255, 0, 0, 255, 255, 0, 255, 0, 255, 0, 255, 0, 255,
+        ])
+    }
+}
+
+// The octets of c1 of two steps, and then those of c2, each once for each of its step's four pairs.
+const FOUR_TIMES: [usize; 16] = [0, 0, 0, 0, 2, 2, 2, 2, 1, 1, 1, 1, 3, 3, 3, 3];
+
+// The branch metrics of two steps at rate 1/2, where each sends both sums.
+pub(crate) fn two_step_costs(masks: Simd<u8, 16>, octets: &[u8]) -> (Simd<u16, 4>, Simd<u16, 4>)
+    requires { length octets.now ≡ 4 }
+    ensures first { (invert : Bool) (t : ℕ) → masks ≡ two_step_masks invert
+        → AreCosts Rate.R12 invert t (take 2 octets.now) result.0 }
+    ensures second { (invert : Bool) (t : ℕ) → masks ≡ two_step_masks invert
+        → AreCosts Rate.R12 invert t (drop 2 octets.now) result.1 }
+    ensures first_small { (k : ℕ) → k < 4 → slice_index result.0 k ≤ 510 }
+    ensures second_small { (k : ℕ) → k < 4 → slice_index result.1 k ≤ 510 }
+{
+    let each = u8x4::from_slice(octets).swizzle(FOUR_TIMES) ^ masks;
+    let firsts = each.extract::<0, 8>().cast::<u16>();
+    let seconds = each.extract::<8, 8>().cast::<u16>();
+    let costs = firsts.strict_add(seconds);
+    (costs.extract::<0, 4>(), costs.extract::<4, 4>())
 }

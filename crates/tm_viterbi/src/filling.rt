@@ -5,7 +5,8 @@ ghost use Rattle.tm_viterbi.specs.Starts.{starts_from};
 ghost use Rattle.tm_viterbi.specs.Totals.{AreAtMost};
 
 use crate::passes::run;
-use crate::window::{first_sums, least_register, register_behind, trace_back};
+use crate::traceback::{register_behind, trace_back};
+use crate::window::{first_sums, least_register};
 use std::alloc::{AllocError, Global};
 use tm_conv::Rate;
 

@@ -1,6 +1,6 @@
 // One window after another.
 ghost use Rattle.std.specs.Prelude.{◌≡◌, IfOk, IsTrue, ℕ, ◌+◌, ◌-◌, ◌*◌, ◌^◌, ◌<◌, ◌≤◌, ◌++◌, List, Option, [], length, drop, take};
-ghost use Rattle.tm_conv.specs.Path.{steps_size};
+ghost use Rattle.tm_conv.specs.Path.{period, steps_size};
 ghost use Rattle.tm_viterbi.specs.Starts.{starts_from};
 
 use crate::filling::{Found, Window};
@@ -8,14 +8,36 @@ use crate::tail::Tail;
 use std::alloc::{AllocError, Global};
 use tm_conv::{Rate, step_len};
 
+// How many steps the pattern of a rate has. They send one symbol more, wherever they begin.
+pub(crate) fn period_len(rate: Rate) -> usize
+    ensures period { result ≡ period rate }
+    ensures some { 0 < result }
+    ensures small { result ≤ 7 }
+{
+    match rate {
+        Rate::R12 => 1,
+        Rate::R23 => 2,
+        Rate::R34 => 3,
+        Rate::R56 => 5,
+        Rate::R78 => 7,
+    }
+}
+
 // How many symbols so many steps from step t on send.
 fn span(rate: Rate, t: u64, count: usize) -> usize
     requires { t + count < 2 ^ 62 }
     ensures value { result ≡ steps_size rate t count }
 {
+    let period = period_len(rate);
     let mut all = 0usize;
-    for i in 0..count {
+    let mut i = 0usize;
+    while count - i >= period {
+        all += period + 1;
+        i += period;
+    }
+    while i < count {
         all += step_len(rate, t + i as u64);
+        i += 1;
     }
     all
 }

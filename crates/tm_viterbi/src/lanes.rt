@@ -6,11 +6,11 @@ ghost use Rattle.tm_viterbi.specs.Column.{IsEach, sum_via, IsNextSums, AreSurviv
 use std::simd::prelude::*;
 
 // The pair of symbols from register 2 * s by bit 0, and from the register after it.
-pub(crate) const NEAR: [usize; 32] = [
+const NEAR: [usize; 32] = [
     0, 1, 0, 1, 3, 2, 3, 2, 3, 2, 3, 2, 0, 1, 0, 1, 2, 3, 2, 3, 1, 0, 1, 0, 1, 0, 1, 0, 2, 3, 2, 3,
 ];
 
-pub(crate) const FAR: [usize; 32] = [
+const FAR: [usize; 32] = [
     3, 2, 3, 2, 0, 1, 0, 1, 0, 1, 0, 1, 3, 2, 3, 2, 1, 0, 1, 0, 2, 3, 2, 3, 2, 3, 2, 3, 1, 0, 1, 0,
 ];
 

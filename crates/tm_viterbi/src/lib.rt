@@ -12,11 +12,14 @@ mod filling;
 mod flow;
 mod lanes;
 mod laws;
-mod narrow;
+mod narrow_column;
+mod narrow_steps;
+mod narrow_sums;
 mod passes;
 mod stream;
 mod sums;
 mod tail;
+mod traceback;
 mod whole;
 mod window;
 

@@ -6,9 +6,11 @@ ghost use Rattle.tm_viterbi.specs.Carries.{Carries};
 
 use crate::costs::{step_costs, wide_costs};
 use crate::lanes::lane_column;
-use crate::narrow::{are_close, halves_of, least_sum, less_least, narrow_at, with_least};
+use crate::narrow_steps::narrow_at;
+use crate::narrow_sums::{are_close, halves_of, least_sum, less_least, with_least};
 use tm_conv::{Rate, step_len};
 
+// One step in thirty-two bits. No sum is above `most` before it: what only the proof needs.
 pub(crate) fn step(
     rate: Rate,
     invert: bool,
@@ -30,7 +32,7 @@ pub(crate) fn step(
     column
 }
 
-// Some steps in sixteen bits.
+// At most 120 steps in sixteen bits. Answers how many octets they took.
 fn narrow_block(
     rate: Rate,
     invert: bool,
@@ -42,7 +44,7 @@ fn narrow_block(
 ) -> usize
     requires size { steps_size rate t (length columns.old) ≤ length soft.now }
     requires few { length columns.old ≤ 120 }
-    requires first { t < 2 ^ 63 }
+    requires first { t + length columns.old < 2 ^ 63 }
     requires room { least + 65536 < 2 ^ 32 }
     requires least { (s : ℕ) → s < 64 → least ≤ slice_index sums.old s }
     requires close { (s : ℕ) → s < 64 → slice_index sums.old s ≤ least + 4096 }
@@ -57,7 +59,7 @@ fn narrow_block(
     taken
 }
 
-// One step in thirty-two bits.
+// The same for one step, in thirty-two bits.
 fn wide_step(
     rate: Rate,
     invert: bool,
@@ -80,8 +82,8 @@ fn wide_step(
     end
 }
 
-// Some steps of the forward pass: those from sums that lie close together go in sixteen bits.
-// No sum is above `most` before them.
+// Some steps of the forward pass: those from sums that lie close together go in sixteen bits, 120 at a time.
+// No sum is above `most` before them: what only the proof needs.
 pub(crate) fn run(
     rate: Rate,
     invert: bool,

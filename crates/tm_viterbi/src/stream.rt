@@ -9,7 +9,7 @@ ghost use Rattle.tm_viterbi.specs.WindowBlock.{WindowBlock};
 
 use crate::block::{Block, BlockTaker, Start};
 use crate::filling::Found;
-use crate::flow::Flow;
+use crate::flow::{Flow, period_len};
 use std::alloc::{AllocError, Global};
 use tm_base::Failed;
 use tm_conv::{Rate, step_len};
@@ -51,8 +51,13 @@ fn count_steps(rate: Rate, t: u64, limit: usize, len: usize) -> (usize, usize)
     ensures size { result.1 ≡ steps_size rate t result.0 }
     ensures fits { result.1 ≤ len }
 {
+    let period = period_len(rate);
     let mut count = 1usize;
     let mut size = step_len(rate, t);
+    while limit - count >= period && len - size > period {
+        count += period;
+        size += period + 1;
+    }
     while count < limit {
         let more = step_len(rate, t + count as u64);
         if len - size < more {

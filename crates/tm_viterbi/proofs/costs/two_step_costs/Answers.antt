@@ -1,0 +1,57 @@
+use Rattle.std.proofs.Common.{◌≡◌, ◌+◌, ◌<◌, ◌^◌, ℕ, List, [], ◌∷◌, ◌++◌, Bool, sym, subst, take, drop, length, get_or, map, arith, suc, Fits, w8}
+use Rattle.std.specs.Prelude.{bit_xor}
+use lib.Lanes.{zip2}
+use Rattle.tm_conv.specs.declared.rates.Rate.TheVariants.{R12}
+use Rattle.tm_viterbi.specs.Totals.{AreCosts}
+use Rattle.tm_viterbi.specs.Masks.{two_step_masks}
+use Rattle.tm_viterbi.proofs.StepCosts.{xored_costs}
+use Rattle.tm_viterbi.proofs.costs.two_step_costs.Goals as goal
+
+abbrev picked : List ℕ → List ℕ → List ℕ
+picked xs places = map (λ k. get_or (xs ++ xs) k 0) places
+
+abbrev xored : List ℕ → List ℕ → List ℕ
+xored octets masks =
+    zip2 bit_xor (picked (take 4 octets) (0 ∷ 0 ∷ 0 ∷ 0 ∷ 2 ∷ 2 ∷ 2 ∷ 2 ∷ 1 ∷ 1 ∷ 1 ∷ 1 ∷ 3 ∷ 3 ∷ 3 ∷ 3 ∷ [])) masks
+
+abbrev summed : List ℕ → List ℕ
+summed each = zip2 (λ a b. a + b) (picked each (0 ∷ 1 ∷ 2 ∷ 3 ∷ 4 ∷ 5 ∷ 6 ∷ 7 ∷ []))
+    (picked each (8 ∷ 9 ∷ 10 ∷ 11 ∷ 12 ∷ 13 ∷ 14 ∷ 15 ∷ []))
+
+abbrev fronts : List ℕ → List ℕ → List ℕ
+fronts octets masks = picked (summed (xored octets masks)) (0 ∷ 1 ∷ 2 ∷ 3 ∷ [])
+
+abbrev backs : List ℕ → List ℕ → List ℕ
+backs octets masks = picked (summed (xored octets masks)) (4 ∷ 5 ∷ 6 ∷ 7 ∷ [])
+
+four : (P : List ℕ → Type 0) (octets : List ℕ) → length octets ≡ 4 → ((k : ℕ) → Fits w8 (get_or octets k 0))
+    → ((a b c d : ℕ) → a < 2 ^ 8 → b < 2 ^ 8 → c < 2 ^ 8 → d < 2 ^ 8 → P (a ∷ b ∷ c ∷ d ∷ [])) → P octets
+four P [] l fits h = absurd (let e : 0 ≡ 4 = l in omega arith)
+four P (a ∷ []) l fits h = absurd (let e : 1 ≡ 4 = l in omega arith)
+four P (a ∷ b ∷ []) l fits h = absurd (let e : 2 ≡ 4 = l in omega arith)
+four P (a ∷ b ∷ c ∷ []) l fits h = absurd (let e : 3 ≡ 4 = l in omega arith)
+four P (a ∷ b ∷ c ∷ d ∷ []) l fits h = h a b c d (fits 0).fits (fits 1).fits (fits 2).fits (fits 3).fits
+four P (a ∷ b ∷ c ∷ d ∷ e ∷ es) l fits h =
+    absurd (let e : suc (suc (suc (suc (suc (length es))))) ≡ 4 = l in omega arith)
+
+first_costs : (invert : Bool) (masks octets : List ℕ) (t : ℕ) → masks ≡ two_step_masks invert → length octets ≡ 4
+    → ((k : ℕ) → Fits w8 (get_or octets k 0))
+    → AreCosts R12 invert t (take 2 octets) (fronts octets masks)
+first_costs invert masks octets t e l fits =
+    four (λ v. AreCosts R12 invert t (take 2 v) (fronts v masks)) octets l fits
+    (λ a b c d al bl cl dl. subst (λ (v : List ℕ). AreCosts R12 invert t (a ∷ b ∷ []) (fronts (a ∷ b ∷ c ∷ d ∷ []) v))
+    (sym e) (xored_costs invert t a b al bl))
+
+second_costs : (invert : Bool) (masks octets : List ℕ) (t : ℕ) → masks ≡ two_step_masks invert → length octets ≡ 4
+    → ((k : ℕ) → Fits w8 (get_or octets k 0))
+    → AreCosts R12 invert t (drop 2 octets) (backs octets masks)
+second_costs invert masks octets t e l fits =
+    four (λ v. AreCosts R12 invert t (drop 2 v) (backs v masks)) octets l fits
+    (λ a b c d al bl cl dl. subst (λ (v : List ℕ). AreCosts R12 invert t (c ∷ d ∷ []) (backs (a ∷ b ∷ c ∷ d ∷ []) v))
+    (sym e) (xored_costs invert t c d cl dl))
+
+pub returns-clause-first : goal.returns-clause-first
+returns-clause-first c invert t e = first_costs invert c.args.masks c.args.octets.now t e c.requires c.type_inv.octets
+
+pub returns-clause-second : goal.returns-clause-second
+returns-clause-second c invert t e = second_costs invert c.args.masks c.args.octets.now t e c.requires c.type_inv.octets

@@ -1,5 +1,0 @@
-use Rattle.std.proofs.Common.{◌<◌, ◌≤◌, ℕ, get_or}
-use Rattle.tm_viterbi.proofs.narrow.least_sum.Given as goal
-
-abbrev pub invariant-loop-s : goal.invariant-loop-s
-invariant-loop-s l = (k : ℕ) → k < l.s → l.least ≤ get_or l.sums k 0

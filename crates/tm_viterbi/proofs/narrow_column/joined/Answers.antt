@@ -1,0 +1,7 @@
+use Rattle.std.proofs.Common.{◌++◌, arith, length-append}
+use Rattle.std.proofs.lemmas.Simd.{pick_l_whole}
+use Rattle.tm_viterbi.proofs.narrow_column.joined.Goals as goal
+
+pub returns : goal.returns
+returns c = pick_l_whole 0 (c.args.front ++ c.args.back) 32
+    (omega (arith, length-append c.args.front c.args.back, c.requires))

@@ -1,0 +1,130 @@
+// Add-compare-select by lanes of sixteen bits, sixteen of the code's registers at a time: as many as the processor's
+// own registers hold.
+ghost use Rattle.std.specs.Prelude.{◌≡◌, ◌++◌, min, ℕ, ◌+◌, ◌-◌, ◌*◌, ◌/◌, ◌%◌, ◌^◌, ◌<◌, length, slice_index, nat_lt, if◌then◌else◌};
+ghost use Rattle.tm_conv.specs.Path.{c1, c2};
+ghost use Rattle.tm_viterbi.specs.Column.{IsHalf, AreSortedPlaces, IsNextSums, AreSurvivors};
+
+use std::simd::prelude::*;
+
+// The pair 2 * c1 + c2 by bit 0 from register 2 * i (near) and from register 2 * i + 1 (far), i below 16 (front) and
+// from 16 on (back). By bit 1 the two change places.
+const NEAR_FRONT: [usize; 16] = [0, 1, 0, 1, 3, 2, 3, 2, 3, 2, 3, 2, 0, 1, 0, 1];
+
+const FAR_FRONT: [usize; 16] = [3, 2, 3, 2, 0, 1, 0, 1, 0, 1, 0, 1, 3, 2, 3, 2];
+
+const NEAR_BACK: [usize; 16] = [2, 3, 2, 3, 1, 0, 1, 0, 1, 0, 1, 0, 2, 3, 2, 3];
+
+const FAR_BACK: [usize; 16] = [1, 0, 1, 0, 2, 3, 2, 3, 2, 3, 2, 3, 1, 0, 1, 0];
+
+// In each eight lanes, those at even places first.
+const SORTED: [u16; 32] = [
+    0, 2, 4, 6, 1, 3, 5, 7, 0, 2, 4, 6, 1, 3, 5, 7, 0, 2, 4, 6, 1, 3, 5, 7, 0, 2, 4, 6, 1, 3, 5, 7,
+];
+
+// Where the lanes from even and from odd places then are.
+const EVENS: [usize; 16] = [0, 1, 2, 3, 8, 9, 10, 11, 16, 17, 18, 19, 24, 25, 26, 27];
+
+const ODDS: [usize; 16] = [4, 5, 6, 7, 12, 13, 14, 15, 20, 21, 22, 23, 28, 29, 30, 31];
+
+// All lanes of one vector, and then all of another.
+const WHOLE: [usize; 32] = [
+    0, 1, 2, 3, 4, 5, 6, 7, 8, 9, 10, 11, 12, 13, 14, 15, 16, 17, 18, 19, 20, 21, 22, 23, 24, 25,
+    26, 27, 28, 29, 30, 31,
+];
+
+// The branch metrics by bit 0 from registers 2 * i and from registers 2 * i + 1, i below 16.
+fn front_costs(costs: Simd<u16, 4>) -> (Simd<u16, 16>, Simd<u16, 16>)
+    ensures near { IsHalf result.0 (λ i. slice_index costs (2 * c1 (2 * i) 0 + c2 (2 * i) 0)) }
+    ensures far { IsHalf result.1 (λ i. slice_index costs (2 * c1 (2 * i + 1) 0 + c2 (2 * i + 1) 0)) }
+{
+    (costs.swizzle(NEAR_FRONT), costs.swizzle(FAR_FRONT))
+}
+
+// The same from the registers behind those.
+fn back_costs(costs: Simd<u16, 4>) -> (Simd<u16, 16>, Simd<u16, 16>)
+    ensures near { IsHalf result.0 (λ i. slice_index costs (2 * c1 (2 * (16 + i)) 0 + c2 (2 * (16 + i)) 0)) }
+    ensures far { IsHalf result.1 (λ i. slice_index costs (2 * c1 (2 * (16 + i) + 1) 0 + c2 (2 * (16 + i) + 1) 0)) }
+{
+    (costs.swizzle(NEAR_BACK), costs.swizzle(FAR_BACK))
+}
+
+// `SORTED`, to which a 0 is added that the compiler can't know. So it looks lanes up there, by one instruction for
+// eight of them; for a shuffle that it knows it writes two and more.
+pub(crate) fn sorted_places(zero: u16) -> Simd<u16, 32>
+    requires { zero ≡ 0 }
+    ensures { AreSortedPlaces result }
+{
+    Simd::<u16, 32>::from_array(SORTED).strict_add(Simd::splat(zero))
+}
+
+// The lanes at even places, and those at odd ones. `places` are `sorted_places(0)`.
+fn evens_and_odds(half: Simd<u16, 32>, places: Simd<u16, 32>) -> (Simd<u16, 16>, Simd<u16, 16>)
+    requires { AreSortedPlaces places }
+    ensures even { IsHalf result.0 (λ i. slice_index half (2 * i)) }
+    ensures odd { IsHalf result.1 (λ i. slice_index half (2 * i + 1)) }
+{
+    let sorted = half.swizzle_dyn_within::<8>(places);
+    (sorted.swizzle(EVENS), sorted.swizzle(ODDS))
+}
+
+// Add, compare, select: the lesser of the two ways into each of sixteen registers, and a bit for each that is 1 where
+// the first is kept. Turned over they are survivor bits.
+fn lesser(
+    first: Simd<u16, 16>,
+    first_costs: Simd<u16, 16>,
+    second: Simd<u16, 16>,
+    second_costs: Simd<u16, 16>,
+) -> (Simd<u16, 16>, u64)
+    requires first_fits { (i : ℕ) → i < 16 → slice_index first i + slice_index first_costs i < 2 ^ 16 }
+    requires second_fits { (i : ℕ) → i < 16 → slice_index second i + slice_index second_costs i < 2 ^ 16 }
+    ensures sums { IsHalf result.0 (λ i. min (slice_index first i + slice_index first_costs i)
+        (slice_index second i + slice_index second_costs i)) }
+    ensures bits { (i : ℕ) → i < 16 → (65535 - result.1) / 2 ^ i % 2
+        ≡ (if nat_lt (slice_index second i + slice_index second_costs i)
+        (slice_index first i + slice_index first_costs i) then 1 else 0) }
+    ensures small { result.1 < 65536 }
+{
+    let one = first.strict_add(first_costs);
+    let other = second.strict_add(second_costs);
+    let least = one.simd_min(other);
+    (least, least.simd_eq(one).to_bitmask())
+}
+
+// Sixteen lanes, and sixteen more.
+fn joined(front: Simd<u16, 16>, back: Simd<u16, 16>) -> Simd<u16, 32>
+    requires { (length front ≡ 16) × (length back ≡ 16) }
+    ensures { result ≡ front ++ back }
+{
+    front.shuffle(back, WHOLE)
+}
+
+// The next path metrics, those of registers below 32 and those of the others, and the column of survivors. The order
+// of its lines counts: in another the compiler puts more vectors aside.
+pub(crate) fn narrow_column(
+    low: Simd<u16, 32>,
+    high: Simd<u16, 32>,
+    costs: Simd<u16, 4>,
+    places: Simd<u16, 32>,
+) -> (Simd<u16, 32>, Simd<u16, 32>, u64)
+    requires fits { (s k : ℕ) → s < 64 → k < 4 → slice_index (low ++ high) s + slice_index costs k < 2 ^ 16 }
+    requires places { AreSortedPlaces places }
+    ensures sums { IsNextSums (low ++ high) costs (result.0 ++ result.1) }
+    ensures survivors { AreSurvivors (low ++ high) costs result.2 }
+    ensures long { (length result.0 ≡ 32) × (length result.1 ≡ 32) }
+{
+    let (even_front, odd_front) = evens_and_odds(low, places);
+    let (even_back, odd_back) = evens_and_odds(high, places);
+    let (near_front, far_front) = front_costs(costs);
+    let (low_front, kept_low_front) = lesser(even_front, near_front, odd_front, far_front);
+    let (high_front, kept_high_front) = lesser(even_front, far_front, odd_front, near_front);
+    let (near_back, far_back) = back_costs(costs);
+    let (low_back, kept_low_back) = lesser(even_back, near_back, odd_back, far_back);
+    let (high_back, kept_high_back) = lesser(even_back, far_back, odd_back, near_back);
+    let next_low = joined(low_front, low_back);
+    let next_high = joined(high_front, high_back);
+    let kept = kept_low_front
+        + (kept_low_back << 16)
+        + (kept_high_front << 32)
+        + (kept_high_back << 48);
+    (next_low, next_high, !kept)
+}

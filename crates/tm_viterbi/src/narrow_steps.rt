@@ -1,0 +1,226 @@
+// Steps of the forward pass in sixteen bits.
+ghost use Rattle.std.specs.Prelude.{◌≡◌, ◌++◌, Bool, ℕ, ◌+◌, ◌-◌, ◌*◌, ◌^◌, ◌<◌, ◌≤◌, [], ◌∷◌, take, length};
+ghost use Rattle.tm_conv.specs.Path.{step_size, steps_size};
+ghost use Rattle.tm_viterbi.specs.Column.{AreSortedPlaces};
+ghost use Rattle.tm_viterbi.specs.Totals.{StepsTo, AreAtMost};
+ghost use Rattle.tm_viterbi.specs.Carries.{Carries, lifted};
+ghost use Rattle.tm_viterbi.specs.Masks.{two_step_masks};
+
+use crate::costs::{step_costs, two_step_costs, two_step_masks};
+use crate::narrow_column::{narrow_column, sorted_places};
+use std::simd::prelude::*;
+use tm_conv::{Rate, step_len};
+
+// One step: the next path metrics, by halves, and the column of survivors.
+#[inline(always)]
+fn narrow_step(
+    rate: Rate,
+    invert: bool,
+    t: u64,
+    octets: &[u8],
+    low: Simd<u16, 32>,
+    high: Simd<u16, 32>,
+    places: Simd<u16, 32>,
+) -> (Simd<u16, 32>, Simd<u16, 32>, u64)
+    requires places { AreSortedPlaces places }
+    requires size { length octets.now ≡ step_size rate t }
+    requires room { AreAtMost (2 ^ 16 - 511) (low ++ high) }
+    ensures steps { StepsTo rate invert t octets.now (low ++ high) (result.0 ++ result.1) result.2 }
+    ensures bounded { (m : ℕ) → AreAtMost m (low ++ high) → AreAtMost (m + 510) (result.0 ++ result.1) }
+    ensures long { (length result.0 ≡ 32) × (length result.1 ≡ 32) }
+{
+    narrow_column(low, high, step_costs(rate, invert, t, octets), places)
+}
+
+// As many steps as there are columns: the path metrics behind them, by halves, and how many octets they took.
+#[inline(always)]
+fn narrow_run(
+    rate: Rate,
+    invert: bool,
+    t: u64,
+    soft: &[u8],
+    first_low: Simd<u16, 32>,
+    first_high: Simd<u16, 32>,
+    columns: &mut [u64],
+) -> (Simd<u16, 32>, Simd<u16, 32>, usize)
+    requires size { steps_size rate t (length columns.old) ≤ length soft.now }
+    requires few { length columns.old ≤ 120 }
+    requires first { t + length columns.old < 2 ^ 63 }
+    requires room { AreAtMost (2 ^ 16 - 1 - 510 * length columns.old) (first_low ++ first_high) }
+    ensures taken { result.2 ≡ steps_size rate t (length columns.new) }
+    ensures carries { (base : ℕ) → Carries rate invert t (take result.2 soft.now)
+        (lifted base (first_low ++ first_high)) (lifted base (result.0 ++ result.1)) columns.new }
+    ensures bounded { (m : ℕ) → AreAtMost m (first_low ++ first_high)
+        → AreAtMost (m + 510 * length columns.new) (result.0 ++ result.1) }
+    ensures long { (length result.0 ≡ 32) × (length result.1 ≡ 32) }
+{
+    let mut low = first_low;
+    let mut high = first_high;
+    let mut at = 0usize;
+    let places = sorted_places((t >> 63) as u16);
+    for i in 0..columns.len() {
+        let now = t + i as u64;
+        let end = at + step_len(rate, now);
+        let (next_low, next_high, column) = narrow_step(
+            rate,
+            invert,
+            now,
+            &soft[at..end],
+            low,
+            high,
+            places,
+        );
+        columns[i] = column;
+        low = next_low;
+        high = next_high;
+        at = end;
+    }
+    (low, high, at)
+}
+
+// Two steps at rate 1/2: the path metrics behind them, and the two columns of survivors.
+fn two_steps(
+    masks: Simd<u8, 16>,
+    octets: &[u8],
+    low: Simd<u16, 32>,
+    high: Simd<u16, 32>,
+    places: Simd<u16, 32>,
+) -> (Simd<u16, 32>, Simd<u16, 32>, u64, u64)
+    requires size { length octets.now ≡ 4 }
+    requires places { AreSortedPlaces places }
+    requires room { AreAtMost (2 ^ 16 - 1021) (low ++ high) }
+    ensures carries { (invert : Bool) (t base : ℕ) → masks ≡ two_step_masks invert
+        → Carries Rate.R12 invert t octets.now (lifted base (low ++ high)) (lifted base (result.0 ++ result.1))
+        (result.2 ∷ result.3 ∷ []) }
+    ensures bounded { (m : ℕ) → AreAtMost m (low ++ high) → AreAtMost (m + 1020) (result.0 ++ result.1) }
+    ensures long { (length result.0 ≡ 32) × (length result.1 ≡ 32) }
+{
+    let (first_costs, second_costs) = two_step_costs(masks, octets);
+    let (low_between, high_between, first) = narrow_column(low, high, first_costs, places);
+    let (next_low, next_high, second) = narrow_column(
+        low_between,
+        high_between,
+        second_costs,
+        places,
+    );
+    (next_low, next_high, first, second)
+}
+
+// Four steps at rate 1/2.
+fn four_steps(
+    masks: Simd<u8, 16>,
+    octets: &[u8],
+    low: Simd<u16, 32>,
+    high: Simd<u16, 32>,
+    places: Simd<u16, 32>,
+    columns: &mut [u64],
+) -> (Simd<u16, 32>, Simd<u16, 32>)
+    requires size { length octets.now ≡ 8 }
+    requires columns { length columns.old ≡ 4 }
+    requires places { AreSortedPlaces places }
+    requires room { AreAtMost (2 ^ 16 - 2041) (low ++ high) }
+    ensures carries { (invert : Bool) (t base : ℕ) → masks ≡ two_step_masks invert
+        → Carries Rate.R12 invert t octets.now (lifted base (low ++ high)) (lifted base (result.0 ++ result.1))
+        columns.new }
+    ensures bounded { (m : ℕ) → AreAtMost m (low ++ high) → AreAtMost (m + 2040) (result.0 ++ result.1) }
+    ensures long { (length result.0 ≡ 32) × (length result.1 ≡ 32) }
+{
+    let (low_between, high_between, first, second) = two_steps(
+        masks,
+        &octets[..4],
+        low,
+        high,
+        places,
+    );
+    let (next_low, next_high, third, fourth) = two_steps(
+        masks,
+        &octets[4..],
+        low_between,
+        high_between,
+        places,
+    );
+    columns.copy_from_slice(&[first, second, third, fourth]);
+    (next_low, next_high)
+}
+
+// `narrow_run` at rate 1/2, four steps a turn: so the path metrics need not be moved between registers after each step.
+fn narrow_half_rate(
+    invert: bool,
+    t: u64,
+    soft: &[u8],
+    first_low: Simd<u16, 32>,
+    first_high: Simd<u16, 32>,
+    columns: &mut [u64],
+) -> (Simd<u16, 32>, Simd<u16, 32>, usize)
+    requires size { steps_size Rate.R12 t (length columns.old) ≤ length soft.now }
+    requires few { length columns.old ≤ 120 }
+    requires first { t + length columns.old < 2 ^ 63 }
+    requires room { AreAtMost (2 ^ 16 - 1 - 510 * length columns.old) (first_low ++ first_high) }
+    ensures taken { result.2 ≡ steps_size Rate.R12 t (length columns.new) }
+    ensures carries { (base : ℕ) → Carries Rate.R12 invert t (take result.2 soft.now)
+        (lifted base (first_low ++ first_high)) (lifted base (result.0 ++ result.1)) columns.new }
+    ensures bounded { (m : ℕ) → AreAtMost m (first_low ++ first_high)
+        → AreAtMost (m + 510 * length columns.new) (result.0 ++ result.1) }
+    ensures long { (length result.0 ≡ 32) × (length result.1 ≡ 32) }
+{
+    let masks = two_step_masks(invert);
+    let places = sorted_places((t >> 63) as u16);
+    let mut low = first_low;
+    let mut high = first_high;
+    let mut i = 0usize;
+    while i + 4 <= columns.len() {
+        let octets = &soft[2 * i..2 * i + 8];
+        let (next_low, next_high) = four_steps(
+            masks,
+            octets,
+            low,
+            high,
+            places,
+            &mut columns[i..i + 4],
+        );
+        low = next_low;
+        high = next_high;
+        i += 4;
+    }
+    let now = t + i as u64;
+    let (last_low, last_high, taken) = narrow_run(
+        Rate::R12,
+        invert,
+        now,
+        &soft[2 * i..],
+        low,
+        high,
+        &mut columns[i..],
+    );
+    (last_low, last_high, 2 * i + taken)
+}
+
+// `narrow_run` for one rate at a time, so that what a step sends is known to the compiler.
+pub(crate) fn narrow_at(
+    rate: Rate,
+    invert: bool,
+    t: u64,
+    soft: &[u8],
+    low: Simd<u16, 32>,
+    high: Simd<u16, 32>,
+    columns: &mut [u64],
+) -> (Simd<u16, 32>, Simd<u16, 32>, usize)
+    requires size { steps_size rate t (length columns.old) ≤ length soft.now }
+    requires few { length columns.old ≤ 120 }
+    requires first { t + length columns.old < 2 ^ 63 }
+    requires bounded { AreAtMost 4096 (low ++ high) }
+    ensures taken { result.2 ≡ steps_size rate t (length columns.new) }
+    ensures carries { (base : ℕ) → Carries rate invert t (take result.2 soft.now)
+        (lifted base (low ++ high)) (lifted base (result.0 ++ result.1)) columns.new }
+    ensures bounded { (m : ℕ) → AreAtMost m (low ++ high)
+        → AreAtMost (m + 510 * length columns.new) (result.0 ++ result.1) }
+    ensures long { (length result.0 ≡ 32) × (length result.1 ≡ 32) }
+{
+    match rate {
+        Rate::R12 => narrow_half_rate(invert, t, soft, low, high, columns),
+        Rate::R23 => narrow_run(Rate::R23, invert, t, soft, low, high, columns),
+        Rate::R34 => narrow_run(Rate::R34, invert, t, soft, low, high, columns),
+        Rate::R56 => narrow_run(Rate::R56, invert, t, soft, low, high, columns),
+        Rate::R78 => narrow_run(Rate::R78, invert, t, soft, low, high, columns),
+    }
+}
