@@ -10,6 +10,7 @@ use Rattle.tm_cli.specs.Refusal.{reason_of}
 use Rattle.tm_cli.specs.Shown.{ShowsLeast, PassesCertified}
 use Rattle.tm_cli.specs.Lines.{refusal_text}
 use Rattle.tm_cli.specs.declared.ending.Ending.{Ending}
+use Rattle.tm_cli.specs.declared.ending.Ending.TheVariants.{Bad}
 use Rattle.tm_cli.specs.declared.refusal.Refusal.{Refusal}
 
 -- a command read these octets, at most one past the limit, and ended in one way, which the status tells; some commands read none
@@ -24,6 +25,8 @@ pub record Answers (status : ℕ) (command : Command) (c : Configuration) (octet
   -- in the other polarity too
   pub turned_input : command ≡ Decode → (status ≡ 0) ⊎ (status ≡ 1) → KeepsTurnedInput c octets taken taken_now noted noted_now
   pub turned_symbols : command ≡ Decode → (status ≡ 0) ⊎ (status ≡ 1) → KeepsTurnedSymbols status c octets taken taken_now noted noted_now
+  -- status 1 of `check` tells a window that fails alone, and so how little was read behind it
+  pub by_window : command ≡ Check → ending ≡ Bad → ⊥
   -- where `check` answers 0, the paths of the certificate cost the least; what `certify` writes passes
   pub shown : command ≡ Check → status ≡ 0 → ShowsLeast c octets taken taken_now
   pub passes : command ≡ Check → PassesCertified status c octets noted noted_now

@@ -52,6 +52,7 @@ returns-in-Ok-clause-answered g c = λ job asked _.
       disturbed = λ is. c.link_law.ensures.disturbed ending c.status.result config h.0 taken now noted noted_now read.2 c.status.ensures (decodes is);
       turned_input = λ is. c.link_law.ensures.turned_input ending c.status.result config h.0 taken now noted noted_now read.2 c.status.ensures (decodes is);
       turned_symbols = λ is. c.link_law.ensures.turned_symbols ending c.status.result config h.0 taken now noted noted_now read.2 c.status.ensures (decodes is);
+      by_window = λ is bad. c.in-Ok.ensures.not_bad (of-check c.in-Command.job is) bad;
       shown = λ is. c.certificate_law.ensures.shown ending c.status.result config h.0 taken now noted noted_now c.status.ensures (checks is);
       passes = λ is. c.certificate_law.ensures.passes ending c.status.result config h.0 taken now noted noted_now read.2 c.status.ensures (checks is);
     } in (
