@@ -168,18 +168,18 @@ took-faults : (end : Received) (out out_now : Standing) (out_last : Type 0) (not
 took-faults end out out_now out_last notes notes_now notes_last counts handed other p =
     let out_same = p.0.same in
     let notes_same = p.1.lines.same in
-    record { out_later = omega arith; notes_later = omega arith; out_same = λ _. out_same; notes_same = λ _. notes_same; rose = λ is. absurd (other is) }
+    record { out_later = omega arith; notes_later = omega arith; out_same = λ _. out_same; notes_same = λ _. notes_same; one_failed = λ is. absurd (other is) }
 
 broke-faults : (out out_now : Standing) (out_last : Type 0) (notes notes_now : Standing) (notes_last : Type 0) (handed : List (Handed ItemValue))
     → DecodingBroke out out_now out_last notes notes_now notes_last handed → DecodingFaults TakerFault out out_now out_last notes notes_now notes_last
 broke-faults out out_now out_last notes notes_now notes_last handed p = elim p.broke as (λ _. DecodingFaults TakerFault out out_now out_last notes notes_now notes_last) [
   | inl q ↦ (
       let same = q.1.same in
-      record { out_later = q.0.later; notes_later = omega arith; out_same = λ other. absurd (other refl); notes_same = λ other. absurd (other refl); rose = λ _. inl q.0.rose }
+      record { out_later = q.0.later; notes_later = omega arith; out_same = λ other. absurd (other refl); notes_same = λ other. absurd (other refl); one_failed = λ _. inl (q.0.rose, q.1.same) }
       )
   | inr q ↦ (
       let same = q.0.same in
-      record { out_later = omega arith; notes_later = q.1.later; out_same = λ other. absurd (other refl); notes_same = λ other. absurd (other refl); rose = λ _. inr q.1.rose }
+      record { out_later = omega arith; notes_later = q.1.later; out_same = λ other. absurd (other refl); notes_same = λ other. absurd (other refl); one_failed = λ _. inr (q.1.rose, q.0.same) }
       )
 ]
 

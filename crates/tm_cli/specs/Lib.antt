@@ -1,5 +1,6 @@
 pub mod Command
 pub mod Reading
+pub mod Faults
 pub mod Lines
 pub mod Report
 pub mod Taken

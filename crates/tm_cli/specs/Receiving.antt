@@ -1,11 +1,11 @@
 -- What is received of the octets that were read, and what is handed over of it.
 use Rattle.std.specs.Prelude.{◌≡◌, ◌⊎◌, ℕ, ◌+◌, ◌^◌, ◌<◌, ◌≤◌, List, length, take}
 use Rattle.tm_base.specs.Handed.{Handed, items_of}
-use Rattle.tm_base.specs.Outside.{Rose}
 use Rattle.tm_config.specs.Configuration.{Configuration}
 use Rattle.tm_channel.specs.Items.{ItemValue}
 use Rattle.tm_channel.specs.Handing.{AreReceived, AreReceivedDue, AreReceivedFirst, AreReceivedFront}
 use Rattle.tm_channel.specs.OctetReceiving.{OctetReceiving, StandsFor}
+use Rattle.tm_cli.specs.Faults.{OneFailed}
 use Rattle.tm_cli.specs.Report.{bad, items_text, items_end_text, report_text}
 use Rattle.tm_cli.specs.Taken.{Standing, TookText, BrokeText, no_counts, ReportedAll, handed_frames}
 use Rattle.tm_cli.specs.declared.counts.Counts.{Counts}
@@ -49,7 +49,7 @@ pub record DecodingFaults (end : Received) (out out_now : Standing) (out_last : 
   pub notes_later : notes.faults ≤ notes_now.faults
   pub out_same : (end ≡ TakerFault → ⊥) → out_now.faults ≡ out.faults
   pub notes_same : (end ≡ TakerFault → ⊥) → notes_now.faults ≡ notes.faults
-  pub rose : end ≡ TakerFault → Rose out.faults out_now.faults out_last ⊎ Rose notes.faults notes_now.faults notes_last
+  pub one_failed : end ≡ TakerFault → OneFailed out.faults out_now.faults out_last notes.faults notes_now.faults notes_last
 
 -- how a command ends by the end of its report, and what its sink took of the report of what was handed over of so many bits
 abbrev pub ToldEnd : Ending → List (Handed ItemValue) → ℕ → (before now : Standing) → Type 0 → Type 0

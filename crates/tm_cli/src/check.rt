@@ -11,6 +11,7 @@ ghost use Rattle.tm_cli.specs.Checked.{ReadAt};
 ghost use Rattle.tm_cli.specs.Checking.{Passes, Breaks, StopsBy, WroteWindow, WroteWindowFront};
 ghost use Rattle.tm_cli.specs.Command.Command.{Check as CheckCommand};
 ghost use Rattle.tm_cli.specs.Ending.{Ends};
+ghost use Rattle.tm_cli.specs.Faults.{OneFailed};
 ghost use Rattle.tm_cli.specs.Reading.{FedUpTo};
 ghost use Rattle.tm_inner.specs.Symbols.{rate_of};
 
@@ -43,7 +44,7 @@ fn tell_window<O: Sink, N: Sink>(
     requires { HasPassed reader.now }
     ensures ok { OnOk result (WroteWindow reader.now number (O.taken out.old) (O.taken out.new) (N.taken notes.old) (N.taken notes.new)) }
     ensures err { OnErr result (WroteWindowFront reader.now number (O.taken out.old) (O.taken out.new) (N.taken notes.old) (N.taken notes.new)) }
-    ensures cause { OnErr result (Rose (O.faults out.old) (O.faults out.new) (O.is_last out.new) ⊎ Rose (N.faults notes.old) (N.faults notes.new) (N.is_last notes.new)) }
+    ensures cause { OnErr result (OneFailed (O.faults out.old) (O.faults out.new) (O.is_last out.new) (N.faults notes.old) (N.faults notes.new) (N.is_last notes.new)) }
     ensures out_later { O.faults out.old ≤ O.faults out.new }
     ensures out_same { OnOk result (O.faults out.new ≡ O.faults out.old) }
     ensures notes_later { N.faults notes.old ≤ N.faults notes.new }
@@ -77,7 +78,7 @@ fn end_window<O: Sink, N: Sink>(
     ensures err { OnErr result ((rules : Rules) (start noted : Option (List ℕ)) (given : List ℕ) → length given < 2 ^ 43
         → Passes rules reader.old progress.old start (O.taken out.old) noted (N.taken notes.old) given
         → Breaks rules start (O.taken out.new) noted (N.taken notes.new) given) }
-    ensures cause { OnErr result (Rose (O.faults out.old) (O.faults out.new) (O.is_last out.new) ⊎ Rose (N.faults notes.old) (N.faults notes.new) (N.is_last notes.new)) }
+    ensures cause { OnErr result (OneFailed (O.faults out.old) (O.faults out.new) (O.is_last out.new) (N.faults notes.old) (N.faults notes.new) (N.is_last notes.new)) }
     ensures out_later { O.faults out.old ≤ O.faults out.new }
     ensures out_same { OnOk result (O.faults out.new ≡ O.faults out.old) }
     ensures notes_later { N.faults notes.old ≤ N.faults notes.new }
@@ -117,7 +118,7 @@ fn check_window<O: Sink, N: Sink>(
         → Passes rules reader.old progress.old start (O.taken out.old) noted (N.taken notes.old) given
         → StopsBy progress.new.failed rules progress.new.count start (O.taken out.new) noted (N.taken notes.new) (given ++ piece.now)) }
     ensures cause { OnErr result (progress.new.failed ≡ None
-        → Rose (O.faults out.old) (O.faults out.new) (O.is_last out.new) ⊎ Rose (N.faults notes.old) (N.faults notes.new) (N.is_last notes.new)) }
+        → OneFailed (O.faults out.old) (O.faults out.new) (O.is_last out.new) (N.faults notes.old) (N.faults notes.new) (N.is_last notes.new)) }
     ensures out_later { O.faults out.old ≤ O.faults out.new }
     ensures out_same { OnOk result (O.faults out.new ≡ O.faults out.old) }
     ensures out_failed { (progress.new.failed ≡ None → ⊥) → O.faults out.new ≡ O.faults out.old }
@@ -161,7 +162,7 @@ fn check_octets<O: Sink, N: Sink>(
         → Passes rules reader.old progress.old start (O.taken out.old) noted (N.taken notes.old) given
         → StopsBy progress.new.failed rules progress.new.count start (O.taken out.new) noted (N.taken notes.new) (given ++ octets.now)) }
     ensures cause { OnErr result (progress.new.failed ≡ None
-        → Rose (O.faults out.old) (O.faults out.new) (O.is_last out.new) ⊎ Rose (N.faults notes.old) (N.faults notes.new) (N.is_last notes.new)) }
+        → OneFailed (O.faults out.old) (O.faults out.new) (O.is_last out.new) (N.faults notes.old) (N.faults notes.new) (N.is_last notes.new)) }
     ensures out_later { O.faults out.old ≤ O.faults out.new }
     ensures out_same { OnOk result (O.faults out.new ≡ O.faults out.old) }
     ensures out_failed { (progress.new.failed ≡ None → ⊥) → O.faults out.new ≡ O.faults out.old }
@@ -196,6 +197,7 @@ impl<'a, 'b, 'c, O: Sink, N: Sink> Feed for Checking<'a, 'b, 'c, O, N> {
     ghost use Rattle.tm_cert_file.specs.Before.{Rules};
     ghost use Rattle.tm_cert_file.specs.Reading.{IsOpen};
     ghost use Rattle.tm_cli.specs.Checking.{Passes, StopsBy};
+    ghost use Rattle.tm_cli.specs.Faults.{OneFailed};
 
     ghost fed = { λ a b octets. IsOpen b.reader.now × (O.faults b.out.now ≡ O.faults a.out.now) × (N.faults b.notes.now ≡ N.faults a.notes.now)
         × ((rules : Rules) (start noted : Option (List ℕ)) (given : List ℕ)
@@ -203,6 +205,7 @@ impl<'a, 'b, 'c, O: Sink, N: Sink> Feed for Checking<'a, 'b, 'c, O, N> {
         → length (given ++ octets) < 2 ^ 43 → Passes rules b.reader.now b.progress start (O.taken b.out.now) noted (N.taken b.notes.now) (given ++ octets)) };
 
     ghost broke = { λ a b octets. ((b.progress.failed ≡ None → ⊥) → (O.faults b.out.now ≡ O.faults a.out.now) × (N.faults b.notes.now ≡ N.faults a.notes.now))
+        × (b.progress.failed ≡ None → OneFailed (O.faults a.out.now) (O.faults b.out.now) (O.is_last b.out.now) (N.faults a.notes.now) (N.faults b.notes.now) (N.is_last b.notes.now))
         × ((rules : Rules) (start noted : Option (List ℕ)) (given : List ℕ)
         → (length given < 2 ^ 43 → Passes rules a.reader.now a.progress start (O.taken a.out.now) noted (N.taken a.notes.now) given)
         → length (given ++ octets) < 2 ^ 43 → StopsBy b.progress.failed rules b.progress.count start (O.taken b.out.now) noted (N.taken b.notes.now) (given ++ octets)) };
@@ -239,9 +242,11 @@ impl<'a, 'b, 'c, O: Sink, N: Sink> Feed for Checking<'a, 'b, 'c, O, N> {
 
     ghost broke_more = { λ a b last first second p q. (
       λ some. ((q.0 some).0 ∙ p.1, (q.0 some).1 ∙ p.2),
+      λ none. subst (λ (n : ℕ). OneFailed n (O.faults last.out.now) (O.is_last last.out.now) (N.faults a.notes.now) (N.faults last.notes.now) (N.is_last last.notes.now)) p.1
+          (subst (λ (n : ℕ). OneFailed (O.faults b.out.now) (O.faults last.out.now) (O.is_last last.out.now) n (N.faults last.notes.now) (N.is_last last.notes.now)) p.2 (q.1 none)),
       λ rules start noted given was.
           subst (λ o. length o < 2 ^ 43 → StopsBy last.progress.failed rules last.progress.count start (O.taken last.out.now) noted (N.taken last.notes.now) o)
-          (append_assoc given first second) (q.1 rules start noted (given ++ first) (p.3 rules start noted given was)),
+          (append_assoc given first second) (q.2 rules start noted (given ++ first) (p.3 rules start noted given was)),
     ) };
 
     fn feed(&mut self, piece: &[u8]) -> Result<(), Failed> {
@@ -270,8 +275,8 @@ fn check_windows<S: Source, O: Sink, N: Sink>(
     ensures source_fault { result.0 ≡ Pumped.SourceFault → Rose (S.faults source.old) (S.faults source.new) (S.is_last source.new) }
     ensures source_later { S.faults source.old ≤ S.faults source.new }
     ensures source_same { (result.0 ≡ Pumped.SourceFault → ⊥) → S.faults source.new ≡ S.faults source.old }
-    ensures sink_fault { result.0 ≡ Pumped.FeedFault → result.1.failed ≡ None → Rose (O.faults out.old) (O.faults out.new) (O.is_last out.new)
-        ⊎ Rose (N.faults notes.old) (N.faults notes.new) (N.is_last notes.new) }
+    ensures sink_fault { result.0 ≡ Pumped.FeedFault → result.1.failed ≡ None → OneFailed (O.faults out.old) (O.faults out.new) (O.is_last out.new)
+        (N.faults notes.old) (N.faults notes.new) (N.is_last notes.new) }
     ensures out_later { O.faults out.old ≤ O.faults out.new }
     ensures out_same { (result.0 ≡ Pumped.FeedFault → result.1.failed ≡ None → ⊥) → O.faults out.new ≡ O.faults out.old }
     ensures notes_later { N.faults notes.old ≤ N.faults notes.new }
@@ -366,8 +371,8 @@ fn check_input<S: Source, O: Sink, N: Sink>(
     ensures source_fault { result ≡ Ending.SourceFault → Rose (S.faults source.old) (S.faults source.new) (S.is_last source.new) }
     ensures source_later { S.faults source.old ≤ S.faults source.new }
     ensures source_same { (result ≡ Ending.SourceFault → ⊥) → S.faults source.new ≡ S.faults source.old }
-    ensures sink_fault { result ≡ Ending.SinkFault → Rose (O.faults out.old) (O.faults out.new) (O.is_last out.new)
-        ⊎ Rose (N.faults notes.old) (N.faults notes.new) (N.is_last notes.new) }
+    ensures sink_fault { result ≡ Ending.SinkFault → OneFailed (O.faults out.old) (O.faults out.new) (O.is_last out.new)
+        (N.faults notes.old) (N.faults notes.new) (N.is_last notes.new) }
     ensures out_later { O.faults out.old ≤ O.faults out.new }
     ensures out_same { (result ≡ Ending.SinkFault → ⊥) → O.faults out.new ≡ O.faults out.old }
     ensures notes_later { N.faults notes.old ≤ N.faults notes.new }
@@ -418,8 +423,8 @@ pub fn check<S: Source, O: Sink, N: Sink>(
     ensures source_fault { IfOk result (λ ending. ending ≡ Ending.SourceFault → Rose (S.faults source.old) (S.faults source.new) (S.is_last source.new)) }
     ensures source_later { S.faults source.old ≤ S.faults source.new }
     ensures source_same { IfOk result (λ ending. (ending ≡ Ending.SourceFault → ⊥) → S.faults source.new ≡ S.faults source.old) }
-    ensures sink_fault { IfOk result (λ ending. ending ≡ Ending.SinkFault → Rose (O.faults out.old) (O.faults out.new) (O.is_last out.new)
-        ⊎ Rose (N.faults notes.old) (N.faults notes.new) (N.is_last notes.new)) }
+    ensures sink_fault { IfOk result (λ ending. ending ≡ Ending.SinkFault → OneFailed (O.faults out.old) (O.faults out.new) (O.is_last out.new)
+        (N.faults notes.old) (N.faults notes.new) (N.is_last notes.new)) }
     ensures out_later { O.faults out.old ≤ O.faults out.new }
     ensures out_same { IfOk result (λ ending. (ending ≡ Ending.SinkFault → ⊥) → O.faults out.new ≡ O.faults out.old) }
     ensures notes_later { N.faults notes.old ≤ N.faults notes.new }

@@ -6,6 +6,7 @@ ghost use Rattle.tm_base.specs.Written.{Gave};
 ghost use Rattle.tm_config.specs.Accepted.{IsAccepted};
 ghost use Rattle.tm_cli.specs.Command.Command.{Decode};
 ghost use Rattle.tm_cli.specs.Ending.{Ends};
+ghost use Rattle.tm_cli.specs.Faults.{OneFailed};
 ghost use Rattle.tm_cli.specs.Receiving.{ReceivedUpTo, DecodedAll, DecodingFaults};
 ghost use Rattle.tm_cli.specs.Taken.{standing, DecodingBroke};
 
@@ -85,8 +86,8 @@ pub fn decode<R: Threads + Sync, S: Source, O: Sink, N: Sink>(
     ensures source_fault { IfOk result (λ ending. ending ≡ Ending.SourceFault → Rose (S.faults source.old) (S.faults source.new) (S.is_last source.new)) }
     ensures source_later { S.faults source.old ≤ S.faults source.new }
     ensures source_same { IfOk result (λ ending. (ending ≡ Ending.SourceFault → ⊥) → S.faults source.new ≡ S.faults source.old) }
-    ensures sink_fault { IfOk result (λ ending. ending ≡ Ending.SinkFault → Rose (O.faults out.old) (O.faults out.new) (O.is_last out.new)
-        ⊎ Rose (N.faults notes.old) (N.faults notes.new) (N.is_last notes.new)) }
+    ensures sink_fault { IfOk result (λ ending. ending ≡ Ending.SinkFault → OneFailed (O.faults out.old) (O.faults out.new) (O.is_last out.new)
+        (N.faults notes.old) (N.faults notes.new) (N.is_last notes.new)) }
     ensures out_later { O.faults out.old ≤ O.faults out.new }
     ensures notes_later { N.faults notes.old ≤ N.faults notes.new }
     ensures out_same { IfOk result (λ ending. (ending ≡ Ending.SinkFault → ⊥) → O.faults out.new ≡ O.faults out.old) }

@@ -11,6 +11,7 @@ ghost use Rattle.tm_cli.specs.Command.Command.{Erased};
 ghost use Rattle.tm_cli.specs.Ending.{Ends};
 ghost use Rattle.tm_cli.specs.Erased.{coding_of, erased_text, is_beyond, nearest_lines};
 ghost use Rattle.tm_cli.specs.Erasing.{Broke, HasSpace, Holds, ending_by};
+ghost use Rattle.tm_cli.specs.Faults.{OneFailed};
 ghost use Rattle.tm_cli.specs.Reading.{FedUpTo};
 
 use crate::encode::tell_rest;
@@ -283,8 +284,8 @@ fn tell_last<R: Threads + Sync, O: Sink, N: Sink>(
         → length octets ≤ config.now.limit
         → Ends result Erased config.now octets start (O.taken out.new) (N.taken notes.old) (N.taken notes.new) }
     ensures answers { (result ≡ Ending.Done) ⊎ (result ≡ Ending.Bad) ⊎ (result ≡ Ending.LeftOver) ⊎ (result ≡ Ending.SinkFault) }
-    ensures fault { result ≡ Ending.SinkFault → Rose (O.faults out.old) (O.faults out.new) (O.is_last out.new)
-        ⊎ Rose (N.faults notes.old) (N.faults notes.new) (N.is_last notes.new) }
+    ensures fault { result ≡ Ending.SinkFault → OneFailed (O.faults out.old) (O.faults out.new) (O.is_last out.new)
+        (N.faults notes.old) (N.faults notes.new) (N.is_last notes.new) }
     ensures out_later { O.faults out.old ≤ O.faults out.new }
     ensures out_same { (result ≡ Ending.SinkFault → ⊥) → O.faults out.new ≡ O.faults out.old }
     ensures notes_later { N.faults notes.old ≤ N.faults notes.new }
@@ -318,8 +319,8 @@ fn erase_input<R: Threads + Sync, S: Source, O: Sink, N: Sink>(
     ensures source_fault { result ≡ Ending.SourceFault → Rose (S.faults source.old) (S.faults source.new) (S.is_last source.new) }
     ensures source_later { S.faults source.old ≤ S.faults source.new }
     ensures source_same { (result ≡ Ending.SourceFault → ⊥) → S.faults source.new ≡ S.faults source.old }
-    ensures sink_fault { result ≡ Ending.SinkFault → Rose (O.faults out.old) (O.faults out.new) (O.is_last out.new)
-        ⊎ Rose (N.faults notes.old) (N.faults notes.new) (N.is_last notes.new) }
+    ensures sink_fault { result ≡ Ending.SinkFault → OneFailed (O.faults out.old) (O.faults out.new) (O.is_last out.new)
+        (N.faults notes.old) (N.faults notes.new) (N.is_last notes.new) }
     ensures out_later { O.faults out.old ≤ O.faults out.new }
     ensures out_same { (result ≡ Ending.SinkFault → ⊥) → O.faults out.new ≡ O.faults out.old }
     ensures notes_later { N.faults notes.old ≤ N.faults notes.new }
@@ -358,8 +359,8 @@ pub fn erased<R: Threads + Sync, S: Source, O: Sink, N: Sink>(
     ensures source_fault { IfOk result (λ ending. ending ≡ Ending.SourceFault → Rose (S.faults source.old) (S.faults source.new) (S.is_last source.new)) }
     ensures source_later { S.faults source.old ≤ S.faults source.new }
     ensures source_same { IfOk result (λ ending. (ending ≡ Ending.SourceFault → ⊥) → S.faults source.new ≡ S.faults source.old) }
-    ensures sink_fault { IfOk result (λ ending. ending ≡ Ending.SinkFault → Rose (O.faults out.old) (O.faults out.new) (O.is_last out.new)
-        ⊎ Rose (N.faults notes.old) (N.faults notes.new) (N.is_last notes.new)) }
+    ensures sink_fault { IfOk result (λ ending. ending ≡ Ending.SinkFault → OneFailed (O.faults out.old) (O.faults out.new) (O.is_last out.new)
+        (N.faults notes.old) (N.faults notes.new) (N.is_last notes.new)) }
     ensures out_later { O.faults out.old ≤ O.faults out.new }
     ensures notes_later { N.faults notes.old ≤ N.faults notes.new }
     ensures out_same { IfOk result (λ ending. (ending ≡ Ending.SinkFault → ⊥) → O.faults out.new ≡ O.faults out.old) }

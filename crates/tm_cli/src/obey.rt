@@ -5,6 +5,7 @@ ghost use Rattle.tm_base.specs.Outside.{Rose};
 ghost use Rattle.tm_base.specs.Written.{Gave};
 ghost use Rattle.tm_cli.specs.Command.{command_of, reads};
 ghost use Rattle.tm_cli.specs.Ending.{Ends};
+ghost use Rattle.tm_cli.specs.Faults.{OneFailed};
 ghost use Rattle.tm_cli.specs.Refusal.{refusal_of_command};
 
 use crate::certify::certify;
@@ -46,8 +47,8 @@ pub fn obey<R: Threads + Sync, S: Source, O: Sink, N: Sink>(
     ensures source_fault { IfOk result (λ ending. ending ≡ Ending.SourceFault → Rose (S.faults source.old) (S.faults source.new) (S.is_last source.new)) }
     ensures source_later { S.faults source.old ≤ S.faults source.new }
     ensures source_same { IfOk result (λ ending. (ending ≡ Ending.SourceFault → ⊥) → S.faults source.new ≡ S.faults source.old) }
-    ensures sink_fault { IfOk result (λ ending. ending ≡ Ending.SinkFault → Rose (O.faults out.old) (O.faults out.new) (O.is_last out.new)
-        ⊎ Rose (N.faults notes.old) (N.faults notes.new) (N.is_last notes.new)) }
+    ensures sink_fault { IfOk result (λ ending. ending ≡ Ending.SinkFault → OneFailed (O.faults out.old) (O.faults out.new) (O.is_last out.new)
+        (N.faults notes.old) (N.faults notes.new) (N.is_last notes.new)) }
     ensures encode_stops { IfOk result (λ ending. ending ≡ Ending.SinkFault → job.now.kind ≡ JobKind.Encode
         → (Rose (O.faults out.old) (O.faults out.new) (O.is_last out.new) × (S.ended source.new ≡ S.ended source.old) × (notes.new ≡ notes.old))
         ⊎ (Rose (N.faults notes.old) (N.faults notes.new) (N.is_last notes.new) × (S.ended source.new ≡ true) × (O.faults out.new ≡ O.faults out.old))) }

@@ -7,6 +7,7 @@ ghost use Rattle.tm_config.specs.Configuration.{configuration_of};
 ghost use Rattle.tm_words.specs.declared.job.Job.{Job};
 ghost use Rattle.tm_words.specs.declared.job.JobKind.TheVariants.{Encode, Check};
 ghost use Rattle.tm_cli.specs.Command.{command_of, reads};
+ghost use Rattle.tm_cli.specs.Faults.{OneFailed};
 ghost use Rattle.tm_cli.specs.Refusal.{refusal_of, IsAsked};
 ghost use Rattle.tm_cli.specs.Output.{IsPartial};
 ghost use Rattle.tm_cli.specs.Run.{Answers, WroteRefusal};
@@ -101,8 +102,8 @@ pub fn run<R: Threads + Sync, S: Source, O: Sink, N: Sink>(
 
     // Faults have their causes.
     ensures read_fault { result ≡ 3 → Rose (S.faults source.old) (S.faults source.new) (S.is_last source.new) }
-    ensures write_fault { result ≡ 4 → Rose (O.faults out.old) (O.faults out.new) (O.is_last out.new)
-        ⊎ Rose (N.faults notes.old) (N.faults notes.new) (N.is_last notes.new) }
+    ensures write_fault { result ≡ 4 → OneFailed (O.faults out.old) (O.faults out.new) (O.is_last out.new)
+        (N.faults notes.old) (N.faults notes.new) (N.is_last notes.new) }
     ensures encode_stops { (job : Job) → IsAsked (map string_bytes words.now) job → job.kind ≡ Encode → result ≡ 4
         → (Rose (O.faults out.old) (O.faults out.new) (O.is_last out.new) × (S.ended source.new ≡ S.ended source.old) × (notes.new ≡ notes.old))
         ⊎ (Rose (N.faults notes.old) (N.faults notes.new) (N.is_last notes.new) × (S.ended source.new ≡ true) × (O.faults out.new ≡ O.faults out.old)) }

@@ -2,6 +2,7 @@ use Rattle.std.proofs.Common.{rules, ◌≡◌, ◌+◌, ◌^◌, ◌<◌, ◌�
 use Rattle.tm_cert_file.specs.Before.{Rules}
 use Rattle.tm_cert_file.specs.Reading.{IsOpen}
 use Rattle.tm_cli.specs.Checking.{Passes, StopsBy}
+use Rattle.tm_cli.specs.Faults.{OneFailed}
 use Rattle.tm_cli.specs.Reading.{FedUpTo}
 use Rattle.tm_cli.specs.declared.check.Progress.{Progress}
 use Rattle.tm_cli.proofs.Checking.{up_to-few, passes-first}
@@ -20,12 +21,14 @@ returns-clause-checked g c =
     let told = g.N.Sink.taken c.args.notes.now in
     let told_now = g.N.Sink.taken c.pump-end.new.feed.notes.now in
     let Same : Type 0 = (g.O.Sink.faults c.pump-end.new.feed.out.now ≡ g.O.Sink.faults c.args.out.now) × (g.N.Sink.faults c.pump-end.new.feed.notes.now ≡ g.N.Sink.faults c.args.notes.now) in
+    let One : Type 0 = OneFailed (g.O.Sink.faults c.args.out.now) (g.O.Sink.faults c.pump-end.new.feed.out.now) (g.O.Sink.is_last c.pump-end.new.feed.out.now)
+    (g.N.Sink.faults c.args.notes.now) (g.N.Sink.faults c.pump-end.new.feed.notes.now) (g.N.Sink.is_last c.pump-end.new.feed.notes.now) in
     let Fed : List ℕ → Type 0 = λ o. IsOpen now × (g.O.Sink.faults c.pump-end.new.feed.out.now ≡ g.O.Sink.faults c.args.out.now)
     × (g.N.Sink.faults c.pump-end.new.feed.notes.now ≡ g.N.Sink.faults c.args.notes.now)
     × ((rules : Rules) (start noted : Option (List ℕ)) (given : List ℕ)
     → (length given < 2 ^ 43 → Passes rules was first start taken noted told given)
     → length (given ++ o) < 2 ^ 43 → Passes rules now p start taken_now noted told_now (given ++ o)) in
-    let Broke : List ℕ → Type 0 = λ o. ((p.failed ≡ None → ⊥) → Same)
+    let Broke : List ℕ → Type 0 = λ o. ((p.failed ≡ None → ⊥) → Same) × (p.failed ≡ None → One)
     × ((rules : Rules) (start noted : Option (List ℕ)) (given : List ℕ)
     → (length given < 2 ^ 43 → Passes rules was first start taken noted told given)
     → length (given ++ o) < 2 ^ 43 → StopsBy p.failed rules p.count start taken_now noted told_now (given ++ o)) in
@@ -36,5 +39,5 @@ returns-clause-checked g c =
     limit c.pump-end.result h.0 =
     up_to-few Fed Broke (λ o. IsOpen now × Passes was.rules now p taken taken_now told told_now o) (λ o. StopsBy p.failed was.rules p.count taken taken_now told told_now o)
     limit c.pump-end.result h.0 (omega (arith, most, c.limit.ensures.accepted.limit))
-    (λ o short f. (f.0, f.3 was.rules taken told [] (λ _. none) short)) (λ o short b. b.1 was.rules taken told [] (λ _. none) short) fed in
+    (λ o short f. (f.0, f.3 was.rules taken told [] (λ _. none) short)) (λ o short b. b.2 was.rules taken told [] (λ _. none) short) fed in
     (h.0, h.1, most, search rules)

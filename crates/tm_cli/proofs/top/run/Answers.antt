@@ -72,7 +72,7 @@ returns-in-Ok-clause-whole_input g c = λ job input asked told within whole no_r
     (g.N.Sink.taken c.args.notes.now) (g.N.Sink.taken c.obey.new.notes) c.status.ensures ends.3 six in c.in-Ok.ensures.at_end over.1 (inr (inr over.0)) in
     let cases : (c.status.result ≡ 0) ⊎ (c.status.result ≡ 1) ⊎ (c.status.result ≡ 5) ⊎ (c.status.result ≡ 6) ⊎ (c.status.result ≡ 7) =
     without-fault ending c.status.result c.status.ensures (λ is. no_read (c.in-Ok.ensures.source_fault is))
-    (λ is. elim (c.in-Ok.ensures.sink_fault is) [ inl out ↦ no_write out | inr notes ↦ no_note notes ]) in
+    (λ is. elim (c.in-Ok.ensures.sink_fault is) [ inl out ↦ no_write out.0 | inr notes ↦ no_note notes.0 ]) in
     let read : c.status.result ≡ 5 → ⊥ = λ memory. no-ending ending (sym c.status.ensures ∙ memory) in
     let h = returns-in-Ok-clause-answered g c job asked read in
     whole-input_told h.2.ending c.status.result (command_of job) (configuration_of job.raw) h.0 input left (g.O.Sink.taken c.args.out.now) (g.O.Sink.taken c.obey.new.out)
