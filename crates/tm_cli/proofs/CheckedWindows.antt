@@ -1,7 +1,7 @@
 -- A certificate, window by window, and what is written for it.
-use Rattle.std.proofs.Common.{◌≡◌, inl, inr, ℕ, suc, ◌+◌, ◌^◌, ◌-◌, ◌<◌, ◌≤◌, List, [], ◌∷◌, ◌++◌, length, take, drop, min, Option, None, refl, sym, ap, ◌∙◌, subst, arith, append_assoc, length-append, take-append-drop}
+use Rattle.std.proofs.Common.{◌≡◌, inl, inr, ℕ, suc, ◌+◌, ◌^◌, ◌-◌, ◌<◌, ◌≤◌, List, [], ◌∷◌, ◌++◌, length, take, drop, min, Option, None, sym, ap, ◌∙◌, subst, arith, append_assoc, length-append, take-append-drop}
 use Rattle.std.proofs.lemmas.List.{append-nil, drop_all, length-drop, length-take-le, take_rest, take-append-le}
-use Rattle.tm_base.specs.Written.{Wrote, WroteFront}
+use Rattle.tm_base.specs.Written.{Wrote}
 use Rattle.tm_conv.specs.declared.rates.Rate.{Rate}
 use Rattle.tm_cert_file.specs.declared.seen.Reason.{Reason}
 use Rattle.tm_cert_file.specs.declared.seen.Seen.{Seen}
@@ -17,11 +17,10 @@ use Rattle.tm_cert_file.proofs.Passing.{passed-push}
 use Rattle.tm_cli.specs.Checked.{bits_kept, windows_text}
 use Rattle.tm_cli.specs.Checking.{Passes, Breaks, Fails, NoneFails, StopsBy, WroteWindow, WroteWindowFront, window_of}
 use Rattle.tm_cli.specs.Reading.{but_last_turn}
+use Rattle.tm_cli.specs.Stopping.{StopsAt}
 use Rattle.tm_cli.specs.Lines.{window_text}
 use Rattle.tm_cli.specs.declared.check.Progress.{Progress}
-use Rattle.tm_cli.proofs.Endings.{wrote-front}
-use Rattle.tm_cli.proofs.Erasing.{wrote-then, wrote-then_front}
-use Rattle.tm_cli.proofs.Tracing.{front-of}
+use Rattle.tm_cli.proofs.Erasing.{wrote-then}
 
 -- ---- the octets and the lines of windows
 
@@ -140,49 +139,33 @@ module _ (rules : Rules) (r : Reading) (p : Progress) (start taken taken_now was
 
   -- a sink failed in what is written for it
   pub breaks-now : WroteWindowFront r p.count taken taken_now noted noted_now → Breaks rules start taken_now was noted_now given
-  breaks-now (inl part) = record {
+  breaks-now part = record {
     front = given;
     rest = [];
     split = sym (append-nil given);
-    windows = h.windows ++ window_of r ∷ [];
+    windows = h.windows;
+    last = window_of r;
     read = read-now;
-    lines = subst (WroteFront was noted_now) (sym (line-more h.windows (window_of r)))
-        (front-of was noted_now (windows_text 0 h.windows) (window_text (length h.windows) (window_of r).steps (window_of r).kept (window_of r).metric) (wrote-front was noted_now (windows_text 0 h.windows) no_line));
-    turn = record {
-      front = h.windows;
-      rest = window_of r ∷ [];
-      split = refl;
-      kept = (
-        part.0.0,
-        subst (λ l. Wrote start taken_now (all_kept rules.rate 0 h.windows ++ take part.0.0 l)) (kept-same ∙ sym (append-nil (kept_octets rules.rate (bits_kept h.windows) (window_of r))))
-            (wrote-then start taken taken_now (all_kept rules.rate 0 h.windows) (take part.0.0 (kept_octets r.rules.rate r.before.t (window_of r))) h.wrote.out part.0.1),
-      );
-      lines = inl (wrote-front was noted_now (windows_text 0 h.windows) no_line);
-    };
-  }
-    where
-      no_line : Wrote was noted_now (windows_text 0 h.windows)
-      no_line = subst (Wrote was noted_now) (append-nil (windows_text 0 h.windows)) (wrote-then was noted noted_now (windows_text 0 h.windows) [] h.wrote.notes part.1)
-  breaks-now (inr part) = record {
-    front = given;
-    rest = [];
-    split = sym (append-nil given);
-    windows = h.windows ++ window_of r ∷ [];
-    read = read-now;
-    lines = subst (WroteFront was noted_now) (ap (λ l. windows_text 0 h.windows ++ l) line-same ∙ sym (line-more h.windows (window_of r)))
-        (wrote-then_front was noted noted_now (windows_text 0 h.windows) (window_text p.count (window_of r).steps (window_of r).kept (window_of r).metric) h.wrote.notes part.1);
-    turn = record {
-      front = h.windows ++ window_of r ∷ [];
-      rest = [];
-      split = sym (append-nil (h.windows ++ window_of r ∷ []));
-      kept = (
-        0,
-        subst (Wrote start taken_now)
-            (ap (λ l. all_kept rules.rate 0 h.windows ++ l) kept-same ∙ sym (kept-more rules.rate h.windows (window_of r)) ∙ sym (append-nil (all_kept rules.rate 0 (h.windows ++ window_of r ∷ []))))
-            (wrote-then start taken taken_now (all_kept rules.rate 0 h.windows) (kept_octets r.rules.rate r.before.t (window_of r)) h.wrote.out part.0),
-      );
-      lines = inr refl;
-    };
+    stops = elim part as (λ _. StopsAt (all_kept rules.rate 0 h.windows) (windows_text 0 h.windows) (kept_octets rules.rate (bits_kept h.windows) (window_of r))
+        (window_text (length h.windows) (window_of r).steps (window_of r).kept (window_of r).metric) start taken_now was noted_now) [
+          | inl q ↦ inl (
+            (
+              q.0.0,
+              subst (λ l. Wrote start taken_now (all_kept rules.rate 0 h.windows ++ take q.0.0 l)) kept-same
+                  (wrote-then start taken taken_now (all_kept rules.rate 0 h.windows) (take q.0.0 (kept_octets r.rules.rate r.before.t (window_of r))) h.wrote.out q.0.1),
+            ),
+            subst (Wrote was noted_now) (append-nil (windows_text 0 h.windows)) (wrote-then was noted noted_now (windows_text 0 h.windows) [] h.wrote.notes q.1),
+          )
+          | inr q ↦ inr (
+            subst (λ l. Wrote start taken_now (all_kept rules.rate 0 h.windows ++ l)) kept-same
+                (wrote-then start taken taken_now (all_kept rules.rate 0 h.windows) (kept_octets r.rules.rate r.before.t (window_of r)) h.wrote.out q.0),
+            (
+              q.1.0,
+              subst (λ l. Wrote was noted_now (windows_text 0 h.windows ++ take q.1.0 l)) line-same
+                  (wrote-then was noted noted_now (windows_text 0 h.windows) (take q.1.0 (window_text p.count (window_of r).steps (window_of r).kept (window_of r).metric)) h.wrote.notes q.1.1),
+            ),
+          )
+        ];
   }
 
 -- ---- octets behind
@@ -207,9 +190,9 @@ breaks-longer rules start taken was noted given more b = record {
   rest = b.rest ++ more;
   split = ap (λ l. l ++ more) b.split ∙ append_assoc b.front b.rest more;
   windows = b.windows;
+  last = b.last;
   read = b.read;
-  lines = b.lines;
-  turn = b.turn;
+  stops = b.stops;
 }
 
 -- what is read of octets so far

@@ -1,7 +1,8 @@
 -- Octets of a certificate, piece by piece, and how `check` ends.
-use Rattle.std.proofs.Common.{◌≡◌, ◌⊎◌, inl, inr, ℕ, ◌+◌, ◌^◌, ◌<◌, ◌≤◌, true, false, List, [], ◌++◌, length, take, drop, Option, Some, None, refl, sym, ap, ◌∙◌, subst, arith, append_assoc, length-append, take-append-drop}
+use Rattle.std.proofs.Common.{◌≡◌, ◌⊎◌, inl, inr, ℕ, ◌+◌, ◌^◌, ◌<◌, ◌≤◌, true, false, List, [], ◌∷◌, ◌++◌, length, take, drop, Option, Some, None, refl, sym, ap, ◌∙◌, subst, arith, append_assoc, length-append, take-append-drop}
 use Rattle.std.proofs.Math.Seq.{take-append-add}
 use Rattle.std.proofs.lemmas.List.{append-nil, take_all}
+use Rattle.std.specs.Io.KnownBytes.{append_known}
 use Rattle.tm_base.specs.Written.{Wrote, WroteFront}
 use Rattle.tm_config.specs.Accepted.{IsAccepted}
 use Rattle.tm_config.specs.Configuration.{Configuration}
@@ -13,23 +14,24 @@ use Rattle.tm_cert_file.specs.declared.seen.Seen.{Seen}
 use Rattle.tm_cert_file.specs.declared.seen.Seen.TheVariants.{More, Failed}
 use Rattle.tm_cert_file.specs.Window.{Window}
 use Rattle.tm_cert_file.specs.Before.{Rules}
-use Rattle.tm_cert_file.specs.File.{IsRead, IsCut, IsBroken, all_kept, is_cut}
+use Rattle.tm_cert_file.specs.File.{IsRead, IsCut, IsBroken, all_kept, is_cut, kept_octets}
 use Rattle.tm_cert_file.specs.Reading.{Reading, IsOpen, StandsFor}
 use Rattle.tm_cli.specs.Checked.{ReadAt, IsChecked, IsCheckedDue, AreInTurn, bits_kept, windows_text, end_text, rules_of}
 use Rattle.tm_cli.specs.Checking.{Passes, Breaks, Fails, StopsBy}
 use Rattle.tm_cli.specs.Command.Command.{Check}
 use Rattle.tm_cli.specs.Ending.{Ends, WroteEarly}
-use Rattle.tm_cli.specs.Lines.{bad_text, cut_text, trace_end_text}
+use Rattle.tm_cli.specs.Lines.{bad_text, cut_text, trace_end_text, window_text}
 use Rattle.tm_cli.specs.Output.{Output, IsOutput, IsInOrder, WroteFronts}
 use Rattle.tm_cli.specs.Reading.{FedUpTo, but_last_turn}
+use Rattle.tm_cli.specs.Stopping.{StopsAt}
 use Rattle.tm_cli.specs.declared.check.Progress.{Progress}
 use Rattle.tm_cli.specs.declared.ending.Ending.TheVariants.{Done, BadWindow, LeftOver, SinkFault}
 use Rattle.tm_cli.specs.declared.turns.Pumped.{Pumped}
 use Rattle.tm_cli.specs.declared.turns.Pumped.TheVariants.{Ended, SourceFault as InSource, FeedFault, PastLimit as Past}
 use Rattle.tm_cli.proofs.CheckedWindows.{ReadOne, windows_text-append, all_kept-append, from-none, read-so_far}
 use Rattle.tm_cli.proofs.Endings.{wrote-front, wrote-nothing}
-use Rattle.tm_cli.proofs.Erasing.{wrote-then, wrote-then_front}
-use Rattle.tm_cli.proofs.Reporting.{part-of}
+use Rattle.tm_cli.proofs.Erasing.{wrote-then}
+use Rattle.tm_cli.proofs.Reporting.{part-front}
 use Rattle.tm_cli.proofs.Tracing.{front-of}
 
 -- ---- pieces
@@ -76,6 +78,18 @@ from-rate P rate c k is p = subst (λ (r : Option Rate). ReadAt P r c) is p
 
 -- ---- how it ends
 
+-- where two sinks stop, each has taken a front
+stops-front : (before noted_before next behind more rest : List ℕ) (taken taken_now noted noted_now : Option (List ℕ)) → StopsAt before noted_before next behind taken taken_now noted noted_now
+    → WroteFront taken taken_now (before ++ (next ++ more)) × WroteFront noted noted_now (noted_before ++ (behind ++ rest))
+stops-front before noted_before next behind more rest taken taken_now noted noted_now (inl p) = (
+  part-front taken taken_now before next more p.0,
+  front-of noted noted_now noted_before (behind ++ rest) (wrote-front noted noted_now noted_before p.1),
+)
+stops-front before noted_before next behind more rest taken taken_now noted noted_now (inr p) = (
+  subst (WroteFront taken taken_now) (append_assoc before next more) (front-of taken taken_now (before ++ next) more (wrote-front taken taken_now (before ++ next) p.0)),
+  part-front noted noted_now noted_before behind rest p.1,
+)
+
 -- what is written of octets that are read so
 abbrev output-of : (rules : Rules) (octets : List ℕ) (windows : List Window) (seen : Seen) → IsRead rules octets windows seen → Output
 output-of rules octets windows seen read =
@@ -87,75 +101,90 @@ module _ (c : Configuration) (k : Rate) (is : rate_of c.inner ≡ Some k) where
       at-rate (λ r. IsChecked r octets (output-of (rules_of c k) octets windows seen read).out (output-of (rules_of c k) octets windows seen read).notes) (rate_of c.inner) c k is
       (record { windows = windows; seen = seen; read = read; is_out = refl; are_notes = refl })
 
-  -- all windows were written, and of the end a front
+  -- all windows were written, and of the end a part
   all-but_end : (octets : List ℕ) (windows : List Window) (seen : Seen) (read : IsRead (rules_of c k) octets windows seen) (taken taken_now noted noted_now : Option (List ℕ))
-      → Wrote taken taken_now (all_kept (rules_of c k).rate 0 windows) → WroteFront noted noted_now (windows_text 0 windows ++ end_text seen (is_cut read.before.next read.rest) windows)
+      → Wrote taken taken_now (all_kept (rules_of c k).rate 0 windows)
+      → (count : ℕ) × Wrote noted noted_now (windows_text 0 windows ++ take count (end_text seen (is_cut read.before.next read.rest) windows))
       → (output : Output) × IsOutput Check c octets output × WroteFronts output taken taken_now noted noted_now × IsInOrder Check c octets output taken taken_now noted noted_now
-  all-but_end octets windows seen read taken taken_now noted noted_now out notes = (
-    output-of (rules_of c k) octets windows seen read,
-    output-is octets windows seen read,
-    record { out = wrote-front taken taken_now (all_kept (rules_of c k).rate 0 windows) out; notes = notes },
-    at-rate (λ r. (others : List Window) × (other : Seen) × IsRead r octets others other × AreInTurn r others taken taken_now noted noted_now) (rate_of c.inner) c k is (
-      windows,
-      seen,
-      read,
-      record {
-        front = windows;
-        rest = [];
-        split = sym (append-nil windows);
-        kept = (0, subst (Wrote taken taken_now) (sym (append-nil (all_kept (rules_of c k).rate 0 windows))) out);
-        lines = inr refl;
-      },
-    ),
-  )
+  all-but_end octets windows seen read taken taken_now noted noted_now out notes =
+      let lines = windows_text 0 windows in
+      let end = end_text seen (is_cut read.before.next read.rest) windows in (
+        output-of (rules_of c k) octets windows seen read,
+        output-is octets windows seen read,
+        record {
+          out = wrote-front taken taken_now (all_kept (rules_of c k).rate 0 windows) out;
+          notes = (length lines + notes.0, notes.1 ∙ ap (append_known noted) (sym (take-append-add lines end notes.0)));
+        },
+        at-rate (λ r. (others : List Window) × (other : Seen) × (again : IsRead r octets others other)
+            × AreInTurn r others (end_text other (is_cut again.before.next again.rest) others) taken taken_now noted noted_now) (rate_of c.inner) c k is (
+              windows,
+              seen,
+              read,
+              record {
+                front = windows;
+                rest = [];
+                split = sym (append-nil windows);
+                stops = inr (subst (Wrote taken taken_now) (sym (append-nil (all_kept (rules_of c k).rate 0 windows))) out, notes);
+              },
+            ),
+      )
 
-  -- of first windows a part was written
+  -- of the last of first windows a part was written
   broke-off : ReadOnce → (octets : List ℕ) (taken taken_now noted noted_now : Option (List ℕ)) → Breaks (rules_of c k) taken taken_now noted noted_now octets
       → (output : Output) × IsOutput Check c octets output × WroteFronts output taken taken_now noted noted_now × IsInOrder Check c octets output taken taken_now noted noted_now
   broke-off once octets taken taken_now noted noted_now b =
+      let rate = (rules_of c k).rate in
       let found = once.exists (rules_of c k) octets in
       let windows = found.0 in
       let seen = found.1 in
       let read = found.2 in
-      let more = once.longer (rules_of c k) b.front b.rest b.windows windows More seen b.read (subst (λ o. IsRead (rules_of c k) o windows seen) b.split read) in
-      let t = b.turn in
-      let split : windows ≡ t.front ++ (t.rest ++ more.0) = more.1 ∙ ap (λ l. l ++ more.0) t.split ∙ append_assoc t.front t.rest more.0 in
-      let at = bits_kept t.front in
-      let first = all_kept (rules_of c k).rate 0 t.front in
-      let behind = all_kept (rules_of c k).rate at t.rest in
-      let part = part-of t.kept.0 behind (all_kept (rules_of c k).rate (at + bits_kept t.rest) more.0) in
-      let kept : all_kept (rules_of c k).rate at (t.rest ++ more.0) ≡ behind ++ all_kept (rules_of c k).rate (at + bits_kept t.rest) more.0 = all_kept-append (rules_of c k).rate at t.rest more.0 in
-      let out : Wrote taken taken_now (first ++ take part.0 (all_kept (rules_of c k).rate at (t.rest ++ more.0))) =
-      subst (λ l. Wrote taken taken_now (first ++ l)) (part.1 ∙ ap (take part.0) (sym kept)) t.kept.1 in
-      let all : all_kept (rules_of c k).rate 0 windows ≡ first ++ all_kept (rules_of c k).rate at (t.rest ++ more.0) = ap (all_kept (rules_of c k).rate 0) split ∙ all_kept-append (rules_of c k).rate 0 t.front (t.rest ++ more.0)
-      ∙ ap (λ n. first ++ all_kept (rules_of c k).rate n (t.rest ++ more.0)) (from-none at) in
-      let text : windows_text 0 windows ≡ windows_text 0 b.windows ++ windows_text (length b.windows) more.0 = ap (windows_text 0) more.1 ∙ windows_text-append 0 b.windows more.0
-      ∙ ap (λ n. windows_text 0 b.windows ++ windows_text n more.0) (from-none (length b.windows)) in (
+      let w = b.last in
+      let more = once.longer (rules_of c k) b.front b.rest (b.windows ++ w ∷ []) windows More seen b.read (subst (λ o. IsRead (rules_of c k) o windows seen) b.split read) in
+      let split : windows ≡ b.windows ++ w ∷ more.0 = more.1 ∙ append_assoc b.windows (w ∷ []) more.0 in
+      let at = bits_kept b.windows in
+      let number = length b.windows in
+      let first = all_kept rate 0 b.windows in
+      let lines = windows_text 0 b.windows in
+      let line = window_text number w.steps w.kept w.metric in
+      let later = windows_text (number + 1) more.0 in
+      let end = end_text seen (is_cut read.before.next read.rest) windows in
+      let all : all_kept rate 0 windows ≡ first ++ (kept_octets rate at w ++ all_kept rate (at + w.kept) more.0) = ap (all_kept rate 0) split ∙ all_kept-append rate 0 b.windows (w ∷ more.0)
+      ∙ ap (λ n. first ++ all_kept rate n (w ∷ more.0)) (from-none at) in
+      let text : windows_text 0 windows ≡ lines ++ (line ++ later) = ap (windows_text 0) split ∙ windows_text-append 0 b.windows (w ∷ more.0)
+      ∙ ap (λ n. lines ++ windows_text n (w ∷ more.0)) (from-none number) in
+      let fronts = stops-front first lines (kept_octets rate at w) line (all_kept rate (at + w.kept) more.0) later taken taken_now noted noted_now b.stops in (
         output-of (rules_of c k) octets windows seen read,
         output-is octets windows seen read,
         record {
-          out = (
-            length first + part.0,
-            subst (Wrote taken taken_now) (sym (take-append-add first (all_kept (rules_of c k).rate at (t.rest ++ more.0)) part.0) ∙ ap (take (length first + part.0)) (sym all)) out,
-          );
-          notes = front-of noted noted_now (windows_text 0 windows) (end_text seen (is_cut read.before.next read.rest) windows)
-              (subst (WroteFront noted noted_now) (sym text) (front-of noted noted_now (windows_text 0 b.windows) (windows_text (length b.windows) more.0) b.lines));
+          out = subst (WroteFront taken taken_now) (sym all) fronts.0;
+          notes = front-of noted noted_now (windows_text 0 windows) end (subst (WroteFront noted noted_now) (sym text) fronts.1);
         },
-        at-rate (λ r. (others : List Window) × (other : Seen) × IsRead r octets others other × AreInTurn r others taken taken_now noted noted_now) (rate_of c.inner) c k is (
-          windows,
-          seen,
-          read,
-          record {
-            front = t.front;
-            rest = t.rest ++ more.0;
-            split = split;
-            kept = (part.0, out);
-            lines = elim t.lines [
-              | inl lines ↦ inl lines
-              | inr none ↦ inl (subst (λ l. WroteFront noted noted_now (windows_text 0 l)) (t.split ∙ ap (λ l. t.front ++ l) none ∙ append-nil t.front) b.lines)
-            ];
-          },
-        ),
+        at-rate (λ r. (others : List Window) × (other : Seen) × (again : IsRead r octets others other)
+            × AreInTurn r others (end_text other (is_cut again.before.next again.rest) others) taken taken_now noted noted_now) (rate_of c.inner) c k is
+            (windows, seen, read, record { front = b.windows; rest = w ∷ more.0; split = split; stops = b.stops }),
+      )
+
+  -- what is written of windows is a front of what is written of more octets
+  written-first : ReadOnce → (octets more : List ℕ) (windows : List Window) (taken taken_now noted noted_now : Option (List ℕ)) → IsRead (rules_of c k) octets windows More
+      → Wrote taken taken_now (all_kept (rules_of c k).rate 0 windows) → Wrote noted noted_now (windows_text 0 windows)
+      → (output : Output) × IsOutput Check c (octets ++ more) output × WroteFronts output taken taken_now noted noted_now
+  written-first once octets more windows taken taken_now noted noted_now read out notes =
+      let rate = (rules_of c k).rate in
+      let found = once.exists (rules_of c k) (octets ++ more) in
+      let all = found.0 in
+      let seen = found.1 in
+      let behind = once.longer (rules_of c k) octets more windows all More seen read found.2 in
+      let kept : all_kept rate 0 all ≡ all_kept rate 0 windows ++ all_kept rate (0 + bits_kept windows) behind.0 = ap (all_kept rate 0) behind.1 ∙ all_kept-append rate 0 windows behind.0 in
+      let text : windows_text 0 all ≡ windows_text 0 windows ++ windows_text (0 + length windows) behind.0 = ap (windows_text 0) behind.1 ∙ windows_text-append 0 windows behind.0 in (
+        output-of (rules_of c k) (octets ++ more) all seen found.2,
+        output-is (octets ++ more) all seen found.2,
+        record {
+          out = subst (WroteFront taken taken_now) (sym kept)
+              (front-of taken taken_now (all_kept rate 0 windows) (all_kept rate (0 + bits_kept windows) behind.0) (wrote-front taken taken_now (all_kept rate 0 windows) out));
+          notes = front-of noted noted_now (windows_text 0 all) (end_text seen (is_cut found.2.before.next found.2.rest) all)
+              (subst (WroteFront noted noted_now) (sym text)
+              (front-of noted noted_now (windows_text 0 windows) (windows_text (0 + length windows) behind.0) (wrote-front noted noted_now (windows_text 0 windows) notes)));
+        },
       )
 
   -- no window has failed
@@ -170,21 +199,7 @@ module _ (c : Configuration) (k : Rate) (is : rate_of c.inner ≡ Some k) where
           at-rate (λ k'. IsCheckedDue k' octets out notes) (rate_of c.inner) c k is (record { windows = h.windows; read = read; is_out = refl; are_notes = refl }),
           record { out = h.wrote.out; notes = h.wrote.notes },
         ),
-        λ more. let all = broke-off once (octets ++ more) taken taken_now noted noted_now (record {
-          front = octets;
-          rest = more;
-          split = refl;
-          windows = h.windows;
-          read = read;
-          lines = wrote-front noted noted_now notes h.wrote.notes;
-          turn = record {
-            front = h.windows;
-            rest = [];
-            split = sym (append-nil h.windows);
-            kept = (0, subst (Wrote taken taken_now) (sym (append-nil out)) h.wrote.out);
-            lines = inr refl;
-          };
-        }) in (all.0, all.1, all.2),
+        λ more. written-first once octets more h.windows taken taken_now noted noted_now read h.wrote.out h.wrote.notes,
       )
 
   -- all of a certificate that is whole was written
@@ -241,7 +256,7 @@ module _ (c : Configuration) (k : Rate) (is : rate_of c.inner ≡ Some k) where
       subst (λ o. (output : Output) × IsOutput Check c o output × WroteFronts output taken taken_now noted noted_now × IsInOrder Check c o output taken taken_now noted noted_now)
       (sym (take_all c.limit octets within))
       (all-but_end octets h.windows More read taken taken_now noted noted_now h.wrote.out
-      (wrote-then_front noted noted_then noted_now (windows_text 0 h.windows) (end_text More (is_cut r.before.next r.octets) h.windows) h.wrote.notes wrote))
+      (wrote.0, wrote-then noted noted_then noted_now (windows_text 0 h.windows) (take wrote.0 (end_text More (is_cut r.before.next r.octets) h.windows)) h.wrote.notes wrote.1))
 
   -- a window fails, and that was told
   told-bad : (reason : Reason) (count : ℕ) (octets : List ℕ) (taken taken_now noted noted_then noted_now : Option (List ℕ))
@@ -269,9 +284,11 @@ module _ (c : Configuration) (k : Rate) (is : rate_of c.inner ≡ Some k) where
       → Fails (rules_of c k) reason count taken taken_now noted noted_then (take c.limit octets) → WroteFront noted_then noted_now (bad_text count reason)
       → Ends SinkFault Check c octets taken taken_now noted noted_now
   told-bad_part reason count octets taken taken_now noted noted_then noted_now f wrote =
-      all-but_end (take c.limit octets) f.windows (Failed reason) f.broken taken taken_now noted noted_now f.wrote.out
-      (wrote-then_front noted noted_then noted_now (windows_text 0 f.windows) (bad_text (length f.windows) reason) f.wrote.notes
-      (subst (λ n. WroteFront noted_then noted_now (bad_text n reason)) f.counted wrote))
+      all-but_end (take c.limit octets) f.windows (Failed reason) f.broken taken taken_now noted noted_now f.wrote.out (
+        wrote.0,
+        wrote-then noted noted_then noted_now (windows_text 0 f.windows) (take wrote.0 (bad_text (length f.windows) reason)) f.wrote.notes
+            (subst (λ n. Wrote noted_then noted_now (take wrote.0 (bad_text n reason))) f.counted wrote.1),
+      )
 
 -- ---- the same by the inner code of a configuration
 

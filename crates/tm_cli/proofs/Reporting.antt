@@ -1,10 +1,10 @@
 -- What sinks took of the phase and of items that were handed over one after another.
-use Rattle.std.proofs.Common.{◌≡◌, ◌⊎◌, inl, inr, ℕ, zero, suc, ◌+◌, ◌*◌, ◌<◌, ◌≤◌, ◌^◌, Bool, true, false, cond, List, [], ◌∷◌, ◌++◌, length, take, refl, sym, ◌∙◌, ap, subst, arith, append_assoc, length-append}
+use Rattle.std.proofs.Common.{◌≡◌, ◌⊎◌, inl, inr, ℕ, zero, suc, ◌+◌, ◌*◌, ◌<◌, ◌≤◌, ◌^◌, Bool, true, false, cond, List, [], ◌∷◌, ◌++◌, length, take, refl, sym, ◌∙◌, ap, subst, arith, append_assoc, length-append, Option}
 use Rattle.std.proofs.Math.Seq.{take-append-add, take-length}
 use Rattle.std.proofs.lemmas.List.{append-nil}
 use Rattle.std.specs.Io.KnownBytes.{append_known}
 use Rattle.tm_base.specs.Outside.{Rose}
-use Rattle.tm_base.specs.Written.{WroteFront}
+use Rattle.tm_base.specs.Written.{Wrote, WroteFront}
 use Rattle.tm_base.specs.Count.{raised_by}
 use Rattle.tm_base.specs.Takers.{HandedOver, HandedPart}
 use Rattle.tm_base.specs.Handed.{Handed, Phase, Item, items_of}
@@ -50,14 +50,17 @@ part-of zero text more = (0, refl)
 part-of (suc n) [] more = (0, refl)
 part-of (suc n) (t ∷ ts) more = let r = part-of n ts more in (suc r.0, ap (λ l. t ∷ l) r.1)
 
--- where a sink failed, it has taken a front
-pub broke-front : (a c : Standing) (last : Type 0) (first text more : List ℕ) → BrokeText a c last first text → WroteFront a.taken c.taken (first ++ (text ++ more))
-broke-front a c last first text more p =
-    let w = p.written in
+-- a text and a part of the next are a front of both and more
+pub part-front : (before now : Option (List ℕ)) (first text more : List ℕ) → (count : ℕ) × Wrote before now (first ++ take count text) → WroteFront before now (first ++ (text ++ more))
+part-front before now first text more w =
     let r = part-of w.0 text more in (
       length first + r.0,
-      w.1 ∙ ap (append_known a.taken) (ap (λ l. first ++ l) r.1 ∙ sym (take-append-add first (text ++ more) r.0)),
+      w.1 ∙ ap (append_known before) (ap (λ l. first ++ l) r.1 ∙ sym (take-append-add first (text ++ more) r.0)),
     )
+
+-- where a sink failed, it has taken a front
+pub broke-front : (a c : Standing) (last : Type 0) (first text more : List ℕ) → BrokeText a c last first text → WroteFront a.taken c.taken (first ++ (text ++ more))
+broke-front a c last first text more p = part-front a.taken c.taken first text more p.written
 
 -- where a sink took a text, it has taken a front of the text and more
 pub took-front : (a c : Standing) (text more : List ℕ) → TookText a c text → WroteFront a.taken c.taken (text ++ more)

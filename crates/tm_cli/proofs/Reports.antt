@@ -15,6 +15,7 @@ use Rattle.tm_cli.specs.Report.{bad, handed_item_text, items_text, items_end_tex
 use Rattle.tm_cli.specs.Output.{Output, IsOutput, IsDecoded, IsDecodedDue, HasBad, AreInOrder, WroteFronts}
 use Rattle.tm_cli.specs.Ending.{Ends, WroteEarly}
 use Rattle.tm_cli.specs.Receiving.{ReceivedUpTo, DecodedAll, DecodingFaults, ToldEnd}
+use Rattle.tm_cli.specs.Stopping.{StopsAt}
 use Rattle.tm_cli.specs.Taken.{Standing, TookText, BrokeText, no_counts, number_of, Reported, ReportedHanded, ReportedAll, ReportBroke, handed_frames, DecodingBroke}
 use Rattle.tm_cli.specs.declared.counts.Counts.{Counts}
 use Rattle.tm_cli.specs.declared.ending.Ending.{Ending}
@@ -23,7 +24,7 @@ use Rattle.tm_cli.specs.declared.receiving.Received.{Received}
 use Rattle.tm_cli.specs.declared.receiving.Received.TheVariants.{Ended, SourceFault as InSource, TakerFault, PastLimit as Past}
 use Rattle.tm_cli.proofs.Endings.{wrote-nothing, wrote-front, wrote-no_front}
 use Rattle.tm_cli.proofs.Received.{received-each, received-so}
-use Rattle.tm_cli.proofs.Reporting.{part-of, took-none, broke-front, handed-along, part-along, handed-keeps, part-keeps, handed_frames-append, items_text-split, report-wrote, report-broke, report-front, decoding-wrote, decoding-broke, decoding-fronts, lines-front}
+use Rattle.tm_cli.proofs.Reporting.{took-none, broke-front, handed-along, part-along, handed-keeps, part-keeps, handed_frames-append, items_text-split, report-wrote, report-broke, report-front, decoding-wrote, decoding-broke, decoding-fronts}
 use Rattle.tm_cli.proofs.Tracing.{front-of}
 
 -- ---- what takers wrote of what was received
@@ -369,38 +370,22 @@ decode-early exists stand c octets handed out out_now notes notes_now counts acc
       ),
     )
 
--- where a sink failed at one of the first, the line of each item came behind its frame
-in-order : (handed first behind : List (Handed ItemValue)) (out out_now : Standing) (out_last : Type 0) (notes notes_now : Standing) (notes_last : Type 0) → handed ≡ first ++ behind
-    → DecodingBroke out out_now out_last notes notes_now notes_last first → AreInOrder handed out.taken out_now.taken notes.taken notes_now.taken
-in-order handed first behind out out_now out_last notes notes_now notes_last split broke =
+-- where a sink failed at one of the first, both took what stands before it
+in-order : (handed first behind : List (Handed ItemValue)) (bits : ℕ) (out out_now : Standing) (out_last : Type 0) (notes notes_now : Standing) (notes_last : Type 0) → handed ≡ first ++ behind
+    → DecodingBroke out out_now out_last notes notes_now notes_last first → AreInOrder handed bits out.taken out_now.taken notes.taken notes_now.taken
+in-order handed first behind bits out out_now out_last notes notes_now notes_last split broke =
     let front = broke.front in
     let next = broke.next in
-    let more = broke.rest ++ behind in
-    let whole : handed ≡ front ++ next ∷ more = split ∙ ap (λ l. l ++ behind) broke.split ∙ append_assoc front (next ∷ broke.rest) behind in
-    elim broke.broke as (λ _. AreInOrder handed out.taken out_now.taken notes.taken notes_now.taken) [
-      | inl p ↦ (
-          let w = p.0.written in
-          let part = part-of w.0 (handed_frames (next ∷ [])) (handed_frames more) in
-          let frames : take part.0 (handed_frames (next ∷ []) ++ handed_frames more) ≡ take part.0 (handed_frames (next ∷ more)) = ap (take part.0) (sym (handed_frames-append (next ∷ []) more)) in
-          record {
-            front = front;
-            rest = next ∷ more;
-            split = whole;
-            frames = (part.0, w.1 ∙ ap (λ l. append_known out.taken (handed_frames front ++ l)) (part.1 ∙ frames));
-            lines = inl (wrote-front notes.taken notes_now.taken (items_text 0 front) p.1.written);
-          }
-          )
-      | inr p ↦ (
-          let both = front ++ next ∷ [] in
-          record {
-            front = both;
-            rest = more;
-            split = whole ∙ sym (append_assoc front (next ∷ []) more);
-            frames = (0, p.0.written ∙ ap (append_known out.taken) (sym (append-nil (handed_frames both))));
-            lines = inl (lines-front notes notes_now notes_last front [] next p.1);
-          }
-          )
-    ]
+    record {
+      front = front;
+      rest = next ∷ (broke.rest ++ behind);
+      split = split ∙ ap (λ l. l ++ behind) broke.split ∙ append_assoc front (next ∷ broke.rest) behind;
+      stops = elim broke.broke as (λ _. StopsAt (handed_frames front) (items_text 0 front) (handed_frames (next ∷ [])) (handed_item_text (length (items_of front)) next)
+          out.taken out_now.taken notes.taken notes_now.taken) [
+            | inl p ↦ inl (p.0.written, p.1.written)
+            | inr p ↦ inr (p.0.written ∙ ap (append_known out.taken) (handed_frames-append front (next ∷ [])), p.1.written)
+          ];
+    }
 
 pub decode-failed : HasList → FirstGo → FirstEnd → (c : Configuration) (octets : List ℕ) (handed : List (Handed ItemValue)) (out out_now : Standing) (out_last : Type 0) (notes notes_now : Standing) (notes_last : Type 0) → IsAccepted c
     → AreReceivedFirst c (take c.limit octets) handed ⊎ AreReceivedFront c (take c.limit octets) handed → DecodingBroke out out_now out_last notes notes_now notes_last handed
@@ -416,7 +401,7 @@ decode-failed exists go end c octets handed out out_now out_last notes notes_now
       whole.0,
       whole.1,
       decode-fronts c front handed out.taken out_now.taken notes.taken notes_now.taken whole.0 first fronts.0 fronts.1 whole.1,
-      (all, (bits, whole.1.are_received), in-order all handed split.0 out out_now out_last notes notes_now notes_last split.1 broke),
+      (all, bits, whole.1.are_received, in-order all handed split.0 bits out out_now out_last notes notes_now notes_last split.1 broke),
     )
 
 pub decode-told : OneList → (e : Ending) (c : Configuration) (count : ℕ) (octets : List ℕ) (handed : List (Handed ItemValue)) (out out_now notes notes_now : Standing) (last : Type 0) → IsAccepted c
@@ -444,13 +429,13 @@ decode-told one SinkFault c count octets handed out out_now notes notes_now last
       record { out = wrote-front out.taken out_now.taken (handed_frames handed) frames.written; notes = told-front notes notes_now last handed count told },
       (
         handed,
-        (count, subst (λ (l : List ℕ). AreReceived c l handed count) up_to all),
+        count,
+        subst (λ (l : List ℕ). AreReceived c l handed count) up_to all,
         record {
           front = handed;
           rest = [];
           split = sym (append-nil handed);
-          frames = (0, frames.written ∙ ap (append_known out.taken) (sym (append-nil (handed_frames handed))));
-          lines = inr refl;
+          stops = inr (frames.written ∙ ap (append_known out.taken) (sym (append-nil (handed_frames handed))), told.written);
         },
       ),
     )

@@ -1,6 +1,5 @@
 -- The command `check`: a certificate that is read, and what its windows show.
-use Rattle.std.specs.Prelude.{◌≡◌, ◌⊎◌, ℕ, ◌+◌, ◌==◌, Bool, true, false, if◌then◌else◌, List, [], ◌∷◌, ◌++◌, length, take, Option, Some, None}
-use Rattle.tm_base.specs.Written.{Wrote, WroteFront}
+use Rattle.std.specs.Prelude.{◌≡◌, ℕ, ◌+◌, ◌==◌, Bool, true, false, if◌then◌else◌, List, [], ◌∷◌, ◌++◌, length, Option, Some, None}
 use Rattle.tm_config.specs.Configuration.{Configuration}
 use Rattle.tm_conv.specs.declared.rates.Rate.{Rate}
 use Rattle.tm_path_cert.specs.declared.verdicts.Starts.TheVariants.{Any, One}
@@ -9,8 +8,9 @@ use Rattle.tm_cert_file.specs.declared.seen.Seen.{Seen}
 use Rattle.tm_cert_file.specs.declared.seen.Seen.TheVariants.{More, Failed}
 use Rattle.tm_cert_file.specs.Window.{Window}
 use Rattle.tm_cert_file.specs.Before.{Rules}
-use Rattle.tm_cert_file.specs.File.{IsRead, all_kept, is_cut}
+use Rattle.tm_cert_file.specs.File.{IsRead, all_kept, is_cut, kept_octets}
 use Rattle.tm_cli.specs.Lines.{window_text, trace_end_text, bad_text, cut_text}
+use Rattle.tm_cli.specs.Stopping.{StopsAt}
 
 -- what a certificate is read by
 abbrev pub rules_of : Configuration → Rate → Rules
@@ -52,11 +52,20 @@ pub record IsCheckedDue (rules : Rules) (octets out notes : List ℕ) : Type 0 w
   pub is_out : out ≡ all_kept rules.rate 0 windows
   pub are_notes : notes ≡ windows_text 0 windows
 
--- The output took the soft octets of the first windows, and maybe a part of those behind them. The notes hold no more than the lines of
--- these first windows, or these are all.
-pub record AreInTurn (rules : Rules) (windows : List Window) (taken taken_now noted noted_now : Option (List ℕ)) : Type 0 where
+-- the octets of the next window, and its line; behind the last there are none, and the end is told
+abbrev pub next_kept : Rate → ℕ → List Window → List ℕ
+next_kept rate t [] = []
+next_kept rate t (w ∷ rest) = kept_octets rate t w
+
+abbrev pub next_line : ℕ → (end : List ℕ) → List Window → List ℕ
+next_line number end [] = end
+next_line number end (w ∷ rest) = window_text number w.steps w.kept w.metric
+
+-- The output took the soft octets of the first windows, and the notes their lines, and no more but a part of what comes next: of the octets of
+-- the next window or, once the output has taken those, of its line. Behind the last this is what is told at the end.
+pub record AreInTurn (rules : Rules) (windows : List Window) (end : List ℕ) (taken taken_now noted noted_now : Option (List ℕ)) : Type 0 where
   pub front : List Window
   pub rest : List Window
   pub split : windows ≡ front ++ rest
-  pub kept : (count : ℕ) × Wrote taken taken_now (all_kept rules.rate 0 front ++ take count (all_kept rules.rate (bits_kept front) rest))
-  pub lines : WroteFront noted noted_now (windows_text 0 front) ⊎ (rest ≡ [])
+  pub stops : StopsAt (all_kept rules.rate 0 front) (windows_text 0 front) (next_kept rules.rate (bits_kept front) rest) (next_line (length front) end rest)
+      taken taken_now noted noted_now

@@ -1,5 +1,5 @@
 -- How far a certificate is checked.
-use Rattle.std.specs.Prelude.{◌≡◌, ◌⊎◌, ℕ, List, [], ◌++◌, length, Option, Some, None}
+use Rattle.std.specs.Prelude.{◌≡◌, ◌⊎◌, ℕ, List, [], ◌∷◌, ◌++◌, length, Option, Some, None}
 use Rattle.tm_base.specs.Written.{Wrote, WroteFront}
 use Rattle.tm_cert_file.specs.declared.seen.Reason.{Reason}
 use Rattle.tm_cert_file.specs.declared.seen.Seen.TheVariants.{More}
@@ -7,9 +7,10 @@ use Rattle.tm_cert_file.specs.Window.{Window, window_in}
 use Rattle.tm_cert_file.specs.Before.{Rules}
 use Rattle.tm_cert_file.specs.File.{IsRead, IsBroken, all_kept, kept_octets}
 use Rattle.tm_cert_file.specs.Reading.{Reading, StandsFor}
-use Rattle.tm_cli.specs.Checked.{AreInTurn, bits_kept, windows_text}
+use Rattle.tm_cli.specs.Checked.{bits_kept, windows_text}
 use Rattle.tm_cli.specs.Lines.{window_text}
 use Rattle.tm_cli.specs.Reading.{but_last_turn}
+use Rattle.tm_cli.specs.Stopping.{StopsAt}
 use Rattle.tm_cli.specs.declared.check.Progress.{Progress}
 
 -- the window that is read
@@ -43,15 +44,16 @@ pub record Passes (rules : Rules) (reading : Reading) (progress : Progress) (tak
   pub count : progress.count ≡ length windows
   pub bits : progress.bits ≡ bits_kept windows
 
--- a sink failed in what is written for one of the windows that pass
+-- a sink failed in what is written for the last of the windows that pass
 pub record Breaks (rules : Rules) (taken taken_now noted noted_now : Option (List ℕ)) (octets : List ℕ) : Type 0 where
   pub front : List ℕ
   pub rest : List ℕ
   pub split : octets ≡ front ++ rest
   pub windows : List Window
-  pub read : IsRead rules front windows More
-  pub lines : WroteFront noted noted_now (windows_text 0 windows)
-  pub turn : AreInTurn rules windows taken taken_now noted noted_now
+  pub last : Window
+  pub read : IsRead rules front (windows ++ last ∷ []) More
+  pub stops : StopsAt (all_kept rules.rate 0 windows) (windows_text 0 windows) (kept_octets rules.rate (bits_kept windows) last)
+      (window_text (length windows) last.steps last.kept last.metric) taken taken_now noted noted_now
 
 -- no window of these octets fails
 abbrev pub NoneFails : Rules → List ℕ → Type 0

@@ -4,6 +4,7 @@ pub mod Faults
 pub mod Lines
 pub mod Report
 pub mod Taken
+pub mod Stopping
 pub mod Refusal
 pub mod Word
 pub mod Receiving

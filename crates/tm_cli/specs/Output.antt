@@ -1,5 +1,5 @@
 -- What a command writes.
-use Rattle.std.specs.Prelude.{◌≡◌, ◌⊎◌, ℕ, ◌%◌, List, [], ◌++◌, length, take, Option}
+use Rattle.std.specs.Prelude.{◌≡◌, ◌⊎◌, ℕ, ◌%◌, List, [], ◌∷◌, ◌++◌, length, Option}
 use Rattle.tm_base.specs.Written.{Wrote, WroteFront}
 use Rattle.tm_config.specs.Configuration.{Configuration}
 use Rattle.tm_base.specs.Handed.{Handed, items_of}
@@ -10,19 +10,20 @@ use Rattle.tm_inner.specs.Symbols.{rate_of}
 use Rattle.tm_cert_file.specs.declared.seen.Reason.{Reason}
 use Rattle.tm_cert_file.specs.declared.seen.Seen.{Seen}
 use Rattle.tm_cert_file.specs.Window.{Window}
-use Rattle.tm_cert_file.specs.File.{IsRead, IsBroken, IsCut}
+use Rattle.tm_cert_file.specs.File.{IsRead, IsBroken, IsCut, is_cut}
 use Rattle.tm_channel.specs.Sent.{sent}
 use Rattle.tm_channel.specs.Items.{ItemValue}
 use Rattle.tm_channel.specs.Handing.{AreReceived, AreReceivedDue}
 use Rattle.tm_cli.specs.Command.{Command}
 use Rattle.tm_cli.specs.Command.Command.{Encode, Decode, Report, Trace, Word, Soak, Erased, Certify, Check}
 use Rattle.tm_cli.specs.Certified.{IsCertifiedAll, IsCertifiedDue}
-use Rattle.tm_cli.specs.Checked.{ReadAt, IsChecked, IsCheckedDue, AreInTurn}
+use Rattle.tm_cli.specs.Checked.{ReadAt, IsChecked, IsCheckedDue, AreInTurn, end_text}
 use Rattle.tm_cli.specs.Erased.{AreLines, AreLinesDue, HasBeyond, record_rest}
 use Rattle.tm_cli.specs.Generated.{generated}
 use Rattle.tm_cli.specs.Lines.{left_over_text}
-use Rattle.tm_cli.specs.Report.{bad, items_text, report_text, blocks_text, trace_text}
+use Rattle.tm_cli.specs.Report.{bad, handed_item_text, items_text, items_end_text, report_text, blocks_text, trace_text}
 use Rattle.tm_cli.specs.Soak.{IsSoakLine}
+use Rattle.tm_cli.specs.Stopping.{StopsAt}
 use Rattle.tm_cli.specs.Taken.{handed_frames}
 use Rattle.tm_cli.specs.Word.{IsWordLine, IsBeyond}
 
@@ -137,26 +138,34 @@ WroteOutput command c octets taken taken_now noted noted_now = (output : Output)
 abbrev pub WroteDue : Command → Configuration → List ℕ → (taken taken_now noted noted_now : Option (List ℕ)) → Type 0
 WroteDue command c octets taken taken_now noted noted_now = (output : Output) × IsDue command c octets output × WroteBoth output taken taken_now noted noted_now
 
--- The output took the frames of the first of what was handed over, and maybe a part of what stands behind them. The notes hold no more
--- than the lines of this first part, or it is all.
-pub record AreInOrder (handed : List (Handed ItemValue)) (taken taken_now noted noted_now : Option (List ℕ)) : Type 0 where
+-- the frame of what is handed over next, and its line; behind the last there is no frame, and the report ends
+abbrev pub next_frame : List (Handed ItemValue) → List ℕ
+next_frame [] = []
+next_frame (next ∷ rest) = handed_frames (next ∷ [])
+
+abbrev pub next_line : (front rest : List (Handed ItemValue)) → (bits : ℕ) → List ℕ
+next_line front [] bits = items_end_text (items_of front) bits
+next_line front (next ∷ rest) bits = handed_item_text (length (items_of front)) next
+
+-- The output took the frames of the first of what was handed over, and the notes their lines, and no more but a part of what comes next: of
+-- the next frame or, once the output has taken that, of its line. Behind the last this is the end of the report.
+pub record AreInOrder (handed : List (Handed ItemValue)) (bits : ℕ) (taken taken_now noted noted_now : Option (List ℕ)) : Type 0 where
   pub front : List (Handed ItemValue)
   pub rest : List (Handed ItemValue)
   pub split : handed ≡ front ++ rest
-  pub frames : (count : ℕ) × Wrote taken taken_now (handed_frames front ++ take count (handed_frames rest))
-  pub lines : WroteFront noted noted_now (items_text 0 front) ⊎ (rest ≡ [])
+  pub stops : StopsAt (handed_frames front) (items_text 0 front) (next_frame rest) (next_line front rest bits) taken taken_now noted noted_now
 
 -- What `encode` and `erased` write on the notes comes last, once the output has taken the whole of its part. The line of an item comes behind its
 -- frame, and that of a window that is checked behind its octets. The other commands write no notes.
 abbrev pub IsInOrder : Command → Configuration → List ℕ → Output → (taken taken_now noted noted_now : Option (List ℕ)) → Type 0
 IsInOrder Encode c octets output taken taken_now noted noted_now = Wrote noted noted_now [] ⊎ Wrote taken taken_now output.out
 IsInOrder Decode c octets output taken taken_now noted noted_now =
-    (handed : List (Handed ItemValue)) × ((bits : ℕ) × AreReceived c octets handed bits) × AreInOrder handed taken taken_now noted noted_now
+    (handed : List (Handed ItemValue)) × (bits : ℕ) × AreReceived c octets handed bits × AreInOrder handed bits taken taken_now noted noted_now
 IsInOrder Report c octets output taken taken_now noted noted_now = Wrote noted noted_now []
 IsInOrder Trace c octets output taken taken_now noted noted_now = Wrote noted noted_now []
 IsInOrder (Word text) c octets output taken taken_now noted noted_now = Wrote noted noted_now []
 IsInOrder (Soak seed frames hits) c octets output taken taken_now noted noted_now = Wrote noted noted_now []
 IsInOrder Erased c octets output taken taken_now noted noted_now = Wrote noted noted_now [] ⊎ Wrote taken taken_now output.out
 IsInOrder Certify c octets output taken taken_now noted noted_now = Wrote noted noted_now []
-IsInOrder Check c octets output taken taken_now noted noted_now = ReadAt (λ rules. (windows : List Window) × (seen : Seen) × IsRead rules octets windows seen
-    × AreInTurn rules windows taken taken_now noted noted_now) (rate_of c.inner) c
+IsInOrder Check c octets output taken taken_now noted noted_now = ReadAt (λ rules. (windows : List Window) × (seen : Seen) × (read : IsRead rules octets windows seen)
+    × AreInTurn rules windows (end_text seen (is_cut read.before.next read.rest) windows) taken taken_now noted noted_now) (rate_of c.inner) c
