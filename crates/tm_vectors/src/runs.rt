@@ -6,7 +6,7 @@ use std::thread::Threads;
 use tm_base::{MemSink, MemSource};
 use tm_cli::run;
 
-/// The most octets that a source gives at a time: each row is run with each of them.
+/// The most octets that a source gives at a time.
 pub const CUTS: [usize; 3] = [1, 2, 4096];
 
 /// What goes into a call.
@@ -106,19 +106,6 @@ pub fn run_over(rt: &(impl Threads + Sync), alloc: Global, given: &Given) -> Res
     })
 }
 
-/// What a call does that meets no fault.
-pub struct Row<'a> {
-    /// What the row shows.
-    pub name: &'a str,
-    pub line: &'a str,
-    /// What is read, in parts.
-    pub input: &'a [&'a [u8]],
-    pub status: u8,
-    /// What is written, in parts.
-    pub out: &'a [&'a [u8]],
-    pub notes: &'a str,
-}
-
 /// Makes the call, which ends with this status, and writes just these parts and these notes.
 pub fn check_call(
     rt: &(impl Abort + Threads + Sync),
@@ -143,38 +130,5 @@ pub fn check_call(
         notes.as_bytes(),
         "{name}, cut {cut}"
     );
-    Ok(())
-}
-
-/// Makes the call of each row with each cut.
-pub fn check_rows(
-    rt: &(impl Abort + Threads + Sync),
-    alloc: Global,
-    rows: &[Row],
-) -> Result<(), Fail> {
-    for row in rows {
-        let input = joined(alloc, row.input)?;
-        for cut in CUTS {
-            let given = Given::new(row.line, input.as_slice(), cut);
-            check_call(rt, alloc, row.name, &given, row.status, row.out, row.notes)?;
-        }
-    }
-    Ok(())
-}
-
-/// Makes the call of a command that reads nothing, which ends with this status and writes just this text, and no notes.
-pub fn check_unread(
-    rt: &(impl Abort + Threads + Sync),
-    alloc: Global,
-    name: &str,
-    line: &str,
-    status: u8,
-    out: &str,
-) -> Result<(), Fail> {
-    let outcome = run_over(rt, alloc, &Given::new(line, &[1, 2], 1))?;
-    assert_eq!(rt; outcome.status, status, "{name}");
-    assert_eq!(rt; outcome.out.octets(), out.as_bytes(), "{name}");
-    assert!(rt; outcome.notes.octets().is_empty(), "{name}");
-    assert_eq!(rt; outcome.reads, 0, "{name}");
     Ok(())
 }
