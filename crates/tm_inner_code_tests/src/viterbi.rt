@@ -271,24 +271,6 @@ fn windows_of_every_size(rt: HostRuntime) -> Result<(), Fail> {
     )
 }
 
-// Sums and costs that are all 0.
-fn zeros() -> ([u32; 64], [u32; 4])
-    ensures { (s k : ℕ) → s < 64 → k < 4 → slice_index result.0 s + slice_index result.1 k < 2 ^ 32 }
-{
-    ([0; 64], [0; 4])
-}
-
-#[test]
-fn columns_of_zeros(rt: HostRuntime) {
-    let (sums, costs) = zeros();
-    let mut next = [1; 64];
-    assert_eq!(rt; plain_column(&sums, &costs, &mut next), 0);
-    assert_eq!(rt; next, [0; 64]);
-    let mut next = [1; 64];
-    assert_eq!(rt; lane_column(&sums, &costs, &mut next), 0);
-    assert_eq!(rt; next, [0; 64]);
-}
-
 // Sums and costs that are drawn, each below 2^(31 - shift), and the next number of the sequence.
 fn drawn_sums(seed: u64, shift: u32) -> ([u32; 64], [u32; 4], u64) {
     let mut now = seed;
@@ -322,6 +304,15 @@ fn columns(sums: &[u32; 64], costs: &[u32; 4]) -> [([u32; 64], u64); 2]
     let mut lanes = [2; 64];
     let lane_survivors = lane_column(sums, costs, &mut lanes);
     [(plain, plain_survivors), (lanes, lane_survivors)]
+}
+
+#[test]
+fn columns_of_zeros(rt: HostRuntime) {
+    let (sums, costs) = ([0; 64], [0; 4]);
+    assert!(rt; are_small(&sums) && are_small(&costs));
+    let [plain, lanes] = columns(&sums, &costs);
+    assert_eq!(rt; plain, ([0; 64], 0));
+    assert_eq!(rt; lanes, ([0; 64], 0));
 }
 
 // Each form of a column beside the other: sums up to the greatest, and small ones, many of which tie.

@@ -1,15 +1,16 @@
 -- One step at rate 1/2.
-use Rattle.std.proofs.Common.{◌≡◌, ℕ, ◌+◌, ◌≤◌, ◌-◌, ◌%◌, min, length, sym, subst, arith}
+use Rattle.std.proofs.Common.{◌≡◌, ℕ, ◌≤◌, length, refl, sym, subst}
 use Rattle.tm_conv.specs.declared.rates.Rate.TheVariants.{R12}
-use Rattle.tm_conv.specs.Path.{steps_size, step_size}
-use Rattle.tm_conv.proofs.Sizes.{step_size-is}
+use Rattle.tm_conv.specs.Path.{steps_size}
 use Rattle.tm_path_cert.specs.Claim.{Claim}
-use Rattle.tm_path_cert.proofs.Costs.{steps_size-next, steps_size-none}
 
-pub one_step : (t : ℕ) → steps_size R12 t 1 ≡ 2
-one_step t =
-    let one : step_size R12 t ≡ 2 = (let h : step_size R12 t ≡ 2 - min 1 (t % 1) = step_size-is R12 t in omega (arith, h)) in
-    omega (arith, steps_size-next R12 t 0, steps_size-none R12 (t + 1), one)
+pub one_step : steps_size R12 0 1 ≡ 2
+unfolding steps_size
+one_step = refl
+
+pub no_step : steps_size R12 0 0 ≡ 0
+unfolding steps_size
+no_step = refl
 
 pub room : (claim known : Claim) (count n : ℕ) → claim ≡ known → count ≡ n → steps_size known.rate known.first n ≤ length known.soft → steps_size claim.rate claim.first count ≤ length claim.soft
 room claim known count n e f h =
