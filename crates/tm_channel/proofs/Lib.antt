@@ -10,6 +10,7 @@ pub mod Polarity
 pub mod OnlyItems
 mod HasItems
 pub mod ReceivedOctets
+pub mod SentPhase
 pub mod TurnedOctets
 pub mod DueItems
 pub mod FirstItems

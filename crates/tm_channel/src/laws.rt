@@ -1,15 +1,16 @@
 // What holds of received octets, over the definitions alone.
-ghost use Rattle.std.specs.Prelude.{◌≡◌, ◌++◌, ℕ, Bool, true, false, List, [], ◌∷◌, None, map, replicate};
+ghost use Rattle.std.specs.Prelude.{◌≡◌, ◌++◌, ℕ, Bool, true, false, List, [], ◌∷◌, None, Option, map, replicate};
 ghost use Rattle.std.specs.List.{concat};
 ghost use Rattle.tm_base.specs.Bits.{AreOctets, bits_of};
 ghost use Rattle.tm_base.specs.Handed.{Handed};
 ghost use Rattle.tm_config.specs.Accepted.{IsAccepted};
 ghost use Rattle.tm_config.specs.Configuration.{Configuration};
+ghost use Rattle.tm_phase.specs.declared.choosing.Chosen.{Chosen};
 ghost use Rattle.tm_inner.specs.Inner.{Inner, IsStartKnown};
 ghost use Rattle.tm_viterbi.specs.Clean.{turned_octets};
-ghost use Rattle.tm_inner.specs.Phase.{IsChosen};
+ghost use Rattle.tm_inner.specs.Phase.{IsChosen, in_turn};
 ghost use Rattle.tm_channel.specs.Frames.{whole_frames};
-ghost use Rattle.tm_channel.specs.Sent.{sent};
+ghost use Rattle.tm_channel.specs.Sent.{sent, sent_phase};
 ghost use Rattle.tm_channel.specs.Items.{ItemValue, frames_of, turned_item};
 ghost use Rattle.tm_channel.specs.Handing.{AreReceived, AreReceivedDue, AreReceivedFirst, AreReceivedFront};
 ghost use Rattle.tm_channel.specs.Receive.{Receive, ReceiveDue, ReceiveFirst, ReceiveFront};
@@ -17,6 +18,7 @@ ghost use Rattle.tm_channel.specs.SentStream.{AreAsSent, AreNear, AreWithin, IsS
 ghost use Rattle.tm_channel.specs.ReceivedCodeblock.{received_columns};
 ghost use Rattle.tm_channel.specs.Disturbed as disturbed;
 
+use tm_conv::{best_path_law, complement_law};
 use tm_inner::{clean_inner_law, due_bits_law, inner_law};
 use tm_phase::{phase_law, whole_window_law};
 use tm_viterbi::{closed_windows_law, due_law, turned_blocks_law};
@@ -104,23 +106,31 @@ pub fn disturbed_octets_law()
 {}
 
 /// The items of what is sent for octets, where none is skipped, nothing was disturbed and it is known where the first path starts:
-/// the whole frames of the octets, in order and with nothing wrong. Their frames joined are these. It does nothing.
+/// the whole frames of the octets, in order and with nothing wrong. Their frames joined are these. Where the phase is to be found none
+/// of the octets is skipped, at no cost, and it is handed over before the items. It does nothing.
 pub fn clean_law()
     ensures items { (c : Configuration) (octets : List ℕ) (items : List ItemValue) → IsAccepted c → c.skip ≡ 0 → IsStartKnown c → AreOctets octets
         → Receive c 0 (sent c octets) items → items ≡ clean_items c 0 (whole_frames c.frame_length octets) }
     ensures frames { (c : Configuration) (at : ℕ) (frames : List (List ℕ)) → frames_of (clean_items c at frames) ≡ concat frames }
+    ensures phase { (c : Configuration) (octets : List ℕ) (chosen : Option Chosen) → c.skip ≡ 0 → IsChosen c (sent c octets) chosen → chosen ≡ sent_phase c }
+    ensures handed { (c : Configuration) (octets : List ℕ) (handed : List (Handed ItemValue)) (bits : ℕ) → IsAccepted c → c.skip ≡ 0 → IsStartKnown c → AreOctets octets
+        → AreReceived c (sent c octets) handed bits → handed ≡ in_turn (sent_phase c) (clean_items c 0 (whole_frames c.frame_length octets)) }
 {
     clean_inner_law();
+    best_path_law();
 }
 
 /// Where inverted markers match too: with no inner code, the items of octets with each bit turned over are those of the octets,
 /// each in the other polarity. At rate 1/2, where paths start from any register and none is skipped, so are those of the symbols
-/// that are sent for octets, each turned over. It does nothing.
+/// that are sent for octets, each turned over. Their phase is that of the symbols as they are sent, at any rate. It does nothing.
 pub fn polarity_law()
     ensures uncoded { (c : Configuration) (phase : ℕ) (octets : List ℕ) (items : List ItemValue) → IsAccepted c → c.inner ≡ 0 → c.polarity ≡ 1 → AreOctets octets
         → Receive c phase octets items → Receive c phase (turned_octets octets) (map turned_item items) }
     ensures half_rate { (c : Configuration) (octets : List ℕ) (items : List ItemValue) → IsAccepted c → c.inner ≡ 12 → c.polarity ≡ 1 → c.start ≡ 1 → c.skip ≡ 0 → AreOctets octets
         → Receive c 0 (turned_octets (sent c octets)) items → items ≡ map turned_item (clean_items c 0 (whole_frames c.frame_length octets)) }
+    ensures phase { (c : Configuration) (octets : List ℕ) (chosen : Option Chosen) → c.skip ≡ 0 → IsChosen c (turned_octets (sent c octets)) chosen → chosen ≡ sent_phase c }
 {
     turned_blocks_law();
+    best_path_law();
+    complement_law();
 }
