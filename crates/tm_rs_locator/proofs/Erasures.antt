@@ -55,7 +55,7 @@ listing-carry c x (suc n) i z =
     (sym (patched_high c c x 1 (suc i) (omega arith) ∙ ap (λ (k : ℕ). bit_xor (c (suc i)) (times x (c k))) before))
     ∙ ap (λ (ys : List ℕ). patched c x 1 c (suc i) ∷ ys) (listing-carry c x n (suc i) (ap c at ∙ z))
 
-listing-linear : (c : ℕ → ℕ) (x d : ℕ) → c (suc d) ≡ 0 → times_linear x (listing c 0 (suc d)) ≡ listing (patched c x 1 c) 0 (suc (suc d))
+pub listing-linear : (c : ℕ → ℕ) (x d : ℕ) → c (suc d) ≡ 0 → times_linear x (listing c 0 (suc d)) ≡ listing (patched c x 1 c) 0 (suc (suc d))
 listing-linear c x d z =
     let at : suc 0 + d ≡ suc d = omega arith in
     ap (λ (y : ℕ). y ∷ carry x (c 0) (listing c 1 d)) (sym (patched_low c c x 1 0 (omega arith)))

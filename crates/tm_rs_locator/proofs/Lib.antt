@@ -1,5 +1,6 @@
 pub mod Transitions
 pub mod Endings
 pub mod Erasures
+pub mod Products
 pub mod ErasedEndings
 pub mod Starts

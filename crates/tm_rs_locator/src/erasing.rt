@@ -79,11 +79,13 @@ fn avoids_erased(values: &[u8; 256], erased: &[bool]) -> bool
 /// 2e syndromes are given: of the word that has these syndromes, any symbols at the erased places, and
 /// so few others that are not 0 that twice their number and the number of erased places is at most 2e.
 /// None where there is no such word. The first flag of `erased` is that of the first symbol.
-/// At least the products of the locator of the erased places and of the modified syndromes are counted.
-pub fn solve_erased<L: Ledger>(
+/// At least the products of the locator of the erased places and of the modified syndromes are counted. That locator is left in
+/// `places`, where there is such a word.
+pub fn locate_erased<L: Ledger>(
     params: &Params,
     syndromes: &[Gf; 32],
     erased: &[bool],
+    places: &mut [Gf; 33],
     steps: &mut Steps<L>,
 ) -> Option<Locator>
     requires { length erased.now ≡ params.now.n }
@@ -91,6 +93,9 @@ pub fn solve_erased<L: Ledger>(
         → IsErasedPattern params.now.e erased.now (entry syndromes.now) w → ⊥) }
     ensures some { IfSome result (λ l.
         LocatesErased params.now.e erased.now (entry syndromes.now) l.coefs l.degree) }
+    ensures room { length places.new ≡ 33 }
+    ensures places { IfSome result (λ l. listing (entry places.new) 0 (suc (count_of_erased erased.now)) ≡ locator_of (marks erased.now)) }
+    ensures beyond { IfSome result (λ l. (i : ℕ) → suc (count_of_erased erased.now) ≤ i → entry places.new i ≡ 0) }
     ensures cost { steps.new ≤ steps.old
         + (2 * params.now.e * (4 * params.now.e + 3) + 8 * params.now.e * params.now.e) }
     ensures most { let count = count_of_erased erased.now in count ≤ 2 * params.now.e
@@ -119,8 +124,32 @@ pub fn solve_erased<L: Ledger>(
     if !avoids_erased(&values, erased) {
         return None;
     }
+    *places = erasures;
     Some(Locator {
         coefs: found.current,
         degree: found.len as u8,
     })
+}
+
+/// The same locator alone.
+pub fn solve_erased<L: Ledger>(
+    params: &Params,
+    syndromes: &[Gf; 32],
+    erased: &[bool],
+    steps: &mut Steps<L>,
+) -> Option<Locator>
+    requires { length erased.now ≡ params.now.n }
+    ensures none { IfNone result ((w : List ℕ)
+        → IsErasedPattern params.now.e erased.now (entry syndromes.now) w → ⊥) }
+    ensures some { IfSome result (λ l.
+        LocatesErased params.now.e erased.now (entry syndromes.now) l.coefs l.degree) }
+    ensures cost { steps.new ≤ steps.old
+        + (2 * params.now.e * (4 * params.now.e + 3) + 8 * params.now.e * params.now.e) }
+    ensures most { let count = count_of_erased erased.now in count ≤ 2 * params.now.e
+        → steps.new ≤ steps.old + (count * (count + 1) + (2 * params.now.e - count) * (2 * params.now.e + 4)) }
+    ensures least { let count = count_of_erased erased.now in count ≤ 2 * params.now.e
+        → 2 * steps.old + count * (count + 1) + 2 * ((2 * params.now.e - count) * (count + 1)) ≤ 2 * steps.new }
+{
+    let mut places = [Gf(0); 33];
+    locate_erased(params, syndromes, erased, &mut places, steps)
 }

@@ -11,7 +11,7 @@ mod roots;
 mod solving;
 
 pub use counter::Steps;
-pub use erasing::solve_erased;
+pub use erasing::{locate_erased, solve_erased};
 pub use factors::times_factor;
 pub use solving::{Locator, solve};
 

@@ -1,8 +1,8 @@
 // The nearest codeword of a word with erased places.
-ghost use Rattle.std.specs.Prelude.{◌≡◌, ◌<◌, ◌≤◌, ◌+◌, ◌-◌, ◌*◌, ◌==◌, ◌||◌, ℕ, suc, List, length, if◌then◌else◌, slice_index_or, false};
+ghost use Rattle.std.specs.Prelude.{◌≡◌, ◌<◌, ◌≤◌, ◌+◌, ◌-◌, ◌*◌, ◌==◌, ◌&&◌, ℕ, suc, not, List, length, if◌then◌else◌, slice_index_or, false};
 ghost use Rattle.tm_gf256.specs.Poly.{entry, numbers, value_at};
 ghost use Rattle.tm_rs_code.specs.Code.{place_of, root, weight};
-ghost use Rattle.tm_rs_code.specs.Erasures.{IsNearestErased, count_erased as count_of_erased, inside, places_named};
+ghost use Rattle.tm_rs_code.specs.Erasures.{IsNearestErased, count_erased as count_of_erased, inside, marks, places_named};
 ghost use Rattle.tm_rs_code.specs.ErrorValues.{IsLocated, symbol_at};
 ghost use Rattle.tm_rs_code.specs.Pattern.{locator_of};
 ghost use Rattle.tm_rs_code.specs.Recurrence.{listing};
@@ -14,13 +14,13 @@ use crate::values::{correct, error_at};
 use std::sync::ledger::Ledger;
 use tm_gf256::{Gf, see_range};
 use tm_rs_code::{Params, count_erased, short_syndromes, syndromes, values_at_places};
-use tm_rs_locator::{Steps, solve_erased, times_factor};
+use tm_rs_locator::{Steps, locate_erased, times_factor};
 
-// Whether a place is erased, or a root of the polynomial that has this value there.
-fn names_place(erased: bool, value: u8) -> bool
-    ensures { result ≡ (erased || (value == 0)) }
+// Whether a place is not erased and a root of the polynomial that has this value there.
+fn names_other(erased: bool, value: u8) -> bool
+    ensures { result ≡ (not erased && (value == 0)) }
 {
-    erased || value == 0
+    !erased && value == 0
 }
 
 #[derive(Drop)]
@@ -29,8 +29,18 @@ struct Places {
     degree: usize,
 }
 
-// The locator of the places that are erased or roots of a polynomial. Each product is counted.
-fn all_places<L: Ledger>(poly: &[Gf], erased: &[bool], steps: &mut Steps<L>) -> Places
+// The locator of the places that are erased or roots of a polynomial, from that of the erased places, of which there are `count`. Each
+// product is counted.
+fn all_places<L: Ledger>(
+    erasures: &[Gf; 33],
+    count: usize,
+    poly: &[Gf],
+    erased: &[bool],
+    steps: &mut Steps<L>,
+) -> Places
+    requires count { count ≡ count_of_erased erased.now }
+    requires erasures { listing (entry erasures.now) 0 (suc count) ≡ locator_of (marks erased.now) }
+    requires beyond { (i : ℕ) → suc count ≤ i → entry erasures.now i ≡ 0 }
     requires degree { length poly.now ≤ 33 }
     requires short { length erased.now ≤ 255 }
     requires few { weight (places_named (numbers poly.now) erased.now) ≤ 32 }
@@ -38,15 +48,14 @@ fn all_places<L: Ledger>(poly: &[Gf], erased: &[bool], steps: &mut Steps<L>) -> 
     ensures degree { result.degree ≡ weight (places_named (numbers poly.now) erased.now) }
     ensures locator { listing (entry result.coefs) 0 (suc result.degree)
         ≡ locator_of (places_named (numbers poly.now) erased.now) }
-    ensures cost { 2 * steps.new ≡ 2 * steps.old + result.degree * (result.degree + 1) }
+    ensures cost { 2 * steps.new + count * (count + 1) ≡ 2 * steps.old + result.degree * (result.degree + 1) }
 {
-    let mut coefs = [Gf(0); 33];
-    coefs[0] = Gf(1);
-    let mut degree = 0;
+    let mut coefs = *erasures;
+    let mut degree = count;
     let n = erased.len();
     let values = values_at_places(poly, n);
     for p in 0..n {
-        if names_place(erased[n - 1 - p], values[p]) {
+        if names_other(erased[n - 1 - p], values[p]) {
             times_factor(&mut coefs, degree, Gf::exp(11 * p as u32), steps);
             degree += 1;
         }
@@ -191,12 +200,14 @@ fn repaired<L: Ledger>(
     let e = params.e() as usize;
     // So that the proof has the range of n.
     let _n = params.n();
-    match solve_erased(params, values, erased, steps) {
+    let mut erasures = [Gf(0); 33];
+    match locate_erased(params, values, erased, &mut erasures, steps) {
         Some(l) => {
             if l.degree > repair {
                 return ErasedAnswer::Beyond;
             }
-            let places = all_places(&l.coefs[..l.degree as usize + 1], erased, steps);
+            let found = &l.coefs[..l.degree as usize + 1];
+            let places = all_places(&erasures, count_erased(erased), found, erased, steps);
             let locator = &places.coefs[..places.degree + 1];
             let inside = count_inside(erased, locator, values, e);
             correct(word, locator, values, e);

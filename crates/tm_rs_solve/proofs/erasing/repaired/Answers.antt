@@ -1,11 +1,11 @@
-use Rattle.std.proofs.Common.{◌≤◌, ◌+◌, ◌*◌, ℕ, List, take, arith, sym, ◌∙◌}
+use Rattle.std.proofs.Common.{◌≡◌, ◌≤◌, ◌+◌, ◌*◌, ℕ, List, take, arith, subst, sym, ◌∙◌}
 use Rattle.tm_gf256.specs.Poly.{entry, numbers}
 use Rattle.tm_gf256.proofs.PolyLemmas.{length-numbers}
 use Rattle.tm_rs_code.specs.Erasures.{count_erased, places_named}
 use Rattle.tm_rs_code.specs.ErrorValues.{IsLocated}
 use Rattle.tm_rs_code.proofs.Numbers.{AreElements-numbers}
 use Rattle.tm_rs_code.proofs.ErasedWords.{fixed_erased, beyond_erased_far, beyond_erased_none}
-use Rattle.tm_rs_solve.proofs.Named.{located_for, most_steps, named_few}
+use Rattle.tm_rs_solve.proofs.Named.{least_steps, located_for, most_steps, named_few, weight-named}
 use Rattle.tm_rs_solve.proofs.erasing.repaired.Goals as goal
 
 pub returns-then-l-repair-clause-nearest : goal.returns-then-l-repair-clause-nearest
@@ -109,8 +109,16 @@ returns-else-l-repair-clause-cost g c =
       named_few c.args.params.now.e c.args.erased.now (entry c.args.values.now) (numbers (take (c.in-Some.l.degree + 1) c.in-Some.l.coefs)) found.0
           (omega (arith, c.n-n.ensures.range.1, c.requires.flags)) found.1 found.2.product,
     ) in
-    most_steps c.args.params.now.e (count_erased c.args.erased.now) c.all_places-places.result.degree c.args.steps.now c.solve_erased.new.steps c.all_places-places.new.steps c.e-e.ensures.strength
-    few places (c.in-Some.ensures.most few) c.all_places-places.ensures.cost
+    most_steps c.args.params.now.e (count_erased c.args.erased.now) c.all_places-places.result.degree c.args.steps.now c.locate_erased.new.steps c.all_places-places.new.steps c.e-e.ensures.strength
+    few places (c.in-Some.ensures.most few)
+    (subst (λ (s : ℕ). 2 * c.all_places-places.new.steps + s * (s + 1) ≡ 2 * c.locate_erased.new.steps + c.all_places-places.result.degree * (c.all_places-places.result.degree + 1))
+    c.count_erased.ensures c.all_places-places.ensures.cost)
+
+pub returns-else-l-repair-clause-least : goal.returns-else-l-repair-clause-least
+returns-else-l-repair-clause-least g c few =
+    let found : List ℕ = numbers (take (c.in-Some.l.degree + 1) c.in-Some.l.coefs) in
+    least_steps c.count_erased.result c.all_places-places.result.degree c.locate_erased.new.steps c.all_places-places.new.steps _
+    (omega (arith, c.count_erased.ensures, c.all_places-places.ensures.degree, weight-named found c.args.erased.now)) c.all_places-places.ensures.cost (c.in-Some.ensures.least few)
 
 pub returns-in-None-clause-nearest : goal.returns-in-None-clause-nearest
 returns-in-None-clause-nearest g c =

@@ -7,7 +7,7 @@ use Rattle.tm_rs_code.specs.PlaceValues.{AreValues}
 use Rattle.tm_rs_locator.specs.State.{IsShortest, Unexplained}
 use Rattle.tm_rs_locator.proofs.Endings.{elements_of}
 use Rattle.tm_rs_locator.proofs.ErasedEndings.{least_steps, most_steps, modified_is, none_unexplained, none_by_roots, none_by_erased, some_erased}
-use Rattle.tm_rs_locator.proofs.erasing.solve_erased.Goals as goal
+use Rattle.tm_rs_locator.proofs.erasing.locate_erased.Goals as goal
 
 -- how many syndromes are left
 known_is : (e all fs_count count : ℕ) → all ≡ e → count ≡ fs_count → 2 * all - count ≡ 2 * e - fs_count
