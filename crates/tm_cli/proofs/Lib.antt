@@ -13,7 +13,6 @@ pub mod Tracing
 pub mod Generating
 pub mod FewSymbols
 pub mod Soaking
-mod SentPhase
 pub mod Links
 pub mod Erasing
 pub mod Certificates

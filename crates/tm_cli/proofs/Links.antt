@@ -21,22 +21,21 @@ use Rattle.tm_rs_solve.specs.declared.answers.Answer.{Answer}
 use Rattle.tm_rs_solve.specs.declared.answers.Answer.TheVariants.{Fixed}
 use Rattle.tm_sync.specs.declared.found.Found.{Found}
 use Rattle.tm_viterbi.specs.Clean.{turned_octets}
-use Rattle.tm_viterbi.proofs.HasBlocks.{HasBest}
 use Rattle.tm_channel.specs.Frames.{whole_frames}
-use Rattle.tm_channel.specs.Sent.{cadus, sent}
+use Rattle.tm_channel.specs.Sent.{cadus, sent, sent_phase}
 use Rattle.tm_channel.specs.ReceivedCodeblock.{received_columns}
 use Rattle.tm_channel.specs.Items.{ItemValue, are_fixed, frames_of, turned_item}
 use Rattle.tm_channel.specs.Handing.{AreReceived}
 use Rattle.tm_channel.specs.Receive.{Receive}
 use Rattle.tm_channel.specs.SentStream.{SentUnit, IsSent, AreRepaired, AreWithin, AreAsSent, AreNear, sent_columns, unit_codeblock, unit_frames, unit_places, clean_answers, clean_items}
+use Rattle.tm_channel.proofs.SentPhase.{sent-skip}
 use Rattle.tm_cli.specs.Command.Command.{Decode}
 use Rattle.tm_cli.specs.Report.{bad, report_text}
 use Rattle.tm_cli.specs.Output.{HasBad, WroteOutput}
 use Rattle.tm_cli.specs.Ending.{Ends, status_of}
-use Rattle.tm_cli.specs.Link.{KeepsCleanLink, KeepsDisturbedLink, KeepsTurnedInput, KeepsTurnedSymbols, sent_phase}
+use Rattle.tm_cli.specs.Link.{KeepsCleanLink, KeepsDisturbedLink, KeepsTurnedInput, KeepsTurnedSymbols}
 use Rattle.tm_cli.specs.declared.ending.Ending.{Ending}
 use Rattle.tm_cli.specs.declared.ending.Ending.TheVariants.{Done, Bad, BadWindow, LeftOver, SourceFault, SinkFault, PastLimit}
-use Rattle.tm_cli.proofs.SentPhase.{Complements, phase-sent, phase-turned}
 
 -- octets come to one list of bits, which there is, and to one list of items
 abbrev HasBits : Type 0
@@ -53,6 +52,13 @@ OneItems = (c : Configuration) (phase : ℕ) (octets : List ℕ) (items others :
 abbrev OneHanded : Type 0
 OneHanded = (c : Configuration) (octets : List ℕ) (handed others : List (Handed ItemValue)) (bits count : ℕ) → IsAccepted c
     → AreReceived c octets handed bits → AreReceived c octets others count → handed ≡ others
+
+-- the phase of what is sent for octets, and of that turned over
+abbrev SentPhase : Type 0
+SentPhase = (c : Configuration) (octets : List ℕ) (chosen : Option Chosen) → c.skip ≡ 0 → IsChosen c (sent c octets) chosen → chosen ≡ sent_phase c
+
+abbrev TurnedPhase : Type 0
+TurnedPhase = (c : Configuration) (octets : List ℕ) (chosen : Option Chosen) → c.skip ≡ 0 → IsChosen c (turned_octets (sent c octets)) chosen → chosen ≡ sent_phase c
 
 -- the bits and the items of what is sent for octets, and the frames of these items
 abbrev CleanBits : Type 0
@@ -172,14 +178,6 @@ choice-plain c octets others (Some chosen) none is =
 
 -- ---- what was written
 
--- no octet stands before those that were sent
-sent-skip : (c : Configuration) → skip_of (sent_phase c) ≡ 0
-sent-skip c = go (c.phase == 0)
-  where
-    go : (given : Bool) → skip_of (if given then None else Some (record { skip = 0; cost = 0 })) ≡ 0
-    go true = refl
-    go false = refl
-
 -- the items of what is handed over in turn are these
 items_of-turn : (chosen : Option Chosen) (items : List ItemValue) → items_of (in_turn chosen items) ≡ items
 items_of-turn None items = items_of-items items
@@ -252,12 +250,12 @@ came-free one_phase one e status c octets taken taken_now noted noted_now ok tol
 
 -- ---- links
 
-pub keeps-clean : HasBest → OnePhase → OneHanded → CleanBits → CleanItems → CleanFrames → (e : Ending) (status : ℕ) (c : Configuration) (octets : List ℕ) (taken taken_now noted noted_now : Option (List ℕ))
+pub keeps-clean : SentPhase → OnePhase → OneHanded → CleanBits → CleanItems → CleanFrames → (e : Ending) (status : ℕ) (c : Configuration) (octets : List ℕ) (taken taken_now noted noted_now : Option (List ℕ))
     → IsAccepted c → status ≡ status_of e → Ends e Decode c octets taken taken_now noted noted_now → (status ≡ 0) ⊎ (status ≡ 1)
     → KeepsCleanLink status c octets taken taken_now noted noted_now
-keeps-clean best one_phase one clean_bits clean frames e status c octets taken taken_now noted noted_now ok told ends read = λ input skip start small is.
+keeps-clean sent_phases one_phase one clean_bits clean frames e status c octets taken taken_now noted noted_now ok told ends read = λ input skip start small is.
     let r = came-free one_phase one e status c octets taken taken_now noted noted_now ok told ends read
-    (λ chosen choice. phase-sent best c input chosen skip (subst (λ (l : List ℕ). IsChosen c l chosen) is choice)) in
+    (λ chosen choice. sent_phases c input chosen skip (subst (λ (l : List ℕ). IsChosen c l chosen) is choice)) in
     let sent_frames = whole_frames c.frame_length input in
     let inner : Inner c 0 (sent c input) r.bits = subst (λ (n : ℕ). Inner c n (sent c input) r.bits) (sent-skip c) (subst (λ (l : List ℕ). Inner c (skip_of (sent_phase c)) l r.bits) is r.inner) in
     let receive : Receive c 0 (sent c input) r.items =
@@ -299,12 +297,12 @@ keeps-turned_input one_phase one one_items turned e status c octets taken taken_
       subst (Wrote noted noted_now) (ap (λ (l : List ItemValue). report_text (in_turn chosen l) (length r.bits)) same ∙ ap (report_text (in_turn chosen (map turned_item items))) count) r.notes,
     )
 
-pub keeps-turned_symbols : HasBest → Complements → OnePhase → OneHanded → HasBits → CleanBits → CleanFrames → TurnedSymbols → (e : Ending) (status : ℕ) (c : Configuration) (octets : List ℕ) (taken taken_now noted noted_now : Option (List ℕ))
+pub keeps-turned_symbols : TurnedPhase → OnePhase → OneHanded → HasBits → CleanBits → CleanFrames → TurnedSymbols → (e : Ending) (status : ℕ) (c : Configuration) (octets : List ℕ) (taken taken_now noted noted_now : Option (List ℕ))
     → IsAccepted c → status ≡ status_of e → Ends e Decode c octets taken taken_now noted noted_now → (status ≡ 0) ⊎ (status ≡ 1)
     → KeepsTurnedSymbols status c octets taken taken_now noted noted_now
-keeps-turned_symbols best complements one_phase one has_bits clean_bits frames turned e status c octets taken taken_now noted noted_now ok told ends read = λ input half find any skip small is.
+keeps-turned_symbols turned_phases one_phase one has_bits clean_bits frames turned e status c octets taken taken_now noted noted_now ok told ends read = λ input half find any skip small is.
     let r = came-free one_phase one e status c octets taken taken_now noted noted_now ok told ends read
-    (λ chosen choice. phase-turned best complements c input chosen skip (subst (λ (l : List ℕ). IsChosen c l chosen) is choice)) in
+    (λ chosen choice. turned_phases c input chosen skip (subst (λ (l : List ℕ). IsChosen c l chosen) is choice)) in
     let clean = clean_items c 0 (whole_frames c.frame_length input) in
     let inner : Inner c 0 octets r.bits = subst (λ (n : ℕ). Inner c n octets r.bits) (sent-skip c) r.inner in
     let receive : Receive c 0 (turned_octets (sent c input)) r.items =

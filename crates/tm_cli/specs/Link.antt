@@ -1,5 +1,5 @@
 -- What `decode` makes of octets in which transfer frames were sent.
-use Rattle.std.specs.Prelude.{◌≡◌, ℕ, ◌*◌, ◌==◌, if◌then◌else◌, Bool, List, length, map, Option, Some, None}
+use Rattle.std.specs.Prelude.{◌≡◌, ℕ, ◌*◌, Bool, List, length, map, Option}
 use Rattle.std.specs.List.{concat}
 use Rattle.tm_base.specs.Bits.{AreOctets}
 use Rattle.tm_base.specs.Written.{Wrote}
@@ -8,16 +8,11 @@ use Rattle.tm_phase.specs.declared.choosing.Chosen.{Chosen}
 use Rattle.tm_inner.specs.Inner.{Inner, IsStartKnown}
 use Rattle.tm_inner.specs.Phase.{IsChosen, skip_of, in_turn}
 use Rattle.tm_channel.specs.Frames.{whole_frames}
-use Rattle.tm_channel.specs.Sent.{cadus, sent}
+use Rattle.tm_channel.specs.Sent.{cadus, sent, sent_phase}
 use Rattle.tm_viterbi.specs.Clean.{turned_octets}
 use Rattle.tm_channel.specs.Items.{ItemValue, AreItems, frames_of, turned_item}
 use Rattle.tm_channel.specs.SentStream.{SentUnit, IsSent, AreAsSent, AreNear, unit_frames, unit_places, clean_items}
 use Rattle.tm_cli.specs.Report.{report_text}
-
--- The phase of octets that were sent and not disturbed, where it is to be found: none is skipped, and the path costs nothing. It is also
--- that of such octets turned over.
-abbrev pub sent_phase : Configuration → Option Chosen
-sent_phase c = if c.phase == 0 then None else Some (record { skip = 0; cost = 0 })
 
 -- Octets that `encode` sends for an input come back as its whole frames, where nothing was disturbed, none is skipped and it is known
 -- where the first path starts. The report says so of the phase, where it is to be found, and of each frame that nothing was wrong, and

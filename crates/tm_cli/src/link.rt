@@ -8,7 +8,6 @@ ghost use Rattle.tm_cli.specs.Ending.{Ends, status_of};
 ghost use Rattle.tm_cli.specs.Link.{KeepsCleanLink, KeepsDisturbedLink, KeepsTurnedInput, KeepsTurnedSymbols};
 
 use tm_channel::{clean_law, disturbed_law, items_law, polarity_law, received_law};
-use tm_conv::{best_path_law, complement_law};
 use tm_inner::{clean_inner_law, inner_law};
 use tm_phase::phase_law;
 
@@ -36,6 +35,4 @@ pub fn link_law()
     inner_law();
     clean_inner_law();
     phase_law();
-    best_path_law();
-    complement_law();
 }
