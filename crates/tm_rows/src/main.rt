@@ -1,6 +1,6 @@
-//! Makes the program's top call for each worked row of its standard input, over a source and sinks in memory. It writes a line for each
-//! call that differs from its row and for each line that it can't read, and then how many rows and calls there were.
-//! How a row is written stands at the head of the rows.
+//! Makes the program's top call for each worked row of its standard input, over a source and sinks in memory. It writes
+//! what came of each call that differs from its row, and each line that it can't read, and then how many rows and calls
+//! there were. How a row is written stands at the head of the rows.
 #![tactic(auto)]
 
 mod call;
