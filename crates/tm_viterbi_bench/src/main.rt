@@ -1,6 +1,6 @@
-//! Feeds a decoder the same symbols again and again, in pieces of 4,096, and prints what its blocks come to. The first word is how
-//! often, the second whether they are `clean` or `noisy`. The symbols are made once, so that the difference of two runs is the
-//! decoder's work alone.
+//! Feeds a decoder the same symbols again and again, in pieces of 4,096, and prints what its blocks come to. The first word is
+//! how often, the second whether they are `clean` or `noisy`, the third the rate, 1/2 where it is missing. The symbols are made
+//! once, so that the difference of two runs is the decoder's work alone.
 #![tactic(auto)]
 
 use std::alloc::{AllocError, Global};
@@ -10,8 +10,9 @@ use tm_base::Failed;
 use tm_conv::{Encoder, Rate, Symbols};
 use tm_viterbi::{Block, BlockTaker, Decoder, FeedError, Start};
 
-// The steps whose symbols are fed each time. The last six bits are 0, so that the register is 0 again behind them.
-const STEPS: u64 = 8192;
+// The steps whose symbols are fed each time: whole puncture patterns at each rate. The last six bits are 0, so that the register
+// is 0 again behind them.
+const STEPS: u64 = 8190;
 
 // What was handed over: the blocks, their kept bits, what their paths cost, and the sum of their last registers.
 #[derive(Drop)]
@@ -60,18 +61,22 @@ fn soft(symbol: bool, is_noisy: bool, x: u32) -> u8 {
 }
 
 // The soft octets of drawn bits.
-fn soft_symbols(alloc: Global, is_noisy: bool) -> Result<Vec<u8>, AllocError> {
+fn soft_symbols(alloc: Global, rate: Rate, is_noisy: bool) -> Result<Vec<u8>, AllocError> {
     let mut octets = Vec::new(alloc);
-    let mut encoder = Encoder::new(Rate::R12, true);
+    let mut encoder = Encoder::new(rate, true);
     let mut x = 1;
     for step in 0..STEPS {
         x = drawn(x);
         let bit = x >> 31 == 1 && step + 6 < STEPS;
-        if let Symbols::Two(first, second) = encoder.step(bit) {
-            x = drawn(x);
-            octets.push(soft(first, is_noisy, x))?;
-            x = drawn(x);
-            octets.push(soft(second, is_noisy, x))?;
+        let symbols = encoder.step(bit);
+        x = drawn(x);
+        match symbols {
+            Symbols::One(only) => octets.push(soft(only, is_noisy, x))?,
+            Symbols::Two(first, second) => {
+                octets.push(soft(first, is_noisy, x))?;
+                x = drawn(x);
+                octets.push(soft(second, is_noisy, x))?;
+            }
         }
     }
     Ok(octets)
@@ -92,8 +97,18 @@ fn feed_often(
     Ok(())
 }
 
-// The number that the first word is, and whether the second is `noisy`.
-fn asked(words: &[String]) -> (u32, bool) {
+fn rate_of(word: &str) -> Rate {
+    match word {
+        "2/3" => Rate::R23,
+        "3/4" => Rate::R34,
+        "5/6" => Rate::R56,
+        "7/8" => Rate::R78,
+        _ => Rate::R12,
+    }
+}
+
+// The number that the first word is, whether the second is `noisy`, and the rate that the third is.
+fn asked(words: &[String]) -> (u32, bool, Rate) {
     let rounds = match words.get(1) {
         Some(word) => word.parse::<u32>().unwrap_or(0),
         None => 0,
@@ -102,21 +117,25 @@ fn asked(words: &[String]) -> (u32, bool) {
         Some(word) => word.as_str() == "noisy",
         None => false,
     };
-    (rounds, is_noisy)
+    let rate = match words.get(3) {
+        Some(word) => rate_of(word.as_str()),
+        None => Rate::R12,
+    };
+    (rounds, is_noisy, rate)
 }
 
 fn main(rt: HostRuntime) -> io::Result<ExitCode> {
     let alloc = rt.alloc();
     let words: Vec<String> = env::args(&rt)?.collect(alloc)?;
-    let (rounds, is_noisy) = asked(&words);
-    let octets = soft_symbols(alloc, is_noisy)?;
+    let (rounds, is_noisy, rate) = asked(&words);
+    let octets = soft_symbols(alloc, rate, is_noisy)?;
     let mut sum = Sum {
         blocks: 0,
         bits: 0,
         metric: 0,
         registers: 0,
     };
-    let Ok(mut decoder) = Decoder::open(alloc, Rate::R12, true, Start::Zero, 8192, 256) else {
+    let Ok(mut decoder) = Decoder::open(alloc, rate, true, Start::Zero, 8192, 256) else {
         return Ok(ExitCode::from(5));
     };
     let Ok(()) = feed_often(&mut decoder, &octets, rounds, &mut sum) else {
