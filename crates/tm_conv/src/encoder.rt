@@ -4,7 +4,7 @@ ghost use Rattle.tm_base.specs.Bits.{bit_number, bits_of};
 ghost use Rattle.tm_conv.specs.Path.{c1, c2, sent, step_symbols, next_register};
 ghost use Rattle.tm_conv.specs.Encoding.{StandsFor, sent_for, symbol_list, levels};
 
-use crate::octets::{octet_symbols, phase_behind, register_behind};
+use crate::octets::encode_octets;
 use crate::rates::{Rate, kept, period};
 use std::marker::Model;
 
@@ -81,23 +81,15 @@ impl Encoder {
         ensures at_most { result ≤ 16 * length octets.now }
         ensures length { length out.new ≡ length out.old }
     {
-        let mut register = self.register;
-        let mut phase = self.phase;
-        let mut count = 0;
-        for octet in octets {
-            let (symbols, kept) = octet_symbols(
-                self.rate,
-                self.invert,
-                low,
-                phase,
-                register,
-                *octet,
-            );
-            symbols.copy_to_slice(&mut out[count..count + 16]);
-            count += usize::from(kept);
-            register = register_behind(*octet);
-            phase = phase_behind(self.rate, phase);
-        }
+        let (count, register, phase) = encode_octets(
+            self.rate,
+            self.invert,
+            low,
+            self.phase,
+            self.register,
+            octets,
+            out,
+        );
         self.register = register;
         self.phase = phase;
         count

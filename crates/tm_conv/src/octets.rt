@@ -1,7 +1,7 @@
 // The symbols of whole octets, by tables.
-ghost use Rattle.std.specs.Prelude.{◌≡◌, ◌+◌, ◌%◌, ◌<◌, ◌≤◌, ℕ, [], length, take};
+ghost use Rattle.std.specs.Prelude.{◌≡◌, ◌+◌, ◌*◌, ◌%◌, ◌<◌, ◌≤◌, ℕ, [], length, take};
 ghost use Rattle.std.proofs.Common.{get_or};
-ghost use Rattle.tm_base.specs.Bits.{bits_of_octet};
+ghost use Rattle.tm_base.specs.Bits.{bits_of, bits_of_octet};
 ghost use Rattle.tm_conv.specs.declared.rates.Rate.TheVariants.{R12};
 ghost use Rattle.tm_conv.specs.Path.{path, period, register_after};
 ghost use Rattle.tm_conv.specs.Encoding.{bit_numbers, levels};
@@ -13,8 +13,8 @@ use crate::rates::Rate;
 use std::simd::prelude::*;
 use tables::{FROM_OCTET, FROM_REGISTER, REGISTER_AFTER};
 
-// Which of the sixteen symbols of an octet at rate 1/2 are sent, in their order and then any others: a row for each rate and
-// each place of the puncture pattern at which the octet begins.
+// Which of the sixteen symbols of an octet at rate 1/2 are sent, in their order and then any others: a row for each
+// rate and each place of the puncture pattern at which the octet begins.
 static KEPT: [[u8; 16]; 18] = [
     [0, 1, 2, 3, 4, 5, 6, 7, 8, 9, 10, 11, 12, 13, 14, 15],
     [0, 1, 3, 4, 5, 7, 8, 9, 11, 12, 13, 15, 0, 0, 0, 0],
@@ -76,10 +76,10 @@ fn symbols_at_half(invert: bool, low: u8, register: u8, octet: u8) -> u8x16
     before ^ own ^ flips
 }
 
-// The symbols of an octet that begins at a place of the puncture pattern: the first of sixteen octets, and how many they are.
-// A 0 is the octet `low`, and a 1 its complement.
+// The symbols of an octet that begins at a place of the puncture pattern: the first of sixteen octets, and how many
+// they are. A 0 is the octet `low`, and a 1 its complement.
 #[inline(always)]
-pub fn octet_symbols(
+fn octet_symbols(
     rate: Rate,
     invert: bool,
     low: u8,
@@ -103,7 +103,7 @@ pub fn octet_symbols(
 
 // The register behind an octet, whatever it was before.
 #[inline(always)]
-pub fn register_behind(octet: u8) -> u8
+fn register_behind(octet: u8) -> u8
     ensures behind { (register : ℕ) → register < 64 → result ≡ register_after register (bit_numbers (bits_of_octet octet)) }
     ensures small { result < 64 }
 {
@@ -112,9 +112,70 @@ pub fn register_behind(octet: u8) -> u8
 
 // The place in the puncture pattern behind an octet.
 #[inline(always)]
-pub fn phase_behind(rate: Rate, phase: u8) -> u8
+fn phase_behind(rate: Rate, phase: u8) -> u8
     requires { phase < period rate }
     ensures { result ≡ (phase + 8) % period rate }
 {
     NEXT[first_row(rate) + usize::from(phase)]
+}
+
+// The symbols of octets from a place of the puncture pattern and a register on, at the front of `out`: how many they
+// are, and the register and the place behind them. A 0 is the octet `low`, and a 1 its complement.
+#[inline(always)]
+fn encode_from(
+    rate: Rate,
+    invert: bool,
+    low: u8,
+    first_phase: u8,
+    first_register: u8,
+    octets: &[u8],
+    out: &mut [u8],
+) -> (usize, u8, u8)
+    requires phase { first_phase < period rate }
+    requires register { first_register < 64 }
+    requires room { 16 * length octets.now ≤ length out.old }
+    ensures sent { take result.0 out.new
+        ≡ levels low (path rate invert first_phase first_register (bit_numbers (bits_of octets.now))) }
+    ensures at_most { result.0 ≤ 16 * length octets.now }
+    ensures register { (result.1 ≡ register_after first_register (bit_numbers (bits_of octets.now))) × (result.1 < 64) }
+    ensures phase { (result.2 ≡ (first_phase + 8 * length octets.now) % period rate) × (result.2 < period rate) }
+    ensures length { length out.new ≡ length out.old }
+{
+    let mut register = first_register;
+    let mut phase = first_phase;
+    let mut count = 0;
+    for octet in octets {
+        let (symbols, kept) = octet_symbols(rate, invert, low, phase, register, *octet);
+        symbols.copy_to_slice(&mut out[count..count + 16]);
+        count += usize::from(kept);
+        register = register_behind(*octet);
+        phase = phase_behind(rate, phase);
+    }
+    (count, register, phase)
+}
+
+// `encode_from` with rate 1/2 apart, where each place is the first and all symbols are sent: so the compiler knows it.
+pub fn encode_octets(
+    rate: Rate,
+    invert: bool,
+    low: u8,
+    phase: u8,
+    register: u8,
+    octets: &[u8],
+    out: &mut [u8],
+) -> (usize, u8, u8)
+    requires phase { phase < period rate }
+    requires register { register < 64 }
+    requires room { 16 * length octets.now ≤ length out.old }
+    ensures sent { take result.0 out.new
+        ≡ levels low (path rate invert phase register (bit_numbers (bits_of octets.now))) }
+    ensures at_most { result.0 ≤ 16 * length octets.now }
+    ensures register { (result.1 ≡ register_after register (bit_numbers (bits_of octets.now))) × (result.1 < 64) }
+    ensures phase { (result.2 ≡ (phase + 8 * length octets.now) % period rate) × (result.2 < period rate) }
+    ensures length { length out.new ≡ length out.old }
+{
+    match rate {
+        Rate::R12 => encode_from(Rate::R12, invert, low, 0, register, octets, out),
+        _ => encode_from(rate, invert, low, phase, register, octets, out),
+    }
 }
