@@ -187,6 +187,15 @@ single_set [] column e = absurd (omega arith)
 single_set (x ∷ []) column e = refl
 single_set (x ∷ y ∷ ys) column e = absurd (omega arith)
 
+pub four_set : (columns : List ℕ) (a b c d : ℕ) → length columns ≡ 4
+    → set (set (set (set columns 0 a) 1 b) 2 c) 3 d ≡ a ∷ b ∷ c ∷ d ∷ []
+four_set [] a b c d long = absurd (omega arith)
+four_set (w ∷ []) a b c d long = absurd (omega arith)
+four_set (w ∷ x ∷ []) a b c d long = absurd (omega arith)
+four_set (w ∷ x ∷ y ∷ []) a b c d long = absurd (omega arith)
+four_set (w ∷ x ∷ y ∷ z ∷ []) a b c d long = refl
+four_set (v ∷ w ∷ x ∷ y ∷ z ∷ zs) a b c d long = absurd (omega arith)
+
 pub Carries-one : (rate : Rate) (invert : Bool) (t column : ℕ) (piece sums next : List ℕ)
     → length piece ≡ step_size rate t → StepsTo rate invert t piece sums next column
     → Carries rate invert t piece sums next (column ∷ [])

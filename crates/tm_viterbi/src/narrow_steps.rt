@@ -139,7 +139,10 @@ fn four_steps(
         high_between,
         places,
     );
-    columns.copy_from_slice(&[first, second, third, fourth]);
+    columns[0] = first;
+    columns[1] = second;
+    columns[2] = third;
+    columns[3] = fourth;
     (next_low, next_high)
 }
 

@@ -44,7 +44,8 @@ fn trace_eight(columns: &[u64], register: usize, bits: &mut [u8]) -> usize
     ensures small { result < 64 }
 {
     let walked = eight_steps_back(columns, register);
-    bits.copy_from_slice(&EIGHT_BITS[(walked / 64 % 256) as usize]);
+    let row = EIGHT_BITS[(walked / 64 % 256) as usize];
+    bits.copy_from_slice(&row);
     (walked % 64) as usize
 }
 

@@ -2,7 +2,7 @@ use Rattle.std.proofs.Common.{◌≡◌, ◌+◌, ◌-◌, ◌^◌, ◌++◌, �
 use Rattle.std.proofs.lemmas.List.{take_all, take-append-drop}
 use Rattle.tm_conv.specs.declared.rates.Rate.TheVariants.{R12}
 use Rattle.tm_viterbi.specs.Carries.{Carries, lifted}
-use Rattle.tm_viterbi.proofs.Carrying.{Carries-append}
+use Rattle.tm_viterbi.proofs.Carrying.{Carries-append, four_set}
 use Rattle.tm_viterbi.proofs.narrow_steps.four_steps.Goals as goal
 
 pub two_steps-third-requires-clause-room : goal.two_steps-third-requires-clause-room
@@ -26,7 +26,7 @@ returns-clause-carries c invert t base e =
     ∷ c.two_steps-third.result.2 ∷ c.two_steps-third.result.3 ∷ [] in
     let P : List ℕ → List ℕ → Type 0 = λ v w. Carries R12 invert t v (lifted base (c.args.low ++ c.args.high))
     (lifted base (c.two_steps-third.result.0 ++ c.two_steps-third.result.1)) w in
-    subst (λ (w : List ℕ). P octets w) (sym c.copy_from_slice.ensures.after)
+    subst (λ (w : List ℕ). P octets w) (sym (four_set c.args.columns.now _ _ _ _ c.requires.columns))
     (subst (λ (v : List ℕ). P v columns) whole carries)
 
 pub returns-clause-bounded : goal.returns-clause-bounded

@@ -1,6 +1,21 @@
-use Rattle.std.proofs.Common.{◌≡◌, ◌<◌, ◌/◌, ◌%◌, ◌∙◌, ap, arith}
+use Rattle.std.proofs.Common.{ℕ, rules, ◌≡◌, ◌<◌, ◌/◌, ◌%◌, ◌∙◌, ap, arith, length, get_or, []}
+use Rattle.tm_viterbi.specs.declared.traceback.eight_bits.TheConstants.{EIGHT_BITS}
 use Rattle.tm_viterbi.proofs.StepsBack.{eight_bits, row_is, eight_walked, eight_start}
 use Rattle.tm_viterbi.proofs.traceback.trace_eight.Goals as goal
+
+-- a row has eight octets
+row_long : (number : ℕ) → number < 256 → length (get_or EIGHT_BITS number []) ≡ 8
+row_long number lt = ap length (row_is number lt)
+
+pub slice_bounds-copy_from_slice-end : goal.slice_bounds-copy_from_slice-end
+slice_bounds-copy_from_slice-end c =
+    let long = row_long (c.eight_steps_back-walked.result / 64 % 256) (omega arith) in
+    search rules
+
+pub copy_from_slice-requires : goal.copy_from_slice-requires
+copy_from_slice-requires c =
+    let long = row_long (c.eight_steps_back-walked.result / 64 % 256) (omega arith) in
+    omega (arith, c.requires.room)
 
 pub returns-clause-bits : goal.returns-clause-bits
 returns-clause-bits c =
