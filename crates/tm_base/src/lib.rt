@@ -16,6 +16,3 @@ pub use memory::{MemSink, MemSource};
 pub use outside::{Failed, NoMemory, Sink, Source, put_all};
 pub use standard::{StdSink, StdSource};
 pub use sure::{SureSink, SureSource};
-
-#[cfg(test)]
-mod tests;

@@ -1,6 +1,9 @@
-// Each public function once, and the fakes' faults.
-use crate::*;
+// Each public function of tm_base once, and the fakes' faults.
 use std::test::Fail;
+use tm_base::{
+    BitReader, Failed, MARKER, MemSink, MemSource, Sink, Source, StdSink, StdSource, SureSink,
+    SureSource, marker, put_all,
+};
 
 #[test]
 fn source_cuts_and_fails(rt: HostRuntime) -> Result<(), Fail> {
