@@ -9,6 +9,3 @@ mod dual;
 
 pub use basis::{Basis, basis_laws};
 pub use dual::{from_dual, to_dual};
-
-#[cfg(test)]
-mod worked_values;

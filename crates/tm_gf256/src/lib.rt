@@ -10,6 +10,3 @@ mod tables;
 
 pub use element::{Gf, field_laws};
 pub use polynomial::{derivative_into, eval, mul_into, product_law, see_range};
-
-#[cfg(test)]
-mod worked_values;

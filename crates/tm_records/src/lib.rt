@@ -12,6 +12,3 @@ pub use coding::Coding;
 pub use laws::nearest_records_law;
 pub use records::{BATCH, Records};
 pub use tm_rs_solve::ErasedAnswer;
-
-#[cfg(test)]
-mod tests;

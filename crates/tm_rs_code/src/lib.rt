@@ -15,8 +15,3 @@ pub use laws::{
 pub use params::{BadParams, Params};
 pub use places::{plain_values_at_places, values_at_places};
 pub use words::{count_erased, distance, is_codeword, short_syndromes, syndromes};
-
-#[cfg(test)]
-mod both_forms;
-#[cfg(test)]
-mod tests;

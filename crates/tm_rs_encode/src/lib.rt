@@ -10,6 +10,3 @@ mod rs8;
 
 pub use encode::checks;
 pub use plain::plain_checks;
-
-#[cfg(test)]
-mod tests;

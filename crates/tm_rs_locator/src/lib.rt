@@ -14,6 +14,3 @@ pub use counter::Steps;
 pub use erasing::{locate_erased, solve_erased};
 pub use factors::times_factor;
 pub use solving::{Locator, solve};
-
-#[cfg(test)]
-mod tests;

@@ -13,8 +13,3 @@ mod word;
 pub use answers::{Answer, ErasedAnswer};
 pub use erasing::{decode_erased, plain_decode_erased};
 pub use word::{decode_word, plain_decode_word};
-
-#[cfg(test)]
-mod both_forms;
-#[cfg(test)]
-mod tests;

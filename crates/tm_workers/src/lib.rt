@@ -14,13 +14,11 @@ mod split;
 mod tickets;
 mod words;
 
-pub use batch::{decode_batch, decode_erased_batch};
+pub use batch::{decode_all, decode_batch, decode_erased_batch};
 pub use gate::{Gate, OpenGate};
 pub use outcome::one_outcome_law;
 pub use schedule::schedule_law;
 pub use seats::Seat;
+pub use split::split_evenly;
 pub use tickets::Tickets;
-pub use words::{ErasedWord, Word};
-
-#[cfg(test)]
-mod tests;
+pub use words::{ErasedWord, InPlace, Word};

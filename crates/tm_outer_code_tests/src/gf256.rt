@@ -1,4 +1,5 @@
-use super::*;
+// The field and polynomials over it.
+use tm_gf256::{Gf, derivative_into, eval, field_laws, mul_into, product_law, see_range};
 
 // Powers of alpha, as CCSDS 131.0-B has the field.
 static SOME_POWERS: [(u32, u8); 14] = [

@@ -1,13 +1,13 @@
 // Worked batches. G is the codeword of 33 symbols whose information symbol is 1. They hold whatever memory is refused.
-use crate::batch::decode_all;
-use crate::split::split_evenly;
-use crate::words::InPlace;
-use crate::{ErasedWord, Gate, OpenGate, Word, decode_batch, decode_erased_batch};
 use std::sync::atomic::{AtomicU64, Ordering};
 use std::test::Fail;
 use tm_gf256::Gf;
 use tm_rs_code::Params;
 use tm_rs_solve::{Answer, ErasedAnswer};
+use tm_workers::{
+    ErasedWord, Gate, InPlace, OpenGate, Word, decode_all, decode_batch, decode_erased_batch,
+    split_evenly,
+};
 
 const G: [u8; 33] = [
     0x01, 0x5B, 0x7F, 0x56, 0x10, 0x1E, 0x0D, 0xEB, 0x61, 0xA5, 0x08, 0x2A, 0x36, 0x56, 0xAB, 0x20,

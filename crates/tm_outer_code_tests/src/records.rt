@@ -1,11 +1,11 @@
 // Worked records.
 ghost use Rattle.std.specs.Prelude.{◌≡◌, ◌<◌, ◌≤◌};
 
-use crate::{Coding, ErasedAnswer, Records, nearest_records_law};
 use std::alloc::Global;
 use std::process::Abort;
 use std::test::Fail;
 use tm_dual::Basis;
+use tm_records::{Coding, ErasedAnswer, Records, nearest_records_law};
 use tm_rs_code::Params;
 
 // The codeword of 33 symbols whose information symbol is 1, in the dual basis.

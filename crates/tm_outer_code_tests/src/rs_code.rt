@@ -1,6 +1,9 @@
-// The code against its tabled values.
-use crate::{BadParams, Params, distance, is_codeword, syndromes};
+// The code against its tabled values, and the values by lanes against the plain forms.
 use tm_gf256::Gf;
+use tm_rs_code::{
+    BadParams, Params, count_erased, distance, is_codeword, plain_values_at_places,
+    short_syndromes, syndromes, values_at_places,
+};
 
 // The codeword of the (255,223) code whose one information symbol is 1: the coefficients of the
 // generator polynomial.
@@ -81,4 +84,52 @@ fn syndromes_of_one_symbol(rt: HostRuntime) {
     let params = Params::new(8, 33).unwrap();
     let values = syndromes(&params, &word);
     assert_eq!(rt; (values[0], values[16]), (Gf(0x78), Gf(0)));
+}
+
+fn polynomial() -> [Gf; 33] {
+    let mut poly = [Gf(0); 33];
+    for i in 0..33u8 {
+        poly[i as usize] = Gf(i.wrapping_mul(i).wrapping_mul(73) ^ 0x5A);
+    }
+    poly
+}
+
+#[test]
+fn values(rt: HostRuntime) {
+    let poly = polynomial();
+    for (size, n) in [
+        (0, 255),
+        (1, 255),
+        (17, 255),
+        (33, 255),
+        (33, 256),
+        (17, 33),
+        (9, 1),
+    ] {
+        let lanes = values_at_places(&poly[..size], n);
+        let plain = plain_values_at_places(&poly[..size], n);
+        assert_eq!(rt; lanes[..n], plain[..n], "{size} coefficients, {n} places");
+    }
+}
+
+#[test]
+fn syndromes_of_short_words(rt: HostRuntime) {
+    let poly = polynomial();
+    for e in [16, 8] {
+        let params = Params::new(e, 255).unwrap();
+        for size in [0, 1, 16, 32, 33] {
+            let lanes = short_syndromes(&params, &poly[..size]);
+            assert_eq!(rt;
+                lanes,
+                syndromes(&params, &poly[..size]),
+                "{e}, {size} symbols"
+            );
+        }
+    }
+}
+
+#[test]
+fn erased_places(rt: HostRuntime) {
+    assert_eq!(rt; count_erased(&[]), 0);
+    assert_eq!(rt; count_erased(&[true, false, true, true]), 3);
 }

@@ -1,15 +1,17 @@
 // The decoder against words and answers from outside.
 ghost use Rattle.std.specs.Prelude.{◌≡◌, ◌<◌, ◌≤◌, ◌+◌, ◌*◌, length};
 
-use crate::{Answer, ErasedAnswer, decode_erased, decode_word};
+use crate::digits::{flags_of, number_at};
 use std::marker::Brand;
 use std::process::Abort;
 use std::sync::ledger::{Blank, Ledger};
 use tm_gf256::Gf;
 use tm_rs_code::Params;
 use tm_rs_locator::Steps;
+use tm_rs_solve::{Answer, ErasedAnswer, decode_erased, decode_word};
 use words::WORDS;
 
+mod both_forms;
 mod words;
 
 // A line of the table.
@@ -47,23 +49,6 @@ fn row_of(line: &str) -> Option<Row<'_>> {
     })
 }
 
-fn digit(letter: u8) -> u8
-    ensures { result < 16 }
-{
-    match letter {
-        b'0'..=b'9' => letter - b'0',
-        b'a'..=b'f' => letter - b'a' + 10,
-        _ => 0,
-    }
-}
-
-// The number of two digits at an index of a text.
-fn number_at(text: &[u8], index: usize) -> u8
-    requires { 2 * index + 1 < length text.now }
-{
-    16 * digit(text[2 * index]) + digit(text[2 * index + 1])
-}
-
 // The symbols of a text, and zeros behind them.
 fn symbols_of(text: &[u8]) -> [Gf; 255]
     ensures { length result ≡ 255 }
@@ -73,17 +58,6 @@ fn symbols_of(text: &[u8]) -> [Gf; 255]
         symbols[i] = Gf(number_at(text, i));
     }
     symbols
-}
-
-// A flag at each index that a text names.
-fn flags_of(text: &[u8]) -> [bool; 255]
-    ensures { length result ≡ 255 }
-{
-    let mut flags = [false; 255];
-    for i in 0..text.len() / 2 {
-        flags[usize::from(number_at(text, i)).min(254)] = true;
-    }
-    flags
 }
 
 // The word with the changes of a text.

@@ -1,13 +1,14 @@
 // The locators against values from outside.
 ghost use Rattle.std.specs.Prelude.{◌≡◌, ◌<◌, ◌≤◌, ◌+◌, ◌*◌, length};
 
-use crate::{Locator, Steps, solve, solve_erased};
+use crate::digits::{flags_of, number_at};
 use locators::LOCATORS;
 use std::marker::Brand;
 use std::process::Abort;
 use std::sync::ledger::{Blank, Ledger};
 use tm_gf256::Gf;
 use tm_rs_code::Params;
+use tm_rs_locator::{Locator, Steps, solve, solve_erased};
 
 mod locators;
 
@@ -35,23 +36,6 @@ fn row_of(line: &str) -> Option<Row<'_>> {
     })
 }
 
-fn digit(letter: u8) -> u8
-    ensures { result < 16 }
-{
-    match letter {
-        b'0'..=b'9' => letter - b'0',
-        b'a'..=b'f' => letter - b'a' + 10,
-        _ => 0,
-    }
-}
-
-// The number of two digits at an index of a text.
-fn number_at(text: &[u8], index: usize) -> u8
-    requires { 2 * index + 1 < length text.now }
-{
-    16 * digit(text[2 * index]) + digit(text[2 * index + 1])
-}
-
 // The syndromes of a text. What stands behind them is not looked at.
 fn syndromes_of(text: &[u8]) -> [Gf; 32] {
     let mut syndromes = [Gf(0xA5); 32];
@@ -59,17 +43,6 @@ fn syndromes_of(text: &[u8]) -> [Gf; 32] {
         syndromes[i] = Gf(number_at(text, i));
     }
     syndromes
-}
-
-// A flag at each index that a text names.
-fn flags_of(text: &[u8]) -> [bool; 255]
-    ensures { length result ≡ 255 }
-{
-    let mut flags = [false; 255];
-    for i in 0..text.len() / 2 {
-        flags[usize::from(number_at(text, i)).min(254)] = true;
-    }
-    flags
 }
 
 // The locator whose coefficients a text has, and none where it has none.

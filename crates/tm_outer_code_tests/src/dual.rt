@@ -1,4 +1,5 @@
-use super::*;
+// The dual basis.
+use tm_dual::{Basis, basis_laws, from_dual, to_dual};
 use tm_gf256::Gf;
 
 // Rows of the two matrices of CCSDS 131.0-B: the octet of each bit of an element, and the element of

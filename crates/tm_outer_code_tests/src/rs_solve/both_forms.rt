@@ -1,13 +1,13 @@
 // Both forms of the decoder give the same answer and leave the same word.
 ghost use Rattle.std.specs.Prelude.{◌≡◌, ◌<◌};
 
-use crate::{decode_erased, decode_word, plain_decode_erased, plain_decode_word};
 use std::marker::Brand;
 use std::sync::ledger::{Blank, Ledger};
 use tm_gf256::Gf;
 use tm_rs_code::Params;
 use tm_rs_encode::checks;
 use tm_rs_locator::Steps;
+use tm_rs_solve::{decode_erased, decode_word, plain_decode_erased, plain_decode_word};
 
 // A codeword with so many wrong symbols, the first at `shift` and each seven places on.
 fn word_with(e: u64, shift: usize, wrong: usize) -> [Gf; 255] {

@@ -1,0 +1,22 @@
+//! Tests of the Reed-Solomon code, from its field to the workers that decode batches of its words: a module for each
+//! library. Beside its tests it has no code of its own.
+#![tactic(auto)]
+
+#[cfg(test)]
+mod digits;
+#[cfg(test)]
+mod dual;
+#[cfg(test)]
+mod gf256;
+#[cfg(test)]
+mod records;
+#[cfg(test)]
+mod rs_code;
+#[cfg(test)]
+mod rs_encode;
+#[cfg(test)]
+mod rs_locator;
+#[cfg(test)]
+mod rs_solve;
+#[cfg(test)]
+mod workers;
