@@ -7,8 +7,6 @@ mod config;
 mod error;
 mod ranges;
 mod raw;
-#[cfg(test)]
-mod tests;
 
 pub use config::Config;
 pub use error::ConfigError;

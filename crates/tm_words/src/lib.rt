@@ -7,8 +7,6 @@ mod commands;
 mod job;
 mod options;
 mod read;
-#[cfg(test)]
-mod tests;
 
 pub use job::{HexText, Job, JobKind};
 pub use read::{WordsError, read_words};

@@ -1,0 +1,182 @@
+// Values of the options, accepted and refused.
+use crate::values::{changed, numbers_of};
+use std::alloc::{AllocError, Global};
+use std::process::Abort;
+use std::test::Fail;
+use tm_config::{Config, ConfigError, Raw};
+
+// The values that hold where no option is given, but with no inner code.
+fn plain() -> Raw {
+    let mut raw = Raw::default();
+    raw.inner = 0;
+    raw
+}
+
+// In each row values that differ from the plain ones, and the error.
+static REFUSED: &str = "\
+code=17 depth=6|code\n\
+depth=6|depth\n\
+code=0 depth=2|depth\n\
+depth=2 length=3|length\n\
+depth=8 length=1792|length\n\
+length=0|length\n\
+code=0 length=2041|length\n\
+inner=35 invert=2|inner\n\
+inner=34 invert=2|switch\n\
+invert=2|switch\n\
+randomize=2 basis=2|switch\n\
+basis=2|basis\n\
+tolerance=9 repair=17|tolerance\n\
+repair=17|repair\n\
+code=0 repair=1|repair\n\
+soft=2|soft\n\
+start=2|start\n\
+skip=16|skip\n\
+workers=0|workers\n\
+workers=65 limit=0|workers\n\
+limit=1099511627777|limit\n\
+fly=16 keep=63|fly\n\
+keep=63|keep\n\
+keep=65537 ahead=4097|keep\n\
+ahead=4097|ahead\n\
+phase=2 polarity=2|phase\n\
+polarity=2|polarity\n";
+
+fn check_refused(rt: &impl Abort, alloc: Global) -> Result<(), AllocError> {
+    for row in REFUSED.lines() {
+        let (changes, wanted) = row.split_once('|').expect(rt, "a row");
+        let raw = changed(plain(), changes).expect(rt, "values");
+        match Config::check(&raw) {
+            Ok(_) => assert!(rt; false, "accepted: {row}"),
+            Err(error) => {
+                let text = format!(in alloc; "{error}")?;
+                assert_eq!(rt; text.as_str(), wanted, "at {row}");
+            }
+        }
+    }
+    Ok(())
+}
+
+#[test]
+fn refuses_the_first_value_out_of_range(rt: HostRuntime) -> Result<(), Fail> {
+    assert_eq!(rt; REFUSED.lines().count(), 27);
+    check_refused(&rt, rt.alloc())?;
+    Ok(())
+}
+
+#[test]
+fn takes_each_inner_code(rt: HostRuntime) {
+    for inner in 0..=100 {
+        let raw = Raw { inner, ..plain() };
+        let is_listed = [0, 12, 23, 34, 56, 78].contains(&inner);
+        match Config::check(&raw) {
+            Ok(config) => {
+                assert!(rt; is_listed, "accepted: {inner}");
+                assert_eq!(rt; config.inner(), inner);
+            }
+            Err(error) => {
+                assert!(rt; !is_listed, "refused: {inner}");
+                assert_eq!(rt; error, ConfigError::Inner);
+            }
+        }
+    }
+}
+
+// In each row values that differ from the plain ones; behind them length, word length and repair as they are then.
+static RESOLVED: &str = "\
+code=16 depth=1|223 255 16\n\
+code=8 depth=4 length=956 repair=3|956 255 3\n\
+code=16 depth=8 repair=0|1784 255 0\n\
+code=8 depth=8|1912 255 8\n\
+code=16 depth=5 length=5|5 33 16\n\
+code=0 depth=1|2040 2040 0\n\
+code=0 depth=1 length=2 repair=0|2 2 0\n";
+
+fn check_resolved(rt: &impl Abort) {
+    for row in RESOLVED.lines() {
+        let (changes, wanted) = row.split_once('|').expect(rt, "a row");
+        let raw = changed(plain(), changes).expect(rt, "values");
+        let numbers = numbers_of(wanted).expect(rt, "numbers");
+        match Config::check(&raw) {
+            Ok(config) => {
+                let found = [config.length(), config.word_length(), config.repair()];
+                assert_eq!(rt; found, numbers, "at {row}");
+            }
+            Err(error) => assert!(rt; false, "{error} at {row}"),
+        }
+    }
+}
+
+#[test]
+fn resolves_what_was_not_given(rt: HostRuntime) {
+    assert_eq!(rt; RESOLVED.lines().count(), 7);
+    check_resolved(&rt);
+}
+
+#[test]
+fn tells_each_value(rt: HostRuntime) {
+    let raw = Raw {
+        code: 8,
+        depth: 2,
+        length: Some(4),
+        inner: 78,
+        invert: Some(0),
+        randomize: 0,
+        basis: 1,
+        tolerance: 8,
+        repair: Some(7),
+        soft: 1,
+        start: 1,
+        skip: 15,
+        workers: 64,
+        limit: 1_099_511_627_776,
+        fly: 15,
+        keep: 65_536,
+        ahead: 4096,
+        phase: 1,
+        polarity: 1,
+    };
+    match Config::check(&raw) {
+        Ok(config) => {
+            assert_eq!(rt;
+                [
+                    config.code(),
+                    config.depth(),
+                    config.length(),
+                    config.inner()
+                ],
+                [8, 2, 4, 78]
+            );
+            assert_eq!(rt; config.invert(), Some(0));
+            assert_eq!(rt;
+                [
+                    config.randomize(),
+                    config.basis(),
+                    config.tolerance(),
+                    config.repair()
+                ],
+                [0, 1, 8, 7]
+            );
+            assert_eq!(rt;
+                [
+                    config.soft(),
+                    config.start(),
+                    config.skip(),
+                    config.workers()
+                ],
+                [1, 1, 15, 64]
+            );
+            assert_eq!(rt; [config.limit(), config.fly()], [1_099_511_627_776, 15]);
+            assert_eq!(rt;
+                [
+                    config.keep(),
+                    config.ahead(),
+                    config.phase(),
+                    config.polarity()
+                ],
+                [65_536, 4096, 1, 1]
+            );
+        }
+        Err(error) => assert!(rt; false, "{error}"),
+    }
+}
