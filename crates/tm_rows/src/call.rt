@@ -7,9 +7,9 @@ use std::thread::Threads;
 use tm_base::{MemSink, MemSource};
 use tm_cli::run;
 
-/// What came of a call.
+// What came of a call.
 #[derive(Drop)]
-pub struct Outcome {
+struct Outcome {
     status: u8,
     reads: u64,
     out: MemSink,
