@@ -24,7 +24,7 @@ use std::alloc::Global;
 use std::thread::Threads;
 use tm_base::{Failed, NoMemory, Sink, Source};
 use tm_channel::{Config, basis_of};
-use tm_records::{Coding, ErasedAnswer, Records};
+use tm_records::{Coding, ErasedAnswer, OpenGate, Records};
 use tm_rs_code::Params;
 
 // The most symbols of a codeword.
@@ -103,7 +103,7 @@ fn tell_batch<R: Threads + Sync, O: Sink>(
     ensures err { OnErr result (WroteFront (O.taken out.old) (O.taken out.new) (nearest_lines records.old.coding.basis records.new.nearest)) }
     ensures cause { HasCause (O.faults out.old) (O.faults out.new) (O.is_last out.new) result }
 {
-    records.decode(rt);
+    records.decode(rt, &OpenGate);
     tell_records(records, out)
 }
 

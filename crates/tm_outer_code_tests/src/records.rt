@@ -5,7 +5,7 @@ use std::alloc::Global;
 use std::process::Abort;
 use std::test::Fail;
 use tm_dual::Basis;
-use tm_records::{Coding, ErasedAnswer, Records, nearest_records_law};
+use tm_records::{Coding, ErasedAnswer, OpenGate, Records, nearest_records_law};
 use tm_rs_code::Params;
 
 // The codeword of 33 symbols whose information symbol is 1, in the dual basis.
@@ -50,7 +50,7 @@ fn erased_symbols_are_filled_in(rt: HostRuntime) -> Result<(), Fail> {
     assert_eq!(rt; records.take(&record_of(17, 1)), 66);
     assert_eq!(rt; records.take(&piece[..65]), 65);
     assert!(rt; !records.is_full());
-    records.decode(&rt);
+    records.decode(&rt, &OpenGate);
     assert_eq!(rt; records.count(), 3);
     assert_eq!(rt; records.left_over(), 65);
     for (index, answer) in [ErasedAnswer::Fixed(0, 32), ErasedAnswer::Fixed(15, 2)]
@@ -78,7 +78,7 @@ fn a_batch_has_256_records(rt: HostRuntime) -> Result<(), Fail> {
     assert_eq!(rt; records.take(&piece), 256 * 66);
     assert!(rt; records.is_full());
     assert_eq!(rt; records.take(&piece), 0);
-    records.decode(&rt);
+    records.decode(&rt, &OpenGate);
     assert_eq!(rt; records.count(), 256);
     let mut octets = [0; 33];
     for index in 0..256 {

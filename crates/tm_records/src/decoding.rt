@@ -8,7 +8,7 @@ ghost use Rattle.tm_records.specs.Records.{AreFirstNearest, record_size};
 use crate::coding::Coding;
 use std::alloc::Global;
 use std::thread::Threads;
-use tm_workers::{ErasedWord, OpenGate, decode_erased_batch};
+use tm_workers::{ErasedWord, Gate, decode_erased_batch};
 
 // Reads which symbols are erased.
 fn read_flags(flags: &[u8], erased: &mut [bool])
@@ -47,9 +47,10 @@ fn read_records(coding: &Coding, octets: &[u8], words: &mut [ErasedWord])
     }
 }
 
-/// Decodes the first `count` records, each in the word of its number, by so many workers.
-pub fn decode_records<R: Threads + Sync>(
+/// Decodes the first `count` records, each in the word of its number, by so many workers, which pass the gate.
+pub fn decode_records<R: Threads + Sync, G: Gate + Sync>(
     rt: &R,
+    gate: &G,
     alloc: Global,
     coding: &Coding,
     workers: u8,
@@ -74,6 +75,6 @@ pub fn decode_records<R: Threads + Sync>(
         coding.repair,
         words,
         workers,
-        &OpenGate,
+        gate,
     );
 }

@@ -12,3 +12,4 @@ pub use coding::Coding;
 pub use laws::nearest_records_law;
 pub use records::{BATCH, Records};
 pub use tm_rs_solve::ErasedAnswer;
+pub use tm_workers::{Gate, OpenGate};

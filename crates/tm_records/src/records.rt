@@ -13,7 +13,7 @@ use std::thread::Threads;
 use tm_base::NoMemory;
 use tm_gf256::Gf;
 use tm_rs_solve::ErasedAnswer;
-use tm_workers::ErasedWord;
+use tm_workers::{ErasedWord, Gate};
 
 /// How many records a batch has.
 pub const BATCH: usize = 256;
@@ -116,8 +116,8 @@ impl Records {
         self.taken == self.octets.len()
     }
 
-    /// Decodes the records of the batch that are whole.
-    pub fn decode<R: Threads + Sync>(&mut self, rt: &R)
+    /// Decodes the records of the batch that are whole. Before a worker decodes the record of number i it calls `gate.enter(i)`.
+    pub fn decode<R: Threads + Sync, G: Gate + Sync>(&mut self, rt: &R, gate: &G)
         ensures nearest { AreNearest self.old.coding self.old.octets self.new.nearest }
         ensures octets { self.new.octets ≡ self.old.octets }
         ensures coding { self.new.coding ≡ self.old.coding }
@@ -125,6 +125,7 @@ impl Records {
         let count = self.taken / self.size;
         decode_records(
             rt,
+            gate,
             self.alloc,
             &self.coding,
             self.workers,
