@@ -9,9 +9,9 @@ use tm_rs_code::Params;
 use tm_rs_solve::{Answer, ErasedAnswer};
 use tm_workers::{ErasedWord, Gate, Word, decode_batch, decode_erased_batch};
 
-const TURNS: u64 = 1_000_000_000;
+pub const TURNS: u64 = 1_000_000_000;
 
-const ZEROS: Word = Word {
+pub const ZEROS: Word = Word {
     symbols: [Gf(0); 255],
     answer: None,
 };
@@ -24,11 +24,11 @@ const ERASED_ZEROS: ErasedWord = ErasedWord {
 
 // Holds the worker of one number until so many others have entered, and notes whether they ended it.
 #[derive(Drop)]
-struct Holding {
+pub struct Holding {
     number: u32,
     others: u64,
     entered: AtomicU64,
-    freed: AtomicU64,
+    pub freed: AtomicU64,
 }
 
 impl Gate for Holding {
@@ -46,7 +46,7 @@ impl Gate for Holding {
     }
 }
 
-fn gate_that_holds(number: u32, others: u64) -> Holding {
+pub fn gate_that_holds(number: u32, others: u64) -> Holding {
     Holding {
         number,
         others,

@@ -8,3 +8,5 @@
 mod draws;
 #[cfg(test)]
 mod gates;
+#[cfg(test)]
+mod shares;
