@@ -52,6 +52,14 @@ columns-push rate invert starts t steps octets column columns are is = record {
       ];
 }
 
+-- columns behind one more than the others
+columns-behind : (rate : Rate) (invert : Bool) (starts : Option ℕ) (t steps more : ℕ) (octets : List ℕ) (columns : List (List ℕ)) (column : List ℕ) (rest : List (List ℕ))
+    → AreColumns rate invert starts t (steps + 1 + more) octets ((columns ++ column ∷ []) ++ rest) → AreColumns rate invert starts t (steps + suc more) octets (columns ++ (column ∷ rest))
+columns-behind rate invert starts t steps more octets columns column rest are =
+    let same : steps + 1 + more ≡ steps + suc more = omega arith in
+    subst (λ n. AreColumns rate invert starts t n octets (columns ++ (column ∷ rest))) same
+    (subst (λ v. AreColumns rate invert starts t (steps + 1 + more) octets v) (append_assoc columns (column ∷ []) rest) are)
+
 -- the columns of further steps
 pub columns-more : HasColumn → (rate : Rate) (invert : Bool) (starts : Option ℕ) (t steps more : ℕ) (octets : List ℕ) (columns : List (List ℕ))
     → steps_size rate t (steps + more) ≤ length octets → AreColumns rate invert starts t steps octets columns
@@ -65,8 +73,7 @@ columns-more exists rate invert starts t steps (suc more) octets columns there a
     let next = exists (starts_from starts) rate invert t (steps + 1) (take (steps_size rate t (steps + 1)) octets) (length-take-le (steps_size rate t (steps + 1)) octets inside) in
     let pushed = columns-push rate invert starts t steps octets next.0 columns are next.1 in
     let r = columns-more exists rate invert starts t (steps + 1) more octets (columns ++ next.0 ∷ []) (omega (arith, there, ap (steps_size rate t) same)) pushed in
-    let split : (columns ++ next.0 ∷ []) ++ r.0 ≡ columns ++ (next.0 ∷ r.0) = append_assoc columns (next.0 ∷ []) r.0 in
-    (next.0 ∷ r.0, subst (λ n. AreColumns rate invert starts t n octets (columns ++ (next.0 ∷ r.0))) same (subst (λ v. AreColumns rate invert starts t (steps + 1 + more) octets v) split r.1))
+    (next.0 ∷ r.0, columns-behind rate invert starts t steps more octets columns next.0 r.0 r.1)
 
 -- the columns of all steps, of which the first is given
 columns-from : HasColumn → (rate : Rate) (invert : Bool) (starts : Option ℕ) (t steps : ℕ) (octets column : List ℕ) → steps_size rate t steps ≤ length octets

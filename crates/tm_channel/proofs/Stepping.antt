@@ -141,6 +141,10 @@ next-fits s piece (suc whole) count (suc left) long is under_way lacks within =
 abbrev pub next_octets : ℕ → ℕ → List ℕ → List ℕ
 next_octets done count octets = take ((done + count) - done) (drop done octets)
 
+-- the lesser of two numbers, or one
+pub count-of : (count lesser whole left : ℕ) → count ≡ max lesser 1 → lesser ≡ min whole left → count ≡ max (min whole left) 1
+count-of count lesser whole left is of = is ∙ ap (λ n. max n 1) of
+
 pub count-next : (octets : List ℕ) (done count whole : ℕ) → done < length octets → count ≡ max (min whole (length octets - done)) 1
     → (length (next_octets done count octets) ≡ count) × (done + count ≤ length octets)
 count-next octets done count whole some is =

@@ -17,6 +17,10 @@ use Rattle.tm_cli.specs.Ending.{Ends, WroteEarly}
 use Rattle.tm_cli.specs.declared.ending.Ending.{Ending}
 use Rattle.tm_cli.specs.declared.ending.Ending.TheVariants.{Done, Bad, BadWindow, LeftOver, SourceFault, SinkFault, PastLimit}
 
+-- what was written, in other words
+pub wrote-as : (taken taken_now : Option (List ℕ)) (octets other : List ℕ) → octets ≡ other → Wrote taken taken_now octets → Wrote taken taken_now other
+wrote-as taken taken_now octets other is wrote = subst (Wrote taken taken_now) is wrote
+
 -- nothing was written
 pub wrote-nothing : (known : Option (List ℕ)) → Wrote known known []
 wrote-nothing known = sym (append_known-nil known)

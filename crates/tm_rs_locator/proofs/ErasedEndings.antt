@@ -107,16 +107,10 @@ none_by_erased e fs s t cs l short comb h len most ne w p = ne (avoids e fs s t 
 
 -- ---- some
 
-pub some_erased : (e : ℕ) (fs : List Bool) (s t : ℕ → ℕ) (cs : List Gf) (l : ℕ) → length fs ≤ 255 → count_erased fs ≤ 2 * e → AreModified e fs s t
-    → IsShortest (2 * e - count_erased fs) t (entry cs) l → length cs ≡ 17 → e ≤ 16
-    → ((k : ℕ) → s k < 256) → ((k : ℕ) → t k < 256)
-    → length (roots_below (numbers (take (l + 1) cs)) (length fs)) ≡ l → AvoidsErased (numbers (take (l + 1) cs)) fs → LocatesErased e fs s cs l
-some_erased e fs s t cs l short few comb h len most sl tl counted avoid =
-    let found = exists_at_end e (2 * e - count_erased fs) (length fs) t cs l h short len (omega arith) tl counted in
-    let v : List ℕ = found.0 in
-    let ex : Explains e (2 * e - count_erased fs) (length fs) t v = found.1 in
-    let is : IsLocatorOf cs l v = located_at_end e (2 * e - count_erased fs) (length fs) t cs l h short len (omega arith) v ex in
-    let zeros : ZeroInside fs v = zero_inside fs v ex.size (λ i lt f.
+-- a pattern of the modified syndromes, with its locator, whose roots avoid the erased places, has no symbol at these
+without_erased : (e : ℕ) (fs : List Bool) (t : ℕ → ℕ) (cs : List Gf) (l : ℕ) (v : List ℕ) → length fs ≤ 255
+    → Explains e (2 * e - count_erased fs) (length fs) t v → IsLocatorOf cs l v → AvoidsErased (numbers (take (l + 1) cs)) fs → ZeroInside fs v
+without_erased e fs t cs l v short ex is avoid = zero_inside fs v ex.size (λ i lt f.
     let at : length v - 1 - i ≡ length fs - 1 - i = ap (λ (n : ℕ). n - 1 - i) ex.size in
     elim (cases_eq (get_or v i 0) 0) [
       | inl z ↦ z
@@ -124,15 +118,28 @@ some_erased e fs s t cs l short few comb h len most sl tl counted avoid =
           (ap (λ (ys : List ℕ). value_at ys (place_of (length fs - 1 - i))) is.product
           ∙ symbol_has_root v (length fs - 1 - i) (omega (arith, ex.size)) (omega arith)
           (λ z. ne (sym (symbol-index v i (omega (arith, ex.size))) ∙ ap (symbol_at v) at ∙ z))))
-    ]) in
-    let full : Found e fs s v = erased_exists e fs s t sl v short few comb ex zeros in (
-      full.word,
-      full.pattern,
-      record {
-        room = is.room;
-        elements = is.elements;
-        places = is.places ∙ sym full.places;
-        product = is.product ∙ sym full.locator;
-        beyond = is.beyond;
-      },
-    )
+    ])
+
+-- the locator of the modified syndromes' pattern locates the wrong symbols outside of the erased places
+locates_of : (e : ℕ) (fs : List Bool) (s : ℕ → ℕ) (cs : List Gf) (l : ℕ) (v : List ℕ) → IsLocatorOf cs l v → Found e fs s v → LocatesErased e fs s cs l
+locates_of e fs s cs l v is full = (
+  full.word,
+  full.pattern,
+  record {
+    room = is.room;
+    elements = is.elements;
+    places = is.places ∙ sym full.places;
+    product = is.product ∙ sym full.locator;
+    beyond = is.beyond;
+  },
+)
+
+pub some_erased : (e : ℕ) (fs : List Bool) (s t : ℕ → ℕ) (cs : List Gf) (l : ℕ) → length fs ≤ 255 → count_erased fs ≤ 2 * e → AreModified e fs s t
+    → IsShortest (2 * e - count_erased fs) t (entry cs) l → length cs ≡ 17 → e ≤ 16
+    → ((k : ℕ) → s k < 256) → ((k : ℕ) → t k < 256)
+    → length (roots_below (numbers (take (l + 1) cs)) (length fs)) ≡ l → AvoidsErased (numbers (take (l + 1) cs)) fs → LocatesErased e fs s cs l
+some_erased e fs s t cs l short few comb h len most sl tl counted avoid =
+    let found = exists_at_end e (2 * e - count_erased fs) (length fs) t cs l h short len (omega arith) tl counted in
+    let is = located_at_end e (2 * e - count_erased fs) (length fs) t cs l h short len (omega arith) found.0 found.1 in
+    locates_of e fs s cs l found.0 is
+    (erased_exists e fs s t sl found.0 short few comb found.1 (without_erased e fs t cs l found.0 short found.1 is avoid))

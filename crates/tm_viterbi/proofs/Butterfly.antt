@@ -54,6 +54,14 @@ high_ways sums costs even odd near far h s i lt e =
           ∙ omega (arith, h.odds.each i lt, h.nears.each i lt);
     }
 
+-- the lesser of two ways, and which of them it is, where both are written otherwise
+least_of : (first second one other : ℕ) → first ≡ one → second ≡ other → min one other ≡ min first second
+least_of first second one other f s = ap (λ v. min v other) (sym f) ∙ ap (λ v. min first v) (sym s)
+
+survivor_of : (first second one other : ℕ) → first ≡ one → second ≡ other
+    → ◌≡◌ {A = ℕ} (cond (ltb other one) 1 0) (cond (ltb second first) 1 0)
+survivor_of first second one other f s = ap (λ v. cond (ltb v one) 1 0) (sym s) ∙ ap (λ v. cond (ltb second v) 1 0) (sym f)
+
 pub IsNextSums-from_lanes : (sums costs even odd near far low high : List ℕ) → AreLanes sums costs even odd near far
     → IsEach low (λ i. min (get_or even i 0 + get_or near i 0) (get_or odd i 0 + get_or far i 0))
     → IsEach high (λ i. min (get_or even i 0 + get_or far i 0) (get_or odd i 0 + get_or near i 0))
@@ -62,14 +70,12 @@ IsNextSums-from_lanes sums costs even odd near far low high h lows highs s lt =
     elim (cases_lt s 32) [
       | inl l ↦ (let w = low_ways sums costs even odd near far h s l in
           get_or_append_left low high 0 s (omega (arith, lows.long)) ∙ lows.each s l
-          ∙ ap (λ v. min v (get_or odd s 0 + get_or far s 0)) (sym w.first)
-          ∙ ap (λ v. min (first_way sums costs s) v) (sym w.second))
+          ∙ least_of (first_way sums costs s) (second_way sums costs s) _ _ w.first w.second)
       | inr g ↦ (let i = s - 32 in
           let il : i < 32 = omega arith in
           let w = high_ways sums costs even odd near far h s i il (omega arith) in
           get_or-append_right low high 32 s 0 lows.long g ∙ highs.each i il
-          ∙ ap (λ v. min v (get_or odd i 0 + get_or near i 0)) (sym w.first)
-          ∙ ap (λ v. min (first_way sums costs s) v) (sym w.second))
+          ∙ least_of (first_way sums costs s) (second_way sums costs s) _ _ w.first w.second)
     ]
 
 pub AreSurvivors-from_lanes : (sums costs even odd near far : List ℕ) (low high : ℕ)
@@ -87,14 +93,12 @@ AreSurvivors-from_lanes sums costs even odd near far low high h lows highs ll hl
     (ltb (second_way sums costs s) (first_way sums costs s)) 1 0) [
       | inl l ↦ (let w = low_ways sums costs even odd near far h s l in
           bit_at_cat_low high 32 low s l ∙ lows s l
-          ∙ ap (λ v. cond (ltb v (get_or even s 0 + get_or near s 0)) 1 0) (sym w.second)
-          ∙ ap (λ v. cond (ltb (second_way sums costs s) v) 1 0) (sym w.first))
+          ∙ survivor_of (first_way sums costs s) (second_way sums costs s) _ _ w.first w.second)
       | inr g ↦ (let i = s - 32 in
           let il : i < 32 = omega arith in
           let w = high_ways sums costs even odd near far h s i il (omega arith) in
           bit_at_cat_high high 32 low s ll g ∙ highs i il
-          ∙ ap (λ v. cond (ltb v (get_or even i 0 + get_or far i 0)) 1 0) (sym w.second)
-          ∙ ap (λ v. cond (ltb (second_way sums costs s) v) 1 0) (sym w.first))
+          ∙ survivor_of (first_way sums costs s) (second_way sums costs s) _ _ w.first w.second)
     ]
 
 -- the same of the sums themselves

@@ -126,9 +126,38 @@ same_eight n a b c d e f g h ea eb ec ed ee ef eg eh =
     let ih : h ≡ n / 64 % 256 % 2 = omega arith in
     (λ i. ia i ∷ ib i ∷ ic i ∷ id i ∷ ie i ∷ i_f i ∷ ig i ∷ ih i ∷ [])
 
-past_cons : (c h : ℕ) (columns : List ℕ)
-    → past_of (c ∷ columns) (h % 64) ≡ (h % 64 / 32) ∷ past_of columns ((2 * h + c / 2 ^ (h % 64) % 2) % 64)
-past_cons c h columns = ap (λ v. (h % 64 / 32) ∷ past_of columns v) (step_is c h)
+past_cons : (c h next : ℕ) (columns : List ℕ) → next ≡ 2 * h + c / 2 ^ (h % 64) % 2
+    → past_of (c ∷ columns) (h % 64) ≡ (h % 64 / 32) ∷ past_of columns (next % 64)
+past_cons c h next columns is =
+    subst (λ n. past_of (c ∷ columns) (h % 64) ≡ (h % 64 / 32) ∷ past_of columns (n % 64)) (sym is)
+    (ap (λ v. (h % 64 / 32) ∷ past_of columns v) (step_is c h))
+
+-- the bits that eight steps back find, by the numbers of the registers on the way
+past_eight : (a b c d e f g i h h1 h2 h3 h4 h5 h6 h7 n : ℕ) → h1 ≡ 2 * h + a / 2 ^ (h % 64) % 2 → h2 ≡ 2 * h1 + b / 2 ^ (h1 % 64) % 2
+    → h3 ≡ 2 * h2 + c / 2 ^ (h2 % 64) % 2 → h4 ≡ 2 * h3 + d / 2 ^ (h3 % 64) % 2 → h5 ≡ 2 * h4 + e / 2 ^ (h4 % 64) % 2
+    → h6 ≡ 2 * h5 + f / 2 ^ (h5 % 64) % 2 → h7 ≡ 2 * h6 + g / 2 ^ (h6 % 64) % 2 → n ≡ 2 * h7 + i / 2 ^ (h7 % 64) % 2
+    → past_of (a ∷ b ∷ c ∷ d ∷ e ∷ f ∷ g ∷ i ∷ []) (h % 64)
+    ≡ (h % 64 / 32) ∷ (h1 % 64 / 32) ∷ (h2 % 64 / 32) ∷ (h3 % 64 / 32)
+    ∷ (h4 % 64 / 32) ∷ (h5 % 64 / 32) ∷ (h6 % 64 / 32) ∷ (h7 % 64 / 32) ∷ []
+past_eight a b c d e f g i h h1 h2 h3 h4 h5 h6 h7 n s1 s2 s3 s4 s5 s6 s7 s8 =
+    past_cons a h h1 (b ∷ c ∷ d ∷ e ∷ f ∷ g ∷ i ∷ []) s1
+    ∙ ap (λ v. (h % 64 / 32) ∷ v) (past_cons b h1 h2 (c ∷ d ∷ e ∷ f ∷ g ∷ i ∷ []) s2
+    ∙ ap (λ v. (h1 % 64 / 32) ∷ v) (past_cons c h2 h3 (d ∷ e ∷ f ∷ g ∷ i ∷ []) s3
+    ∙ ap (λ v. (h2 % 64 / 32) ∷ v) (past_cons d h3 h4 (e ∷ f ∷ g ∷ i ∷ []) s4
+    ∙ ap (λ v. (h3 % 64 / 32) ∷ v) (past_cons e h4 h5 (f ∷ g ∷ i ∷ []) s5
+    ∙ ap (λ v. (h4 % 64 / 32) ∷ v) (past_cons f h5 h6 (g ∷ i ∷ []) s6
+    ∙ ap (λ v. (h5 % 64 / 32) ∷ v) (past_cons g h6 h7 (i ∷ []) s7
+    ∙ ap (λ v. (h6 % 64 / 32) ∷ v) (past_cons i h7 n [] s8)))))))
+
+found_eight : (bits : List ℕ) (n h h1 h2 h3 h4 h5 h6 h7 : ℕ)
+    → bits ≡ (h % 64 / 32) ∷ (h1 % 64 / 32) ∷ (h2 % 64 / 32) ∷ (h3 % 64 / 32)
+    ∷ (h4 % 64 / 32) ∷ (h5 % 64 / 32) ∷ (h6 % 64 / 32) ∷ (h7 % 64 / 32) ∷ []
+    → h % 64 / 32 ≡ n / 8192 % 2 → h1 % 64 / 32 ≡ n / 4096 % 2 → h2 % 64 / 32 ≡ n / 2048 % 2 → h3 % 64 / 32 ≡ n / 1024 % 2
+    → h4 % 64 / 32 ≡ n / 512 % 2 → h5 % 64 / 32 ≡ n / 256 % 2 → h6 % 64 / 32 ≡ n / 128 % 2 → h7 % 64 / 32 ≡ n / 64 % 2
+    → bits ≡ reverse (eight_bits (n / 64 % 256))
+found_eight bits n h h1 h2 h3 h4 h5 h6 h7 is e0 e1 e2 e3 e4 e5 e6 e7 =
+    is ∙ same_eight n (h % 64 / 32) (h1 % 64 / 32) (h2 % 64 / 32) (h3 % 64 / 32) (h4 % 64 / 32) (h5 % 64 / 32) (h6 % 64 / 32) (h7 % 64 / 32)
+    e0 e1 e2 e3 e4 e5 e6 e7
 
 eight_past : (a b c d e f g i h : ℕ)
     → past_of (a ∷ b ∷ c ∷ d ∷ e ∷ f ∷ g ∷ i ∷ []) (h % 64) ≡ reverse
@@ -144,17 +173,7 @@ eight_past a b c d e f g i h =
     let h6 = on f h5 in
     let h7 = on g h6 in
     let n = on i h7 in
-    let whole : past_of (a ∷ b ∷ c ∷ d ∷ e ∷ f ∷ g ∷ i ∷ []) (h % 64)
-    ≡ (h % 64 / 32) ∷ (h1 % 64 / 32) ∷ (h2 % 64 / 32) ∷ (h3 % 64 / 32)
-    ∷ (h4 % 64 / 32) ∷ (h5 % 64 / 32) ∷ (h6 % 64 / 32) ∷ (h7 % 64 / 32) ∷ [] =
-    past_cons a h (b ∷ c ∷ d ∷ e ∷ f ∷ g ∷ i ∷ [])
-    ∙ ap (λ v. (h % 64 / 32) ∷ v) (past_cons b h1 (c ∷ d ∷ e ∷ f ∷ g ∷ i ∷ [])
-    ∙ ap (λ v. (h1 % 64 / 32) ∷ v) (past_cons c h2 (d ∷ e ∷ f ∷ g ∷ i ∷ [])
-    ∙ ap (λ v. (h2 % 64 / 32) ∷ v) (past_cons d h3 (e ∷ f ∷ g ∷ i ∷ [])
-    ∙ ap (λ v. (h3 % 64 / 32) ∷ v) (past_cons e h4 (f ∷ g ∷ i ∷ [])
-    ∙ ap (λ v. (h4 % 64 / 32) ∷ v) (past_cons f h5 (g ∷ i ∷ [])
-    ∙ ap (λ v. (h5 % 64 / 32) ∷ v) (past_cons g h6 (i ∷ [])
-    ∙ ap (λ v. (h6 % 64 / 32) ∷ v) (past_cons i h7 []))))))) in
+    let whole = past_eight a b c d e f g i h h1 h2 h3 h4 h5 h6 h7 n refl refl refl refl refl refl refl refl in
     let e0 = at_size_256 n h (is_in (a ∷ b ∷ c ∷ d ∷ e ∷ f ∷ g ∷ i ∷ []) h) in
     let e1 = at_size_128 n h1 (is_in (b ∷ c ∷ d ∷ e ∷ f ∷ g ∷ i ∷ []) h1) in
     let e2 = at_size_64 n h2 (is_in (c ∷ d ∷ e ∷ f ∷ g ∷ i ∷ []) h2) in
@@ -163,7 +182,7 @@ eight_past a b c d e f g i h =
     let e5 = at_size_8 n h5 (is_in (f ∷ g ∷ i ∷ []) h5) in
     let e6 = at_size_4 n h6 (is_in (g ∷ i ∷ []) h6) in
     let e7 = at_size_2 n h7 (is_in (i ∷ []) h7) in
-    whole ∙ same_eight n _ _ _ _ _ _ _ _ e0 e1 e2 e3 e4 e5 e6 e7
+    found_eight (past_of (a ∷ b ∷ c ∷ d ∷ e ∷ f ∷ g ∷ i ∷ []) (h % 64)) n h h1 h2 h3 h4 h5 h6 h7 whole e0 e1 e2 e3 e4 e5 e6 e7
 
 eight : (P : List ℕ → Type 0) (columns : List ℕ) → length columns ≡ 8
     → ((a b c d e f g h : ℕ) → P (a ∷ b ∷ c ∷ d ∷ e ∷ f ∷ g ∷ h ∷ [])) → P columns

@@ -1,5 +1,5 @@
 -- What workers bring that draw, and what it becomes when it is put in its places.
-use Rattle.std.proofs.Common.{◌≡◌, ℕ, zero, suc, ◌+◌, ◌<◌, ◌==◌, cond, Bool, true, false, List, [], ◌∷◌, ◌++◌, length, get_or, set, refl, sym, ap, ◌∙◌, subst, arith, length-set, ◌⊎◌, ⊎_elim, inl, inr, ◌≢◌, All, take, append_assoc, Vec, Global}
+use Rattle.std.proofs.Common.{◌≡◌, ℕ, zero, suc, ◌+◌, ◌<◌, ◌==◌, cond, Bool, true, false, List, [], ◌∷◌, ◌++◌, length, get_or, set, refl, sym, ap, ◌∙◌, subst, arith, length-append, length-set, ◌⊎◌, ⊎_elim, inl, inr, ◌≢◌, All, take, append_assoc, Vec, Global}
 use Rattle.std.proofs.lemmas.Bool.Decides.{nat_tests}
 use Rattle.std.proofs.lemmas.List.{take_more, append-nil}
 use mathlib.Core.Option.{some, some-injective, some-ne-none}
@@ -8,7 +8,7 @@ use Rattle.atomic_table.proofs.Lists.{at_set}
 use Rattle.tm_workers.proofs.Sums.{Tested, hit, miss, tested}
 use Rattle.tm_workers.specs.Batch.{EachBecomes}
 use Rattle.tm_workers.specs.Numbers.{times, once_below}
-use Rattle.tm_workers.specs.Working.{AreResults, AllResults, AreRooms, numbers_of, all_numbers, all_drawn, put_all}
+use Rattle.tm_workers.specs.Working.{AreResults, AllResults, AreRooms, IsRoom, numbers_of, all_numbers, all_drawn, put_all}
 use Rattle.tm_workers.specs.declared.draws.Drawn.{Drawn}
 
 pub got : {A : Type 0} (l : List A) (i : ℕ) (d a : A) → get_elem? l i ≡ some a → get_or l i d ≡ a
@@ -47,9 +47,20 @@ module _ {X : Type 0} where
   all_drawn-append [] b = refl
   all_drawn-append (x ∷ a) b = ap (λ l. x.items ++ l) (all_drawn-append a b) ∙ sym (append_assoc x.items (all_drawn a) (all_drawn b))
 
+  pub all_numbers-join : (all one other : List ℕ) (front back : List (Vec (Drawn X) Global)) → all ≡ one ++ other → one ≡ all_numbers front
+      → other ≡ all_numbers back → all ≡ all_numbers (front ++ back)
+  all_numbers-join all one other front back is f b = is ∙ (λ i. f i ++ b i) ∙ sym (all_numbers-append front back)
+
   pub AreRooms-append : (n : ℕ) (a b : List (Vec (Drawn X) Global)) → AreRooms n a → AreRooms n b → AreRooms n (a ++ b)
   AreRooms-append n [] b h k = k
   AreRooms-append n (x ∷ a) b h k = (h.0, AreRooms-append n a b h.1 k)
+
+  pub length-push : (all rooms : List (Vec (Drawn X) Global)) (room : Vec (Drawn X) Global) → all ≡ rooms ++ room ∷ [] → length all ≡ length rooms + 1
+  length-push all rooms room is = omega (arith, ap length is, length-append rooms (room ∷ []))
+
+  pub AreRooms-push : (n : ℕ) (all rooms : List (Vec (Drawn X) Global)) (room : Vec (Drawn X) Global) → all ≡ rooms ++ room ∷ []
+      → AreRooms n rooms → IsRoom n room → AreRooms n all
+  AreRooms-push n all rooms room is those this = subst (AreRooms n) (sym is) (AreRooms-append n rooms (room ∷ []) those (this, tt))
 
   pub AreRooms-parts : (n : ℕ) (all a b : List (Vec (Drawn X) Global)) → all ≡ a ++ b → AreRooms n all → AreRooms n a × AreRooms n b
   AreRooms-parts n all a b e h = go a (subst (AreRooms n) e h)

@@ -1,9 +1,10 @@
 use Rattle.std.proofs.Common.{◌≡◌, inl, inr, subst}
 use Rattle.std.proofs.lemmas.Result.{on_err_weaker}
-use Rattle.tm_base.specs.Written.{Wrote, WroteFront}
+use Rattle.tm_base.specs.Written.{WroteFront}
+use Rattle.tm_cert_file.specs.File.{kept_octets}
 use Rattle.tm_cli.specs.Checking.{window_of}
 use Rattle.tm_cli.specs.Lines.{window_text}
-use Rattle.tm_cli.proofs.Endings.{wrote-nothing}
+use Rattle.tm_cli.proofs.Endings.{wrote-as, wrote-nothing}
 use Rattle.tm_cli.proofs.check.tell_window.Goals as goal
 
 pub returns-in-Ok-clause-err : goal.returns-in-Ok-clause-err
@@ -12,7 +13,8 @@ returns-in-Ok-clause-err g c =
     let text : window_text c.args.number c.steps.result c.kept.result c.metric.result ≡ window_text c.args.number w.steps w.kept w.metric =
     (λ i. window_text c.args.number (c.steps.ensures i) (c.kept.ensures i) (c.metric.ensures i)) in
     on_err_weaker c.window_line.result (λ line. inr (
-      subst (Wrote (g.O.Sink.taken c.args.out.now) (g.O.Sink.taken c.put_all.new.out)) c.kept_octets.ensures c.in-Ok.ensures.ok,
+      wrote-as (g.O.Sink.taken c.args.out.now) (g.O.Sink.taken c.put_all.new.out) c.kept_octets.result.now
+          (kept_octets c.args.reader.now.rules.rate c.args.reader.now.before.t w) c.kept_octets.ensures c.in-Ok.ensures.ok,
       subst (WroteFront (g.N.Sink.taken c.args.notes.now) (g.N.Sink.taken c.window_line.new.out)) text line,
     )) c.window_line.ensures.err
 

@@ -1,4 +1,4 @@
-use Rattle.std.proofs.Common.{◌≡◌, ◌≤◌, ◌+◌, ◌*◌, ℕ, List, take, arith, subst, sym, ◌∙◌}
+use Rattle.std.proofs.Common.{◌-◌, ◌≡◌, ◌≤◌, ◌+◌, ◌*◌, ℕ, List, take, arith, subst, sym, ◌∙◌}
 use Rattle.tm_gf256.specs.Poly.{entry, numbers}
 use Rattle.tm_gf256.proofs.PolyLemmas.{length-numbers}
 use Rattle.tm_rs_code.specs.Erasures.{count_erased, places_named}
@@ -117,7 +117,10 @@ returns-else-l-repair-clause-cost g c =
 pub returns-else-l-repair-clause-least : goal.returns-else-l-repair-clause-least
 returns-else-l-repair-clause-least g c few =
     let found : List ℕ = numbers (take (c.in-Some.l.degree + 1) c.in-Some.l.coefs) in
-    least_steps c.count_erased.result c.all_places-places.result.degree c.locate_erased.new.steps c.all_places-places.new.steps _
+    let e = c.args.params.now.e in
+    let count = count_erased c.args.erased.now in
+    least_steps c.count_erased.result c.all_places-places.result.degree c.locate_erased.new.steps c.all_places-places.new.steps
+    (2 * c.args.steps.now + count * (count + 1) + 2 * ((2 * e - count) * (count + 1)))
     (omega (arith, c.count_erased.ensures, c.all_places-places.ensures.degree, weight-named found c.args.erased.now)) c.all_places-places.ensures.cost (c.in-Some.ensures.least few)
 
 pub returns-in-None-clause-nearest : goal.returns-in-None-clause-nearest

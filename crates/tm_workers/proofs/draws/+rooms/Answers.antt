@@ -1,6 +1,6 @@
-use Rattle.std.proofs.Common.{rules, ◌∙◌, ◌++◌, sym}
+use Rattle.std.proofs.Common.{rules}
 use Rattle.tm_workers.specs.Seats.{limit_of}
-use Rattle.tm_workers.proofs.Results.{AreRooms-parts, AllResults-append, all_numbers-append}
+use Rattle.tm_workers.proofs.Results.{AreRooms-parts, AllResults-append, all_numbers-join}
 use Rattle.tm_workers.proofs.draws.+rooms.Goals as goal
 
 pub fill_all-fill_both-requires-clause-front : goal.fill_all-fill_both-requires-clause-front
@@ -20,6 +20,6 @@ fill_all-returns-in_default-clause-rooms g t c =
     let both = c.fill_both.ensures in
     let front = c.fill_both.new.front in
     let back = c.fill_both.new.back in (
-      c.join.ensures.numbers ∙ (λ i. both.front.0 i ++ both.back.0 i) ∙ sym (all_numbers-append front back),
+      all_numbers-join _ _ _ front back c.join.ensures.numbers both.front.0 both.back.0,
       AllResults-append _ (limit_of c.args.tickets.now) front back both.front.1 both.back.1,
     )

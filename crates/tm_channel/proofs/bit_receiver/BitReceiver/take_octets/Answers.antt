@@ -1,4 +1,4 @@
-use Rattle.std.proofs.Common.{rules, ◌≡◌, ◌++◌, ◌+◌, ◌-◌, ◌∙◌, ℕ, List, Bool, length, take, drop, sym, ap, arith, subst, max, min}
+use Rattle.std.proofs.Common.{rules, ◌++◌, ◌+◌, ◌-◌, ◌∙◌, ℕ, List, Bool, length, take, drop, sym, arith, subst}
 use Rattle.std.proofs.lemmas.List.{take_all}
 use Rattle.std.proofs.lemmas.Grind.{common_steps}
 use Rattle.tm_base.specs.Bits.{bits_of}
@@ -6,7 +6,7 @@ use Rattle.tm_base.proofs.Handing.{HandedOver-append, HandedPart-after}
 use Rattle.tm_config.specs.Configuration.{Configuration}
 use Rattle.tm_channel.specs.Receiving.{AreDue, AreFirstDue, GoesOn, Stands}
 use Rattle.tm_channel.proofs.Pieces.{goes-then, due-then, first-due-then, first-due-all}
-use Rattle.tm_channel.proofs.Stepping.{Fits, next_octets, next-fits, count-next, next-bits, all-bits}
+use Rattle.tm_channel.proofs.Stepping.{Fits, count-of, next_octets, next-fits, count-next, next-bits, all-bits}
 use Rattle.tm_channel.proofs.bit_receiver.BitReceiver.take_octets.Goals as goal
 
 pub take_piece-requires : goal.take_piece-requires
@@ -14,7 +14,7 @@ take_piece-requires g c =
     let octets = c.args.octets.now in
     let done = c.loop-done.done in
     let left : ℕ = length octets - done in
-    let count : c.max-count.result ≡ max (min c.whole_octets.result left) 1 = c.max-count.ensures ∙ ap (λ n. max n 1) c.min.ensures in
+    let count = count-of c.max-count.result c.min.result c.whole_octets.result left c.max-count.ensures c.min.ensures in
     let long = count-next octets done c.max-count.result c.whole_octets.result c.loop-done-test.true count in
     let fits : Fits c.loop-done.self.search (next_octets done c.max-count.result octets) =
     next-fits c.loop-done.self.search (next_octets done c.max-count.result octets) c.whole_octets.result c.max-count.result left long.0 count c.whole_octets.ensures.under_way c.whole_octets.ensures.lacks
@@ -28,7 +28,7 @@ loop-done-preserved g c =
     let octets = c.args.octets.now in
     let done = c.loop-done.done in
     let count = c.max-count.result in
-    let is : count ≡ max (min c.whole_octets.result (length octets - done)) 1 = c.max-count.ensures ∙ ap (λ n. max n 1) c.min.ensures in
+    let is = count-of count c.min.result c.whole_octets.result (length octets - done) c.max-count.ensures c.min.ensures in
     let long = count-next octets done count c.whole_octets.result c.loop-done-test.true is in
     let piece = bits_of (next_octets done count octets) in
     let b0 = c.args.self.now.batch in

@@ -1,4 +1,5 @@
 use Rattle.std.proofs.Common.{◌≡◌, ◌+◌, ◌-◌, ◌∙◌, ◌^◌, ◌%◌, sym, refl, ap, arith, ℕ}
+use Rattle.tm_sync.specs.Places.{Rules}
 use Rattle.tm_sync.specs.Searching.{Searching, awaited_at, before_last}
 use Rattle.std.specs.Option.{option_map}
 use Rattle.tm_sync.proofs.FirstPlaces.{here}
@@ -23,7 +24,8 @@ returns-then-behind-ge32-clause-stands c = λ s bit bits found few count h.
     let start : c.self.inside.start ≡ c.args.self.now.start = ap (λ (v : Searching). v.start) c.self.view_is in
     let fields : c.self.inside.awaited ≡ s.awaited = ap (λ (v : Searching). v.awaited) c.self.view_is ∙ count.awaited in
     let before_was : c.self.inside.before ≡ s.before = ap (λ (v : Searching). v.before) c.self.view_is ∙ count.before in
-    let rules_were : record { tolerance = c.self.inside.tolerance; fly = c.self.inside.fly; either = c.self.inside.either; block_bits = c.self.inside.block_bits } ≡ s.rules =
+    let rules : Rules = record { tolerance = c.self.inside.tolerance; fly = c.self.inside.fly; either = c.self.inside.either; block_bits = c.self.inside.block_bits } in
+    let rules_were : rules ≡ s.rules =
     ap (λ (v : Searching). v.rules) c.self.view_is ∙ count.rules in
     let before = c.right_before-before.result in
     let behind : (c.self.inside.pushed + (2 ^ 64 - c.self.inside.start)) % 2 ^ 64 ≡ c.self.inside.pushed - c.self.inside.start = omega (arith, there.0, there.1) in
@@ -33,7 +35,8 @@ returns-then-behind-ge32-clause-stands c = λ s bit bits found few count h.
     (sym fields ∙ none_awaited c.self.inside.awaited (sym c.is_some.ensures ∙ c.if-is_some.false))
     (omega (arith, there.0, there.1, c.if-behind-ge32.true)) refl (omega (arith, there.0, there.1, c.if-behind-ge32.true))
     (c.right_before-before.ensures ∙ (λ i. before_last (behind i) (before_was i)))
-    (λ l long is. c.place_of-self-inside.ensures l c.self.inside.block_bits long is ∙ ap (λ r. option_map (awaited_at before) (here r place before l)) rules_were)
+    (λ l long is. ◌∙◌ {b = option_map (awaited_at before) (here rules place before l)} (c.place_of-self-inside.ensures l c.self.inside.block_bits long is)
+    (ap (λ r. option_map (awaited_at before) (here r place before l)) rules_were))
     bits found h
 
 pub returns-else-behind-ge32-clause-stands : goal.returns-else-behind-ge32-clause-stands
