@@ -6,8 +6,8 @@ use Rattle.std.proofs.lemmas.Bool.Decides.{nat_tests}
 use Rattle.tm_config.specs.Configuration.{Configuration, data_length, word_length}
 use Rattle.tm_dual.specs.Octet.{element_of, sent_octet}
 use Rattle.tm_dual.specs.declared.basis.Basis.{Basis}
+use Rattle.tm_dual.proofs.Sixteens.{numbers-take}
 use Rattle.tm_gf256.specs.Poly.{numbers}
-use Rattle.tm_gf256.specs.declared.element.Gf.{Gf}
 use Rattle.tm_interleave.specs.Column.{column}
 use Rattle.tm_interleave.specs.Interleaved.{interleaved}
 use Rattle.tm_interleave.proofs.Columns.{same_columns, column-interleaved, length-interleaved, length-column}
@@ -34,12 +34,6 @@ all-read c codeblock words basis depth size coded by_depth by_size by_basis long
     ap (first_symbols (word_length c)) (sym (take_all depth words (omega arith)))
     ∙ (λ i. first_symbols (sym by_size i) (take depth words)) ∙ read
     ∙ (λ i. map (column_elements (by_basis i) (by_depth i) codeblock) (range_with_len 0 (by_depth i))))
-
--- the data of a word
-numbers-take : (size : ℕ) (xs : List Gf) → numbers (take size xs) ≡ take size (numbers xs)
-numbers-take zero xs = refl
-numbers-take (suc size) [] = refl
-numbers-take (suc size) (x ∷ xs) = ap (λ l. x.0 ∷ l) (numbers-take size xs)
 
 take-less : (few many : ℕ) (xs : List ℕ) → few ≤ many → take few (take many xs) ≡ take few xs
 take-less zero many xs le = refl

@@ -3,3 +3,5 @@ pub mod Runs
 pub mod Entries
 pub mod Inverse
 pub mod Words
+pub mod Halves
+pub mod Sixteens

@@ -1,2 +1,3 @@
 pub mod Dual
 pub mod Octet
+pub mod Halves

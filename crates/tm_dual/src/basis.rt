@@ -2,10 +2,11 @@
 
 ghost use Rattle.std.specs.Prelude.{◌≡◌, ◌<◌, ℕ, length, map};
 ghost use Rattle.tm_gf256.specs.Poly.{numbers};
-ghost use Rattle.tm_dual.specs.Dual.{dual_element, dual_octet};
 ghost use Rattle.tm_dual.specs.Octet.{element_of, sent_octet};
 
 use crate::dual::{from_dual, to_dual};
+use crate::lanes::{all_from_dual, all_to_dual};
+use crate::plain::{all_from_numbers, all_to_numbers};
 use tm_gf256::Gf;
 
 /// The basis in which an element is sent as an octet.
@@ -58,42 +59,6 @@ impl Basis {
             Basis::Dual => all_from_dual(octets, elements),
             Basis::Poly => all_from_numbers(octets, elements),
         }
-    }
-}
-
-fn all_to_dual(elements: &[Gf], octets: &mut [u8])
-    requires { length octets.old ≡ length elements.now }
-    ensures { octets.new ≡ map dual_octet (numbers elements.now) }
-{
-    for i in 0..octets.len() {
-        octets[i] = to_dual(elements[i]);
-    }
-}
-
-fn all_to_numbers(elements: &[Gf], octets: &mut [u8])
-    requires { length octets.old ≡ length elements.now }
-    ensures { octets.new ≡ numbers elements.now }
-{
-    for i in 0..octets.len() {
-        octets[i] = elements[i].0;
-    }
-}
-
-fn all_from_dual(octets: &[u8], elements: &mut [Gf])
-    requires { length elements.old ≡ length octets.now }
-    ensures { numbers elements.new ≡ map dual_element octets.now }
-{
-    for i in 0..elements.len() {
-        elements[i] = from_dual(octets[i]);
-    }
-}
-
-fn all_from_numbers(octets: &[u8], elements: &mut [Gf])
-    requires { length elements.old ≡ length octets.now }
-    ensures { numbers elements.new ≡ octets.now }
-{
-    for i in 0..elements.len() {
-        elements[i] = Gf(octets[i]);
     }
 }
 

@@ -69,3 +69,26 @@ fn whole_words(rt: HostRuntime) {
     Basis::Poly.octets_to_elements(&octets, &mut back);
     assert_eq!(rt; back, elements);
 }
+
+// Words are turned sixteen octets at a time, and the last of them perhaps twice.
+#[test]
+fn words_beside_single_octets(rt: HostRuntime) {
+    for basis in [Basis::Dual, Basis::Poly] {
+        for n in [0, 1, 15, 16, 17, 31, 32, 33, 223, 255] {
+            let mut octets = [0; 255];
+            let mut elements = [Gf(0); 255];
+            for i in 0..255 {
+                octets[i] = (i as u8).wrapping_mul(37);
+            }
+            basis.octets_to_elements(&octets[..n], &mut elements[..n]);
+            for i in 0..n {
+                assert_eq!(rt; elements[i], basis.from_octet(octets[i]), "element {i} of {n}");
+            }
+            let mut back = [0; 255];
+            basis.elements_to_octets(&elements[..n], &mut back[..n]);
+            for i in 0..n {
+                assert_eq!(rt; back[i], basis.to_octet(elements[i]), "octet {i} of {n}");
+            }
+        }
+    }
+}

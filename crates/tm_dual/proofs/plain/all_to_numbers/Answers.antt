@@ -1,7 +1,7 @@
 use Rattle.std.proofs.Common.{arith, refl, ◌∙◌}
 use Rattle.tm_gf256.specs.Poly.{entry, numbers}
 use Rattle.tm_dual.proofs.Words.{octets_more, all_octets, map-id}
-use Rattle.tm_dual.proofs.basis.all_to_numbers.Goals as goal
+use Rattle.tm_dual.proofs.plain.all_to_numbers.Goals as goal
 
 pub loop-i-preserved : goal.loop-i-preserved
 loop-i-preserved c =

@@ -1,6 +1,6 @@
 use Rattle.std.proofs.Common.{arith, refl, ◌∙◌, get_or}
 use Rattle.tm_dual.proofs.Words.{elements_more, all_elements, map-id}
-use Rattle.tm_dual.proofs.basis.all_from_numbers.Goals as goal
+use Rattle.tm_dual.proofs.plain.all_from_numbers.Goals as goal
 
 pub loop-i-preserved : goal.loop-i-preserved
 loop-i-preserved c =

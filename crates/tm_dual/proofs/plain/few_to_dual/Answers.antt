@@ -1,7 +1,7 @@
 use Rattle.std.proofs.Common.{arith}
 use Rattle.tm_dual.specs.Dual.{dual_octet}
 use Rattle.tm_dual.proofs.Words.{octets_more, all_octets}
-use Rattle.tm_dual.proofs.basis.all_to_dual.Goals as goal
+use Rattle.tm_dual.proofs.plain.few_to_dual.Goals as goal
 
 pub loop-i-preserved : goal.loop-i-preserved
 loop-i-preserved c =

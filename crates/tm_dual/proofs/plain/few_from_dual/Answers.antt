@@ -1,7 +1,7 @@
 use Rattle.std.proofs.Common.{arith}
 use Rattle.tm_dual.specs.Dual.{dual_element}
 use Rattle.tm_dual.proofs.Words.{elements_more, all_elements}
-use Rattle.tm_dual.proofs.basis.all_from_dual.Goals as goal
+use Rattle.tm_dual.proofs.plain.few_from_dual.Goals as goal
 
 pub loop-i-preserved : goal.loop-i-preserved
 loop-i-preserved c =
