@@ -7,8 +7,8 @@ use std::marker::Brand;
 use std::process::Abort;
 use std::sync::ledger::{Blank, Ledger};
 use tm_gf256::Gf;
-use tm_rs_code::Params;
-use tm_rs_locator::{Locator, Steps, solve, solve_erased};
+use tm_rs_code::{Params, plain_values_at_places};
+use tm_rs_locator::{Locator, Steps, locate, solve, solve_erased};
 
 mod locators;
 
@@ -100,6 +100,14 @@ fn test_row<L: Ledger>(rt: &impl Abort, row: &Row<'_>, steps: &mut Steps<L>) {
     if row.erased.len() < 2 {
         let found = located(&params, &syndromes, steps);
         assert_eq!(rt; found, wanted, "for {}", row.name);
+        let mut values = [0; 256];
+        let found = locate(&params, &syndromes, &mut values, steps);
+        assert_eq!(rt; found, wanted, "with values, for {}", row.name);
+        if let Some(locator) = found {
+            let size = usize::from(locator.degree) + 1;
+            let plain = plain_values_at_places(&locator.coefs[..size], n);
+            assert_eq!(rt; values[..n], plain[..n], "values for {}", row.name);
+        }
     }
 }
 

@@ -13,4 +13,4 @@ mod solving;
 pub use counter::Steps;
 pub use erasing::{locate_erased, solve_erased};
 pub use factors::times_factor;
-pub use solving::{Locator, solve};
+pub use solving::{Locator, locate, solve};

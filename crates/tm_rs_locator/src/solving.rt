@@ -1,7 +1,8 @@
 // The locator of the error pattern that has given syndromes.
-ghost use Rattle.std.specs.Prelude.{◌≡◌, ◌≤◌, ◌+◌, ◌*◌, ℕ, List, IfNone, IfSome};
-ghost use Rattle.tm_gf256.specs.Poly.{entry};
+ghost use Rattle.std.specs.Prelude.{◌≡◌, ◌≤◌, ◌+◌, ◌*◌, ℕ, List, length, take, IfNone, IfSome};
+ghost use Rattle.tm_gf256.specs.Poly.{entry, numbers};
 ghost use Rattle.tm_rs_code.specs.Pattern.{IsPattern};
+ghost use Rattle.tm_rs_code.specs.PlaceValues.{AreValues};
 ghost use Rattle.tm_rs_locator.specs.Locator.{Locates};
 
 use crate::counter::Steps;
@@ -22,6 +23,40 @@ pub struct Locator {
 /// The locator of the error pattern of a word of n symbols whose first 2e syndromes are given: the
 /// word of at most e symbols that are not 0, all of them at places below n, that has these
 /// syndromes. None where there is no such word. The rest of `syndromes` is not looked at.
+/// The values of its polynomial at the places below n are left in `values`, where there is such a word.
+pub fn locate<L: Ledger>(
+    params: &Params,
+    syndromes: &[Gf; 32],
+    values: &mut [u8; 256],
+    steps: &mut Steps<L>,
+) -> Option<Locator>
+    ensures none { IfNone result ((w : List ℕ)
+        → IsPattern params.now.e params.now.n (entry syndromes.now) w → ⊥) }
+    ensures some { IfSome result (λ l.
+        Locates params.now.e params.now.n (entry syndromes.now) l.coefs l.degree) }
+    ensures room { length values.new ≡ 256 }
+    ensures values { IfSome result (λ l.
+        AreValues (numbers (take (l.degree + 1) l.coefs)) params.now.n values.new) }
+    ensures cost { steps.new ≤ steps.old + 2 * params.now.e * (4 * params.now.e + 3) }
+{
+    see_range(syndromes);
+    let count = 2 * params.e() as usize;
+    let n = params.n() as usize;
+    let Some(found) = shortest(syndromes, count, steps) else {
+        return None;
+    };
+    let at_places = values_at_places(&found.current[..found.len + 1], n);
+    if count_roots(&at_places, n) != found.len {
+        return None;
+    }
+    *values = at_places;
+    Some(Locator {
+        coefs: found.current,
+        degree: found.len as u8,
+    })
+}
+
+/// The same locator alone.
 pub fn solve<L: Ledger>(
     params: &Params,
     syndromes: &[Gf; 32],
@@ -33,18 +68,6 @@ pub fn solve<L: Ledger>(
         Locates params.now.e params.now.n (entry syndromes.now) l.coefs l.degree) }
     ensures cost { steps.new ≤ steps.old + 2 * params.now.e * (4 * params.now.e + 3) }
 {
-    see_range(syndromes);
-    let count = 2 * params.e() as usize;
-    let n = params.n() as usize;
-    let Some(found) = shortest(syndromes, count, steps) else {
-        return None;
-    };
-    let values = values_at_places(&found.current[..found.len + 1], n);
-    if count_roots(&values, n) != found.len {
-        return None;
-    }
-    Some(Locator {
-        coefs: found.current,
-        degree: found.len as u8,
-    })
+    let mut values = [0; 256];
+    locate(params, syndromes, &mut values, steps)
 }

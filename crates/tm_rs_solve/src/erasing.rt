@@ -5,6 +5,7 @@ ghost use Rattle.tm_rs_code.specs.Code.{place_of, root, weight};
 ghost use Rattle.tm_rs_code.specs.Erasures.{IsNearestErased, count_erased as count_of_erased, inside, marks, places_named};
 ghost use Rattle.tm_rs_code.specs.ErrorValues.{IsLocated, symbol_at};
 ghost use Rattle.tm_rs_code.specs.Pattern.{locator_of};
+ghost use Rattle.tm_rs_code.specs.PlaceValues.{AreValues};
 ghost use Rattle.tm_rs_code.specs.Recurrence.{listing};
 ghost use Rattle.tm_rs_solve.specs.Answers.{found_erased};
 
@@ -90,19 +91,25 @@ fn erased_error(
     1
 }
 
-// How many of the erased places have an error.
-fn count_inside(erased: &[bool], locator: &[Gf], syndromes: &[Gf; 32], e: usize) -> usize
+// How many of the erased places have an error, given the locator's values at the word's places.
+fn count_inside(
+    erased: &[bool],
+    locator: &[Gf],
+    values: &[u8; 256],
+    syndromes: &[Gf; 32],
+    e: usize,
+) -> usize
     requires most { e ≤ 16 }
     requires some { 1 ≤ length locator.now }
     requires few { length locator.now ≤ 33 }
     requires short { length erased.now ≤ 255 }
+    requires values { AreValues (numbers locator.now) (length erased.now) values.now }
     requires located { (u : List ℕ) × (w : List ℕ) × IsLocated e (entry syndromes.now) (numbers locator.now) u w }
     ensures count { (u w : List ℕ) → IsLocated e (entry syndromes.now) (numbers locator.now) u w
         → length w ≡ length erased.now → result ≡ weight (inside erased.now w) }
     ensures small { result ≤ length erased.now }
 {
     let n = erased.len();
-    let values = values_at_places(locator, n);
     let mut count = 0;
     for j in 0..n {
         let p = n - 1 - j;
@@ -209,8 +216,9 @@ fn repaired<L: Ledger>(
             let found = &l.coefs[..l.degree as usize + 1];
             let places = all_places(&erasures, count_erased(erased), found, erased, steps);
             let locator = &places.coefs[..places.degree + 1];
-            let inside = count_inside(erased, locator, values, e);
-            correct(word, locator, values, e);
+            let at_places = values_at_places(locator, word.len());
+            let inside = count_inside(erased, locator, &at_places, values, e);
+            correct(word, locator, &at_places, values, e);
             ErasedAnswer::Fixed(l.degree, inside as u8)
         }
         None => ErasedAnswer::Beyond,

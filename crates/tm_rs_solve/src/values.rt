@@ -3,11 +3,11 @@ ghost use Rattle.std.specs.Prelude.{◌≡◌, ◌<◌, ◌≤◌, ◌+◌, ◌-
 ghost use Rattle.tm_gf256.specs.Poly.{entry, numbers, value_at};
 ghost use Rattle.tm_rs_code.specs.Code.{place_of};
 ghost use Rattle.tm_rs_code.specs.ErrorValues.{IsLocated, quotient_at, symbol_at};
+ghost use Rattle.tm_rs_code.specs.PlaceValues.{AreValues};
 ghost use Rattle.tm_rs_code.specs.Recurrence.{discrepancy, listing};
 ghost use Rattle.tm_rs_code.specs.Register.{sums};
 
 use tm_gf256::{Gf, see_range};
-use tm_rs_code::values_at_places;
 
 #[derive(Drop)]
 struct Parts {
@@ -61,6 +61,7 @@ fn value_at_root(locator: &[Gf], syndromes: &[Gf; 32], e: usize, p: usize) -> Gf
 }
 
 // The symbol at place p of that error pattern, given the locator's value there.
+#[inline(always)]
 pub fn error_at(locator: &[Gf], value: u8, syndromes: &[Gf; 32], e: usize, p: usize) -> Gf
     requires most { e ≤ 16 }
     requires some { 1 ≤ length locator.now }
@@ -77,18 +78,18 @@ pub fn error_at(locator: &[Gf], value: u8, syndromes: &[Gf; 32], e: usize, p: us
     value_at_root(locator, syndromes, e, p)
 }
 
-// Adds the error pattern to the word.
-pub fn correct(word: &mut [Gf], locator: &[Gf], syndromes: &[Gf; 32], e: usize)
+// Adds the error pattern to the word, given the locator's values at the word's places.
+pub fn correct(word: &mut [Gf], locator: &[Gf], values: &[u8; 256], syndromes: &[Gf; 32], e: usize)
     requires most { e ≤ 16 }
     requires some { 1 ≤ length locator.now }
     requires few { length locator.now ≤ 33 }
     requires short { length word.old ≤ 255 }
+    requires values { AreValues (numbers locator.now) (length word.old) values.now }
     requires located { (u : List ℕ) × (w : List ℕ) × IsLocated e (entry syndromes.now) (numbers locator.now) u w }
     ensures { (u w : List ℕ) → IsLocated e (entry syndromes.now) (numbers locator.now) u w
         → length w ≡ length word.old → numbers word.new ≡ sums (numbers word.old) w }
 {
     let n = word.len();
-    let values = values_at_places(locator, n);
     for j in 0..n {
         let p = n - 1 - j;
         let error = error_at(locator, values[p], syndromes, e, p);

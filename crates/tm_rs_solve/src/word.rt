@@ -11,7 +11,7 @@ use crate::values::correct;
 use std::sync::ledger::Ledger;
 use tm_gf256::{Gf, see_range};
 use tm_rs_code::{Params, short_syndromes, syndromes};
-use tm_rs_locator::{Steps, solve};
+use tm_rs_locator::{Steps, locate};
 
 /// Makes a word of n symbols the nearest codeword, where one differs from it in at most `repair`
 /// symbols, which is at most e: the answer is then `Fixed` of the number of those symbols. Everywhere
@@ -80,12 +80,14 @@ fn repaired<L: Ledger>(
     let e = params.e() as usize;
     // So that the proof has the range of n.
     let _n = params.n();
-    match solve(params, values, steps) {
+    let mut at_places = [0; 256];
+    match locate(params, values, &mut at_places, steps) {
         Some(l) => {
             if l.degree > repair {
                 return Answer::Beyond;
             }
-            correct(word, &l.coefs[..l.degree as usize + 1], values, e);
+            let locator = &l.coefs[..l.degree as usize + 1];
+            correct(word, locator, &at_places, values, e);
             Answer::Fixed(l.degree)
         }
         None => Answer::Beyond,
