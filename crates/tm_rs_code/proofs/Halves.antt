@@ -2,14 +2,12 @@
 use Rattle.std.proofs.Common.{◌≡◌, ◌<◌, ◌+◌, ◌*◌, ◌/◌, ◌%◌, ◌∙◌, ℕ, suc, zero, List, [], ◌∷◌, get_or, length, refl, sym, ap, eqb, true, false, Bool, ◌&&◌, arith, w8}
 use Rattle.std.specs.Prelude.{bit_xor}
 use Rattle.std.proofs.lemmas.Bool.{eqb-true}
-use Rattle.std.proofs.lemmas.List.{ext_get_or}
 use Rattle.std.proofs.lemmas.Simd.{swz_l, SwzOk, length-swz_l, get_or-swz_l_below, SwzOk-from_below, get_or-zip2, length-zip2, Each1-from_get_or}
-use lib.Lanes.{zip2, Each1}
+use lib.Lanes.{zip2}
 use Rattle.tm_gf256.specs.Field.{times, bit_product, remainder}
 use Rattle.tm_gf256.proofs.Below.{all_below, same_below}
 use Rattle.tm_gf256.proofs.Ring.{times-plus}
 use Rattle.tm_rs_code.specs.Register.{multiple}
-use Rattle.tm_rs_code.proofs.Register.{length-multiple}
 use Rattle.tm_rs_code.specs.declared.lanes.TheConstants.{LOW_PLACES, HIGH_PLACES}
 use Rattle.tm_rs_code.specs.declared.lanes.products.TheConstants.{LOW, HIGH}
 
@@ -78,57 +76,40 @@ places_high = refl
 halves_pass : all_below 256 (λ v. eqb (bit_xor (v % 16) (16 * (v / 16))) v) ≡ true
 halves_pass = refl
 
-halves : (v : ℕ) → v < 256 → bit_xor (v % 16) (16 * (v / 16)) ≡ v
-halves = same_below 256 (λ v. bit_xor (v % 16) (16 * (v / 16))) (λ v. v) halves_pass
+halves : (l h : ℕ) → l < 16 → h < 16 → bit_xor l (16 * h) ≡ l + 16 * h
+halves l h a b =
+    let low : (l + 16 * h) % 16 ≡ l = omega arith in
+    let high : (l + 16 * h) / 16 ≡ h = omega arith in
+    sym (λ t. bit_xor (low t) (16 * high t)) ∙ same_below 256 (λ v. bit_xor (v % 16) (16 * (v / 16))) (λ v. v) halves_pass (l + 16 * h) (omega arith)
 
 -- ---- the lanes
 
--- what a vector of positions holds
-pub record ArePlaces (row js : List ℕ) (part : ℕ → ℕ) : Type 0 where
-  pub long : length js ≡ 16
-  pub each : (i : ℕ) → i < 16 → get_or js i 0 ≡ part (get_or row i 0)
+pub places_fit : (js : List ℕ) → length js ≡ 16 → ((i : ℕ) → i < 16 → get_or js i 0 < 16) → SwzOk w8 16 16 0 js
+places_fit js long small =
+    SwzOk-from_below w8 16 1 16 0 js refl (omega (arith, long)) (Each1-from_get_or (λ j. j < 16) js 0 (λ i lt. small i (omega (arith, long))))
 
-pub ArePlaces-from_zip2 : (f : ℕ → ℕ → ℕ) (row ks : List ℕ) (k : ℕ) (part : ℕ → ℕ) → length row ≡ 16 → length ks ≡ 16 → ((i : ℕ) → i < 16 → get_or ks i 0 ≡ k)
-    → ((v : ℕ) → f v k ≡ part v) → ArePlaces row (zip2 f row ks) part
-ArePlaces-from_zip2 f row ks k part lr lk same is = record {
-  long = length-zip2 f row ks (omega arith) ∙ lr;
-  each = λ i lt. get_or-zip2 f row ks i 0 0 0 (omega arith) (omega arith) ∙ ap (f (get_or row i 0)) (same i lt) ∙ is (get_or row i 0);
-}
-
-Each1-from_places : (js : List ℕ) → length js ≡ 16 → ((i : ℕ) → i < 16 → get_or js i 0 < 16) → Each1 (λ j. j < 16) js
-Each1-from_places js long each = Each1-from_get_or (λ j. j < 16) js 0 (λ i lt. each i (omega arith))
-
-pub places_fit : (row js : List ℕ) (part : ℕ → ℕ) → ArePlaces row js part → ((i : ℕ) → i < 16 → part (get_or row i 0) < 16) → SwzOk w8 16 16 0 js
-places_fit row js part h small =
-    SwzOk-from_below w8 16 1 16 0 js refl (omega (arith, h.long)) (Each1-from_places js h.long (λ i lt. omega (arith, h.each i lt, small i lt)))
-
-taken : (xs row js : List ℕ) (part : ℕ → ℕ) (i : ℕ) → ArePlaces row js part → i < 16 → part (get_or row i 0) < 16 → get_or (swz_l w8 16 xs 0 js) i 0 ≡ get_or xs (part (get_or row i 0)) 0
-taken xs row js part i h lt small =
+taken : (xs js : List ℕ) (i : ℕ) → length js ≡ 16 → i < 16 → get_or js i 0 < 16 → get_or (swz_l w8 16 xs 0 js) i 0 ≡ get_or xs (get_or js i 0) 0
+taken xs js i long lt small =
     let at : 16 * ((0 + i) / 16) + get_or js i 0 ≡ get_or js i 0 = omega arith in
-    get_or-swz_l_below w8 16 xs 0 js i (omega (arith, h.long)) (omega (arith, h.each i lt))
-    ∙ ap (λ (k : ℕ). get_or xs k 0) (at ∙ h.each i lt)
+    get_or-swz_l_below w8 16 xs 0 js i (omega (arith, long)) small ∙ ap (λ (k : ℕ). get_or xs k 0) at
 
-pub halves_multiple : (f : ℕ) (row low high js ks : List ℕ) → length row ≡ 16 → ((i : ℕ) → i < 16 → get_or row i 0 < 256)
-    → low ≡ multiple f LOW_PLACES → high ≡ multiple f HIGH_PLACES → ArePlaces row js (λ v. v % 16) → ArePlaces row ks (λ v. v / 16)
-    → zip2 bit_xor (swz_l w8 16 low 0 js) (swz_l w8 16 high 0 ks) ≡ multiple f row
-halves_multiple f row low high js ks long small lowis highis hj hk =
-    let lj : length (swz_l w8 16 low 0 js) ≡ 16 = length-swz_l w8 16 low 0 js ∙ hj.long in
-    let lk : length (swz_l w8 16 high 0 ks) ≡ 16 = length-swz_l w8 16 high 0 ks ∙ hk.long in
-    let all : length (zip2 bit_xor (swz_l w8 16 low 0 js) (swz_l w8 16 high 0 ks)) ≡ 16 = length-zip2 bit_xor (swz_l w8 16 low 0 js) (swz_l w8 16 high 0 ks) (omega arith) ∙ lj in
-    ext_get_or 0 (zip2 bit_xor (swz_l w8 16 low 0 js) (swz_l w8 16 high 0 ks)) (multiple f row) (omega (arith, length-multiple f row))
-    (λ i lt0.
-    let lt : i < 16 = omega arith in
-    let v = get_or row i 0 in
-    let vs : v < 256 = small i lt in
-    let a : v % 16 < 16 = omega arith in
-    let b : v / 16 < 16 = omega arith in
-    get_or-zip2 bit_xor (swz_l w8 16 low 0 js) (swz_l w8 16 high 0 ks) i 0 0 0 (omega arith) (omega arith)
+pub length-product : (low high js ks : List ℕ) → length js ≡ 16 → length ks ≡ 16 → length (zip2 bit_xor (swz_l w8 16 low 0 js) (swz_l w8 16 high 0 ks)) ≡ 16
+length-product low high js ks lj lk =
+    length-zip2 bit_xor (swz_l w8 16 low 0 js) (swz_l w8 16 high 0 ks) (omega (arith, length-swz_l w8 16 low 0 js, length-swz_l w8 16 high 0 ks))
+    ∙ length-swz_l w8 16 low 0 js ∙ lj
+
+pub product_at : (f : ℕ) (low high js ks : List ℕ) → length js ≡ 16 → length ks ≡ 16 → ((i : ℕ) → i < 16 → get_or js i 0 < 16) → ((i : ℕ) → i < 16 → get_or ks i 0 < 16)
+    → low ≡ multiple f LOW_PLACES → high ≡ multiple f HIGH_PLACES → (i : ℕ) → i < 16
+    → get_or (zip2 bit_xor (swz_l w8 16 low 0 js) (swz_l w8 16 high 0 ks)) i 0 ≡ times f (get_or js i 0 + 16 * get_or ks i 0)
+product_at f low high js ks lj lk sj sk lowis highis i lt =
+    let j = get_or js i 0 in
+    let k = get_or ks i 0 in
+    get_or-zip2 bit_xor (swz_l w8 16 low 0 js) (swz_l w8 16 high 0 ks) i 0 0 0 (omega (arith, length-swz_l w8 16 low 0 js)) (omega (arith, length-swz_l w8 16 high 0 ks))
     ∙ ap (λ (x : ℕ). bit_xor x (get_or (swz_l w8 16 high 0 ks) i 0))
-    (taken low row js (λ v. v % 16) i hj lt a ∙ ap (λ (l : List ℕ). get_or l (v % 16) 0) lowis ∙ get_or-multiple f LOW_PLACES (v % 16) a
-    ∙ ap (times f) (same_below 16 (λ i. get_or LOW_PLACES i 0) (λ i. i) places_low (v % 16) a))
-    ∙ ap (bit_xor (times f (v % 16)))
-    (taken high row ks (λ v. v / 16) i hk lt b ∙ ap (λ (l : List ℕ). get_or l (v / 16) 0) highis ∙ get_or-multiple f HIGH_PLACES (v / 16) b
-    ∙ ap (times f) (same_below 16 (λ i. get_or HIGH_PLACES i 0) (λ i. 16 * i) places_high (v / 16) b))
-    ∙ sym (times-plus f (v % 16) (16 * (v / 16)))
-    ∙ ap (times f) (halves v vs)
-    ∙ sym (get_or-multiple f row i (omega arith)))
+    (taken low js i lj lt (sj i lt) ∙ ap (λ (l : List ℕ). get_or l j 0) lowis ∙ get_or-multiple f LOW_PLACES j (sj i lt)
+    ∙ ap (times f) (same_below 16 (λ i. get_or LOW_PLACES i 0) (λ i. i) places_low j (sj i lt)))
+    ∙ ap (bit_xor (times f j))
+    (taken high ks i lk lt (sk i lt) ∙ ap (λ (l : List ℕ). get_or l k 0) highis ∙ get_or-multiple f HIGH_PLACES k (sk i lt)
+    ∙ ap (times f) (same_below 16 (λ i. get_or HIGH_PLACES i 0) (λ i. 16 * i) places_high k (sk i lt)))
+    ∙ sym (times-plus f j (16 * k))
+    ∙ ap (times f) (halves j k (sj i lt) (sk i lt))

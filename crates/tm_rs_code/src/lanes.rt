@@ -1,5 +1,6 @@
-// Values of a polynomial at the elements of sixteen places at once.
+// Values of a polynomial at the elements of sixteen places at once, and of two such groups a turn.
 ghost use Rattle.std.specs.Prelude.{◌≡◌, ◌<◌, ◌≤◌, ◌+◌, ◌*◌, ℕ, length, slice_index_or};
+ghost use Rattle.tm_gf256.specs.Field.{times};
 ghost use Rattle.tm_gf256.specs.Poly.{numbers, value_at};
 ghost use Rattle.tm_rs_code.specs.Code.{place_of};
 ghost use Rattle.tm_rs_code.specs.Powers.{ArePowers};
@@ -8,7 +9,7 @@ ghost use Rattle.tm_rs_code.specs.Register.{multiple};
 mod powers;
 mod products;
 
-use powers::POWERS;
+use powers::{HIGH_HALVES, LOW_HALVES};
 use products::{HIGH, LOW};
 use std::simd::prelude::*;
 use tm_gf256::Gf;
@@ -32,60 +33,78 @@ fn high_products(factor: u8) -> u8x16
     u8x16::from_array(HIGH[usize::from(factor)])
 }
 
-// The products of sixteen elements with one, each by its two halves.
-fn multiple_of(factor: u8, row: u8x16) -> u8x16
-    ensures long { length row ≡ 16 }
-    ensures value { result ≡ multiple factor row }
-{
-    let low = low_products(factor).swizzle_dyn(row & u8x16::splat(15));
-    let high = high_products(factor).swizzle_dyn(row >> u8x16::splat(4));
-    low ^ high
-}
-
-// The powers of the elements of places 16 * group to 16 * group + 15.
-fn powers_of(group: usize) -> &'static [[u8; 16]; 33]
-    requires { group < 16 }
-    ensures { ArePowers (λ m. place_of (16 * group + m)) result.now }
-{
-    &POWERS[group]
-}
-
-// The values of a polynomial at sixteen elements, whose powers are given.
-fn values(poly: &[Gf], powers: &[[u8; 16]; 33]) -> u8x16
-    requires { length poly.now ≤ 33 }
+// The products of sixteen elements, given by their halves, with the one that has these products of halves.
+#[inline(always)]
+fn product(low: u8x16, high: u8x16, lows: u8x16, highs: u8x16) -> u8x16
+    requires lows { (m : ℕ) → m < 16 → slice_index_or lows m 0 < 16 }
+    requires highs { (m : ℕ) → m < 16 → slice_index_or highs m 0 < 16 }
     ensures long { length result ≡ 16 }
-    ensures values { (base : ℕ → ℕ) → ArePowers base powers.now → (m : ℕ) → m < 16
-        → slice_index_or result m 0 ≡ value_at (numbers poly.now) (base m) }
+    ensures value { (factor : ℕ) → low ≡ multiple factor LOW_PLACES → high ≡ multiple factor HIGH_PLACES → (m : ℕ) → m < 16
+        → slice_index_or result m 0 ≡ times factor (slice_index_or lows m 0 + 16 * slice_index_or highs m 0) }
+{
+    low.swizzle_dyn(lows) ^ high.swizzle_dyn(highs)
+}
+
+// The powers of the elements of places 16 * group to 16 * group + 15, by their halves.
+#[inline(always)]
+fn powers_of(group: usize) -> (&'static [[u8; 16]; 33], &'static [[u8; 16]; 33])
+    requires { group < 16 }
+    ensures { ArePowers (λ m. place_of (16 * group + m)) result.0.now result.1.now }
+{
+    (&LOW_HALVES[group], &HIGH_HALVES[group])
+}
+
+// The values at places 16 * group to 16 * group + 31, of which half stand in each vector.
+fn place_values(poly: &[Gf], group: usize) -> (u8x16, u8x16)
+    requires few { length poly.now ≤ 33 }
+    requires group { group + 2 ≤ 16 }
+    ensures long { length result.0 ≡ 16 }
+    ensures values { (m : ℕ) → m < 16
+        → slice_index_or result.0 m 0 ≡ value_at (numbers poly.now) (place_of (16 * group + m)) }
+    ensures next_long { length result.1 ≡ 16 }
+    ensures next_values { (m : ℕ) → m < 16
+        → slice_index_or result.1 m 0 ≡ value_at (numbers poly.now) (place_of (16 * (group + 1) + m)) }
 {
     let n = poly.len();
+    let (lows, highs) = powers_of(group);
+    let (next_lows, next_highs) = powers_of(group + 1);
     let mut sum = u8x16::splat(0);
+    let mut next = u8x16::splat(0);
     for i in 0..n {
-        sum = sum ^ multiple_of(poly[i].number(), u8x16::from_array(powers[n - 1 - i]));
+        let k = n - 1 - i;
+        let factor = poly[i].number();
+        let low = low_products(factor);
+        let high = high_products(factor);
+        sum = sum
+            ^ product(
+                low,
+                high,
+                u8x16::from_array(lows[k]),
+                u8x16::from_array(highs[k]),
+            );
+        next = next
+            ^ product(
+                low,
+                high,
+                u8x16::from_array(next_lows[k]),
+                u8x16::from_array(next_highs[k]),
+            );
     }
-    sum
+    (sum, next)
 }
 
-// The values at places 16 * group to 16 * group + 15.
-fn place_values(poly: &[Gf], group: usize) -> u8x16
+// Writes the values at the places from 16 * first on, thirty-two of them a pair of groups.
+pub fn store_values(poly: &[Gf], first: usize, pairs: usize, out: &mut [u8])
     requires few { length poly.now ≤ 33 }
-    requires group { group < 16 }
-    ensures long { length result ≡ 16 }
-    ensures values { (m : ℕ) → m < 16
-        → slice_index_or result m 0 ≡ value_at (numbers poly.now) (place_of (16 * group + m)) }
-{
-    values(poly, powers_of(group))
-}
-
-// Writes the values at the places from 16 * first on, sixteen of them a group.
-pub fn store_values(poly: &[Gf], first: usize, groups: usize, out: &mut [u8])
-    requires few { length poly.now ≤ 33 }
-    requires known { first + groups ≤ 16 }
-    requires room { 16 * groups ≤ length out.old }
+    requires known { first + 2 * pairs ≤ 16 }
+    requires room { 32 * pairs ≤ length out.old }
     ensures size { length out.new ≡ length out.old }
-    ensures values { (i : ℕ) → i < 16 * groups
+    ensures values { (i : ℕ) → i < 32 * pairs
         → slice_index_or out.new i 0 ≡ value_at (numbers poly.now) (place_of (16 * first + i)) }
 {
-    for group in 0..groups {
-        place_values(poly, first + group).copy_to_slice(&mut out[16 * group..]);
+    for pair in 0..pairs {
+        let (values, next) = place_values(poly, first + 2 * pair);
+        values.copy_to_slice(&mut out[32 * pair..]);
+        next.copy_to_slice(&mut out[32 * pair + 16..]);
     }
 }

@@ -15,7 +15,7 @@ pub fn values_at_places(poly: &[Gf], n: usize) -> [u8; 256]
     ensures values { AreValues (numbers poly.now) n result }
 {
     let mut values = [0; 256];
-    store_values(poly, 0, n.div_ceil(16), &mut values);
+    store_values(poly, 0, n.div_ceil(32), &mut values);
     values
 }
 

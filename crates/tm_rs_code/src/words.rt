@@ -45,7 +45,7 @@ pub fn short_syndromes(params: &Params, word: &[Gf]) -> [Gf; 32]
     let e = params.e() as usize;
     // The values at places 112 to 143: the roots are the elements of places 128 - e to 127 + e.
     let mut around = [0; 32];
-    store_values(word, 7, 2, &mut around);
+    store_values(word, 7, 1, &mut around);
     let mut found = [Gf(0); 32];
     for k in 0..2 * e {
         found[k] = Gf(around[16 - e + k]);
