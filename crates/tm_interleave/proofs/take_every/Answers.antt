@@ -1,7 +1,7 @@
 use Rattle.std.proofs.Common.{◌+◌, ◌*◌, ◌++◌, ◌∷◌, [], refl, sym, ap, ◌∙◌, arith, length, get_or}
 use Rattle.std.proofs.lemmas.Grind.{take-set_at}
 use Rattle.tm_interleave.proofs.Columns.{take-column, same_whole, length-column}
-use Rattle.tm_interleave.proofs.take_word.Goals as goal
+use Rattle.tm_interleave.proofs.take_every.Goals as goal
 
 pub loop-k-preserved : goal.loop-k-preserved
 loop-k-preserved c =
