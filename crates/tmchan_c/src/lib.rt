@@ -1,0 +1,15 @@
+//! The codec as a library for C: `include/tmchan.h` says what a program in C is to know. Each call is thin: it tests what C passed,
+//! makes the public calls of the crates below, and states their clauses again. None takes memory.
+//!
+//! A call that is refused answers the number of the first reason, and has written nothing.
+#![tactic(auto)]
+
+mod codeblock;
+mod reed_solomon;
+mod refusal;
+#[cfg(test)]
+mod tests;
+mod unit;
+mod version;
+
+pub use refusal::Refusal;

@@ -1,0 +1,207 @@
+// Words of the Reed-Solomon codes.
+ghost use Rattle.std.specs.Prelude.{◌≡◌, ◌≢◌, ◌+◌, ◌*◌, ◌<◌, ◌≤◌, ◌++◌, None, Some, length, pos};
+ghost use Rattle.tm_channel.specs.Cadu.{basis_of, coded_octets};
+ghost use Rattle.tm_gf256.specs.Poly.{numbers};
+ghost use Rattle.tm_rs_code.specs.Code.{IsLength, IsStrength};
+ghost use Rattle.tm_rs_code.specs.Erasures.{IsNearestErased};
+ghost use Rattle.tm_rs_code.specs.Nearest.{IsNearest};
+ghost use Rattle.tm_rs_solve.specs.Answers.{found, found_erased};
+ghost use Rattle.tmchan_c.specs.Refusal.{answered, decode_refusal, encode_refusal, erased_refusal, refused};
+ghost use Rattle.tmchan_c.specs.Repaired.{IsRepaired, IsRepairedErased, erased_by};
+
+use crate::refusal::{Refusal, checks_refusal, flags_refusal, word_refusal};
+use std::marker::Brand;
+use std::sync::ledger::{Blank, Ledger};
+use tm_dual::Basis;
+use tm_gf256::Gf;
+use tm_rs_code::Params;
+use tm_rs_encode::checks;
+use tm_rs_locator::Steps;
+use tm_rs_solve::{Answer, ErasedAnswer, decode_erased, decode_word};
+
+// The most symbols of a word.
+const MOST: usize = 255;
+
+// The most check symbols of a word.
+const MOST_CHECKS: usize = 32;
+
+/// Writes the octets of the 2E check symbols behind those of the information symbols into `checks`, for the code that corrects
+/// E = `code` symbols, in the basis of this number. Answers 0, or why it is refused.
+#[unsafe(no_mangle)]
+pub extern "C" fn tmchan_rs_encode(code: u32, basis: u32, info: &[u8], checks: &mut [u8]) -> i32
+    ensures answer { result ≡ answered (encode_refusal code basis (length info.now) (length checks.old)) }
+    ensures codeword { result ≡ pos 0 → info.now ++ checks.new ≡ coded_octets (basis_of basis) code info.now }
+    ensures unchanged { result ≢ pos 0 → checks.new ≡ checks.old }
+{
+    let n = info.len() as u64 + 2 * u64::from(code);
+    let other = checks_refusal(code, checks.len());
+    match word_refusal(code, n, basis, 0, other) {
+        Some(refusal) => refusal.answer(),
+        None => {
+            let params = params_of(code, info.len() + checks.len());
+            write_checks(&params, basis_named(basis), info, checks);
+            0
+        }
+    }
+}
+
+/// Makes a word the nearest codeword, where one differs from it in at most `repair` symbols. Answers the number of those symbols, or
+/// -1 where there is none, and the word is as it was; or why it is refused.
+#[unsafe(no_mangle)]
+pub extern "C" fn tmchan_rs_decode(code: u32, basis: u32, repair: u32, word: &mut [u8]) -> i32
+    ensures refused { (refusal : Refusal) → decode_refusal code basis repair (length word.old) ≡ Some refusal
+        → (result ≡ refused refusal) × (word.new ≡ word.old) }
+    ensures repaired { decode_refusal code basis repair (length word.old) ≡ None
+        → IsRepaired code (basis_of basis) repair word.old result word.new }
+{
+    match word_refusal(code, word.len() as u64, basis, repair, None) {
+        Some(refusal) => refusal.answer(),
+        None => repair_word(code, basis_named(basis), repair as u8, word),
+    }
+}
+
+/// The same with erased symbols: those whose flag is not 0. Answers the number of symbols that were wrong, erased or not.
+#[unsafe(no_mangle)]
+pub extern "C" fn tmchan_rs_decode_erased(
+    code: u32,
+    basis: u32,
+    repair: u32,
+    word: &mut [u8],
+    erased: &[u8],
+) -> i32
+    ensures refused { (refusal : Refusal) → erased_refusal code basis repair (length word.old) (length erased.now) ≡ Some refusal
+        → (result ≡ refused refusal) × (word.new ≡ word.old) }
+    ensures repaired { erased_refusal code basis repair (length word.old) (length erased.now) ≡ None
+        → IsRepairedErased code (basis_of basis) repair erased.now word.old result word.new }
+{
+    let other = flags_refusal(word.len(), erased.len());
+    match word_refusal(code, word.len() as u64, basis, repair, other) {
+        Some(refusal) => refusal.answer(),
+        None => repair_erased(code, basis_named(basis), repair as u8, word, erased),
+    }
+}
+
+// The basis of this number.
+fn basis_named(number: u32) -> Basis
+    ensures { result ≡ basis_of number }
+{
+    if number == 0 {
+        Basis::Dual
+    } else {
+        Basis::Poly
+    }
+}
+
+// The code that corrects so many symbols in a word of n.
+fn params_of(code: u32, n: usize) -> Params
+    requires { IsStrength code × IsLength code n }
+    ensures e { result.e ≡ code }
+    ensures n { result.n ≡ n }
+{
+    Params::new(u64::from(code), n as u64).unwrap()
+}
+
+// Writes the octets of the check symbols behind those of information symbols.
+fn write_checks(params: &Params, basis: Basis, info: &[u8], octets: &mut [u8])
+    requires info { length info.now + 2 * params.now.e ≡ params.now.n }
+    requires room { length octets.old ≡ 2 * params.now.e }
+    ensures { info.now ++ octets.new ≡ coded_octets basis params.now.e info.now }
+{
+    let count = 2 * params.e() as usize;
+    let mut elements = [Gf(0); MOST];
+    let elements = &mut elements[..info.len()];
+    basis.octets_to_elements(info, elements);
+    let mut symbols = [Gf(0); MOST_CHECKS];
+    let symbols = &mut symbols[..count];
+    checks(params, elements, symbols);
+    basis.elements_to_octets(symbols, octets);
+}
+
+// Makes a word of octets the nearest codeword.
+fn repair_word(code: u32, basis: Basis, repair: u8, word: &mut [u8]) -> i32
+    requires code { IsStrength code × IsLength code (length word.old) }
+    requires bound { repair ≤ code }
+    ensures { IsRepaired code basis repair word.old result word.new }
+{
+    let size = word.len();
+    let params = params_of(code, size);
+    let mut elements = [Gf(0); MOST];
+    let elements = &mut elements[..size];
+    basis.octets_to_elements(word, elements);
+    match decode_counted::<Brand>(Blank::new(1), &params, repair, elements) {
+        Answer::Fixed(count) => {
+            basis.elements_to_octets(elements, word);
+            i32::from(count)
+        }
+        Answer::Beyond => -1,
+    }
+}
+
+// Makes a word the nearest codeword, with a count of steps that ends with it.
+fn decode_counted<L: Ledger>(blank: Blank, params: &Params, repair: u8, word: &mut [Gf]) -> Answer
+    requires name { blank.name ≡ L.name }
+    requires parts { blank.parts ≡ L.parts }
+    requires share { 0 < blank.parts }
+    requires bound { repair ≤ params.now.e }
+    requires size { length word.old ≡ params.now.n }
+    ensures nearest { IsNearest params.now.e repair (numbers word.old) (found result (numbers word.new)) }
+    ensures size { length word.new ≡ length word.old }
+{
+    let mut steps = Steps::<L>::open(blank);
+    decode_word(params, repair, word, &mut steps)
+}
+
+// Makes a word of octets with flags of erased symbols the nearest codeword.
+fn repair_erased(code: u32, basis: Basis, repair: u8, word: &mut [u8], flags: &[u8]) -> i32
+    requires code { IsStrength code × IsLength code (length word.old) }
+    requires bound { repair ≤ code }
+    requires flags { length flags.now ≡ length word.old }
+    ensures { IsRepairedErased code basis repair flags.now word.old result word.new }
+{
+    let size = word.len();
+    let params = params_of(code, size);
+    let mut elements = [Gf(0); MOST];
+    let elements = &mut elements[..size];
+    basis.octets_to_elements(word, elements);
+    let mut erased = [false; MOST];
+    let erased = &mut erased[..size];
+    read_flags(flags, erased);
+    match erased_counted::<Brand>(Blank::new(1), &params, repair, erased, elements) {
+        ErasedAnswer::Fixed(others, inside) => {
+            basis.elements_to_octets(elements, word);
+            i32::from(others) + i32::from(inside)
+        }
+        ErasedAnswer::Beyond => -1,
+    }
+}
+
+// Reads which symbols are erased.
+fn read_flags(flags: &[u8], erased: &mut [bool])
+    requires { length erased.old ≡ length flags.now }
+    ensures { erased.new ≡ erased_by flags.now }
+{
+    for i in 0..erased.len() {
+        erased[i] = flags[i] != 0;
+    }
+}
+
+// Makes a word with erased symbols the nearest codeword, with a count of steps that ends with it.
+fn erased_counted<L: Ledger>(
+    blank: Blank,
+    params: &Params,
+    repair: u8,
+    erased: &[bool],
+    word: &mut [Gf],
+) -> ErasedAnswer
+    requires name { blank.name ≡ L.name }
+    requires parts { blank.parts ≡ L.parts }
+    requires share { 0 < blank.parts }
+    requires bound { repair ≤ params.now.e }
+    requires flags { length erased.now ≡ params.now.n }
+    requires size { length word.old ≡ params.now.n }
+    ensures nearest { IsNearestErased params.now.e repair erased.now (numbers word.old) (found_erased result (numbers word.new)) }
+    ensures size { length word.new ≡ length word.old }
+{
+    let mut steps = Steps::<L>::open(blank);
+    decode_erased(params, repair, erased, word, &mut steps)
+}

@@ -1,0 +1,113 @@
+// Why calls are refused, and the answers that say so.
+ghost use Rattle.std.specs.Prelude.{◌≡◌, ◌*◌, ◌+◌, ◌<ℤ◌, ◌≤◌, None, pos};
+ghost use Rattle.tm_rs_code.specs.Code.{IsLength, IsStrength};
+ghost use Rattle.tmchan_c.specs.Refusal.{checks_refusal, column_refusal, flags_refusal, refused, value_answer, word_refusal};
+
+use tm_config::ConfigError;
+
+/// Why a call is refused.
+#[derive(Clone, Copy, Debug, PartialEq, Eq)]
+pub enum Refusal {
+    /// An array is not as long as the others ask for.
+    Room,
+    /// There are not as many flags as symbols.
+    Flags,
+    /// The column is not below the interleaving depth.
+    Column,
+    /// The value of an option is outside its list or range.
+    Value(ConfigError),
+}
+
+impl Refusal {
+    /// The answer of a call that is refused.
+    pub fn answer(self) -> i32
+        ensures value { result ≡ refused self }
+        ensures negative { result <ℤ pos 0 }
+    {
+        match self {
+            Refusal::Room => -2,
+            Refusal::Flags => -3,
+            Refusal::Column => -4,
+            Refusal::Value(error) => value_answer(error),
+        }
+    }
+}
+
+// The answer where the value of an option is outside its list or range.
+fn value_answer(error: ConfigError) -> i32
+    ensures value { result ≡ value_answer error }
+    ensures negative { result <ℤ pos 0 }
+{
+    match error {
+        ConfigError::Code => -16,
+        ConfigError::Depth => -17,
+        ConfigError::Length => -18,
+        ConfigError::Inner => -19,
+        ConfigError::Switch => -20,
+        ConfigError::Basis => -21,
+        ConfigError::Tolerance => -22,
+        ConfigError::Repair => -23,
+        ConfigError::Soft => -24,
+        ConfigError::Start => -25,
+        ConfigError::Skip => -26,
+        ConfigError::Workers => -27,
+        ConfigError::Limit => -28,
+        ConfigError::Fly => -29,
+        ConfigError::Keep => -30,
+        ConfigError::Ahead => -31,
+        ConfigError::Phase => -32,
+        ConfigError::Polarity => -33,
+    }
+}
+
+/// The first reason to refuse a word of n symbols, or else `other`.
+pub fn word_refusal(
+    code: u32,
+    n: u64,
+    basis: u32,
+    repair: u32,
+    other: Option<Refusal>,
+) -> Option<Refusal>
+    ensures value { result ≡ word_refusal code n basis repair other }
+    ensures other { result ≡ None → other ≡ None }
+    ensures code { result ≡ None → IsStrength code × IsLength code n }
+    ensures repair { result ≡ None → repair ≤ code }
+{
+    if code != 16 && code != 8 {
+        return Some(Refusal::Value(ConfigError::Code));
+    }
+    if n < 2 * u64::from(code) + 1 || n > 255 {
+        return Some(Refusal::Value(ConfigError::Length));
+    }
+    if basis > 1 {
+        return Some(Refusal::Value(ConfigError::Basis));
+    }
+    if repair > code {
+        return Some(Refusal::Value(ConfigError::Repair));
+    }
+    other
+}
+
+/// The reason to refuse so many check octets, or none.
+pub fn checks_refusal(code: u32, checks: usize) -> Option<Refusal>
+    ensures value { result ≡ checks_refusal code checks }
+    ensures fits { result ≡ None → checks ≡ 2 * code }
+{
+    if checks as u64 == 2 * u64::from(code) {
+        None
+    } else {
+        Some(Refusal::Room)
+    }
+}
+
+/// The reason to refuse so many flags of n symbols, or none.
+pub fn flags_refusal(n: usize, flags: usize) -> Option<Refusal>
+    ensures value { result ≡ flags_refusal n flags }
+    ensures fits { result ≡ None → flags ≡ n }
+{
+    if flags == n {
+        None
+    } else {
+        Some(Refusal::Flags)
+    }
+}

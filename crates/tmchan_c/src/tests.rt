@@ -1,0 +1,57 @@
+// Each call once, on values from outside: the generator polynomial of the (255,223) code, which is the codeword that begins with 1, and the
+// first octets of the pseudo-random sequence.
+use crate::codeblock::{tmchan_put_column, tmchan_randomize, tmchan_take_column};
+use crate::reed_solomon::{tmchan_rs_decode, tmchan_rs_decode_erased, tmchan_rs_encode};
+use crate::unit::{tmchan_cadu, tmchan_cadu_length};
+use crate::version::tmchan_version;
+
+static WORD: [u8; 33] = [
+    0x01, 0x5B, 0x7F, 0x56, 0x10, 0x1E, 0x0D, 0xEB, 0x61, 0xA5, 0x08, 0x2A, 0x36, 0x56, 0xAB, 0x20,
+    0x71, 0x20, 0xAB, 0x56, 0x36, 0x2A, 0x08, 0xA5, 0x61, 0xEB, 0x0D, 0x1E, 0x10, 0x56, 0x7F, 0x5B,
+    0x01,
+];
+
+#[test]
+fn words_are_encoded_and_repaired(rt: HostRuntime) {
+    let mut checks = [0; 32];
+    assert_eq!(rt; tmchan_rs_encode(16, 1, &WORD[..1], &mut checks), 0);
+    assert_eq!(rt; &checks[..], &WORD[1..]);
+    assert_eq!(rt; tmchan_rs_encode(16, 1, &WORD[..1], &mut checks[1..]), -2);
+    assert_eq!(rt; tmchan_rs_encode(16, 1, &[], &mut checks), -18);
+    let mut word = WORD;
+    word[0] = 0;
+    word[32] = 0;
+    assert_eq!(rt; tmchan_rs_decode(16, 1, 1, &mut word), -1);
+    assert_eq!(rt; tmchan_rs_decode(16, 1, 2, &mut word), 2);
+    assert_eq!(rt; &word[..], &WORD[..]);
+    let mut flags = [0; 33];
+    for i in 0..32 {
+        word[i] = 0;
+        flags[i] = 1;
+    }
+    assert_eq!(rt; tmchan_rs_decode_erased(16, 1, 0, &mut word, &flags), 32);
+    assert_eq!(rt; &word[..], &WORD[..]);
+    assert_eq!(rt;
+        tmchan_rs_decode_erased(16, 1, 0, &mut word, &flags[1..]),
+        -3
+    );
+}
+
+#[test]
+fn units_are_written_and_taken_apart(rt: HostRuntime) {
+    assert_eq!(rt; tmchan_cadu_length(16, 2, 2), 70);
+    assert_eq!(rt; tmchan_cadu_length(16, 2, 3), -18);
+    let mut unit = [0; 70];
+    assert_eq!(rt; tmchan_cadu(16, 2, 1, 1, &[1, 0], &mut unit), 0);
+    assert_eq!(rt; tmchan_cadu(16, 2, 1, 1, &[1, 0], &mut unit[1..]), -2);
+    assert_eq!(rt; &unit[..6], &[0x1A, 0xCF, 0xFC, 0x1D, 0xFE, 0x48][..]);
+    let block = &mut unit[4..];
+    tmchan_randomize(block);
+    let mut word = [0; 33];
+    assert_eq!(rt; tmchan_take_column(2, 0, block, &mut word), 0);
+    assert_eq!(rt; &word[..], &WORD[..]);
+    assert_eq!(rt; tmchan_put_column(2, 1, block, &word), 0);
+    assert_eq!(rt; &block[..6], &[0x01, 0x01, 0x5B, 0x5B, 0x7F, 0x7F][..]);
+    assert_eq!(rt; tmchan_put_column(2, 2, block, &word), -4);
+    assert_eq!(rt; tmchan_version(), 256);
+}

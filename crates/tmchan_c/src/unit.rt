@@ -1,0 +1,69 @@
+// Channel access data units.
+ghost use Rattle.std.specs.Prelude.{◌≡◌, ◌≢◌, ◌≤◌, length, pos};
+ghost use Rattle.tm_channel.specs.Cadu.{cadu as cadu_of};
+ghost use Rattle.tm_config.specs.Refusal.{refusal_of};
+ghost use Rattle.tmchan_c.specs.Refusal.{answered};
+ghost use Rattle.tmchan_c.specs.Unit.{size_answer, unit_configuration, unit_raw, unit_refusal, unit_size};
+
+use crate::refusal::Refusal;
+use tm_channel::cadu;
+use tm_config::{Config, Raw};
+
+/// The octets of the unit of a frame of so many: of its marker and its codeblock; or why there is none.
+#[unsafe(no_mangle)]
+pub extern "C" fn tmchan_cadu_length(code: u32, depth: u32, frame_length: usize) -> i32
+    ensures { result ≡ size_answer (refusal_of (unit_raw code depth 0 0 frame_length)) (unit_size (unit_configuration code depth 0 0 frame_length)) }
+{
+    match Config::check(&raw(code, depth, 0, 0, frame_length)) {
+        Err(error) => Refusal::Value(error).answer(),
+        Ok(config) => size(&config) as i32,
+    }
+}
+
+/// Writes the channel access data unit of a frame. Answers 0, or why it is refused.
+#[unsafe(no_mangle)]
+pub extern "C" fn tmchan_cadu(
+    code: u32,
+    depth: u32,
+    basis: u32,
+    randomize: u32,
+    frame: &[u8],
+    unit: &mut [u8],
+) -> i32
+    ensures answer { result ≡ answered (unit_refusal code depth basis randomize (length frame.now) (length unit.old)) }
+    ensures unit { result ≡ pos 0 → unit.new ≡ cadu_of (unit_configuration code depth basis randomize (length frame.now)) frame.now }
+    ensures unchanged { result ≢ pos 0 → unit.new ≡ unit.old }
+{
+    match Config::check(&raw(code, depth, basis, randomize, frame.len())) {
+        Err(error) => Refusal::Value(error).answer(),
+        Ok(config) => {
+            if unit.len() != size(&config) {
+                return Refusal::Room.answer();
+            }
+            cadu(&config, frame, unit);
+            0
+        }
+    }
+}
+
+// The values of the options: those that are told, and else the defaults.
+fn raw(code: u32, depth: u32, basis: u32, randomize: u32, frame_length: usize) -> Raw
+    ensures { result ≡ unit_raw code depth basis randomize frame_length }
+{
+    Raw {
+        code: u64::from(code),
+        depth: u64::from(depth),
+        length: Some(frame_length as u64),
+        randomize: u64::from(randomize),
+        basis: u64::from(basis),
+        ..Raw::default()
+    }
+}
+
+// The octets of a unit: four of the marker, and those of the codeblock.
+fn size(config: &Config) -> usize
+    ensures value { result ≡ unit_size config.now }
+    ensures most { result ≤ 2044 }
+{
+    (config.depth() * config.word_length()) as usize + 4
+}

@@ -1,0 +1,110 @@
+/* Mbit/s of each call, by processor time, the best of five rounds of about a tenth of a second; beside libfec's where it is built in.
+ * A bit is one of what the call is given: of data, of a word with its checks, of a block, of a frame. */
+#include <stdio.h>
+#include <stdlib.h>
+#include <string.h>
+#include <time.h>
+
+#include "tmchan.h"
+#ifdef WITH_LIBFEC
+#include <fec.h>
+#endif
+
+static uint8_t sent[255], word[255], flags[255], checks[32], block[2040], unit[2044];
+static int bad; /* answers that were not the wanted ones */
+
+static double seconds(void) {
+    struct timespec now;
+    clock_gettime(CLOCK_PROCESS_CPUTIME_ID, &now);
+    return (double)now.tv_sec + 1e-9 * (double)now.tv_nsec;
+}
+
+static void encode(void) { bad += tmchan_rs_encode(16, 0, sent, 223, checks, 32) != 0; }
+static void disturb(int wrong) {
+    memcpy(word, sent, 255);
+    for (int i = 0; i < wrong; i++) word[15 * i] ^= (uint8_t)(i + 1);
+}
+static void decode(int wrong) {
+    disturb(wrong);
+    bad += tmchan_rs_decode(16, 0, 16, word, 255) != wrong;
+}
+static void decode_clean(void) { decode(0); }
+static void decode_one(void) { decode(1); }
+static void decode_sixteen(void) { decode(16); }
+static void decode_erased(void) {
+    disturb(16);
+    bad += tmchan_rs_decode_erased(16, 0, 8, word, 255, flags, 255) != 16;
+}
+static void randomize(void) { tmchan_randomize(block, 1275); }
+static void take(void) { bad += tmchan_take_column(5, 2, block, 1275, word, 255) != 0; }
+static void put(void) { bad += tmchan_put_column(5, 2, block, 1275, word, 255) != 0; }
+static void cadu(void) { bad += tmchan_cadu(16, 5, 0, 1, block, 1115, unit, 1279) != 0; }
+
+#ifdef WITH_LIBFEC
+static void fec_encode(void) { encode_rs_ccsds(sent, checks, 0); }
+static void fec_decode(int wrong) {
+    disturb(wrong);
+    bad += decode_rs_ccsds(word, NULL, 0, 0) != wrong;
+}
+static void fec_clean(void) { fec_decode(0); }
+static void fec_one(void) { fec_decode(1); }
+static void fec_sixteen(void) { fec_decode(16); }
+static void fec_erased(void) {
+    int places[16];
+    for (int i = 0; i < 16; i++) places[i] = 15 * i;
+    disturb(16);
+    bad += decode_rs_ccsds(word, places, 16, 0) != 16;
+}
+#else
+#define fec_encode NULL
+#define fec_clean NULL
+#define fec_one NULL
+#define fec_sixteen NULL
+#define fec_erased NULL
+#endif
+
+static double speed(void (*call)(void), int bits) {
+    double best = 0;
+    for (int round = 0; round < 5; round++) {
+        long count = 0;
+        double start = seconds(), spent;
+        do {
+            for (int i = 0; i < 200; i++) call();
+            count += 200;
+            spent = seconds() - start;
+        } while (spent < 0.1);
+        double reached = (double)count * bits / spent / 1e6;
+        if (reached > best) best = reached;
+    }
+    return best;
+}
+
+int main(void) {
+    const struct { const char *name; void (*ours)(void), (*fec)(void); int bits; } rows[] = {
+        {"rs_encode, 223 octets", encode, fec_encode, 8 * 223},
+        {"rs_decode, no wrong octet", decode_clean, fec_clean, 8 * 255},
+        {"rs_decode, 1 wrong octet", decode_one, fec_one, 8 * 255},
+        {"rs_decode, 16 wrong octets", decode_sixteen, fec_sixteen, 8 * 255},
+        {"rs_decode_erased, 16 erased", decode_erased, fec_erased, 8 * 255},
+        {"randomize, 1,275 octets", randomize, NULL, 8 * 1275},
+        {"take_column, depth 5", take, NULL, 8 * 255},
+        {"put_column, depth 5", put, NULL, 8 * 255},
+        {"cadu, depth 5, 1,115 octets", cadu, NULL, 8 * 1115},
+    };
+    srand(131);
+    for (int i = 0; i < 223; i++) sent[i] = (uint8_t)rand();
+    for (int i = 0; i < 2040; i++) block[i] = (uint8_t)rand();
+    for (int i = 0; i < 16; i++) flags[15 * i] = 1;
+    encode();
+    memcpy(sent + 223, checks, 32);
+    printf("%-30s %10s %10s\n", "Mbit/s, (255,223), dual basis", "libtmchan", "libfec");
+    for (size_t i = 0; i < sizeof rows / sizeof *rows; i++) {
+        printf("%-30s %10.0f", rows[i].name, speed(rows[i].ours, rows[i].bits));
+        if (rows[i].fec)
+            printf(" %10.0f\n", speed(rows[i].fec, rows[i].bits));
+        else
+            printf(" %10s\n", "-");
+    }
+    if (bad) fprintf(stderr, "%d answers were not the wanted ones\n", bad);
+    return bad != 0;
+}
