@@ -76,11 +76,20 @@ pub(crate) fn period(rate: Rate) -> u8
     }
 }
 
-/// How many symbols the first `bits` steps of the stream send; at most 2^44 bits.
+/// How many symbols the first `bits` steps of the stream send; at most 2^62 bits.
 pub fn symbols_of(rate: Rate, bits: u64) -> u64
-    requires { bits ≤ 2 ^ 44 }
+    requires { bits ≤ 2 ^ 62 }
     ensures { result ≡ steps_size rate 0 bits }
 {
     // A step sends one symbol, and the first of each period one more.
     bits + bits.div_ceil(u64::from(period(rate)))
+}
+
+/// How many symbols `count` steps send from step `t` on, counted from the stream's first bit; `t + count` is at most 2^62.
+pub fn steps_len(rate: Rate, t: u64, count: usize) -> usize
+    requires { t + count ≤ 2 ^ 62 }
+    ensures { result ≡ steps_size rate t count }
+{
+    let behind = symbols_of(rate, t + count as u64);
+    (behind - symbols_of(rate, t)) as usize
 }

@@ -1,5 +1,5 @@
 -- One step more of the forward pass.
-use Rattle.std.proofs.Common.{◌≡◌, ℕ, ◌+◌, ◌/◌, ◌%◌, ◌∙◌, sym, ap, min, ◌<◌, ◌≤◌, arith, Bool, true, false, cond}
+use Rattle.std.proofs.Common.{◌≡◌, ℕ, ◌+◌, ◌/◌, ◌%◌, ap, min, ◌<◌, ◌≤◌, arith, Bool, true, false, cond}
 use Rattle.tm_conv.specs.declared.rates.Rate.{Rate}
 use Rattle.tm_conv.specs.declared.rates.Rate.TheVariants.{R12, R23, R34, R56, R78}
 use Rattle.tm_conv.specs.Path.{period, step_size, steps_size, keeps_c1, keeps_c2}

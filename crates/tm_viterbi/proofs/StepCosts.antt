@@ -1,5 +1,5 @@
 -- The four costs of a step.
-use Rattle.std.proofs.Common.{◌%◌, ◌∙◌, sym, ap, eqb, ◌&&◌, inl, inr, ◌≡◌, ℕ, ◌+◌, ◌-◌, ◌*◌, ◌<◌, cond, arith, length, List, [], ◌∷◌, ◌++◌, zero, suc, refl, Bool, true, false, get_or}
+use Rattle.std.proofs.Common.{◌%◌, ◌∙◌, sym, ap, eqb, ◌≡◌, ℕ, ◌+◌, ◌-◌, ◌*◌, ◌<◌, cond, arith, length, List, [], ◌∷◌, ◌++◌, zero, suc, refl, Bool, true, false, get_or}
 use Rattle.std.specs.Prelude.{bit_xor}
 use Rattle.std.proofs.lemmas.Bool.{eqb-true, agree_below, agree_below_at}
 use Rattle.tm_conv.specs.declared.rates.Rate.TheVariants.{R12}

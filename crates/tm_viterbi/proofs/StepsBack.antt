@@ -5,7 +5,7 @@ use Rattle.std.proofs.lemmas.List.{reverse-append, reverse-reverse, drop_at, dro
 use borrow.Rule.Slice.PartMut.{put_mid, post_of}
 use Rattle.std.proofs.Math.Seq.{take-add}
 use mathlib.Core.List.{reverse}
-use Rattle.tm_conv.specs.Path.{next_register, register_after}
+use Rattle.tm_conv.specs.Path.{register_after}
 use Rattle.tm_viterbi.specs.Walk.{before, past_of, start_of, history}
 use Rattle.tm_viterbi.specs.declared.traceback.eight_bits.TheConstants.{EIGHT_BITS}
 

@@ -10,12 +10,16 @@ use crate::window::{first_sums, least_register};
 use std::alloc::{AllocError, Global};
 use tm_conv::Rate;
 
-/// The best path of a window.
+/// The best path of a window, but for its bits: the register that it starts from, what it costs, and the register behind the kept steps.
 #[derive(Drop)]
-pub(crate) struct Found {
-    pub(crate) start: u8,
-    pub(crate) metric: u64,
-    pub(crate) end_state: u8,
+pub struct BestPath {
+    /// The register that the path starts from, below 64.
+    pub start: u8,
+    /// What the path costs over the whole window.
+    pub metric: u64,
+    /// The register behind the kept steps, from which the next window starts.
+    pub end_state: u8,
+    ghost small: { end_state < 64 },
 }
 
 /// A window from step `t` on, of which some steps are filled.
@@ -76,18 +80,16 @@ impl Window {
         })
     }
 
-    /// Begins the next window, behind the steps that are kept.
+    /// Begins a window from step t on, from these registers, with nothing filled.
     #[tactic(auto, unfolding(tm_conv::specs::Path::steps_size))]
-    pub(crate) fn restart(&mut self, end_state: u8)
-        requires few { self.old.t < 2 ^ 60 }
+    pub(crate) fn begin(&mut self, starts: Option<u8>, t: u64)
         ensures holds { Holds self.new [] }
-        ensures place { (self.new.t ≡ self.old.t + self.old.keep) × (self.new.filled ≡ 0) × (self.new.starts ≡ Option.Some end_state) }
+        ensures place { (self.new.t ≡ t) × (self.new.filled ≡ 0) × (self.new.starts ≡ starts) }
         ensures same { (self.new.rate ≡ self.old.rate) × (self.new.invert ≡ self.old.invert) × (self.new.keep ≡ self.old.keep) × (self.new.ahead ≡ self.old.ahead) }
     {
-        let starts = Some(end_state);
         self.sums = first_sums(starts);
         self.starts = starts;
-        self.t += self.keep as u64;
+        self.t = t;
         self.filled = 0;
     }
 
@@ -118,7 +120,7 @@ impl Window {
     }
 
     /// The block of the steps so far, of which `kept` are kept; its bits are written.
-    pub(crate) fn find(&self, kept: usize, bits: &mut [u8]) -> Found
+    pub(crate) fn find(&self, kept: usize, bits: &mut [u8]) -> BestPath
         requires bits { length bits.old ≡ self.now.filled }
         requires kept { kept ≤ self.now.filled }
         requires start { (register : ℕ) × (register < 64) × IsTrue (starts_from self.now.starts register) }
@@ -133,7 +135,7 @@ impl Window {
         let metric = u64::from(self.sums[last]);
         let start = start as u8;
         let end_state = register_behind(start, &bits[..kept]);
-        Found {
+        BestPath {
             start,
             metric,
             end_state,

@@ -1,46 +1,12 @@
 // One window after another.
 ghost use Rattle.std.specs.Prelude.{◌≡◌, IfOk, IsTrue, ℕ, ◌+◌, ◌-◌, ◌*◌, ◌^◌, ◌<◌, ◌≤◌, ◌++◌, List, Option, [], length, drop, take};
-ghost use Rattle.tm_conv.specs.Path.{period, steps_size};
+ghost use Rattle.tm_conv.specs.Path.{steps_size};
 ghost use Rattle.tm_viterbi.specs.Starts.{starts_from};
 
-use crate::filling::{Found, Window};
+use crate::filling::{BestPath, Window};
 use crate::tail::Tail;
 use std::alloc::{AllocError, Global};
-use tm_conv::{Rate, step_len};
-
-// How many steps the pattern of a rate has. They send one symbol more, wherever they begin.
-pub(crate) fn period_len(rate: Rate) -> usize
-    ensures period { result ≡ period rate }
-    ensures some { 0 < result }
-    ensures small { result ≤ 7 }
-{
-    match rate {
-        Rate::R12 => 1,
-        Rate::R23 => 2,
-        Rate::R34 => 3,
-        Rate::R56 => 5,
-        Rate::R78 => 7,
-    }
-}
-
-// How many symbols so many steps from step t on send.
-fn span(rate: Rate, t: u64, count: usize) -> usize
-    requires { t + count < 2 ^ 62 }
-    ensures value { result ≡ steps_size rate t count }
-{
-    let period = period_len(rate);
-    let mut all = 0usize;
-    let mut i = 0usize;
-    while count - i >= period {
-        all += period + 1;
-        i += period;
-    }
-    while i < count {
-        all += step_len(rate, t + i as u64);
-        i += 1;
-    }
-    all
-}
+use tm_conv::{Rate, steps_len};
 
 /// A window, and the octets behind its kept steps.
 #[derive(Drop)]
@@ -101,17 +67,18 @@ impl Flow {
         ensures place { (self.new.window.t ≡ self.old.window.t + self.old.window.keep) × (self.new.window.filled ≡ self.old.window.ahead) × (self.new.window.starts ≡ Option.Some end_state) }
         ensures same { (self.new.window.rate ≡ self.old.window.rate) × (self.new.window.invert ≡ self.old.window.invert) × (self.new.window.keep ≡ self.old.window.keep) × (self.new.window.ahead ≡ self.old.window.ahead) }
     {
-        self.window.restart(end_state);
+        let next = self.window.t + self.window.keep as u64;
+        self.window.begin(Some(end_state), next);
         let ahead = self.window.ahead;
         let octets = self.tail.as_slice();
         self.window.take_steps(ahead, octets);
-        let size = span(self.window.rate, self.window.t, ahead.min(self.window.keep));
+        let size = steps_len(self.window.rate, self.window.t, ahead.min(self.window.keep));
         self.tail.drop_front(size);
     }
 
     /// Closes a full window: answers its block, whose bits are written, and begins the next one. A window may be closed once
     /// the step behind it is there too.
-    pub(crate) fn close(&mut self, bits: &mut [u8]) -> Found
+    pub(crate) fn close(&mut self, bits: &mut [u8]) -> BestPath
         requires full { self.old.window.filled ≡ self.old.window.keep + self.old.window.ahead }
         requires bits { length bits.old ≡ self.old.window.keep + self.old.window.ahead }
         requires start { (register : ℕ) × (register < 64) × IsTrue (starts_from self.old.window.starts register) }
@@ -132,7 +99,7 @@ impl Flow {
     }
 
     /// The block of the last window, all of whose steps are kept; its bits are written to the front of `bits`.
-    pub(crate) fn find_last(&self, bits: &mut [u8]) -> Found
+    pub(crate) fn find_last(&self, bits: &mut [u8]) -> BestPath
         requires bits { self.now.window.filled ≤ length bits.old }
         requires start { (register : ℕ) × (register < 64) × IsTrue (starts_from self.now.window.starts register) }
         ensures block { (given after : List ℕ) → Keeps self.now given

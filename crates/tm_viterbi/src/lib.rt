@@ -22,12 +22,15 @@ mod tail;
 mod traceback;
 mod whole;
 mod window;
+mod window_decoder;
 
 pub use block::{Block, BlockTaker, Start};
 pub use clean_laws::{clean_blocks_law, closed_windows_law, turned_blocks_law};
 pub use columns::plain_column;
 pub use decoder::{Decoder, FeedError};
+pub use filling::BestPath;
 pub use lanes::lane_column;
 pub use laws::{due_law, one_list_law};
 pub use sums::Sums;
 pub use whole::{AllError, decode_all, least_cost};
+pub use window_decoder::{WindowDecoder, WindowShape};

@@ -3,13 +3,13 @@ ghost use Rattle.std.specs.Prelude.{◌≡◌, ◌++◌, ◌∷◌, ℕ, ◌+◌
 ghost use Rattle.std.specs.Option.{ForSome};
 ghost use Rattle.tm_base.specs.Takers.{HandedOver, HandedPart};
 ghost use Rattle.tm_base.specs.Outside.{HasCause};
-ghost use Rattle.tm_conv.specs.Path.{step_size, steps_size};
+ghost use Rattle.tm_conv.specs.Path.{period, step_size, steps_size};
 ghost use Rattle.tm_viterbi.specs.Starts.{starts_from, first_start};
 ghost use Rattle.tm_viterbi.specs.WindowBlock.{WindowBlock};
 
 use crate::block::{Block, BlockTaker, Start};
-use crate::filling::Found;
-use crate::flow::{Flow, period_len};
+use crate::filling::BestPath;
+use crate::flow::Flow;
 use std::alloc::{AllocError, Global};
 use tm_base::Failed;
 use tm_conv::{Rate, step_len};
@@ -39,6 +39,21 @@ fn zeros(alloc: Global, count: usize) -> Result<Vec<u8>, AllocError>
     ensures { IfOk result (λ v. vec_len v ≡ count) }
 {
     vec![in alloc; 0u8; count]
+}
+
+// How many steps the pattern of a rate has. They send one symbol more, wherever they begin.
+fn period_len(rate: Rate) -> usize
+    ensures period { result ≡ period rate }
+    ensures some { 0 < result }
+    ensures small { result ≤ 7 }
+{
+    match rate {
+        Rate::R12 => 1,
+        Rate::R23 => 2,
+        Rate::R34 => 3,
+        Rate::R56 => 5,
+        Rate::R78 => 7,
+    }
 }
 
 // How many whole steps the next octets have from step t on, at most `limit`, and how many octets these steps take.
@@ -89,7 +104,7 @@ pub(crate) fn whole_steps(rate: Rate, t: u64, limit: usize, len: usize) -> (usiz
 
 // Hands over a window's block, whose bits are the front of `bits`.
 fn hand_over<B: BlockTaker>(
-    found: &Found,
+    found: &BestPath,
     steps: usize,
     kept: usize,
     bits: &[u8],

@@ -1,4 +1,4 @@
-use Rattle.std.proofs.Common.{◌≡◌, ◌<◌, ◌≤◌, ◌+◌, ◌-◌, ◌*◌, ◌%◌, ◌∙◌, List, ◌++◌, length, take, ℕ, arith, sym, ap, subst}
+use Rattle.std.proofs.Common.{◌≡◌, ◌<◌, ◌≤◌, ◌+◌, ◌-◌, ◌*◌, ◌%◌, ◌∙◌, List, length, take, ℕ, arith, sym, ap, subst}
 use Rattle.std.proofs.lemmas.List.{take_all}
 use Rattle.tm_conv.specs.Path.{path, period, register_after}
 use Rattle.tm_conv.specs.Encoding.{levels}

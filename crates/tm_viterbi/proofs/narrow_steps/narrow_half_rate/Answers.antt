@@ -1,4 +1,4 @@
-use Rattle.std.proofs.Common.{refl, sym, ap, subst, ◌≡◌, ◌<◌, ◌+◌, ◌*◌, ◌≤◌, ◌-◌, ◌^◌, ◌++◌, ◌∙◌, arith, rules, length, length-drop, take, drop, ℕ, List}
+use Rattle.std.proofs.Common.{refl, sym, ap, subst, ◌≡◌, ◌+◌, ◌*◌, ◌≤◌, ◌-◌, ◌^◌, ◌++◌, ◌∙◌, arith, rules, length, length-drop, take, drop, ℕ, List}
 use Rattle.std.proofs.lemmas.List.{take_all, length-take-le}
 use borrow.Rule.Slice.PartMut.{put_mid}
 use Rattle.tm_conv.specs.declared.rates.Rate.TheVariants.{R12}

@@ -1,4 +1,4 @@
-use Rattle.std.proofs.Common.{◌≡◌, ◌-◌, ◌≤◌, ◌∙◌, ℕ, List, [], ap, sym, arith, length, length-drop, take, drop}
+use Rattle.std.proofs.Common.{◌≡◌, ◌-◌, ◌∙◌, ℕ, List, [], ap, sym, arith, length, length-drop, take, drop}
 use Rattle.std.proofs.lemmas.List.{take_all, drop_all}
 use Rattle.tm_conv.specs.Path.{register_after}
 use Rattle.tm_viterbi.proofs.StepsBack.{last_six}

@@ -1,4 +1,4 @@
-use Rattle.std.proofs.Common.{◌≡◌, ◌+◌, ◌-◌, ◌<◌, ◌≤◌, ◌++◌, ◌∙◌, ℕ, List, ap, sym, arith, length, take, drop}
+use Rattle.std.proofs.Common.{◌≡◌, ◌+◌, ◌-◌, ◌++◌, ◌∙◌, ℕ, List, ap, sym, arith, take, drop}
 use mathlib.Core.List.{reverse}
 use borrow.Rule.Slice.PartMut.{put_mid}
 use Rattle.tm_viterbi.specs.Walk.{past_of, start_of}

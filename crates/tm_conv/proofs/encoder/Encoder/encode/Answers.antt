@@ -1,4 +1,4 @@
-use Rattle.std.proofs.Common.{◌≡◌, ◌++◌, List, take, refl, sym, subst}
+use Rattle.std.proofs.Common.{◌≡◌, ◌++◌, take, refl, sym, subst}
 use Rattle.tm_base.specs.Bits.{bits_of}
 use Rattle.tm_conv.specs.Encoding.{Encoding, StandsFor, sent_for, levels}
 use Rattle.tm_conv.proofs.OctetPaths.{StandsFor-octets, sent_for-octets}

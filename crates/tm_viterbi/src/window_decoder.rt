@@ -1,0 +1,90 @@
+// One window, decoded by itself.
+ghost use Rattle.std.specs.Prelude.{◌≡◌, ℕ, ◌+◌, ◌^◌, ◌<◌, ◌≤◌, IfOk, length};
+ghost use Rattle.std.specs.Option.{ForSome};
+ghost use Rattle.tm_conv.specs.Path.{steps_size};
+ghost use Rattle.tm_viterbi.specs.Blocks.{IsBlock, window_steps, kept_steps};
+
+use crate::filling::{BestPath, Window};
+use std::alloc::Global;
+use std::marker::Model;
+use tm_base::NoMemory;
+use tm_conv::{Rate, steps_len};
+
+/// How windows are cut and decoded.
+#[derive(Clone, Copy, Debug)]
+pub struct WindowShape {
+    /// The rate of the code.
+    pub rate: Rate,
+    /// Whether each second sum was sent inverted.
+    pub invert: bool,
+    /// How many steps of a window are kept, but of the last.
+    pub keep: usize,
+    /// How many steps stand behind them.
+    pub ahead: usize,
+}
+
+/// The decoder of windows whose octets are all there, one at a time and in any order (CCSDS 131.0-B, Convolutional Coding). It
+/// takes its memory at `new`.
+#[derive(Drop)]
+pub struct WindowDecoder {
+    shape: WindowShape,
+    window: Window,
+}
+
+impl Model for WindowDecoder {
+    ghost use Rattle.std.specs.Prelude.{◌≡◌};
+    ghost use Rattle.tm_viterbi.specs.declared.window_decoder.WindowShape.{WindowShape};
+
+    ghost Value = { WindowShape };
+
+    ghost view = { λ d. d.shape };
+
+    ghost invariant = { λ d. (d.window.rate ≡ d.shape.rate) × (d.window.invert ≡ d.shape.invert) × (d.window.keep ≡ d.shape.keep) × (d.window.ahead ≡ d.shape.ahead) };
+}
+
+impl WindowDecoder {
+    /// A decoder of windows of this shape, which have at most 69,632 steps. It fails only where there isn't enough memory.
+    pub fn new(alloc: Global, shape: WindowShape) -> Result<WindowDecoder, NoMemory>
+        requires { shape.keep + shape.ahead ≤ 69632 }
+        ensures { IfOk result (λ d. d ≡ shape) }
+    {
+        let WindowShape {
+            rate,
+            invert,
+            keep,
+            ahead,
+        } = shape;
+        match Window::new(alloc, rate, invert, keep, ahead, None) {
+            Ok(window) => Ok(WindowDecoder { shape, window }),
+            Err(_) => Err(NoMemory),
+        }
+    }
+
+    /// Finds the best path of the window from step `t` on, at most 2^61, that starts from the register `starts`, below 64, or from
+    /// any of the 64 at `None`. The window has as many steps as `bits`, at most those of the shape, and `kept` of them are kept; `octets`
+    /// begins with its soft octets. The path's bits are written to `bits`.
+    pub fn decode(
+        &mut self,
+        starts: Option<u8>,
+        t: u64,
+        kept: usize,
+        octets: &[u8],
+        bits: &mut [u8],
+    ) -> BestPath
+        requires steps { length bits.old ≤ self.old.keep + self.old.ahead }
+        requires kept { kept ≤ length bits.old }
+        requires octets { steps_size self.old.rate t (length bits.old) ≤ length octets.now }
+        requires start { ForSome starts (λ register. register < 64) }
+        requires few { t < 2 ^ 61 }
+        ensures block { (remaining : ℕ) → length bits.old ≡ window_steps self.old.keep self.old.ahead remaining → kept ≡ kept_steps self.old.keep self.old.ahead remaining
+            → IsBlock self.old.rate self.old.invert self.old.keep self.old.ahead starts t remaining octets.now
+            (record { start = result.start; steps = length bits.old; kept = kept; metric = result.metric; bits = bits.new; end_state = result.end_state }) }
+        ensures same { self.new ≡ self.old }
+    {
+        let steps = bits.len();
+        let size = steps_len(self.shape.rate, t, steps);
+        self.window.begin(starts, t);
+        self.window.take_steps(steps, &octets[..size]);
+        self.window.find(kept, bits)
+    }
+}
