@@ -15,7 +15,7 @@ mod StepsBack
 mod LeastTotals
 mod Filled
 mod Tails
-mod Closing
+pub mod Closing
 mod Handing
 mod WholeBlocks
 mod LastWindow

@@ -1,0 +1,41 @@
+-- Windows that were decoded from registers which were only taken to be their starts.
+use Rattle.std.specs.Prelude.{ℕ, ◌≡◌, ◌+◌, ◌*◌, ◌<◌, ◌≤◌, List, Option, drop, slice_index_or, vec_len}
+use Rattle.std.specs.List.{All}
+use Rattle.tm_conv.specs.Path.{steps_size}
+use Rattle.tm_viterbi.specs.WindowBlock.{WindowBlock}
+use Rattle.tm_viterbi.specs.Due.{Place, Closes, Closed}
+use Rattle.tm_viterbi.specs.declared.window_decoder.WindowShape.{WindowShape}
+use Rattle.tm_windows.specs.declared.candidate.Candidate.{Candidate}
+
+-- the window closes with this block
+abbrev pub ClosesWith : WindowShape → Place → WindowBlock → Type 0
+ClosesWith shape at block = Closes shape.rate shape.invert shape.keep shape.ahead at block
+
+-- from one place to another by closed windows with these blocks
+abbrev pub ClosedWith : WindowShape → Place → List WindowBlock → Place → Type 0
+ClosedWith shape from blocks to = Closed shape.rate shape.invert shape.keep shape.ahead from blocks to
+
+-- the block that a candidate is, all of whose steps but those ahead are kept
+abbrev pub block_of : WindowShape → Candidate → WindowBlock
+block_of shape c =
+    record { start = c.path.start; steps = shape.keep + shape.ahead; kept = shape.keep; metric = c.path.metric; bits = c.bits.items; end_state = c.path.end_state }
+
+-- it is the block of the window from step t on with the octets, from the registers that were taken to be its start set
+abbrev pub IsCandidate : WindowShape → ℕ → List ℕ → Candidate → Type 0
+IsCandidate shape t octets c = ClosesWith shape (record { starts = c.starts; t = t; octets = octets }) (block_of shape c)
+
+-- the candidates from number `from` to number `to` are those of windows one behind another, of which number 0 begins at step t with the
+-- octets
+abbrev pub AreCandidates : WindowShape → ℕ → List ℕ → ℕ → ℕ → List Candidate → Type 0
+AreCandidates shape t octets from to candidates =
+    (k : ℕ) (d : Candidate) → from ≤ k → k < to
+    → IsCandidate shape (t + k * shape.keep) (drop (steps_size shape.rate t (k * shape.keep)) octets) (slice_index_or candidates k d)
+
+-- each has room for the bits of so many steps
+abbrev pub HaveRoom : ℕ → List Candidate → Type 0
+HaveRoom steps candidates = All (λ c. vec_len c.bits ≡ steps) candidates
+
+-- where a window begins, `count` windows behind the one from step t on with the octets
+abbrev pub place_behind : WindowShape → ℕ → List ℕ → ℕ → Option ℕ → Place
+place_behind shape t octets count starts =
+    record { starts = starts; t = t + count * shape.keep; octets = drop (steps_size shape.rate t (count * shape.keep)) octets }

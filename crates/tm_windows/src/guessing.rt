@@ -1,0 +1,73 @@
+// A guess of the register that a window starts from.
+ghost use Rattle.std.specs.Prelude.{◌≡◌, ◌+◌, ◌^◌, ◌<◌, ◌≤◌, vec_len};
+ghost use Rattle.std.specs.Option.{ForSome};
+
+use crate::candidate::Candidate;
+use tm_conv::steps_len;
+use tm_viterbi::{WindowDecoder, WindowShape};
+
+// How many steps before a window, and how many of its own, a guess looks at: with so many, no guess of a thousand was wrong at 0 dB.
+const STEPS_SEEN: usize = 256;
+
+// A guess of the register at step t, whose octets begin at place `at`: where the best path over the steps around it passes. Nothing
+// but time rests on it. The candidate's bits are overwritten.
+fn guess(
+    decoder: &mut WindowDecoder,
+    shape: WindowShape,
+    candidate: &mut Candidate,
+    t: u64,
+    octets: &[u8],
+    at: usize,
+) -> u8
+    requires shape { decoder.old ≡ shape }
+    requires bits { vec_len candidate.old.bits ≡ shape.keep + shape.ahead }
+    requires few { t < 2 ^ 61 }
+    ensures register { result < 64 }
+    ensures bits { vec_len candidate.new.bits ≡ vec_len candidate.old.bits }
+    ensures same { decoder.new ≡ shape }
+{
+    let before = STEPS_SEEN.min(shape.keep);
+    let behind = STEPS_SEEN.min(shape.keep + shape.ahead - before);
+    if t < before as u64 || octets.len() < at {
+        return 0;
+    }
+    let first = t - before as u64;
+    let size = steps_len(shape.rate, first, before);
+    let more = steps_len(shape.rate, t, behind);
+    if at < size || octets.len() - at < more {
+        return 0;
+    }
+    let bits = candidate.bits.as_mut_slice();
+    let path = decoder.decode(
+        None,
+        first,
+        before,
+        &octets[at - size..],
+        &mut bits[..before + behind],
+    );
+    path.end_state
+}
+
+/// The start set of the window from step t on, whose octets begin at place `at`, where it is known, and else a guess of it.
+pub(crate) fn known_or_guessed(
+    decoder: &mut WindowDecoder,
+    shape: WindowShape,
+    candidate: &mut Candidate,
+    known: Option<Option<u8>>,
+    t: u64,
+    octets: &[u8],
+    at: usize,
+) -> Option<u8>
+    requires shape { decoder.old ≡ shape }
+    requires bits { vec_len candidate.old.bits ≡ shape.keep + shape.ahead }
+    requires start { ForSome known (λ starts. ForSome starts (λ register. register < 64)) }
+    requires few { t < 2 ^ 61 }
+    ensures start { ForSome result (λ register. register < 64) }
+    ensures bits { vec_len candidate.new.bits ≡ vec_len candidate.old.bits }
+    ensures same { decoder.new ≡ shape }
+{
+    match known {
+        Some(starts) => starts,
+        None => Some(guess(decoder, shape, candidate, t, octets, at)),
+    }
+}

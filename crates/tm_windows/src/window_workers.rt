@@ -1,0 +1,179 @@
+// Workers, with all that they need, that close several windows side by side.
+ghost use Rattle.std.specs.Prelude.{◌≡◌, ◌+◌, ◌*◌, ◌^◌, ◌<◌, ◌≤◌, IfOk, OnErr, List, length, vec_len};
+ghost use Rattle.std.specs.List.{All};
+ghost use Rattle.std.specs.Option.{ForSome};
+ghost use Rattle.tm_base.specs.Outside.{HasCause};
+ghost use Rattle.tm_base.specs.Takers.{HandedOver, HandedPart};
+ghost use Rattle.tm_conv.specs.Path.{steps_size};
+ghost use Rattle.tm_viterbi.specs.WindowBlock.{WindowBlock};
+ghost use Rattle.tm_viterbi.specs.Due.{Place};
+ghost use Rattle.tm_windows.specs.Candidates.{ClosedWith, HaveRoom, place_behind};
+
+use crate::candidate::Candidate;
+use crate::settling::settle_run;
+use crate::sharing::decode_evenly;
+use std::alloc::{AllocError, Global};
+use std::marker::Model;
+use std::thread::Threads;
+use tm_base::{Failed, NoMemory};
+use tm_viterbi::{BlockTaker, WindowDecoder, WindowShape};
+
+/// Workers that decode windows side by side, each with a decoder of its own, and room for the blocks of some windows. All memory is
+/// taken at `open`.
+#[derive(Drop)]
+pub struct WindowWorkers {
+    shape: WindowShape,
+    decoders: Vec<WindowDecoder>,
+    candidates: Vec<Candidate>,
+}
+
+impl Model for WindowWorkers {
+    ghost use Rattle.std.specs.Prelude.{◌≡◌, ◌+◌, ◌<◌, ◌≤◌, ◌^◌, vec_len};
+    ghost use Rattle.std.specs.List.{All};
+    ghost use Rattle.tm_windows.specs.Candidates.{HaveRoom};
+    ghost use Rattle.tm_windows.specs.Sharing.{Sharing};
+
+    ghost Value = { Sharing };
+
+    ghost view = { λ w. record { shape = w.shape; most = vec_len w.candidates } };
+
+    ghost invariant = { λ w. (w.shape.keep + w.shape.ahead ≤ 69632) × ((0 < vec_len w.decoders) × (vec_len w.decoders ≤ 64)) × (vec_len w.candidates ≤ 2 ^ 32)
+        × All (λ d. d ≡ w.shape) w.decoders.items × HaveRoom (w.shape.keep + w.shape.ahead) w.candidates.items };
+}
+
+fn new_decoders(
+    alloc: Global,
+    shape: WindowShape,
+    count: usize,
+) -> Result<Vec<WindowDecoder>, AllocError>
+    requires { shape.keep + shape.ahead ≤ 69632 }
+    ensures shape { IfOk result (λ decoders. All (λ d. d ≡ shape) decoders.items) }
+    ensures count { IfOk result (λ decoders. vec_len decoders ≡ count) }
+{
+    let mut decoders = Vec::with_capacity(alloc, count)?;
+    for _ in 0..count {
+        let Ok(decoder) = WindowDecoder::new(alloc, shape) else {
+            return Err(AllocError);
+        };
+        decoders.push(decoder)?;
+    }
+    Ok(decoders)
+}
+
+fn new_candidates(alloc: Global, steps: usize, count: usize) -> Result<Vec<Candidate>, AllocError>
+    ensures room { IfOk result (λ candidates. HaveRoom steps candidates.items) }
+    ensures count { IfOk result (λ candidates. vec_len candidates ≡ count) }
+{
+    let mut candidates = Vec::with_capacity(alloc, count)?;
+    for _ in 0..count {
+        let candidate = Candidate::new(alloc, steps)?;
+        candidates.push(candidate)?;
+    }
+    Ok(candidates)
+}
+
+// Closes the next `count` windows and hands over their blocks.
+fn close_run<R: Threads + Sync, B: BlockTaker>(
+    rt: &R,
+    shape: WindowShape,
+    decoders: &mut [WindowDecoder],
+    candidates: &mut [Candidate],
+    starts: Option<u8>,
+    t: u64,
+    octets: &[u8],
+    count: usize,
+    blocks: &mut B,
+) -> Result<Option<u8>, Failed>
+    requires some { (0 < length decoders.old) × (length decoders.old ≤ 64) }
+    requires shape { All (λ d. d ≡ shape) decoders.old }
+    requires small { shape.keep + shape.ahead ≤ 69632 }
+    requires most { count ≤ length candidates.old }
+    requires bits { HaveRoom (shape.keep + shape.ahead) candidates.old }
+    requires long { (length candidates.old ≤ 2 ^ 32) × (length octets.now ≤ 2 ^ 62) }
+    requires start { ForSome starts (λ register. register < 64) }
+    requires room { steps_size shape.rate t (count * shape.keep + shape.ahead + 1) ≤ length octets.now }
+    requires few { t + count * shape.keep < 2 ^ 61 }
+    ensures ok { IfOk result (λ next. (more : List WindowBlock) × HandedOver B.took blocks.old more blocks.new
+        × ClosedWith shape (record { starts = starts; t = t; octets = octets.now }) more (place_behind shape t octets.now count next)) }
+    ensures small { IfOk result (λ next. ForSome next (λ register. register < 64)) }
+    ensures err { OnErr result ((tried : List WindowBlock) × HandedPart B.took B.broke blocks.old tried blocks.new
+        × (to : Place) × ClosedWith shape (record { starts = starts; t = t; octets = octets.now }) tried to) }
+    ensures cause { HasCause (B.faults blocks.old) (B.faults blocks.new) (B.is_last blocks.new) result }
+    ensures bits { HaveRoom (shape.keep + shape.ahead) candidates.new }
+    ensures shape { All (λ d. d ≡ shape) decoders.new }
+{
+    let (candidates, _) = candidates.split_at_mut(count);
+    decode_evenly(rt, shape, decoders, Some(starts), t, octets, 0, candidates);
+    settle_run(
+        candidates,
+        &mut decoders[0],
+        shape,
+        starts,
+        t,
+        octets,
+        blocks,
+    )
+}
+
+impl WindowWorkers {
+    /// So many workers, 1 to 64, for windows of this shape, which have at most 69,632 steps, and room for `most` windows at a time, at
+    /// most 2^32. It fails only where there isn't enough memory.
+    pub fn open(
+        alloc: Global,
+        shape: WindowShape,
+        workers: u8,
+        most: usize,
+    ) -> Result<WindowWorkers, NoMemory>
+        requires steps { shape.keep + shape.ahead ≤ 69632 }
+        requires workers { (0 < workers) × (workers ≤ 64) }
+        requires most { most ≤ 2 ^ 32 }
+        ensures { IfOk result (λ w. w ≡ record { shape = shape; most = most }) }
+    {
+        let Ok(decoders) = new_decoders(alloc, shape, usize::from(workers)) else {
+            return Err(NoMemory);
+        };
+        let Ok(candidates) = new_candidates(alloc, shape.keep + shape.ahead, most) else {
+            return Err(NoMemory);
+        };
+        Ok(WindowWorkers {
+            shape,
+            decoders,
+            candidates,
+        })
+    }
+
+    /// Closes the next `count` windows side by side and hands over their blocks in order: the first window begins at step `t` with
+    /// `octets`, and starts from the register `starts` or from any; the last has one more step behind it. The octets are at most
+    /// 2^62, and the steps below 2^61. Answers the register from which the window behind them starts. The blocks are the same for any
+    /// number of workers.
+    ///
+    /// `Failed` comes only where the taker's count of faults rose; a front of the blocks was then handed over.
+    pub fn close<R: Threads + Sync, B: BlockTaker>(
+        &mut self,
+        rt: &R,
+        starts: Option<u8>,
+        t: u64,
+        octets: &[u8],
+        count: usize,
+        blocks: &mut B,
+    ) -> Result<Option<u8>, Failed>
+        requires most { count ≤ self.old.most }
+        requires start { ForSome starts (λ register. register < 64) }
+        requires room { steps_size self.old.shape.rate t (count * self.old.shape.keep + self.old.shape.ahead + 1) ≤ length octets.now }
+        requires long { length octets.now ≤ 2 ^ 62 }
+        requires few { t + count * self.old.shape.keep < 2 ^ 61 }
+        ensures ok { IfOk result (λ next. (more : List WindowBlock) × HandedOver B.took blocks.old more blocks.new
+            × ClosedWith self.old.shape (record { starts = starts; t = t; octets = octets.now }) more (place_behind self.old.shape t octets.now count next)) }
+        ensures small { IfOk result (λ next. ForSome next (λ register. register < 64)) }
+        ensures err { OnErr result ((tried : List WindowBlock) × HandedPart B.took B.broke blocks.old tried blocks.new
+            × (to : Place) × ClosedWith self.old.shape (record { starts = starts; t = t; octets = octets.now }) tried to) }
+        ensures cause { HasCause (B.faults blocks.old) (B.faults blocks.new) (B.is_last blocks.new) result }
+        ensures same { self.new ≡ self.old }
+    {
+        let decoders = self.decoders.as_mut_slice();
+        let candidates = self.candidates.as_mut_slice();
+        close_run(
+            rt, self.shape, decoders, candidates, starts, t, octets, count, blocks,
+        )
+    }
+}
