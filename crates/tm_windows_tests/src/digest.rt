@@ -1,0 +1,52 @@
+// A taker that remembers of blocks a number to which every part of each of them, and their order, contribute.
+use tm_base::Failed;
+use tm_viterbi::{Block, BlockTaker};
+
+#[derive(Debug, PartialEq, Eq, Drop)]
+pub struct Digest {
+    pub blocks: u64,
+    pub value: u64,
+}
+
+pub fn empty() -> Digest {
+    Digest {
+        blocks: 0,
+        value: 14695981039346656037,
+    }
+}
+
+fn mixed(value: u64, part: u64) -> u64 {
+    (value ^ part).wrapping_mul(1099511628211)
+}
+
+impl BlockTaker for Digest {
+    ghost faults = { λ digest. 0 };
+
+    ghost is_last = { λ digest. ⊥ };
+
+    ghost took = { λ before block now. Unit {0} };
+
+    ghost broke = { λ before block now. ⊥ };
+
+    ghost took_phase = { λ before skip cost now. Unit {0} };
+
+    ghost broke_phase = { λ before skip cost now. ⊥ };
+
+    fn block(&mut self, b: &Block<'_>) -> Result<(), Failed> {
+        self.blocks = self.blocks.wrapping_add(1);
+        let mut value = mixed(self.value, u64::from(b.start));
+        value = mixed(value, u64::from(b.steps));
+        value = mixed(value, u64::from(b.kept));
+        value = mixed(value, b.metric);
+        value = mixed(value, u64::from(b.end_state));
+        for bit in b.bits {
+            value = mixed(value, u64::from(*bit));
+        }
+        self.value = value;
+        Ok(())
+    }
+
+    fn phase(&mut self, _skip: u8, _cost: u64) -> Result<(), Failed> {
+        Ok(())
+    }
+}
