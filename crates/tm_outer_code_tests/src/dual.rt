@@ -82,7 +82,11 @@ fn words_beside_single_octets(rt: HostRuntime) {
             }
             basis.octets_to_elements(&octets[..n], &mut elements[..n]);
             for i in 0..n {
-                assert_eq!(rt; elements[i], basis.from_octet(octets[i]), "element {i} of {n}");
+                assert_eq!(rt;
+                    elements[i],
+                    basis.from_octet(octets[i]),
+                    "element {i} of {n}"
+                );
             }
             let mut back = [0; 255];
             basis.elements_to_octets(&elements[..n], &mut back[..n]);
