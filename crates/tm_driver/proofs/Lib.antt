@@ -1,0 +1,6 @@
+mod OneTurn
+mod Stopped
+pub mod SinkTexts
+pub mod HandedAlong
+pub mod TwoSinks
+pub mod Pieces

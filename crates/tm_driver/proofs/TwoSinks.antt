@@ -1,0 +1,19 @@
+-- What one sink or two sinks went through, from call to call.
+use Rattle.std.proofs.Common.{◌≡◌, ◌⊎◌, inl, inr, ℕ, ◌≤◌, Bool, true, false, refl, sym, ◌∙◌, subst}
+use Rattle.tm_base.specs.Outside.{Rose}
+use Rattle.tm_driver.specs.Courses.{SinkState, SinkCourse, SinksCourse}
+
+pub sink-after : (has_failed : Bool) (a b c : SinkState) (b_last c_last : Type 0) → SinkCourse false a b b_last → SinkCourse has_failed b c c_last → SinkCourse has_failed a c c_last
+sink-after true a b c b_last c_last same failed = subst (λ (n : ℕ). Rose n c.faults c_last × (n ≤ c.faults)) same failed
+sink-after false a b c b_last c_last same next = next ∙ same
+
+pub no-fault : (a : SinkState) (a_last : Type 0) (n : SinkState) (n_last : Type 0) → SinksCourse false a a a_last n n n_last
+no-fault a a_last n n_last = (refl, refl)
+
+pub fault-after : (has_failed : Bool) (a b c : SinkState) (b_last c_last : Type 0) (l m n : SinkState) (m_last n_last : Type 0)
+    → SinksCourse false a b b_last l m m_last → SinksCourse has_failed b c c_last m n n_last → SinksCourse has_failed a c c_last l n n_last
+fault-after true a b c b_last c_last l m n m_last n_last same failed = elim failed as (λ _. SinksCourse true a c c_last l n n_last) [
+  | inl p ↦ inl (sink-after true a b c b_last c_last same.0 p.0, p.1 ∙ same.1)
+  | inr p ↦ inr (sink-after true l m n m_last n_last same.1 p.0, p.1 ∙ same.0)
+]
+fault-after false a b c b_last c_last l m n m_last n_last same next = (next.0 ∙ same.0, next.1 ∙ same.1)

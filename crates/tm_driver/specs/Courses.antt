@@ -1,0 +1,53 @@
+-- Where a source and sinks stand, and what they went through in a call.
+use Rattle.std.specs.Prelude.{◌≡◌, ◌⊎◌, ℕ, ◌≤◌, Bool, true, false, List, Option}
+use Rattle.std.specs.Io.KnownBytes.{IsAtEnd}
+use Rattle.tm_base.specs.Outside.{Rose}
+use Rattle.tm_driver.specs.declared.ending.Ending.{Ending}
+use Rattle.tm_driver.specs.declared.ending.Ending.TheVariants.{Done, Bad, BadWindow, LeftOver, SourceFault, PastLimit}
+
+-- a source: the octets that it has given and has left, where it tells them, whether it told the
+-- end, and its count of faults
+pub record SourceState : Type 0 where
+  pub given : Option (List ℕ)
+  pub left : Option (List ℕ)
+  pub ended : Bool
+  pub faults : ℕ
+
+abbrev pub source_state : (given left : Option (List ℕ)) → Bool → ℕ → SourceState
+source_state given left ended faults = record { given = given; left = left; ended = ended; faults = faults }
+
+-- a sink: the octets that it has taken, where it tells them, and its count of faults
+pub record SinkState : Type 0 where
+  pub taken : Option (List ℕ)
+  pub faults : ℕ
+
+abbrev pub sink_state : Option (List ℕ) → ℕ → SinkState
+sink_state taken faults = record { taken = taken; faults = faults }
+
+-- What a source went through by which a command read that ended so. Its count of faults can't rise
+-- any more where `is_last` holds.
+pub record SourceCourse (ending : Ending) (before now : SourceState)
+    (is_last : Type 0) : Type 0 where
+  -- it told its end, and where it tells its octets none is left
+  pub ended : (ending ≡ Done) ⊎ (ending ≡ Bad) ⊎ (ending ≡ LeftOver) → (now.ended ≡ true)
+      × IsAtEnd now.left
+  -- it did not tell its end in this call
+  pub unended : (ending ≡ SourceFault) ⊎ (ending ≡ PastLimit) ⊎ (ending ≡ BadWindow)
+      → now.ended ≡ before.ended
+  pub fault : ending ≡ SourceFault → Rose before.faults now.faults is_last
+  pub later : before.faults ≤ now.faults
+  pub same : (ending ≡ SourceFault → ⊥) → now.faults ≡ before.faults
+
+-- one sink failed, or none did
+abbrev pub SinkCourse : (failed : Bool) → (before now : SinkState) → Type 0 → Type 0
+SinkCourse true before now is_last = Rose before.faults now.faults is_last
+    × (before.faults ≤ now.faults)
+SinkCourse false before now is_last = now.faults ≡ before.faults
+
+-- the same of two sinks, of which just one failed, or none did
+abbrev pub SinksCourse : (failed : Bool) → (out out_now : SinkState) → Type 0
+    → (notes notes_now : SinkState) → Type 0 → Type 0
+SinksCourse true out out_now out_last notes notes_now notes_last =
+    (SinkCourse true out out_now out_last × SinkCourse false notes notes_now notes_last)
+    ⊎ (SinkCourse true notes notes_now notes_last × SinkCourse false out out_now out_last)
+SinksCourse false out out_now out_last notes notes_now notes_last = SinkCourse false out out_now out_last × SinkCourse false notes notes_now notes_last

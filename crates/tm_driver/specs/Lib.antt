@@ -1,0 +1,6 @@
+pub mod Courses
+pub mod Texts
+pub mod Lines
+pub mod Statuses
+pub mod Driven
+pub mod Meaning

@@ -1,0 +1,16 @@
+-- The lines that several commands write, each ended by one line feed.
+use Rattle.std.specs.Prelude.{ℕ, ◌==◌, if◌then◌else◌, List, [], ◌∷◌, ◌++◌, codes, decimal}
+use Rattle.tm_driver.specs.declared.ending.Outcome.{Outcome}
+use Rattle.tm_driver.specs.declared.ending.Outcome.TheVariants.{Done, LeftOver}
+
+-- how many octets stand behind the last whole frame or record; no line where there are none
+abbrev pub left_over_text : ℕ → List ℕ
+left_over_text rest = if rest == 0 then [] else codes "left over " ++ decimal rest ++ 10 ∷ []
+
+-- the symbol phase that was chosen: the octets skipped, and what the best path behind them costs
+abbrev pub phase_text : (skip cost : ℕ) → List ℕ
+phase_text skip cost = codes "phase " ++ decimal skip ++ codes " cost " ++ decimal cost ++ 10 ∷ []
+
+-- what came of an input by how many octets are left over
+abbrev pub outcome_by : ℕ → Outcome
+outcome_by rest = if rest == 0 then Done else LeftOver

@@ -1,0 +1,16 @@
+//! The driver of every command that reads: octets from a source, up to a limit and in turns, into what a command feeds, and
+//! how that ended. It knows no command. What a command writes is said by its `Meaning`, what a source and the sinks went through by
+//! their courses, and what each ending shows by `Ends`, for all commands once.
+#![tactic(auto)]
+
+mod driver;
+mod ending;
+mod feed;
+mod line;
+mod lines;
+
+pub use driver::drive;
+pub use ending::{Ending, Outcome, Stop};
+pub use feed::Feed;
+pub use line::Line;
+pub use lines::{phase_line, tell_rest};

@@ -1,0 +1,53 @@
+// The lines that several commands write.
+ghost use Rattle.std.specs.Prelude.{◌≡◌, IfOk, OnOk, OnErr};
+ghost use Rattle.tm_base.specs.Outside.{HasCause};
+ghost use Rattle.tm_base.specs.Written.{Wrote, WroteFront};
+ghost use Rattle.tm_driver.specs.Lines.{left_over_text, outcome_by, phase_text};
+
+use crate::ending::Outcome;
+use crate::line::Line;
+use tm_base::{Failed, Sink};
+
+// Writes how many octets stand behind the last whole frame or record, where there are some.
+fn left_over_line<N: Sink>(notes: &mut N, rest: u32) -> Result<(), Failed>
+    ensures ok { OnOk result (Wrote (N.taken notes.old) (N.taken notes.new) (left_over_text rest)) }
+    ensures err { OnErr result (WroteFront (N.taken notes.old) (N.taken notes.new) (left_over_text rest)) }
+    ensures cause { HasCause (N.faults notes.old) (N.faults notes.new) (N.is_last notes.new) result }
+{
+    let mut line = Line::new();
+    if rest != 0 {
+        line.text(b"left over ");
+        line.number(rest as u64);
+        line.text(b"\n");
+    }
+    line.put(notes)
+}
+
+/// Writes how many octets stand behind the last whole frame or record, where there are some, and answers what came of the input by that.
+pub fn tell_rest<N: Sink>(notes: &mut N, rest: u32) -> Result<Outcome, Failed>
+    ensures ok { IfOk result (λ outcome. (outcome ≡ outcome_by rest) × Wrote (N.taken notes.old) (N.taken notes.new) (left_over_text rest)) }
+    ensures err { OnErr result (WroteFront (N.taken notes.old) (N.taken notes.new) (left_over_text rest)) }
+    ensures cause { HasCause (N.faults notes.old) (N.faults notes.new) (N.is_last notes.new) result }
+{
+    match left_over_line(notes, rest) {
+        Ok(()) if rest == 0 => Ok(Outcome::Done),
+        Ok(()) => Ok(Outcome::LeftOver),
+        Err(Failed) => Err(Failed),
+    }
+}
+
+/// Writes the symbol phase that was chosen: `phase S cost C`, with the octets skipped and the cost of the best path behind them.
+/// `Failed` comes only where the sink's count of faults rose.
+pub fn phase_line<O: Sink>(out: &mut O, skip: u8, cost: u64) -> Result<(), Failed>
+    ensures ok { OnOk result (Wrote (O.taken out.old) (O.taken out.new) (phase_text skip cost)) }
+    ensures err { OnErr result (WroteFront (O.taken out.old) (O.taken out.new) (phase_text skip cost)) }
+    ensures cause { HasCause (O.faults out.old) (O.faults out.new) (O.is_last out.new) result }
+{
+    let mut line = Line::new();
+    line.text(b"phase ");
+    line.number(skip as u64);
+    line.text(b" cost ");
+    line.number(cost);
+    line.text(b"\n");
+    line.put(out)
+}
