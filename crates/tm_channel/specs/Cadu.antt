@@ -1,21 +1,16 @@
 -- The channel access data unit of a transfer frame: its codeblock behind the attached sync marker
 -- (CCSDS 131.0-B, Reed-Solomon Coding, Pseudo-Randomizer and Frame Synchronization).
-use Rattle.std.specs.Prelude.{ℕ, zero, suc, ◌==◌, if◌then◌else◌, List, ◌++◌, map}
+use Rattle.std.specs.Prelude.{ℕ, ◌==◌, if◌then◌else◌, List, ◌++◌, map}
 use Rattle.std.specs.List.{range_with_len}
 use Rattle.tm_base.specs.Marker.{marker}
 use Rattle.tm_config.specs.Configuration.{Configuration, word_length}
 use Rattle.tm_dual.specs.Octet.{sent_octet, element_of}
+pub use Rattle.tm_dual.specs.Octet.{basis_of}
 use Rattle.tm_dual.specs.declared.basis.Basis.{Basis}
-use Rattle.tm_dual.specs.declared.basis.Basis.TheVariants.{Dual, Poly}
 use Rattle.tm_interleave.specs.Column.{column}
 use Rattle.tm_interleave.specs.Interleaved.{interleaved}
 use Rattle.tm_random.specs.Masked.{masked}
 use Rattle.tm_rs_code.specs.Code.{encode_word}
-
--- the basis that stands under this number in a configuration
-abbrev pub basis_of : ℕ → Basis
-basis_of zero = Dual
-basis_of (suc n) = Poly
 
 -- the octets of the systematic codeword, of the code that corrects e symbols, that begins with these octets
 unfoldable pub coded_octets : Basis → ℕ → List ℕ → List ℕ

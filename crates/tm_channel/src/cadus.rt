@@ -114,11 +114,7 @@ fn column_checks(params: &Params, basis: Basis, word: &[u8], out: &mut [u8])
 pub fn basis_of(config: &Config) -> Basis
     ensures { result ≡ basis_of config.now.basis }
 {
-    if config.basis() == 0 {
-        Basis::Dual
-    } else {
-        Basis::Poly
-    }
+    Basis::numbered(config.basis())
 }
 
 // The code of a configuration that has one.

@@ -1,8 +1,13 @@
 -- The octet that is sent for an element, in either basis, and the element for which an octet is sent.
-use Rattle.std.specs.Prelude.{ℕ}
+use Rattle.std.specs.Prelude.{ℕ, zero, suc}
 use Rattle.tm_dual.specs.Dual.{dual_octet, dual_element}
 use Rattle.tm_dual.specs.declared.basis.Basis.{Basis}
 use Rattle.tm_dual.specs.declared.basis.Basis.TheVariants.{Dual, Poly}
+
+-- the basis that stands under this number in a configuration
+abbrev pub basis_of : ℕ → Basis
+basis_of zero = Dual
+basis_of (suc n) = Poly
 
 -- the octet that is sent for element u; in the basis of the powers of alpha it is the number itself
 abbrev pub sent_octet : Basis → ℕ → ℕ

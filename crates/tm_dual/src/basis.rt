@@ -2,7 +2,7 @@
 
 ghost use Rattle.std.specs.Prelude.{◌≡◌, ◌<◌, ℕ, length, map};
 ghost use Rattle.tm_gf256.specs.Poly.{numbers};
-ghost use Rattle.tm_dual.specs.Octet.{element_of, sent_octet};
+ghost use Rattle.tm_dual.specs.Octet.{basis_of, element_of, sent_octet};
 
 use crate::dual::{from_dual, to_dual};
 use crate::lanes::{all_from_dual, all_to_dual};
@@ -19,6 +19,18 @@ pub enum Basis {
 }
 
 impl Basis {
+    /// The basis that stands under a number in a configuration: the dual basis under 0, and the
+    /// powers of alpha under any other.
+    pub fn numbered(number: u64) -> Basis
+        ensures { result ≡ basis_of number }
+    {
+        if number == 0 {
+            Basis::Dual
+        } else {
+            Basis::Poly
+        }
+    }
+
     /// The octet that is sent for an element.
     pub fn to_octet(self, element: Gf) -> u8
         ensures { result ≡ sent_octet self element.0 }
