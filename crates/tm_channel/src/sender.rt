@@ -86,11 +86,19 @@ impl Sender {
         }
     }
 
+    /// How many octets stand behind the last whole frame of those given so far, where no push answered `Sink`.
+    pub fn left_over(&self) -> u32
+        ensures { (given : List ℕ) → StandsFor self.now given → result ≡ length (behind_frames self.now.config.frame_length given) }
+    {
+        let held = &self.frame[..self.count];
+        held.len() as u32
+    }
+
     /// How many octets stand behind the last whole frame of those given, where no push answered `Sink`.
     pub fn finish(self) -> u32
         ensures { (given : List ℕ) → StandsFor self given → result ≡ length (behind_frames self.config.frame_length given) }
     {
-        self.count as u32
+        self.left_over()
     }
 
     // Takes the octets frame by frame.
