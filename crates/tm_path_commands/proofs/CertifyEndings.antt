@@ -1,0 +1,191 @@
+-- How certifying ends.
+use Rattle.std.proofs.Common.{◌≡◌, inl, inr, ℕ, ◌≤◌, List, [], ◌++◌, length, length-take, take, Option, Some, None, refl, sym, ap, ◌∙◌, subst, arith}
+use Rattle.std.proofs.lemmas.List.{take_all}
+use Rattle.std.specs.Io.KnownBytes.{append_known}
+use Rattle.tm_base.specs.Handed.{Handed}
+use Rattle.tm_config.specs.Accepted.{IsAccepted}
+use Rattle.tm_config.specs.Configuration.{Configuration}
+use Rattle.tm_conv.specs.declared.rates.Rate.{Rate}
+use Rattle.tm_viterbi.specs.WindowBlock.{WindowBlock}
+use Rattle.tm_inner.specs.Symbols.{rate_of}
+use Rattle.tm_inner.specs.Inner.{settings_of, soft_octets, BlocksAt, AreInnerBlocks}
+use Rattle.tm_inner.specs.Phase.{skip_of}
+use Rattle.tm_inner.specs.Receiving.{InnerReceiving}
+use Rattle.tm_inner.specs.Handing.{AreHandedDue}
+use Rattle.tm_inner.proofs.DueBits.{StandFirst, StayClosed}
+use Rattle.tm_inner.proofs.FewBits.{first-of-due}
+use Rattle.tm_inner.proofs.InTurn.{HasPhase, in_turn-exists}
+use Rattle.tm_inner.proofs.InnerBits.{HasBlocks, has_blocks}
+use Rattle.tm_inner.proofs.PhasePieces.{PhaseStays}
+use Rattle.tm_cert_file.specs.Certifying.{Certifying}
+use Rattle.tm_driver.specs.Driven.{DrivenTo}
+use Rattle.tm_driver.specs.Meaning.{Ends, WroteEarly, taken_by}
+use Rattle.tm_driver.specs.declared.ending.Ending.{Ending}
+use Rattle.tm_driver.specs.declared.ending.Ending.TheVariants.{Done, Bad, BadWindow, LeftOver, SourceFault, SinkFault, PastLimit}
+use Rattle.tm_driver.specs.declared.ending.Outcome.{Outcome}
+use Rattle.tm_driver.specs.declared.ending.Outcome.TheVariants as outcome
+use Rattle.tm_driver.specs.declared.ending.Stop.{Stop}
+use Rattle.tm_driver.specs.declared.ending.Stop.TheVariants as stop
+use Rattle.tm_driver.proofs.SinkTexts.{wrote-front, wrote-nothing}
+use Rattle.tm_path_commands.specs.Certify.{IsCertifiedAll, IsCertifiedSoFar, TextAt, certify_meaning}
+use Rattle.tm_path_commands.specs.Certifying.{Certifies, CertifiesMore, CertifyFails, CutsCertificate, EndsCertificate, FailsCertifying, WritesAt, WroteCertificate, WroteCertificateFront}
+use Rattle.tm_path_commands.proofs.CertifyingPlace.{Longer}
+use Rattle.tm_path_commands.proofs.CertifyingPieces.{fails-longer}
+use Rattle.tm_path_commands.proofs.CertifyingEnd.{HasCertificate, OneCertificate, Split, fails-all}
+
+ends-done : (c : Configuration) (octets : List ℕ) (taken taken_now noted : Option (List ℕ)) → WroteCertificate c taken taken_now octets → length octets ≤ c.limit
+    → Ends Done (certify_meaning c) c.limit octets (taken_by taken taken_now noted noted)
+ends-done c octets taken taken_now noted w within = (
+  (record { out = w.0; notes = [] }, (w.1, refl), record { out = w.2; notes = wrote-nothing noted }),
+  within,
+  λ none. none,
+  λ none. none,
+)
+
+ends-front : (c : Configuration) (octets : List ℕ) (taken taken_now noted : Option (List ℕ)) → WroteCertificateFront c taken taken_now (take c.limit octets)
+    → Ends SinkFault (certify_meaning c) c.limit octets (taken_by taken taken_now noted noted)
+ends-front c octets taken taken_now noted w = (
+  record { out = w.0; notes = [] },
+  (w.1, refl),
+  record { out = w.2; notes = (0, wrote-nothing noted) },
+  wrote-nothing noted,
+)
+
+ends-cut : (c : Configuration) (octets : List ℕ) (taken taken_now noted : Option (List ℕ)) → WroteCertificateFront c taken taken_now octets → length octets ≤ c.limit
+    → Ends SinkFault (certify_meaning c) c.limit octets (taken_by taken taken_now noted noted)
+ends-cut c octets taken taken_now noted w within =
+    ends-front c octets taken taken_now noted (subst (λ (l : List ℕ). WroteCertificateFront c taken taken_now l) (sym (take_all c.limit octets within)) w)
+
+-- ---- what is due
+
+so-far : (q : Option Rate) (c : Configuration) (now : Certifying) (octets : List ℕ) (handed : List (Handed WindowBlock)) (text : List ℕ) → rate_of c.inner ≡ q
+    → WritesAt q c now octets handed text → AreHandedDue c octets handed → IsCertifiedSoFar c octets handed text
+so-far None c now octets handed text is w (inl none) = inl (none.0, none.1, w)
+so-far None c now octets handed text is w (inr h) =
+    inr (record { settled = h.0; are_due = h.1; is_text = subst (λ (r : Option Rate). TextAt r c (skip_of h.1.chosen) octets h.1.items text) (sym is) w })
+so-far (Some rate) c now octets handed text is w due = elim w.3 as (λ _. IsCertifiedSoFar c octets handed text) [
+  | inl waits ↦ inl (waits.unsettled, waits.nothing, waits.is_text)
+  | inr goes ↦ inr (record {
+    settled = goes.settled;
+    are_due = goes.are_due;
+    is_text = subst (λ (r : Option Rate). TextAt r c (skip_of goes.are_due.chosen) octets goes.are_due.items text) (sym is) goes.is_text;
+  })
+]
+
+text-all : HasCertificate → (q : Option Rate) (c : Configuration) (phase : ℕ) (octets : List ℕ) (blocks : List WindowBlock) (left : ℕ) → BlocksAt q c phase octets blocks left
+    → (text : List ℕ) × TextAt q c phase octets blocks text
+text-all has None c phase octets blocks left are = ([], refl)
+text-all has (Some rate) c phase octets blocks left are = has (settings_of c rate) (soft_octets c phase octets) blocks left are
+
+module _ (exists : HasBlocks) (stands : StandFirst) (phase : HasPhase) (stays : PhaseStays) (stay : StayClosed) (has : HasCertificate) (one : OneCertificate) (parts : Split) (longer : Longer) where
+  -- octets have a certificate
+  certificate-all : (c : Configuration) (octets : List ℕ) → IsAccepted c → (text : List ℕ) × IsCertifiedAll c octets text
+  certificate-all c octets accepted =
+      let all = in_turn-exists (λ n blocks. (left : ℕ) × AreInnerBlocks c n octets blocks left) phase c octets
+      (λ n. let b = has_blocks exists c n octets accepted in (b.0, (b.1, b.2))) in
+      let h = all.1 in
+      let text = text-all has (rate_of c.inner) c (skip_of h.chosen) octets h.items h.are_items.0 h.are_items.1 in (
+        text.0,
+        record {
+          handed = all.0;
+          left = h.are_items.0;
+          are_handed = record { chosen = h.chosen; choice = h.choice; items = h.items; are_items = h.are_items.1; are = h.are };
+          is_text = text.1;
+        },
+      )
+
+  -- what was written is a prefix of it, whatever octets come
+  front-later : (c : Configuration) (octets more : List ℕ) (handed : List (Handed WindowBlock)) (text : List ℕ) (taken taken_now : Option (List ℕ)) → IsAccepted c
+      → taken_now ≡ append_known taken text → IsCertifiedSoFar c octets handed text → WroteCertificateFront c taken taken_now (octets ++ more)
+  front-later c octets more handed text taken taken_now accepted wrote (inl none) =
+      let all = certificate-all c (octets ++ more) accepted in
+      (all.0, all.1, (0, wrote ∙ ap (append_known taken) none.2))
+  front-later c octets more handed text taken taken_now accepted wrote (inr s) =
+      let h = s.are_due in
+      let fails : CertifyFails c taken taken_now octets = record {
+        handed = handed;
+        are_first = (
+          s.settled,
+          record {
+            chosen = h.chosen;
+            choice = h.choice;
+            items = h.items;
+            are_items = first-of-due c (skip_of h.chosen) octets h.items h.are_items;
+            are = h.are;
+          },
+        );
+        text = text;
+        is_text = s.is_text;
+        wrote = wrote-front taken taken_now text wrote;
+      } in
+      fails-all exists stands has one parts c taken taken_now (octets ++ more) accepted (fails-longer longer stay stays c taken taken_now octets more fails)
+
+  ends-early : (c : Configuration) (r : InnerReceiving) (now : Certifying) (octets : List ℕ) (taken taken_now noted : Option (List ℕ)) → IsAccepted c
+      → Certifies c r now taken taken_now octets → WroteEarly (certify_meaning c) octets (taken_by taken taken_now noted noted)
+  ends-early c r now octets taken taken_now noted accepted t =
+      let due = so-far (rate_of c.inner) c now octets t.handed t.text refl t.writes (subst (λ (k : Configuration). AreHandedDue k octets t.handed) t.config t.stands.1) in (
+        (record { out = t.text; notes = [] }, ((t.handed, due), refl), record { out = t.wrote; notes = wrote-nothing noted }),
+        λ more.
+            let later = front-later c octets more t.handed t.text taken taken_now accepted t.wrote due in
+            (record { out = later.0; notes = [] }, (later.1, refl), record { out = later.2; notes = (0, wrote-nothing noted) }),
+      )
+
+  -- ---- how what was driven ends
+
+  -- the relations of what is fed, over the receiver, what is kept to write and what the sink of a value has taken
+  module _ {F : Type 0} (receiver : F → InnerReceiving) (kept : F → Certifying) (out : F → Option (List ℕ)) where
+    abbrev pub Fed : F → F → List ℕ → Type 0
+    Fed a b octets = CertifiesMore (receiver a) (kept a) (out a) (receiver b) (kept b) (out b) octets
+
+    abbrev pub Stopped : F → F → List ℕ → Stop → Type 0
+    Stopped a b octets why = (why ≡ stop.SinkFault) × FailsCertifying (receiver a) (kept a) (out a) (out b) octets
+
+    abbrev pub Ended : F → F → Outcome → Type 0
+    Ended a b by = (by ≡ outcome.Done) × EndsCertificate (receiver a) (kept a) (out a) (out b)
+
+    abbrev pub Failed : F → F → Type 0
+    Failed a b = CutsCertificate (receiver a) (kept a) (out a) (out b)
+
+    -- nothing was given before
+    module _ (c : Configuration) (before now : F) (noted : Option (List ℕ)) (accepted : IsAccepted c)
+        (fresh : Certifies c (receiver before) (kept before) (out before) (out before) []) where
+      of-fed : (b : F) (octets : List ℕ) → length octets ≤ c.limit → Fed before b octets
+          → Certifies c (receiver b) (kept b) (out before) (out b) octets
+      of-fed b octets within p = let most = accepted.limit in p c (out before) [] accepted (λ _. fresh) (omega arith)
+
+      up-to : (octets : List ℕ) → length (take c.limit octets) ≤ c.limit
+      up-to octets = omega (arith, length-take c.limit octets)
+
+      early-by : (octets : List ℕ) → length octets ≤ c.limit → Fed before now octets
+          → WroteEarly (certify_meaning c) octets (taken_by (out before) (out now) noted noted)
+      early-by octets within p = ends-early c (receiver now) (kept now) octets (out before) (out now) noted accepted
+          (of-fed now octets within p)
+
+      ended-by : (ending : Ending) (octets : List ℕ) (ended unended : Type 0)
+          → DrivenTo Fed Stopped Ended Failed c.limit before now ended unended ending octets
+          → Ends ending (certify_meaning c) c.limit octets (taken_by (out before) (out now) noted noted)
+      ended-by Done octets ended unended p =
+          ends-done c octets (out before) (out now) noted
+          (p.at_end.1 c (out before) octets accepted (of-fed p.middle octets p.within p.were_fed)) p.within
+      ended-by Bad octets ended unended p = let no = p.at_end.0 in cc no
+      ended-by LeftOver octets ended unended p = let no = p.at_end.0 in cc no
+      ended-by BadWindow octets ended unended p = let no = p.0 in cc no
+      ended-by SourceFault octets ended unended p = (early-by octets p.1 p.0, p.1)
+      ended-by SinkFault octets ended unended (inl p) =
+          let most = accepted.limit in
+          let within = up-to octets in
+          ends-front c octets (out before) (out now) noted
+          (fails-all exists stands has one parts c (out before) (out now) (take c.limit octets) accepted
+          (p.0.1 c (out before) [] accepted (λ _. fresh) (omega arith)))
+      ended-by SinkFault octets ended unended (inr p) =
+          let w = p.0 in
+          ends-cut c octets (out before) (out now) noted
+          (w.at_end c (out before) octets accepted (of-fed w.middle octets w.within w.were_fed)) w.within
+      ended-by PastLimit octets ended unended p = (early-by (take c.limit octets) (up-to octets) p.0, p.1)
+
+      pub driven-ends : (limit : ℕ) → limit ≡ c.limit → (ending : Ending) (octets : List ℕ) (ended unended : Type 0)
+          → DrivenTo Fed Stopped Ended Failed limit before now ended unended ending octets
+          → Ends ending (certify_meaning c) c.limit octets (taken_by (out before) (out now) noted noted)
+      driven-ends limit is ending octets ended unended p =
+          ended-by ending octets ended unended (subst
+          (λ (n : ℕ). DrivenTo Fed Stopped Ended Failed n before now ended unended ending octets) is p)

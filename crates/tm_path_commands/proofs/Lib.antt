@@ -1,0 +1,10 @@
+pub mod TraceLines
+pub mod TraceEndings
+pub mod CheckedWindows
+pub mod CheckEndings
+pub mod CertifierTook
+pub mod CertifyingPlace
+pub mod CertifyingPieces
+pub mod CertifyingEnd
+pub mod CertifyEndings
+pub mod Certificates

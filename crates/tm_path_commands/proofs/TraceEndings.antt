@@ -1,0 +1,430 @@
+-- What tracing has written, from what an inner receiver handed over.
+use Rattle.std.proofs.Common.{◌≡◌, inl, inr, ℕ, ◌+◌, ◌-◌, ◌<◌, ◌≤◌, ◌^◌, Bool, List, [], ◌∷◌, ◌++◌, length, take, drop, map, refl, sym, ap, ◌∙◌, subst, arith, Option, Some, None, length-append, length-drop, length-take}
+use Rattle.std.proofs.lemmas.List.{append-nil, take_all}
+use Rattle.tm_base.specs.Handed.{Handed, Item, items_of}
+use Rattle.tm_base.specs.Written.{WroteFront}
+use Rattle.tm_base.specs.Takers.{HandedOver, HandedPart}
+use Rattle.tm_base.proofs.HandedItems.{items_of-append}
+use Rattle.tm_config.specs.Configuration.{Configuration}
+use Rattle.tm_config.specs.Accepted.{IsAccepted}
+use Rattle.tm_conv.specs.declared.rates.Rate.{Rate}
+use Rattle.tm_conv.specs.Path.{steps_size}
+use Rattle.tm_conv.proofs.Sizes.{steps_size_ge}
+use Rattle.tm_viterbi.specs.WindowBlock.{WindowBlock}
+use Rattle.tm_viterbi.specs.Blocks.{AreBlocks}
+use Rattle.tm_viterbi.specs.Due.{Place, Closed, behind, first_place, AreFirst}
+use Rattle.tm_viterbi.specs.Starts.{first_start}
+use Rattle.tm_viterbi.proofs.CleanBlocks.{steps-mono}
+use Rattle.tm_viterbi.proofs.HasBlocks.{some_kept}
+use Rattle.tm_inner.specs.Symbols.{rate_of}
+use Rattle.tm_inner.specs.Inner.{settings_of, soft_value, soft_octets, BlocksAt, AreInnerBlocks, AreInnerDue, inner_bits}
+use Rattle.tm_inner.specs.Phase.{skip_of, in_turn, InTurnSettled}
+use Rattle.tm_inner.specs.Receiving.{InnerReceiving, StandsFor, FirstAt, AreInnerFirst, Hands, HandsFront}
+use Rattle.tm_inner.specs.Handing.{AreHanded, AreHandedDue, AreHandedFirst, AreHandedFront}
+use Rattle.tm_inner.proofs.DueBits.{StayClosed, StandFirst, soft-more}
+use Rattle.tm_inner.proofs.InnerBits.{HasBlocks, has_blocks}
+use Rattle.tm_inner.proofs.ReceivedBits.{length-soft}
+use Rattle.tm_inner.proofs.FewBits.{first-of-due}
+use Rattle.tm_inner.proofs.HandedBits.{handed-due-none}
+use Rattle.tm_inner.proofs.PhasePieces.{PhaseStays, in_turn-more, items_of-in_turn}
+use Rattle.tm_inner.proofs.InTurn.{HasPhase, OnePhase, in_turn-exists, in_turn-front, in_turn-so_far}
+use Rattle.tm_driver.specs.Courses.{SinkState}
+use Rattle.tm_driver.specs.Driven.{DrivenTo}
+use Rattle.tm_driver.specs.Meaning.{Ends, Output, WroteBoth, WroteEarly, WrotePrefixes, taken_by}
+use Rattle.tm_driver.specs.Texts.{TookText, BrokeText}
+use Rattle.tm_driver.specs.declared.ending.Ending.{Ending}
+use Rattle.tm_driver.specs.declared.ending.Ending.TheVariants.{Done, Bad, BadWindow, LeftOver, SourceFault, SinkFault, PastLimit}
+use Rattle.tm_driver.specs.declared.ending.Outcome.{Outcome}
+use Rattle.tm_driver.specs.declared.ending.Outcome.TheVariants as outcome
+use Rattle.tm_driver.specs.declared.ending.Stop.{Stop}
+use Rattle.tm_driver.specs.declared.ending.Stop.TheVariants as stop
+use Rattle.tm_driver.proofs.SinkTexts.{broke-front, front-of, wrote-front, wrote-nothing}
+use Rattle.tm_path_commands.specs.Lines.{trace_end_text}
+use Rattle.tm_path_commands.specs.Taken.{TracedAll}
+use Rattle.tm_path_commands.specs.Trace.{IsTrace, IsTraceDue, blocks_text, trace_meaning, trace_text}
+use Rattle.tm_path_commands.specs.Tracing.{CutsTrace, EndsTrace, StandsAt, Traces, TraceFails, TracedWhole, WroteTrace, WroteTraceFront}
+use Rattle.tm_path_commands.proofs.TraceLines.{TookOne, BrokeOne, traced-none, traced-more, traced-part, trace-front, trace_text-split}
+
+-- ---- windows are at most as many as octets
+
+closed-few : (rate : Rate) (invert : Bool) (keep ahead : ℕ) (from to : Place) (blocks : List WindowBlock) → 0 < keep → Closed rate invert keep ahead from blocks to
+    → length blocks ≤ length from.octets
+closed-few rate invert keep ahead from to [] some closed = omega arith
+closed-few rate invert keep ahead from to (b ∷ blocks) some closed =
+    let n : ℕ = keep + ahead + 1 in
+    let kept = some_kept keep ahead n some (omega arith) in
+    let rest = closed-few rate invert keep ahead (behind rate from b) to blocks some closed.1 in
+    let inside = steps-mono rate from.t b.kept n (omega (arith, kept, closed.0.is_block.kept)) in
+    omega (arith, kept, closed.0.is_block.kept, closed.0.room, rest, inside, length-drop (steps_size rate from.t b.kept) from.octets, steps_size_ge rate from.t b.kept)
+
+whole-few : (rate : Rate) (invert : Bool) (keep ahead : ℕ) (starts : Option ℕ) (t n : ℕ) (octets : List ℕ) (blocks : List WindowBlock) → 0 < keep
+    → AreBlocks rate invert keep ahead starts t n octets blocks → length blocks ≤ n
+whole-few rate invert keep ahead starts t n octets [] some are = omega arith
+whole-few rate invert keep ahead starts t n octets (b ∷ blocks) some are =
+    let kept = some_kept keep ahead n some are.0 in
+    let rest = whole-few rate invert keep ahead (Some b.end_state) (t + b.kept) (n - b.kept) (drop (steps_size rate t b.kept) octets) blocks some are.2 in
+    omega (arith, kept, are.1.kept, rest)
+
+few-first-at : (rate : Option Rate) (c : Configuration) (phase : ℕ) (octets : List ℕ) (blocks : List WindowBlock) → 0 < c.keep → FirstAt rate c phase octets blocks
+    → length blocks ≤ length octets
+few-first-at None c phase octets blocks some are = let none = ap length are in omega arith
+few-first-at (Some rate) c phase octets blocks some are =
+    let s = settings_of c rate in
+    omega (arith, closed-few rate s.invert s.keep s.ahead (first_place s (soft_octets c phase octets)) are.0 blocks some are.1, length-soft c phase octets)
+
+few-at : (rate : Option Rate) (c : Configuration) (phase : ℕ) (octets : List ℕ) (blocks : List WindowBlock) (left : ℕ) → 0 < c.keep → BlocksAt rate c phase octets blocks left
+    → length blocks ≤ length octets
+few-at None c phase octets blocks left some are = let none = ap length are.0 in omega arith
+few-at (Some rate) c phase octets blocks left some are =
+    let s = settings_of c rate in
+    omega (
+      arith,
+      whole-few rate s.invert s.keep s.ahead (first_start s.start) 0 are.count (soft_octets c phase octets) blocks some are.are,
+      are.steps.whole,
+      steps_size_ge rate 0 are.count,
+      length-soft c phase octets,
+    )
+
+keeps-some : (c : Configuration) → IsAccepted c → 0 < c.keep
+keeps-some c accepted = let keep = accepted.some_keep in omega arith
+
+-- what is due once the phase is settled is first
+first-settled : (c : Configuration) (octets : List ℕ) (handed : List (Handed WindowBlock)) → InTurnSettled (λ phase. AreInnerDue c phase octets) c octets handed → AreHandedFirst c octets handed
+first-settled c octets handed h = (
+  h.0,
+  record {
+    chosen = h.1.chosen;
+    choice = h.1.choice;
+    items = h.1.items;
+    are_items = first-of-due c (skip_of h.1.chosen) octets h.1.items h.1.are_items;
+    are = h.1.are;
+  },
+)
+
+few-first : (c : Configuration) (octets : List ℕ) (handed : List (Handed WindowBlock)) → IsAccepted c → AreHandedFirst c octets handed → length (items_of handed) ≤ length octets
+few-first c octets handed accepted h =
+    let few = few-first-at (rate_of c.inner) c (skip_of h.1.chosen) octets h.1.items (keeps-some c accepted) h.1.are_items in
+    omega (arith, few, ap (λ l. length (items_of l)) h.1.are, ap length (items_of-in_turn h.1.chosen h.1.items))
+
+few-due : (c : Configuration) (octets : List ℕ) (handed : List (Handed WindowBlock)) → IsAccepted c → AreHandedDue c octets handed → length (items_of handed) ≤ length octets
+few-due c octets handed accepted (inl none) = omega (arith, ap (λ l. length (items_of l)) none.1)
+few-due c octets handed accepted (inr h) = few-first c octets handed accepted (first-settled c octets handed h)
+
+few-handed : (c : Configuration) (octets : List ℕ) (handed : List (Handed WindowBlock)) (left : ℕ) → IsAccepted c → AreHanded c octets handed left → length (items_of handed) ≤ length octets
+few-handed c octets handed left accepted h =
+    let few = few-at (rate_of c.inner) c (skip_of h.chosen) octets h.items left (keeps-some c accepted) h.are_items in
+    omega (arith, few, ap (λ l. length (items_of l)) h.are, ap length (items_of-in_turn h.chosen h.items))
+
+-- ---- first windows stand first
+
+first-of-all : StandFirst → (rate : Option Rate) (c : Configuration) (phase : ℕ) (octets : List ℕ) (first blocks : List WindowBlock) (left : ℕ)
+    → FirstAt rate c phase octets first → BlocksAt rate c phase octets blocks left → (rest : List WindowBlock) × (blocks ≡ first ++ rest)
+first-of-all stands None c phase octets first blocks left are all = ([], all.0 ∙ ap (λ l. l ++ []) (sym are))
+first-of-all stands (Some rate) c phase octets first blocks left are all = stands (settings_of c rate) (soft_octets c phase octets) first blocks left are all
+
+stay-first : StayClosed → (rate : Option Rate) (c : Configuration) (phase : ℕ) (octets more : List ℕ) (first : List WindowBlock) → FirstAt rate c phase octets first
+    → FirstAt rate c phase (octets ++ more) first
+stay-first stay None c phase octets more first are = are
+stay-first stay (Some rate) c phase octets more first are =
+    let back = map (soft_value c) (drop (phase - length (drop c.skip octets)) (drop (c.skip - length octets) more)) in
+    subst (λ (l : List ℕ). AreFirst (settings_of c rate) l first) (sym (soft-more c phase octets more)) (stay (settings_of c rate) (soft_octets c phase octets) back first are)
+
+-- what is handed over up to a fault is a front of all
+front-of-all : HasBlocks → StandFirst → (c : Configuration) (octets : List ℕ) (front : List (Handed WindowBlock)) → IsAccepted c → AreHandedFront c octets front
+    → (handed : List (Handed WindowBlock)) × (left : ℕ) × AreHanded c octets handed left × ((rest : List (Handed WindowBlock)) × (handed ≡ front ++ rest))
+front-of-all exists stands c octets front accepted f =
+    let phase = skip_of f.chosen in
+    elim f.are_items as (λ _. (handed : List (Handed WindowBlock)) × (left : ℕ) × AreHanded c octets handed left × ((rest : List (Handed WindowBlock)) × (handed ≡ front ++ rest))) [
+      | inl first ↦ (
+          let all = has_blocks exists c phase octets accepted in
+          let split = first-of-all stands (rate_of c.inner) c phase octets f.items all.0 all.1 first all.2 in (
+            in_turn f.chosen all.0,
+            all.1,
+            record { chosen = f.chosen; choice = f.choice; items = all.0; are_items = all.2; are = refl },
+            (map Item split.0, ap (in_turn f.chosen) split.1 ∙ in_turn-more f.chosen f.items split.0 ∙ ap (λ l. l ++ map Item split.0) (sym f.are)),
+          )
+          )
+      | inr all ↦ (
+        front,
+        all.0,
+        record { chosen = f.chosen; choice = f.choice; items = f.items; are_items = all.1; are = f.are },
+        ([], sym (append-nil front)),
+      )
+    ]
+
+-- ---- what was traced of the octets that were read
+
+traces : {T K : Type 0} (name : T → K) (lines : T → SinkState) (count : T → ℕ) (c : Configuration) (a b : InnerReceiving) (taker now : T) (octets : List ℕ)
+    → count taker ≡ 0 → IsAccepted c → b.config ≡ c → length octets < 2 ^ 60 → StandsAt a [] []
+    → Hands (TookOne name lines count) StandsAt a b taker now octets → Traces c b (count now) (lines taker) (lines now) octets
+traces name lines count c a b taker now octets new accepted same few stood p =
+    let small : 0 + length octets < 2 ^ 60 = omega arith in
+    let stands : StandsAt b octets p.more = p.stands [] [] small stood in
+    let bound = few-due b.config octets p.more (subst IsAccepted (sym same) accepted) stands.1 in
+    record {
+      handed = p.more;
+      config = same;
+      stands = stands;
+      lines = traced-more name lines count (lines taker) [] p.more taker now (traced-none (lines taker) (count taker) new) p.handed (omega arith);
+    }
+
+trace-fails : {T K : Type 0} (name : T → K) (lines : T → SinkState) (last : T → Type 0) (count : T → ℕ) (c : Configuration) (a : InnerReceiving) (taker now : T) (octets : List ℕ)
+    → count taker ≡ 0 → IsAccepted c → length octets < 2 ^ 60 → StandsAt a [] []
+    → HandsFront (TookOne name lines count) (BrokeOne name lines last count) StandsAt (AreHandedFirst c) a taker now octets
+    → TraceFails c (lines taker) (lines now) (last now) octets
+trace-fails name lines last count c a taker now octets new accepted few stood p =
+    let small : 0 + length octets < 2 ^ 60 = omega arith in
+    let first : AreHandedFirst c octets p.tried = p.first [] [] small stood in
+    let bound = few-first c octets p.tried accepted first in
+    record {
+      handed = p.tried;
+      are_first = first;
+      broke = traced-part name lines last count (lines taker) [] p.tried taker now (traced-none (lines taker) (count taker) new) p.handed (omega arith);
+    }
+
+-- ---- the end of a trace
+
+-- the last windows behind those that were traced before
+pub traced-whole : {T K : Type 0} (name : T → K) (lines : T → SinkState) (count : T → ℕ) (c : Configuration) (r : InnerReceiving) (taker now : T) (start : SinkState) (octets : List ℕ)
+    (last : List (Handed WindowBlock)) (bits left : ℕ) → IsAccepted c → Traces c r (count taker) start (lines taker) octets
+    → HandedOver (TookOne name lines count) taker last now
+    → ((given : List ℕ) (done : List (Handed WindowBlock)) → StandsFor r given done
+    → AreHanded r.config given (done ++ last) left × (bits ≡ length (inner_bits r.config given (items_of (done ++ last)))))
+    → TracedWhole c (count now) bits left start (lines now) octets
+traced-whole name lines count c r taker now start octets last bits left accepted t handed finish =
+    let done = t.handed in
+    let whole = subst (λ (k : Configuration). AreHanded k octets (done ++ last) left × (bits ≡ length (inner_bits k octets (items_of (done ++ last))))) t.config (finish octets done t.stands.0) in
+    let bound = few-handed c octets (done ++ last) left accepted whole.0 in
+    let few = t.stands.0.few in
+    record {
+      handed = done ++ last;
+      are_handed = whole.0;
+      are_bits = whole.1;
+      lines = traced-more name lines count start done last taker now t.lines handed (omega arith);
+    }
+
+-- the sink took the last line
+pub wrote-end : (c : Configuration) (count bits left : ℕ) (start before now : SinkState) (octets : List ℕ) → TracedWhole c count bits left start before octets
+    → ((from : SinkState) (handed : List (Handed WindowBlock)) → TracedAll from before 0 count handed → TookText from now (trace_text handed bits left)) → WroteTrace c start now octets
+wrote-end c count bits left start before now octets w whole = record {
+  handed = w.handed;
+  left = left;
+  are_handed = w.are_handed;
+  written = subst (λ (n : ℕ). TookText start now (trace_text w.handed n left)) w.are_bits (whole start w.handed w.lines);
+}
+
+-- the sink failed in the last line
+pub cut-end : (c : Configuration) (count bits left : ℕ) (start before now : SinkState) (is_last : Type 0) (octets : List ℕ) → TracedWhole c count bits left start before octets
+    → ((from : SinkState) (handed : List (Handed WindowBlock)) → TracedAll from before 0 count handed
+    → BrokeText from now is_last (blocks_text 0 handed) (trace_end_text (length (items_of handed)) bits left)) → WroteTraceFront c start now octets
+cut-end c count bits left start before now is_last octets w broke =
+    let handed = w.handed in
+    let end = trace_end_text (length (items_of handed)) bits left in
+    record {
+      handed = handed;
+      left = left;
+      are_handed = w.are_handed;
+      written = subst (λ (n : ℕ). WroteFront start.taken now.taken (trace_text handed n left)) w.are_bits
+          (subst (λ l. WroteFront start.taken now.taken (blocks_text 0 handed ++ l)) (append-nil end)
+          (broke-front start now is_last (blocks_text 0 handed) end [] (broke start handed w.lines)));
+    }
+
+-- a front of the lines of the first of all is a front of the trace
+trace-first : (before now : Option (List ℕ)) (handed first rest : List (Handed WindowBlock)) (bits left : ℕ) → handed ≡ first ++ rest
+    → WroteFront before now (blocks_text 0 first) → WroteFront before now (trace_text handed bits left)
+trace-first before now handed first rest bits left split wrote =
+    let text = trace_text-split handed first rest bits left split in
+    subst (WroteFront before now) (sym text.1) (front-of before now (blocks_text 0 first) text.0 wrote)
+
+-- or in one of the last lines before it
+pub cut-last : HasBlocks → StandFirst → {T K : Type 0} (name : T → K) (lines : T → SinkState) (last : T → Type 0) (count : T → ℕ) (c : Configuration) (r : InnerReceiving) (taker now : T)
+    (start : SinkState) (octets : List ℕ) (tried : List (Handed WindowBlock)) → IsAccepted c → Traces c r (count taker) start (lines taker) octets
+    → HandedPart (TookOne name lines count) (BrokeOne name lines last count) taker tried now
+    → ((given : List ℕ) (done : List (Handed WindowBlock)) → StandsFor r given done → AreHandedFront r.config given (done ++ tried))
+    → WroteTraceFront c start (lines now) octets
+cut-last exists stands name lines last count c r taker now start octets tried accepted t part finish =
+    let front = t.handed ++ tried in
+    let all = front-of-all exists stands c octets front accepted (subst (λ (k : Configuration). AreHandedFront k octets front) t.config (finish octets t.handed t.stands.0)) in
+    let bound : length (items_of front) ≤ length octets =
+    omega (arith, few-handed c octets all.0 all.1 accepted all.2, ap (λ l. length (items_of l)) all.3.1, ap length (items_of-append front all.3.0), length-append (items_of front) (items_of all.3.0)) in
+    let few = t.stands.0.few in
+    let broke = traced-part name lines last count start t.handed tried taker now t.lines part (omega arith) in
+    record {
+      handed = all.0;
+      left = all.1;
+      are_handed = all.2;
+      written = trace-first start.taken (lines now).taken all.0 front all.3.0 (length (inner_bits c octets (items_of all.0))) all.1 all.3.1
+          (trace-front start (lines now) (last now) front broke);
+    }
+
+-- ---- nothing was given yet
+
+pub stands-new : (c : Configuration) (r : InnerReceiving) → IsAccepted c → r.config ≡ c → StandsFor r [] [] → StandsAt r [] []
+stands-new c r accepted same stands = (stands, subst (λ (k : Configuration). AreHandedDue k [] []) (sym same) (handed-due-none c (keeps-some c accepted)))
+
+-- ---- how tracing ends
+
+-- lines of the first of all are a front of the trace
+fronts-by : (c : Configuration) (octets : List ℕ) (first : List (Handed WindowBlock)) (taken taken_now noted : Option (List ℕ)) (output : Output) (is : IsTrace c octets output)
+    → (rest : List (Handed WindowBlock)) × (is.handed ≡ first ++ rest) → WroteFront taken taken_now (blocks_text 0 first) → WrotePrefixes output (taken_by taken taken_now noted noted)
+fronts-by c octets first taken taken_now noted output is split wrote = record {
+  out = subst (WroteFront taken taken_now) (sym is.out)
+      (trace-first taken taken_now is.handed first split.0 (length (inner_bits c octets (items_of is.handed))) is.left split.1 wrote);
+  notes = (0, wrote-nothing noted);
+}
+
+-- the trace of what is handed over of octets
+abbrev trace-of : (c : Configuration) (octets : List ℕ) (handed : List (Handed WindowBlock)) → ℕ → Output
+trace-of c octets handed left = record { out = trace_text handed (length (inner_bits c octets (items_of handed))) left; notes = [] }
+
+is-trace : (c : Configuration) (octets : List ℕ) (handed : List (Handed WindowBlock)) (left : ℕ) → AreHanded c octets handed left → IsTrace c octets (trace-of c octets handed left)
+is-trace c octets handed left are = record { handed = handed; left = left; are_handed = are; out = refl; notes = refl }
+
+ends-done : (c : Configuration) (octets : List ℕ) (before now : SinkState) (noted : Option (List ℕ)) → WroteTrace c before now octets → length octets ≤ c.limit
+    → Ends Done (trace_meaning c) c.limit octets (taken_by before.taken now.taken noted noted)
+ends-done c octets before now noted w within = (
+  (
+    trace-of c octets w.handed w.left,
+    is-trace c octets w.handed w.left w.are_handed,
+    record { out = w.written.written; notes = wrote-nothing noted },
+  ),
+  within,
+  λ none. none,
+  λ none. none,
+)
+
+ends-cut : (c : Configuration) (octets : List ℕ) (before now : SinkState) (noted : Option (List ℕ)) → WroteTraceFront c before now octets
+    → length octets ≤ c.limit → Ends SinkFault (trace_meaning c) c.limit octets (taken_by before.taken now.taken noted noted)
+ends-cut c octets before now noted w within =
+    let output = trace-of c octets w.handed w.left in (
+      output,
+      subst (λ (l : List ℕ). IsTrace c l output) (sym (take_all c.limit octets within)) (is-trace c octets w.handed w.left w.are_handed),
+      record { out = w.written; notes = (0, wrote-nothing noted) },
+      wrote-nothing noted,
+    )
+
+due-written : (c : Configuration) (r : InnerReceiving) (count : ℕ) (octets : List ℕ) (before now : SinkState) (noted : Option (List ℕ)) → Traces c r count before now octets
+    → (output : Output) × IsTraceDue c octets output × WroteBoth output (taken_by before.taken now.taken noted noted)
+due-written c r count octets before now noted t =
+    let output : Output = record { out = blocks_text 0 t.handed; notes = [] } in (
+      output,
+      record { handed = t.handed; are_due = subst (λ (k : Configuration). AreHandedDue k octets t.handed) t.config t.stands.1; out = refl; notes = refl },
+      record { out = t.lines.lines.written; notes = wrote-nothing noted },
+    )
+
+module _ (exists : HasBlocks) (stands : StandFirst) (phase : HasPhase) (one : OnePhase) where
+  -- the trace of octets
+  trace-output : (c : Configuration) (octets : List ℕ) → IsAccepted c → (output : Output) × IsTrace c octets output
+  trace-output c octets accepted =
+      let all = in_turn-exists (λ n blocks. (left : ℕ) × AreInnerBlocks c n octets blocks left) phase c octets
+      (λ n. let b = has_blocks exists c n octets accepted in (b.0, (b.1, b.2))) in
+      let left = all.1.are_items.0 in (
+        trace-of c octets all.0 left,
+        is-trace c octets all.0 left record { chosen = all.1.chosen; choice = all.1.choice; items = all.1.items; are_items = all.1.are_items.1; are = all.1.are },
+      )
+
+  ends-early : StayClosed → PhaseStays → (c : Configuration) (r : InnerReceiving) (count : ℕ) (octets : List ℕ) (before now : SinkState) (noted : Option (List ℕ))
+      → IsAccepted c → Traces c r count before now octets → WroteEarly (trace_meaning c) octets (taken_by before.taken now.taken noted noted)
+  ends-early stay stays c r count octets before now noted accepted t = (
+    due-written c r count octets before now noted t,
+    λ more.
+        let all = trace-output c (octets ++ more) accepted in
+        let due = subst (λ (k : Configuration). AreHandedDue k octets t.handed) t.config t.stands.1 in
+        let split = in_turn-so_far (λ n. AreInnerDue c n octets) (λ n blocks. AreInnerBlocks c n (octets ++ more) blocks all.1.left) stays one c octets more t.handed all.1.handed
+        (λ n first blocks p q. first-of-all stands (rate_of c.inner) c n (octets ++ more) first blocks all.1.left
+        (stay-first stay (rate_of c.inner) c n octets more first (first-of-due c n octets first p)) q) due all.1.are_handed in (
+          all.0,
+          all.1,
+          fronts-by c (octets ++ more) t.handed before.taken now.taken noted all.0 all.1 split
+              (wrote-front before.taken now.taken (blocks_text 0 t.handed) t.lines.lines.written),
+        ),
+  )
+
+  ends-fed : (c : Configuration) (octets : List ℕ) (before now : SinkState) (is_last : Type 0) (noted : Option (List ℕ))
+      → IsAccepted c → TraceFails c before now is_last (take c.limit octets) → Ends SinkFault (trace_meaning c) c.limit octets (taken_by before.taken now.taken noted noted)
+  ends-fed c octets before now is_last noted accepted t =
+      let read = take c.limit octets in
+      let all = trace-output c read accepted in
+      let split = in_turn-front (λ n. AreInnerFirst c n read) (λ n blocks. AreInnerBlocks c n read blocks all.1.left) one c read t.handed all.1.handed
+      (λ n first blocks p q. first-of-all stands (rate_of c.inner) c n read first blocks all.1.left p q) t.are_first.1 all.1.are_handed in (
+        all.0,
+        all.1,
+        fronts-by c read t.handed before.taken now.taken noted all.0 all.1 split (trace-front before now is_last t.handed t.broke),
+        wrote-nothing noted,
+      )
+
+  -- ---- how what was driven ends
+
+  -- the relations of what is fed, over the receiver and the taker of a value
+  module _ (stay : StayClosed) (stays : PhaseStays) {F T K : Type 0} (receiver : F → InnerReceiving) (taker : F → T)
+      (name : T → K) (lines : T → SinkState)
+      (last : T → Type 0) (count : T → ℕ) where
+    abbrev pub Fed : F → F → List ℕ → Type 0
+    Fed a b octets = ((receiver b).config ≡ (receiver a).config)
+        × Hands (TookOne name lines count) StandsAt (receiver a) (receiver b) (taker a) (taker b) octets
+
+    abbrev pub Stopped : F → F → List ℕ → Stop → Type 0
+    Stopped a b octets why = (why ≡ stop.SinkFault) × ((config : Configuration) → (receiver a).config ≡ config
+        → HandsFront (TookOne name lines count) (BrokeOne name lines last count) StandsAt (AreHandedFirst config)
+        (receiver a) (taker a) (taker b) octets)
+
+    abbrev pub Ended : F → F → Outcome → Type 0
+    Ended a b by = (by ≡ outcome.Done) × EndsTrace (receiver a) (count (taker a)) (lines (taker a)) (lines (taker b))
+
+    abbrev pub Failed : F → F → Type 0
+    Failed a b = CutsTrace (receiver a) (count (taker a)) (lines (taker a)) (lines (taker b))
+
+    -- nothing was given before
+    module _ (c : Configuration) (before now : F) (noted : Option (List ℕ)) (new : count (taker before) ≡ 0)
+        (accepted : IsAccepted c)
+        (same : (receiver before).config ≡ c) (fresh : StandsFor (receiver before) [] []) where
+      stood : StandsAt (receiver before) [] []
+      stood = stands-new c (receiver before) accepted same fresh
+
+      of-fed : (b : F) (octets : List ℕ) → length octets ≤ c.limit → Fed before b octets
+          → Traces c (receiver b) (count (taker b)) (lines (taker before)) (lines (taker b)) octets
+      of-fed b octets within p =
+          let most = accepted.limit in
+          traces name lines count c (receiver before) (receiver b) (taker before) (taker b) octets new accepted
+          (p.0 ∙ same) (omega arith) stood p.1
+
+      up-to : (octets : List ℕ) → length (take c.limit octets) ≤ c.limit
+      up-to octets = omega (arith, length-take c.limit octets)
+
+      early-by : (octets : List ℕ) → length octets ≤ c.limit → Fed before now octets
+          → WroteEarly (trace_meaning c) octets (taken_by (lines (taker before)).taken
+          (lines (taker now)).taken noted noted)
+      early-by octets within p =
+          ends-early stay stays c (receiver now) (count (taker now)) octets (lines (taker before))
+          (lines (taker now)) noted accepted (of-fed now octets within p)
+
+      ended-by : (ending : Ending) (octets : List ℕ) (ended unended : Type 0)
+          → DrivenTo Fed Stopped Ended Failed c.limit before now ended unended ending octets
+          → Ends ending (trace_meaning c) c.limit octets
+          (taken_by (lines (taker before)).taken (lines (taker now)).taken noted noted)
+      ended-by Done octets ended unended p =
+          ends-done c octets (lines (taker before)) (lines (taker now)) noted
+          (p.at_end.1 c (lines (taker before)) octets accepted (of-fed p.middle octets p.within p.were_fed)) p.within
+      ended-by Bad octets ended unended p = let no = p.at_end.0 in cc no
+      ended-by LeftOver octets ended unended p = let no = p.at_end.0 in cc no
+      ended-by BadWindow octets ended unended p = let no = p.0 in cc no
+      ended-by SourceFault octets ended unended p = (early-by octets p.1 p.0, p.1)
+      ended-by SinkFault octets ended unended (inl p) =
+          let most = accepted.limit in
+          let within = up-to octets in
+          let fails = trace-fails name lines last count c (receiver before) (taker before) (taker now)
+          (take c.limit octets) new accepted (omega arith) stood (p.0.1 c same) in
+          ends-fed c octets (lines (taker before)) (lines (taker now)) (last (taker now)) noted accepted fails
+      ended-by SinkFault octets ended unended (inr p) =
+          let w = p.0 in
+          ends-cut c octets (lines (taker before)) (lines (taker now)) noted
+          (w.at_end c (lines (taker before)) octets accepted (of-fed w.middle octets w.within w.were_fed)) w.within
+      ended-by PastLimit octets ended unended p = (early-by (take c.limit octets) (up-to octets) p.0, p.1)
+
+      pub driven-ends : (limit : ℕ) → limit ≡ c.limit → (ending : Ending) (octets : List ℕ) (ended unended : Type 0)
+          → DrivenTo Fed Stopped Ended Failed limit before now ended unended ending octets
+          → Ends ending (trace_meaning c) c.limit octets
+          (taken_by (lines (taker before)).taken (lines (taker now)).taken noted noted)
+      driven-ends limit is ending octets ended unended p =
+          ended-by ending octets ended unended (subst
+          (λ (n : ℕ). DrivenTo Fed Stopped Ended Failed n before now ended unended ending octets) is p)

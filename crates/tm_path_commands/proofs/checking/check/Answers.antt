@@ -1,0 +1,30 @@
+use Rattle.std.proofs.Common.{rules, ◌≡◌, ◌+◌, ◌≤◌, ℕ, true, length, refl, subst}
+use Rattle.tm_driver.specs.Meaning.{Ends, taken_by}
+use Rattle.tm_inner.specs.Symbols.{rate_of}
+use Rattle.tm_path_commands.specs.Check.{ReadAt, check_meaning}
+use Rattle.tm_path_commands.specs.declared.checking.Checking.{Checking}
+use Rattle.tm_path_commands.proofs.CheckEndings.{ReadOnce, driven-ends}
+use Rattle.tm_path_commands.proofs.checking.check.Goals as goal
+
+pub returns-clause-ends : goal.returns-clause-ends
+returns-clause-ends g c =
+    let h = c.drive-ending.ensures.driven in
+    let config = c.args.config.now in
+    let now = c.drive-ending.new.feed in
+    let ended = g.S.Source.ended c.drive-ending.new.source ≡ true in
+    let unended = g.S.Source.ended c.drive-ending.new.source ≡ g.S.Source.ended c.args.source.now in
+    let once : ReadOnce = record {
+      exists = c.read_law.ensures.exists;
+      one = c.read_law.ensures.one;
+      longer =
+          c.read_law.ensures.longer;
+    } in
+    let rules_are : ReadAt (λ k. c.in-Ok.reader.rules ≡ k) (rate_of config.inner) config = search rules in
+    let done : Ends c.drive-ending.result (check_meaning config) config.limit h.0
+    (taken_by (g.O.Sink.taken c.args.out.now) (g.O.Sink.taken now.out.now) (g.N.Sink.taken c.args.notes.now)
+    (g.N.Sink.taken now.notes.now)) =
+    driven-ends (λ (t : Checking g.row.O.Denot g.row.N.Denot). t.reader.now) (λ t. t.progress)
+    (λ t. g.O.Sink.taken t.out.now) (λ t. g.N.Sink.taken t.notes.now) once
+    config _ now refl refl c.limit.ensures.accepted rules_are c.in-Ok.ensures.stands c.limit.result
+    c.limit.ensures.value c.drive-ending.result h.0 ended unended h.3 in
+    (h.0, h.1, subst (λ (limit : ℕ). length h.0 ≤ limit + 1) c.limit.ensures.value h.2, search rules)

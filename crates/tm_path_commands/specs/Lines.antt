@@ -1,0 +1,38 @@
+-- The lines of a trace and of a certificate that is checked, each ended by one line feed.
+use Rattle.std.specs.Prelude.{ℕ, List, [], ◌∷◌, ◌++◌, codes, decimal}
+use Rattle.tm_viterbi.specs.WindowBlock.{WindowBlock}
+use Rattle.tm_cert_file.specs.declared.seen.Reason.{Reason}
+use Rattle.tm_cert_file.specs.declared.seen.Reason.TheVariants.{Shape, Joint, Edge, Sum}
+
+-- a window: its steps, how many of them are kept, and its path metric
+abbrev pub window_text : (number steps kept metric : ℕ) → List ℕ
+window_text number steps kept metric =
+    codes "block " ++ decimal number ++ codes " steps " ++ decimal steps
+    ++ codes " kept " ++ decimal kept ++ codes " metric " ++ decimal metric ++ 10 ∷ []
+
+-- a window of the soft decoder
+abbrev pub block_text : ℕ → WindowBlock → List ℕ
+block_text number block = window_text number block.steps block.kept block.metric
+
+-- the end of a trace: the windows, the bits received, and the octets after the last step
+abbrev pub trace_end_text : (blocks bits leftover : ℕ) → List ℕ
+trace_end_text blocks bits leftover =
+    codes "blocks " ++ decimal blocks ++ codes " bits " ++ decimal bits
+    ++ codes " leftover " ++ decimal leftover ++ 10 ∷ []
+
+-- why a window of a certificate fails
+abbrev pub reason_text : Reason → List ℕ
+reason_text Shape = codes "shape"
+reason_text Joint = codes "joint"
+reason_text (Edge column register) = codes "edge " ++ decimal column ++ codes " "
+    ++ decimal register
+reason_text (Sum sum) = codes "sum " ++ decimal sum
+
+-- the window of a certificate that fails, and why
+abbrev pub bad_text : ℕ → Reason → List ℕ
+bad_text number reason = codes "bad " ++ decimal number ++ codes " " ++ reason_text reason
+    ++ 10 ∷ []
+
+-- the window of a certificate that is not whole or missing
+abbrev pub cut_text : ℕ → List ℕ
+cut_text number = codes "cut at block " ++ decimal number ++ 10 ∷ []

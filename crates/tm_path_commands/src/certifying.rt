@@ -1,0 +1,281 @@
+// The command `certify`: the certificate of the windows of the soft decoder.
+ghost use Rattle.std.specs.Prelude.{◌≡◌, ℕ, ◌+◌, ◌^◌, ◌<◌, ◌≤◌, List, [], ◌++◌, length, ◌==◌, if◌then◌else◌, Option, false, OnOk, OnErr, IfOk};
+ghost use Rattle.tm_base.specs.Outside.{HasCause};
+ghost use Rattle.tm_base.specs.Written.{Gave};
+ghost use Rattle.tm_config.specs.Accepted.{IsAccepted};
+ghost use Rattle.tm_config.specs.Configuration.{Configuration};
+ghost use Rattle.tm_driver.specs.Courses.{SourceCourse, SinkCourse, sink_state, source_state};
+ghost use Rattle.tm_driver.specs.Meaning.{Ends, taken_by};
+ghost use Rattle.tm_driver.specs.Statuses.{is_sink_fault};
+ghost use Rattle.tm_viterbi.specs.declared.block.Start.TheVariants.{Zero, Any};
+ghost use Rattle.tm_inner.specs.Receiving.{InnerReceiving, StandsFor};
+ghost use Rattle.tm_path_commands.specs.Certify.{certify_meaning};
+ghost use Rattle.tm_path_commands.specs.Certifying.{Certifies, CertifyFails, CutsCertificate, EndsCertificate, GavePiece};
+
+use std::alloc::Global;
+use tm_base::{Failed, NoMemory, Sink, Source};
+use tm_cert_file::{Certifier, Certifying, PIECE, certified_law};
+use tm_config::Config;
+use tm_conv::Rate;
+use tm_driver::{Ending, Feed, Outcome, Stop, drive};
+use tm_inner::{InnerReceiver, is_inverted, rate_of};
+use tm_phase::{phase_law, whole_window_law};
+use tm_viterbi::{Start, closed_windows_law, due_law, one_list_law};
+
+// Where the first window's path may start.
+fn start_of(config: &Config) -> Start
+    ensures { result ≡ (if config.now.start == 0 then Zero else Any) }
+{
+    if config.start() == 0 {
+        Start::Zero
+    } else {
+        Start::Any
+    }
+}
+
+// What is kept to write the certificate of a configuration, which was given nothing yet. With no inner code it is given
+// nothing.
+fn open(alloc: Global, config: &Config) -> Result<Certifying, NoMemory>
+    ensures { IfOk result (λ certifying. (receiver : InnerReceiving) (taken : Option (List ℕ))
+        → receiver.config ≡ config.now → StandsFor receiver [] []
+        → Certifies config.now receiver certifying taken taken []) }
+{
+    let rate = rate_of(config).unwrap_or(Rate::R12);
+    let start = start_of(config);
+    let keep = config.keep() as u32;
+    let ahead = config.ahead() as u32;
+    Certifying::open(
+        alloc,
+        rate,
+        is_inverted(rate, config.invert()),
+        start,
+        keep,
+        ahead,
+    )
+}
+
+// Gives the soft octets of the next at most 256 octets, before a receiver is given these.
+fn give_piece(receiver: &InnerReceiver, certifying: &mut Certifying, piece: &[u8])
+    requires { length piece.now ≤ 256 }
+    ensures { GavePiece receiver.now certifying.old certifying.new piece.now }
+{
+    let mut room = [0; PIECE];
+    let soft = &mut room[..piece.len()];
+    soft.copy_from_slice(piece);
+    let skipped = receiver.turn_soft(soft);
+    certifying.give(&soft[skipped..]);
+}
+
+// Gives a receiver at most 256 octets, and writes the windows that are closed with them.
+fn certify_piece<O: Sink>(
+    receiver: &mut InnerReceiver,
+    certifying: &mut Certifying,
+    out: &mut O,
+    piece: &[u8],
+) -> Result<(), Failed>
+    requires ready { receiver.old.has_stopped ≡ false }
+    requires few { length piece.now ≤ 256 }
+    ensures ready { OnOk result (receiver.new.has_stopped ≡ false) }
+    ensures ok { OnOk result ((c : Configuration) (start : Option (List ℕ)) (given : List ℕ) → IsAccepted c
+        → length given + length piece.now < 2 ^ 44
+        → Certifies c receiver.old certifying.old start (O.taken out.old) given
+        → Certifies c receiver.new certifying.new start (O.taken out.new) (given ++ piece.now)) }
+    ensures err { OnErr result ((c : Configuration) (start : Option (List ℕ)) (given : List ℕ) → IsAccepted c
+        → length given + length piece.now < 2 ^ 44
+        → Certifies c receiver.old certifying.old start (O.taken out.old) given
+        → CertifyFails c start (O.taken out.new) (given ++ piece.now)) }
+    ensures cause { HasCause (O.faults out.old) (O.faults out.new) (O.is_last out.new) result }
+{
+    certified_law();
+    closed_windows_law();
+    phase_law();
+    give_piece(receiver, certifying, piece);
+    let mut certifier = Certifier { certifying, out };
+    match receiver.feed(piece, &mut certifier) {
+        Ok(()) => Ok(()),
+        Err(_) => Err(Failed),
+    }
+}
+
+// Gives a receiver the next octets, and writes the windows that are closed with them.
+fn certify_pieces<O: Sink>(
+    receiver: &mut InnerReceiver,
+    certifying: &mut Certifying,
+    out: &mut O,
+    octets: &[u8],
+) -> Result<(), Failed>
+    requires { receiver.old.has_stopped ≡ false }
+    ensures ready { OnOk result (receiver.new.has_stopped ≡ false) }
+    ensures ok { OnOk result ((c : Configuration) (start : Option (List ℕ)) (given : List ℕ) → IsAccepted c
+        → length given + length octets.now < 2 ^ 44
+        → Certifies c receiver.old certifying.old start (O.taken out.old) given
+        → Certifies c receiver.new certifying.new start (O.taken out.new) (given ++ octets.now)) }
+    ensures err { OnErr result ((c : Configuration) (start : Option (List ℕ)) (given : List ℕ) → IsAccepted c
+        → length given + length octets.now < 2 ^ 44
+        → Certifies c receiver.old certifying.old start (O.taken out.old) given
+        → CertifyFails c start (O.taken out.new) (given ++ octets.now)) }
+    ensures cause { HasCause (O.faults out.old) (O.faults out.new) (O.is_last out.new) result }
+{
+    certified_law();
+    closed_windows_law();
+    whole_window_law();
+    let mut done = 0;
+    while done < octets.len() {
+        let end = done + PIECE.min(octets.len() - done);
+        match certify_piece(receiver, certifying, out, &octets[done..end]) {
+            Ok(()) => {}
+            Err(Failed) => return Err(Failed),
+        }
+        done = end;
+    }
+    Ok(())
+}
+
+// Writes the windows that are left at the end.
+fn certify_last<O: Sink>(
+    receiver: &mut InnerReceiver,
+    certifying: &mut Certifying,
+    out: &mut O,
+) -> Result<(), Failed>
+    requires { receiver.old.has_stopped ≡ false }
+    ensures whole { OnOk result (EndsCertificate receiver.old certifying.old (O.taken out.old) (O.taken out.new)) }
+    ensures front { OnErr result (CutsCertificate receiver.old certifying.old (O.taken out.old) (O.taken out.new)) }
+    ensures cause { HasCause (O.faults out.old) (O.faults out.new) (O.is_last out.new) result }
+{
+    certified_law();
+    due_law();
+    one_list_law();
+    let mut certifier = Certifier { certifying, out };
+    match receiver.finish(&mut certifier) {
+        Ok(_) => Ok(()),
+        Err(_) => Err(Failed),
+    }
+}
+
+// An inner receiver, and what writes the certificate of its blocks.
+struct Certificate<'a, 'b, 'c, O> {
+    receiver: &'a mut InnerReceiver,
+    certifying: &'b mut Certifying,
+    out: &'c mut O,
+}
+
+impl<'a, 'b, 'c, O: Sink> Feed for Certificate<'a, 'b, 'c, O> {
+    ghost use Rattle.std.specs.Prelude.{◌≡◌, ℕ, ◌^◌, ◌<◌, List, ◌++◌, length, Option, false, refl};
+    ghost use Rattle.std.proofs.Common.{◌∙◌, subst, sym, append_assoc};
+    ghost use Rattle.std.proofs.lemmas.List.{append-nil};
+    ghost use Rattle.tm_driver.specs.Courses.{SinkCourse, sink_state};
+    ghost use Rattle.tm_driver.specs.declared.ending.Outcome.TheVariants.{Done};
+    ghost use Rattle.tm_driver.specs.declared.ending.Stop.TheVariants.{SinkFault};
+    ghost use Rattle.tm_driver.proofs.TwoSinks.{sink-after};
+    ghost use Rattle.tm_path_commands.specs.Certifying.{Certifies, CertifiesMore, CertifyFails, CutsCertificate, EndsCertificate, FailsCertifying};
+
+    ghost fed = { λ a b octets. CertifiesMore a.receiver.now a.certifying.now (O.taken a.out.now)
+        b.receiver.now b.certifying.now (O.taken b.out.now) octets };
+
+    ghost stopped = { λ a b octets stop. (stop ≡ SinkFault)
+        × FailsCertifying a.receiver.now a.certifying.now (O.taken a.out.now) (O.taken b.out.now) octets };
+
+    ghost finished = { λ a b outcome. (outcome ≡ Done)
+        × EndsCertificate a.receiver.now a.certifying.now (O.taken a.out.now) (O.taken b.out.now) };
+
+    ghost failed = { λ a b. CutsCertificate a.receiver.now a.certifying.now (O.taken a.out.now) (O.taken b.out.now) };
+
+    ghost sinks = { λ a b failed. SinkCourse failed (sink_state (O.taken a.out.now) (O.faults a.out.now))
+        (sink_state (O.taken b.out.now) (O.faults b.out.now))
+        (O.is_last b.out.now) };
+
+    ghost same = { λ a b. (b.receiver.ghost_name ≡ a.receiver.ghost_name)
+        × (b.certifying.ghost_name ≡ a.certifying.ghost_name)
+        × (b.out.ghost_name ≡ a.out.ghost_name) };
+
+    ghost is_ready = { λ e. e.receiver.now.has_stopped ≡ false };
+
+    ghost same_none = { λ a. (refl, refl, refl) };
+
+    ghost same_more = { λ a b c p q. (q.0 ∙ p.0, q.1 ∙ p.1, q.2 ∙ p.2) };
+
+    ghost fed_none = { λ a ready. λ c start given accepted.
+        subst (λ o. length o < 2 ^ 44 → Certifies c a.receiver.now a.certifying.now start (O.taken a.out.now) o)
+        (sym (append-nil given)) };
+
+    ghost fed_more = { λ a b last first second p q. λ c start given accepted was.
+        subst (λ o. length o < 2 ^ 44 → Certifies c last.receiver.now last.certifying.now start
+        (O.taken last.out.now) o)
+        (append_assoc given first second) (q c start (given ++ first) accepted (p c start given accepted was)) };
+
+    ghost stopped_more = { λ a b last first second stop p q. (
+      q.0,
+      λ c start given accepted was.
+          subst (λ o. length o < 2 ^ 44 → CertifyFails c start (O.taken last.out.now) o)
+          (append_assoc given first second) (q.1 c start (given ++ first) accepted (p c start given accepted was)),
+    ) };
+
+    ghost sinks_none = { λ a. refl };
+
+    ghost sinks_more = { λ a b c failed p q. sink-after failed (sink_state (O.taken a.out.now) (O.faults a.out.now))
+        (sink_state (O.taken b.out.now) (O.faults b.out.now)) (sink_state (O.taken c.out.now) (O.faults c.out.now))
+        (O.is_last b.out.now) (O.is_last c.out.now) p q };
+
+    fn feed(&mut self, piece: &[u8]) -> Result<(), Stop> {
+        match certify_pieces(self.receiver, self.certifying, self.out, piece) {
+            Ok(()) => Ok(()),
+            Err(Failed) => Err(Stop::SinkFault),
+        }
+    }
+
+    fn finish(&mut self) -> Result<Outcome, Failed> {
+        match certify_last(self.receiver, self.certifying, self.out) {
+            Ok(()) => Ok(Outcome::Done),
+            Err(Failed) => Err(Failed),
+        }
+    }
+}
+
+/// Writes the certificate of the windows of the soft decoder for the soft octets of the source, up to the limit in
+/// octets: of each window its numbers, its path's bits, its soft octets and the columns of least path metrics. With no
+/// inner code it is empty. After a fault nothing more is read or written. It takes all its memory before it reads.
+pub fn certify<S: Source, O: Sink>(
+    alloc: Global,
+    config: &Config,
+    source: &mut S,
+    out: &mut O,
+) -> Result<Ending, NoMemory>
+    ensures ends { IfOk result (λ ending. (octets : List ℕ)
+        × Gave (S.given source.old) (S.given source.new) (S.left source.old) (S.left source.new) octets
+        × (length octets ≤ config.now.limit + 1)
+        × ((noted : Option (List ℕ)) → Ends ending (certify_meaning config.now) config.now.limit octets
+        (taken_by (O.taken out.old) (O.taken out.new) noted noted))) }
+    ensures memory { OnErr result ((source.new ≡ source.old) × (out.new ≡ out.old)) }
+    ensures source { IfOk result (λ ending. SourceCourse ending
+        (source_state (S.given source.old) (S.left source.old) (S.ended source.old) (S.faults source.old))
+        (source_state (S.given source.new) (S.left source.new) (S.ended source.new) (S.faults source.new))
+        (S.is_last source.new)) }
+    ensures sinks { IfOk result (λ ending. SinkCourse (is_sink_fault ending)
+        (sink_state (O.taken out.old) (O.faults out.old)) (sink_state (O.taken out.new) (O.faults out.new))
+        (O.is_last out.new)) }
+{
+    certified_law();
+    closed_windows_law();
+    due_law();
+    one_list_law();
+    phase_law();
+    whole_window_law();
+    let Ok(mut receiver) = InnerReceiver::open(alloc, config) else {
+        return Err(NoMemory);
+    };
+    let Ok(mut certifying) = open(alloc, config) else {
+        return Err(NoMemory);
+    };
+    let mut certificate = Certificate {
+        receiver: &mut receiver,
+        certifying: &mut certifying,
+        out,
+    };
+    let ending = drive(config.limit(), source, &mut certificate);
+    let Certificate {
+        receiver: _,
+        certifying: _,
+        out: _,
+    } = certificate;
+    Ok(ending)
+}

@@ -1,0 +1,18 @@
+//! The commands that show what the soft decoder found: `trace` writes a line for each window, `certify` writes a
+//! certificate of their paths, and `check` reads one and checks each window. None of them needs the outer code. What
+//! each of them writes is its meaning (`specs/Trace.antt`, `Certify.antt`, `Check.antt`).
+#![tactic(auto)]
+
+mod certificate;
+mod certifying;
+mod checking;
+mod lines;
+mod trace_lines;
+mod tracing;
+
+pub use certificate::certificate_law;
+pub use certifying::certify;
+pub use checking::check;
+pub use lines::{block_line, blocks_line};
+pub use trace_lines::{Trace, end_trace};
+pub use tracing::trace;
