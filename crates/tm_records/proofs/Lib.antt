@@ -1,2 +1,5 @@
 pub mod NearestRecords
 pub mod ReadRecords
+mod Driven
+mod Erasing
+mod NearestWord

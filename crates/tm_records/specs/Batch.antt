@@ -8,13 +8,15 @@ use Rattle.tm_workers.specs.declared.words.ErasedWord.{ErasedWord}
 use Rattle.tm_records.specs.declared.coding.Coding.{Coding}
 use Rattle.tm_records.specs.Records.{first_erased, first_word, record_size}
 
--- the octets of a batch that were taken so far, and what was found nearest to the words of its records when they were decoded
+-- the octets of a batch that were taken so far, and what was found nearest to the words of its
+-- records when they were decoded
 pub record Batch : Type 0 where
   pub coding : Coding
   pub octets : List ℕ
   pub nearest : List NearestErased
 
--- there is room for 256 records of this size: so many octets are taken, and so many records were decoded
+-- there is room for 256 records of this size: so many octets are taken, and so many records were
+-- decoded
 pub record HasRoom (c : Coding) (size octets words taken decoded : ℕ) : Type 0 where
   pub is_size : size ≡ record_size c
   pub some : 0 < size

@@ -1,5 +1,6 @@
--- Records of received words, one behind the other. A record has an octet for each of the n symbols of a word, and behind these a flag for
--- each symbol: 0 where the symbol is good, and any other number where it is erased.
+-- Records of received words, one behind the other. A record has an octet for each of the n symbols
+-- of a word, and behind these a flag for each symbol: 0 where the symbol is good, and any other
+-- number where it is erased.
 use Rattle.std.specs.Prelude.{◌≡◌, ℕ, ◌*◌, ◌/◌, ◌%◌, ◌==◌, Bool, not, List, [], ◌∷◌, length, map, take, drop}
 use Rattle.tm_dual.specs.Octet.{element_of}
 use Rattle.tm_rs_code.specs.Erasures.{IsNearestErased, NearestErased}
@@ -27,12 +28,14 @@ first_erased c octets = map (λ flag. not (flag == 0)) (take c.params.n (drop c.
 
 -- this is nearest to the word of the first record
 abbrev pub IsFirstNearest : Coding → List ℕ → NearestErased → Type 0
-IsFirstNearest c octets nearest = IsNearestErased c.params.e c.repair (first_erased c octets) (first_word c octets) nearest
+IsFirstNearest c octets nearest = IsNearestErased c.params.e c.repair (first_erased c octets)
+    (first_word c octets) nearest
 
 -- these are nearest to the words of so many first records, each to its own
 abbrev pub AreFirstNearest : Coding → List ℕ → List NearestErased → Type 0
 AreFirstNearest c octets [] = Unit {0}
-AreFirstNearest c octets (nearest ∷ others) = IsFirstNearest c octets nearest × AreFirstNearest c (drop (record_size c) octets) others
+AreFirstNearest c octets (nearest ∷ others) = IsFirstNearest c octets nearest
+    × AreFirstNearest c (drop (record_size c) octets) others
 
 -- these are nearest to the words of all whole records
 pub record AreNearest (c : Coding) (octets : List ℕ) (nearest : List NearestErased) : Type 0 where
@@ -44,6 +47,7 @@ abbrev pub in_batches : ℕ → ℕ
 in_batches count = 256 * (count / 256)
 
 -- these are nearest to the words of the records that are in whole batches
-pub record AreNearestDue (c : Coding) (octets : List ℕ) (nearest : List NearestErased) : Type 0 where
+pub record AreNearestDue (c : Coding) (octets : List ℕ)
+    (nearest : List NearestErased) : Type 0 where
   pub each : AreFirstNearest c octets nearest
   pub all : length nearest ≡ in_batches (record_count c octets)

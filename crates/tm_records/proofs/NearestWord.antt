@@ -1,0 +1,120 @@
+-- Words in hexadecimal, and the lines of their nearest codewords.
+use Rattle.std.proofs.Common.{◌≡◌, ℕ, ◌*◌, ◌/◌, ◌%◌, ◌≤◌, ◌<◌, Bool, true, false, cond, List, [], length, map, Some, None, Result, Ok, Err, refl, sym, ap, ◌∙◌, subst, arith}
+use Rattle.std.specs.Prelude.{MatchResult, IsOk}
+use Rattle.std.specs.List.{list_all}
+use Rattle.std.specs.Result.{result_unwrap_or}
+use Rattle.std.proofs.lemmas.Bool.Decides.{nat_tests}
+use Rattle.std.proofs.lemmas.List.Sums.{AllPass-from_list_all, list_all-from_AllPass}
+use Rattle.hex.specs.Hex.{is_hex_digit, decode_sized}
+use Rattle.hex.specs.declared.error.FromHexError.{FromHexError}
+use Rattle.hex.proofs.HexLemmas.{IsOk-written, IsOk-decode_sized, decode_of-digits, decode_sized-twice}
+use Rattle.tm_config.specs.Configuration.{Configuration}
+use Rattle.tm_dual.specs.Octet.{basis_of, sent_octet, element_of}
+use Rattle.tm_rs_code.specs.Nearest.{IsNearest}
+use Rattle.tm_rs_solve.specs.Answers.{found}
+use Rattle.tm_rs_solve.specs.declared.answers.Answer.{Answer}
+use Rattle.tm_rs_solve.specs.declared.answers.Answer.TheVariants.{Fixed, Beyond}
+use Rattle.tm_records.specs.Word.{octets_of_hex, word_refusal, word_of, word_text, IsWordLine, IsBeyond}
+use Rattle.tm_records.specs.declared.word_command.WordRefusal.TheVariants.{Hex}
+
+-- what writing the octets of a text answers
+abbrev pub Written : List ℕ → ℕ → Result Unit FromHexError → List ℕ → Type 0
+Written text count answer octets = MatchResult (decode_sized text count) (λ bytes. (answer ≡ Ok tt) × (octets ≡ bytes))
+    (λ e. answer ≡ Err e)
+
+-- ---- the text that is refused
+
+-- a text of the length of a word is refused where a byte is no digit
+pub refused-by_digits : (c : Configuration) (text : List ℕ) (all : Bool) → (c.code ≡ 0 → ⊥) → length text % 2 ≡ 0
+    → 2 * c.code < length text / 2 → length text / 2 ≤ 255
+    → list_all is_hex_digit text ≡ all → word_refusal c text ≡ cond all None (Some Hex)
+refused-by_digits c text all code even some most is = rw (← is) (grind (arith, nat_tests))
+
+pub all-digits : (text : List ℕ) (count : ℕ) (octets : List ℕ) (answer : Result Unit FromHexError)
+    → Written text count answer octets → IsOk answer → list_all is_hex_digit text ≡ true
+all-digits text count octets answer written ok =
+    list_all-from_AllPass is_hex_digit text ((IsOk-decode_sized text count).0
+    ((IsOk-written (decode_sized text count) answer octets written).0 ok)).1
+
+no-digit : (text : List ℕ) (count : ℕ) (octets : List ℕ) (e : FromHexError) (all : Bool) → length text ≡ 2 * count
+    → Written text count (Err e) octets
+    → list_all is_hex_digit text ≡ all → all ≡ false
+no-digit text count octets e false long written is = refl
+no-digit text count octets e true long written is =
+    let fails : IsOk {T = Unit {0}} (Err e) = (IsOk-written (decode_sized text count) (Err e) octets written).1
+    ((IsOk-decode_sized text count).1 (long, AllPass-from_list_all is_hex_digit text is)) in
+    cc fails
+
+pub not_all-digits : (text : List ℕ) (count : ℕ) (octets : List ℕ) (e : FromHexError) → length text ≡ 2 * count
+    → Written text count (Err e) octets → list_all is_hex_digit text ≡ false
+not_all-digits text count octets e long written = no-digit text count octets e (list_all is_hex_digit text) long
+    written refl
+
+-- ---- the text that is accepted
+
+-- what an accepted text is
+pub record IsAcceptedText (c : Configuration) (text : List ℕ) : Type 0 where
+  pub code : 0 < c.code
+  pub even : length text % 2 ≡ 0
+  pub some : 2 * c.code < length text / 2
+  pub most : length text / 2 ≤ 255
+  pub digits : list_all is_hex_digit text ≡ true
+
+pub accepted-text : (c : Configuration) (text : List ℕ) → word_refusal c text ≡ None → IsAcceptedText c text
+accepted-text c text accepted = record {
+  code = grind (arith, nat_tests);
+  even = grind (arith, nat_tests);
+  some = grind (arith, nat_tests);
+  most = grind (arith, nat_tests);
+  digits = grind (arith, nat_tests);
+}
+
+-- its octets are read
+pub octets-read : (text : List ℕ) (count : ℕ) (octets : List ℕ) (answer : Result Unit FromHexError)
+    → length text ≡ 2 * count → list_all is_hex_digit text ≡ true
+    → Written text count answer octets → octets ≡ octets_of_hex text
+octets-read text count octets answer long digits written =
+    let some = decode_of-digits text (omega arith) (AllPass-from_list_all is_hex_digit text digits) in
+    let sized : decode_sized text count ≡ Ok some.0 = decode_sized-twice text count long ∙ some.1 in
+    (rw sized at written).1 ∙ ap (λ (r : Result (List ℕ) FromHexError). result_unwrap_or r []) (sym some.1)
+
+-- ---- the line
+
+-- what repairing the octets of a word has made of them
+abbrev pub Repaired : Configuration → List ℕ → Answer → List ℕ → Type 0
+Repaired c octets answer now = (codeword : List ℕ)
+    × IsNearest c.code c.repair (map (element_of (basis_of c.basis)) octets) (found answer codeword)
+    × (now ≡ map (sent_octet (basis_of c.basis)) codeword)
+
+repaired-text : (c : Configuration) (text octets now : List ℕ) (answer : Answer) → word_refusal c text ≡ None
+    → (list_all is_hex_digit text ≡ true → octets ≡ octets_of_hex text)
+    → Repaired c octets answer now → Repaired c (octets_of_hex text) answer now
+repaired-text c text octets now answer accepted read repaired =
+    subst (λ (l : List ℕ). Repaired c l answer now) (read (accepted-text c text accepted).digits) repaired
+
+pub nearest-line : (c : Configuration) (text octets now : List ℕ) (answer : Answer) → word_refusal c text ≡ None
+    → (list_all is_hex_digit text ≡ true → octets ≡ octets_of_hex text)
+    → Repaired c octets answer now → IsWordLine c text (word_text answer now)
+nearest-line c text octets now answer accepted read repaired =
+    let near = repaired-text c text octets now answer accepted read repaired in
+    record { answer = answer; codeword = near.0; nearest = near.1; is_line = ap (word_text answer) near.2 }
+
+-- a word is beyond repair where it is answered so
+pub is_beyond : (c : Configuration) (text octets now : List ℕ) (answer : Answer) → word_refusal c text ≡ None
+    → (list_all is_hex_digit text ≡ true → octets ≡ octets_of_hex text)
+    → Repaired c octets answer now → answer ≡ Beyond → IsBeyond c text
+is_beyond c text octets now answer accepted read repaired is =
+    let near = repaired-text c text octets now answer accepted read repaired in
+    subst (λ (a : Answer). IsNearest c.code c.repair (word_of c text) (found a near.0)) is near.1
+
+pub not_beyond : (c : Configuration) (text octets now : List ℕ) (answer : Answer) (d : ℕ) → word_refusal c text ≡ None
+    → (list_all is_hex_digit text ≡ true → octets ≡ octets_of_hex text)
+    → Repaired c octets answer now → answer ≡ Fixed d → IsBeyond c text → ⊥
+not_beyond c text octets now answer d accepted read repaired is beyond =
+    let near = repaired-text c text octets now answer accepted read repaired in
+    let fixed : IsNearest c.code c.repair (word_of c text) (found (Fixed d) near.0) = subst
+    (λ (a : Answer). IsNearest c.code c.repair (word_of c text) (found a near.0)) is near.1 in
+    let far = beyond near.0 fixed.0 in
+    let at = fixed.1 in
+    let within = fixed.2 in
+    absurd (omega (arith, far, at, within))

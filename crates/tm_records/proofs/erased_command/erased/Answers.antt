@@ -1,0 +1,25 @@
+use Rattle.std.proofs.Common.{rules, ◌≡◌, ◌+◌, ◌≤◌, ℕ, [], length, subst}
+use Rattle.tm_driver.specs.Meaning.{Ends, taken_by}
+use Rattle.tm_records.specs.Erased.{coding_of, erased_meaning}
+use Rattle.tm_records.specs.Erasing.{stand}
+use Rattle.tm_records.specs.declared.erased_command.Erasing.{Erasing}
+use Rattle.tm_records.proofs.Erasing.{ends-erased, holds-none}
+use Rattle.tm_records.proofs.erased_command.erased.Goals as goal
+
+pub returns-clause-ends : goal.returns-clause-ends
+returns-clause-ends g c =
+    let h = c.drive-ending.ensures.driven in
+    let config = c.args.config.now in
+    let ending = c.drive-ending.result in
+    let taken = taken_by (g.O.Sink.taken c.args.out.now) (g.O.Sink.taken c.drive-ending.new.feed.out.now)
+    (g.N.Sink.taken c.args.notes.now)
+    (g.N.Sink.taken c.drive-ending.new.feed.notes.now) in
+    let new : c.in-Ok.records ≡ record { coding = coding_of config; octets = []; nearest = [] } = search rules in
+    let none = holds-none (coding_of config) c.in-Ok.records (g.O.Sink.taken c.args.out.now) new in
+    let shown : Ends ending (erased_meaning config) c.limit.result h.0 taken =
+    ends-erased (λ (e : Erasing g.row.R.Denot g.row.O.Denot g.row.N.Denot). stand e.records.now e.beyond
+    (g.O.Sink.taken e.out.now)) (λ e. e.notes.now) g.N.Sink.taken
+    config c.limit.result _ c.drive-ending.new.feed _ _ ending h.0 none h.3 in
+    let done : Ends ending (erased_meaning config) config.limit h.0 taken =
+    subst (λ (limit : ℕ). Ends ending (erased_meaning config) limit h.0 taken) c.limit.ensures.value shown in
+    (h.0, h.1, subst (λ (limit : ℕ). length h.0 ≤ limit + 1) c.limit.ensures.value h.2, search rules)

@@ -1,0 +1,165 @@
+// The command `word`: one word, from hexadecimal to the nearest codeword in hexadecimal.
+ghost use Rattle.std.specs.Prelude.{◌≡◌, ◌⊎◌, ◌*◌, ◌<◌, ◌≤◌, ℕ, List, [], length, map, Option, None, true, OnOk, OnErr};
+ghost use Rattle.std.specs.List.{list_all};
+ghost use Rattle.hex.specs.Hex.{is_hex_digit};
+ghost use Rattle.tm_base.specs.Outside.{HasCause};
+ghost use Rattle.tm_base.specs.Written.{Wrote, WroteFront};
+ghost use Rattle.tm_driver.specs.Courses.{SinkCourse, sink_state};
+ghost use Rattle.tm_driver.specs.Meaning.{Ends, taken_by};
+ghost use Rattle.tm_driver.specs.Statuses.{is_sink_fault};
+ghost use Rattle.tm_dual.specs.Octet.{basis_of, sent_octet, element_of};
+ghost use Rattle.tm_gf256.specs.Poly.{numbers};
+ghost use Rattle.tm_rs_code.specs.Nearest.{IsNearest};
+ghost use Rattle.tm_rs_solve.specs.Answers.{found};
+ghost use Rattle.tm_records.specs.Word.{octets_of_hex, word_meaning, word_refusal, word_reason, word_text};
+
+use crate::coding::LONGEST_WORD;
+use crate::hexadecimal::add_octets;
+use hex::decode_to_slice;
+use std::marker::Brand;
+use std::sync::ledger::{Blank, Ledger};
+use tm_base::{Failed, Sink};
+use tm_config::Config;
+use tm_driver::{Ending, Line};
+use tm_dual::Basis;
+use tm_gf256::Gf;
+use tm_rs_code::Params;
+use tm_rs_locator::Steps;
+use tm_rs_solve::{Answer, decode_word};
+
+/// Why the text of a word is refused.
+#[derive(Clone, Copy, Debug, PartialEq, Eq)]
+pub enum WordRefusal {
+    /// There is no outer code.
+    Code,
+    /// No codeword has so many symbols, or a byte is left over after the last whole octet.
+    Word,
+    /// A byte is no hexadecimal digit.
+    Hex,
+}
+
+impl WordRefusal {
+    /// The reason, as the line gives it.
+    pub fn reason(self) -> &'static [u8]
+        ensures text { result.now ≡ word_reason self }
+        ensures length { length result.now ≤ 4 }
+    {
+        match self {
+            WordRefusal::Code => b"code",
+            WordRefusal::Word => b"word",
+            WordRefusal::Hex => b"hex",
+        }
+    }
+}
+
+// Reads the octets of a text of two digits each, and answers whether all are hexadecimal.
+fn read_octets(text: &[u8], octets: &mut [u8]) -> bool
+    requires { length text.now ≡ 2 * length octets.old }
+    ensures digits { result ≡ list_all is_hex_digit text.now }
+    ensures octets { list_all is_hex_digit text.now ≡ true → octets.new ≡ octets_of_hex text.now }
+    ensures size { length octets.new ≡ length octets.old }
+{
+    match decode_to_slice(text, octets) {
+        Ok(()) => true,
+        Err(_) => false,
+    }
+}
+
+/// Tests the text of a word, and answers the first reason to refuse it.
+pub fn test_word(config: &Config, text: &[u8]) -> Option<WordRefusal>
+    ensures { result ≡ word_refusal config.now text.now }
+{
+    if config.code() == 0 {
+        return Some(WordRefusal::Code);
+    }
+    let count = text.len() / 2;
+    if text.len() % 2 != 0 || count <= 2 * config.code() as usize || count > LONGEST_WORD {
+        return Some(WordRefusal::Word);
+    }
+    let mut octets = [0; LONGEST_WORD];
+    if !read_octets(text, &mut octets[..count]) {
+        return Some(WordRefusal::Hex);
+    }
+    None
+}
+
+// Makes a word the nearest codeword, with a count of steps that ends with it.
+fn decode_counted<L: Ledger>(blank: Blank, params: &Params, repair: u8, word: &mut [Gf]) -> Answer
+    requires name { blank.name ≡ L.name }
+    requires parts { blank.parts ≡ L.parts }
+    requires share { 0 < blank.parts }
+    requires bound { repair ≤ params.now.e }
+    requires size { length word.old ≡ params.now.n }
+    ensures nearest { IsNearest params.now.e repair (numbers word.old) (found result (numbers word.new)) }
+    ensures size { length word.new ≡ length word.old }
+{
+    let mut steps = Steps::<L>::open(blank);
+    decode_word(params, repair, word, &mut steps)
+}
+
+// Makes the octets of a word those of the nearest codeword, where one is within the repair bound.
+fn repair(config: &Config, octets: &mut [u8]) -> Answer
+    requires code { 0 < config.now.code }
+    requires some { 2 * config.now.code < length octets.old }
+    requires fits { length octets.old ≤ 255 }
+    ensures nearest { (codeword : List ℕ)
+        × IsNearest config.now.code config.now.repair (map (element_of (basis_of config.now.basis)) octets.old)
+        (found result codeword)
+        × (octets.new ≡ map (sent_octet (basis_of config.now.basis)) codeword) }
+    ensures size { length octets.new ≡ length octets.old }
+{
+    let params = Params::new(config.code(), octets.len() as u64).unwrap();
+    let basis = Basis::numbered(config.basis());
+    let mut room = [Gf(0); LONGEST_WORD];
+    let word = &mut room[..octets.len()];
+    basis.octets_to_elements(octets, word);
+    let answer = decode_counted::<Brand>(Blank::new(1), &params, config.repair() as u8, word);
+    basis.elements_to_octets(word, octets);
+    answer
+}
+
+// Writes what became of a word, and the octets of the codeword.
+fn word_line<O: Sink>(out: &mut O, answer: Answer, octets: &[u8]) -> Result<(), Failed>
+    requires { length octets.now ≤ 255 }
+    ensures ok { OnOk result (Wrote (O.taken out.old) (O.taken out.new) (word_text answer octets.now)) }
+    ensures err { OnErr result (WroteFront (O.taken out.old) (O.taken out.new) (word_text answer octets.now)) }
+    ensures cause { HasCause (O.faults out.old) (O.faults out.new) (O.is_last out.new) result }
+{
+    let mut line = Line::new();
+    match answer {
+        Answer::Fixed(distance) => {
+            line.text(b"fixed ");
+            line.number(distance as u64);
+            line.text(b" ");
+            add_octets(&mut line, octets);
+        }
+        Answer::Beyond => line.text(b"beyond"),
+    }
+    line.text(b"\n");
+    line.put(out)
+}
+
+/// Writes the codeword that is nearest to a word within the repair bound, after its distance from the word:
+/// `fixed D HEX`. Where there is none it writes `beyond`, and answers `Bad`. The text has two hexadecimal digits for each
+/// octet of the word, as it is received. `SinkFault` comes only where the sink's count of faults rose. It takes no
+/// memory.
+pub fn word<O: Sink>(config: &Config, text: &[u8], out: &mut O) -> Ending
+    requires { word_refusal config.now text.now ≡ None }
+    ensures ends { (noted : Option (List ℕ)) → Ends result (word_meaning text.now config.now) config.now.limit []
+        (taken_by (O.taken out.old) (O.taken out.new) noted noted) }
+    ensures answers { (result ≡ Ending.Done) ⊎ (result ≡ Ending.Bad) ⊎ (result ≡ Ending.SinkFault) }
+    ensures sink { SinkCourse (is_sink_fault result) (sink_state (O.taken out.old) (O.faults out.old))
+        (sink_state (O.taken out.new) (O.faults out.new)) (O.is_last out.new) }
+{
+    let mut room = [0; LONGEST_WORD];
+    let octets = &mut room[..text.len() / 2];
+    read_octets(text, octets);
+    let answer = repair(config, octets);
+    match word_line(out, answer, octets) {
+        Ok(()) => match answer {
+            Answer::Fixed(_) => Ending::Done,
+            Answer::Beyond => Ending::Bad,
+        },
+        Err(Failed) => Ending::SinkFault,
+    }
+}
