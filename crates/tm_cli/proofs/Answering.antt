@@ -4,19 +4,52 @@ use Rattle.std.proofs.lemmas.List.{append-nil}
 use Rattle.std.specs.Io.KnownBytes.{prepend_known, IsAtEnd}
 use Rattle.std.specs.Result.{IfOk}
 use Rattle.tm_base.specs.Written.{Gave}
+use Rattle.tm_base.proofs.Known.{append_known-nil, prepend_known-nil}
 use Rattle.tm_config.specs.Configuration.{Configuration}
+use Rattle.tm_driver.specs.Courses.{SinkState, SinkCourse, SinksCourse}
+use Rattle.tm_driver.specs.Meaning.{Meaning, Ends, Output, Taken, taken_by}
+use Rattle.tm_driver.specs.Statuses.{is_sink_fault, status_of}
+use Rattle.tm_driver.specs.declared.ending.Ending.{Ending}
+use Rattle.tm_driver.specs.declared.ending.Ending.TheVariants.{Done, Bad, BadWindow, LeftOver, SourceFault, SinkFault, PastLimit}
 use Rattle.tm_words.specs.declared.job.Job.{Job}
 use Rattle.tm_words.specs.declared.job.JobKind.{JobKind}
 use Rattle.tm_words.specs.declared.job.JobKind.TheVariants as kind
 use Rattle.tm_cli.specs.Command.{Command, command_by, command_of, reads}
 use Rattle.tm_cli.specs.Command.Command.{Encode, Decode, Report, Trace, Word, Soak, Erased, Certify, Check}
-use Rattle.tm_cli.specs.Output.{IsPartial}
-use Rattle.tm_cli.specs.Ending.{Ends, status_of}
-use Rattle.tm_cli.specs.declared.ending.Ending.{Ending}
-use Rattle.tm_cli.specs.declared.ending.Ending.TheVariants.{Done, Bad, BadWindow, LeftOver, SourceFault, SinkFault, PastLimit}
+use Rattle.tm_cli.specs.Meanings.{meaning_of}
+
+-- ---- which command a job asks for
+
+check-kind : (k : JobKind) (job : Job) → command_by k job ≡ Check → k ≡ kind.Check
+check-kind kind.Encode job is = cc is
+check-kind kind.Decode job is = cc is
+check-kind kind.Report job is = cc is
+check-kind kind.Trace job is = cc is
+check-kind kind.Word job is = cc is
+check-kind kind.Soak job is = cc is
+check-kind kind.Erased job is = cc is
+check-kind kind.Certify job is = cc is
+check-kind kind.Check job is = refl
+
+pub of-check : (job : Job) → command_of job ≡ Check → job.kind ≡ kind.Check
+of-check job is = check-kind job.kind job is
+
+encode-kind : (k : JobKind) (job : Job) → command_by k job ≡ Encode → k ≡ kind.Encode
+encode-kind kind.Encode job is = refl
+encode-kind kind.Decode job is = cc is
+encode-kind kind.Report job is = cc is
+encode-kind kind.Trace job is = cc is
+encode-kind kind.Word job is = cc is
+encode-kind kind.Soak job is = cc is
+encode-kind kind.Erased job is = cc is
+encode-kind kind.Certify job is = cc is
+encode-kind kind.Check job is = cc is
+
+pub of-encode : (job : Job) → command_of job ≡ Encode → job.kind ≡ kind.Encode
+of-encode job is = encode-kind job.kind job is
 
 -- a command that reads nothing leaves nothing over
-partial-reads : (command : Command) (c : Configuration) (octets : List ℕ) → IsPartial command c octets → reads command ≡ true
+partial-reads : (command : Command) (c : Configuration) (octets : List ℕ) → (meaning_of command c).is_partial octets → reads command ≡ true
 partial-reads Encode c octets partial = refl
 partial-reads Decode c octets partial = refl
 partial-reads Report c octets partial = refl
@@ -24,153 +57,138 @@ partial-reads Trace c octets partial = refl
 partial-reads (Word text) c octets partial = absurd partial
 partial-reads (Soak seed frames hits) c octets partial = absurd partial
 partial-reads Erased c octets partial = refl
-partial-reads Certify c octets partial = absurd partial
+partial-reads Certify c octets partial = refl
 partial-reads Check c octets partial = refl
 
--- a job of `check` alone asks for it
-by-kind : (k : JobKind) (job : Job) → command_by k job ≡ Check → k ≡ kind.Check
-by-kind kind.Encode job is = cc is
-by-kind kind.Decode job is = cc is
-by-kind kind.Report job is = cc is
-by-kind kind.Trace job is = cc is
-by-kind kind.Word job is = cc is
-by-kind kind.Soak job is = cc is
-by-kind kind.Erased job is = cc is
-by-kind kind.Certify job is = cc is
-by-kind kind.Check job is = refl
+pub left-reads : (e : Ending) (command : Command) (c : Configuration) (octets : List ℕ) (taken : Taken)
+    → Ends e (meaning_of command c) c.limit octets taken → e ≡ LeftOver → reads command ≡ true
+left-reads e command c octets taken ends is =
+    partial-reads command c octets (subst (λ (x : Ending). Ends x (meaning_of command c) c.limit octets taken) is ends).2
 
-pub of-check : (job : Job) → command_of job ≡ Check → job.kind ≡ kind.Check
-of-check job is = by-kind job.kind job is
+-- nor is anything due for what it did not read
+due-reads : (command : Command) (c : Configuration) (octets : List ℕ) (output : Output) → (meaning_of command c).is_due octets output → reads command ≡ true
+due-reads Encode c octets output due = refl
+due-reads Decode c octets output due = refl
+due-reads Report c octets output due = refl
+due-reads Trace c octets output due = refl
+due-reads (Word text) c octets output due = absurd due
+due-reads (Soak seed frames hits) c octets output due = absurd due
+due-reads Erased c octets output due = refl
+due-reads Certify c octets output due = refl
+due-reads Check c octets output due = refl
 
-pub left-reads : (e : Ending) (status : ℕ) (command : Command) (c : Configuration) (octets : List ℕ) (taken taken_now noted noted_now : Option (List ℕ))
-    → status ≡ status_of e → Ends e command c octets taken taken_now noted noted_now → status ≡ 6 → (e ≡ LeftOver) × (reads command ≡ true)
-left-reads LeftOver status command c octets taken taken_now noted noted_now told ends six = (refl, partial-reads command c octets ends.2)
-left-reads Done status command c octets taken taken_now noted noted_now told ends six = absurd (omega (arith, told, six))
-left-reads Bad status command c octets taken taken_now noted noted_now told ends six = absurd (omega (arith, told, six))
-left-reads BadWindow status command c octets taken taken_now noted noted_now told ends six = absurd (omega (arith, told, six))
-left-reads SourceFault status command c octets taken taken_now noted noted_now told ends six = absurd (omega (arith, told, six))
-left-reads SinkFault status command c octets taken taken_now noted noted_now told ends six = absurd (omega (arith, told, six))
-left-reads PastLimit status command c octets taken taken_now noted noted_now told ends six = absurd (omega (arith, told, six))
+pub source-reads : (e : Ending) (command : Command) (c : Configuration) (octets : List ℕ) (taken : Taken)
+    → Ends e (meaning_of command c) c.limit octets taken → e ≡ SourceFault → reads command ≡ true
+source-reads e command c octets taken ends is =
+    let early = (subst (λ (x : Ending). Ends x (meaning_of command c) c.limit octets taken) is ends).0.0 in
+    due-reads command c octets early.0 early.1
 
--- which ending a status tells, where a window that fails is none
-pub ended-told : (e : Ending) (status : ℕ) (checks : Type 0) → status ≡ status_of e → (e ≡ BadWindow → checks) → (status ≡ 0) ⊎ ((status ≡ 1) × (checks → ⊥)) ⊎ (status ≡ 6)
-    → (e ≡ Done) ⊎ (e ≡ Bad) ⊎ (e ≡ LeftOver)
-ended-told Done status checks told window which = inl refl
-ended-told Bad status checks told window which = inr (inl refl)
-ended-told LeftOver status checks told window which = inr (inr refl)
-ended-told BadWindow status checks told window which = elim which [
-  | inl none ↦ absurd (omega (arith, told, none))
-  | inr some ↦ elim some [ inl one ↦ absurd (one.1 (window refl)) | inr six ↦ absurd (omega (arith, told, six)) ]
-]
-ended-told SourceFault status checks told window which = elim which [
-  | inl none ↦ absurd (omega (arith, told, none))
-  | inr some ↦ elim some [ inl one ↦ absurd (omega (arith, told, one.0)) | inr six ↦ absurd (omega (arith, told, six)) ]
-]
-ended-told SinkFault status checks told window which = elim which [
-  | inl none ↦ absurd (omega (arith, told, none))
-  | inr some ↦ elim some [ inl one ↦ absurd (omega (arith, told, one.0)) | inr six ↦ absurd (omega (arith, told, six)) ]
-]
-ended-told PastLimit status checks told window which = elim which [
-  | inl none ↦ absurd (omega (arith, told, none))
-  | inr some ↦ elim some [ inl one ↦ absurd (omega (arith, told, one.0)) | inr six ↦ absurd (omega (arith, told, six)) ]
-]
+-- ---- what a status is
 
--- a window that fails is one of `check`
-pub window-checks : (e : Ending) (command : Command) (c : Configuration) (octets : List ℕ) (taken taken_now noted noted_now : Option (List ℕ))
-    → Ends e command c octets taken taken_now noted noted_now → e ≡ BadWindow → command ≡ Check
-window-checks e command c octets taken taken_now noted noted_now ends is =
-    (subst (λ (e : Ending). Ends e command c octets taken taken_now noted noted_now) is ends).0
+pub status-small : (e : Ending) → status_of e ≤ 7
+status-small Done = omega arith
+status-small Bad = omega arith
+status-small BadWindow = omega arith
+status-small LeftOver = omega arith
+status-small SourceFault = omega arith
+status-small SinkFault = omega arith
+status-small PastLimit = omega arith
 
--- where nothing but a window is bad, status 1 tells that one fails
-pub window-told : (e : Ending) (status : ℕ) → status ≡ status_of e → (e ≡ Bad → ⊥) → status ≡ 1 → e ≡ BadWindow
-window-told BadWindow status told good one = refl
-window-told Bad status told good one = absurd (good refl)
-window-told Done status told good one = absurd (omega (arith, told, one))
-window-told LeftOver status told good one = absurd (omega (arith, told, one))
-window-told SourceFault status told good one = absurd (omega (arith, told, one))
-window-told SinkFault status told good one = absurd (omega (arith, told, one))
-window-told PastLimit status told good one = absurd (omega (arith, told, one))
-
-pub sink-told : (e : Ending) (status : ℕ) → status ≡ status_of e → status ≡ 4 → e ≡ SinkFault
-sink-told SinkFault status told four = refl
-sink-told Done status told four = absurd (omega (arith, told, four))
-sink-told Bad status told four = absurd (omega (arith, told, four))
-sink-told BadWindow status told four = absurd (omega (arith, told, four))
-sink-told LeftOver status told four = absurd (omega (arith, told, four))
-sink-told SourceFault status told four = absurd (omega (arith, told, four))
-sink-told PastLimit status told four = absurd (omega (arith, told, four))
+-- want of memory and refused words are no endings
+pub not-told : (e : Ending) → (status_of e ≡ 2) ⊎ (status_of e ≡ 5) → ⊥
+not-told Done is = omega (arith, is)
+not-told Bad is = omega (arith, is)
+not-told BadWindow is = omega (arith, is)
+not-told LeftOver is = omega (arith, is)
+not-told SourceFault is = omega (arith, is)
+not-told SinkFault is = omega (arith, is)
+not-told PastLimit is = omega (arith, is)
 
 -- without a fault
-pub without-fault : (e : Ending) (status : ℕ) → status ≡ status_of e → (e ≡ SourceFault → ⊥) → (e ≡ SinkFault → ⊥)
-    → (status ≡ 0) ⊎ (status ≡ 1) ⊎ (status ≡ 5) ⊎ (status ≡ 6) ⊎ (status ≡ 7)
-without-fault Done status told source sink = inl told
-without-fault Bad status told source sink = inr (inl told)
-without-fault BadWindow status told source sink = inr (inl told)
-without-fault LeftOver status told source sink = inr (inr (inr (inl told)))
-without-fault PastLimit status told source sink = inr (inr (inr (inr told)))
-without-fault SourceFault status told source sink = absurd (source refl)
-without-fault SinkFault status told source sink = absurd (sink refl)
+pub without-fault : (e : Ending) → (e ≡ SourceFault → ⊥) → (e ≡ SinkFault → ⊥)
+    → (status_of e ≡ 0) ⊎ (status_of e ≡ 1) ⊎ (status_of e ≡ 6) ⊎ (status_of e ≡ 7)
+without-fault Done source sink = inl refl
+without-fault Bad source sink = inr (inl refl)
+without-fault BadWindow source sink = inr (inl refl)
+without-fault LeftOver source sink = inr (inr (inl refl))
+without-fault PastLimit source sink = inr (inr (inr refl))
+without-fault SourceFault source sink = absurd (source refl)
+without-fault SinkFault source sink = absurd (sink refl)
+
+-- a fault of a sink is one of two, of which one rose
+pub sink-rose : (e : Ending) (out out_now : SinkState) (out_last : Type 0) (notes notes_now : SinkState) (notes_last : Type 0)
+    → SinksCourse (is_sink_fault e) out out_now out_last notes notes_now notes_last → e ≡ SinkFault
+    → SinkCourse true out out_now out_last ⊎ SinkCourse true notes notes_now notes_last
+sink-rose e out out_now out_last notes notes_now notes_last course is =
+    elim (subst (λ (x : Ending). SinksCourse (is_sink_fault x) out out_now out_last notes notes_now notes_last) is course)
+    as (λ _. SinkCourse true out out_now out_last ⊎ SinkCourse true notes notes_now notes_last) [ inl p ↦ inl p.0 | inr p ↦ inr p.0 ]
 
 -- where no fault rose, an input of whole frames within the limit gives status 0 or 1
-pub whole-input : (e : Ending) (status : ℕ) (command : Command) (c : Configuration) (octets input rest : List ℕ) (taken taken_now noted noted_now : Option (List ℕ))
-    → status ≡ status_of e → Ends e command c octets taken taken_now noted noted_now → input ≡ octets ++ rest → (status ≡ 6 → rest ≡ [])
-    → length input ≤ c.limit → (IsPartial command c input → ⊥) → (status ≡ 0) ⊎ (status ≡ 1) ⊎ (status ≡ 5) ⊎ (status ≡ 6) ⊎ (status ≡ 7)
-    → (status ≡ 0) ⊎ (status ≡ 1) ⊎ (status ≡ 5)
-whole-input Done status command c octets input rest taken taken_now noted noted_now told ends is at_end within whole cases = inl told
-whole-input Bad status command c octets input rest taken taken_now noted noted_now told ends is at_end within whole cases = inr (inl told)
-whole-input BadWindow status command c octets input rest taken taken_now noted noted_now told ends is at_end within whole cases = inr (inl told)
-whole-input LeftOver status command c octets input rest taken taken_now noted noted_now told ends is at_end within whole cases =
-    absurd (whole (subst (IsPartial command c) (sym (is ∙ ap (λ (l : List ℕ). octets ++ l) (at_end told) ∙ append-nil octets)) ends.2))
-whole-input SourceFault status command c octets input rest taken taken_now noted noted_now told ends is at_end within whole cases = absurd (omega (arith, told, cases))
-whole-input SinkFault status command c octets input rest taken taken_now noted noted_now told ends is at_end within whole cases = absurd (omega (arith, told, cases))
-whole-input PastLimit status command c octets input rest taken taken_now noted noted_now told ends is at_end within whole cases =
+whole-input : (e : Ending) (meaning : Meaning) (limit : ℕ) (octets input rest : List ℕ) (taken : Taken)
+    → Ends e meaning limit octets taken → input ≡ octets ++ rest → (e ≡ LeftOver → rest ≡ []) → length input ≤ limit → (meaning.is_partial input → ⊥)
+    → (e ≡ SourceFault → ⊥) → (e ≡ SinkFault → ⊥) → (status_of e ≡ 0) ⊎ (status_of e ≡ 1)
+whole-input Done meaning limit octets input rest taken ends is at_end within whole source sink = inl refl
+whole-input Bad meaning limit octets input rest taken ends is at_end within whole source sink = inr refl
+whole-input BadWindow meaning limit octets input rest taken ends is at_end within whole source sink = inr refl
+whole-input LeftOver meaning limit octets input rest taken ends is at_end within whole source sink =
+    absurd (whole (subst meaning.is_partial (sym (is ∙ ap (λ (l : List ℕ). octets ++ l) (at_end refl) ∙ append-nil octets)) ends.2))
+whole-input SourceFault meaning limit octets input rest taken ends is at_end within whole source sink = absurd (source refl)
+whole-input SinkFault meaning limit octets input rest taken ends is at_end within whole source sink = absurd (sink refl)
+whole-input PastLimit meaning limit octets input rest taken ends is at_end within whole source sink =
     let long : length input ≡ length (octets ++ rest) = ap length is in absurd (omega (arith, long, within, ends.1, length-append octets rest))
 
 -- where the source tells its octets
-pub whole-input_told : (e : Ending) (status : ℕ) (command : Command) (c : Configuration) (octets input : List ℕ) (left taken taken_now noted noted_now : Option (List ℕ))
-    → status ≡ status_of e → Ends e command c octets taken taken_now noted noted_now → Some input ≡ prepend_known octets left → (status ≡ 6 → IsAtEnd left)
-    → length input ≤ c.limit → (IsPartial command c input → ⊥) → (status ≡ 0) ⊎ (status ≡ 1) ⊎ (status ≡ 5) ⊎ (status ≡ 6) ⊎ (status ≡ 7)
-    → (status ≡ 0) ⊎ (status ≡ 1) ⊎ (status ≡ 5)
-whole-input_told e status command c octets input None taken taken_now noted noted_now told ends is at_end within whole cases = cc is
-whole-input_told e status command c octets input (Some rest) taken taken_now noted noted_now told ends is at_end within whole cases =
+pub whole-input_told : (e : Ending) (meaning : Meaning) (limit : ℕ) (octets input : List ℕ) (left : Option (List ℕ)) (taken : Taken)
+    → Ends e meaning limit octets taken → Some input ≡ prepend_known octets left → (e ≡ LeftOver → IsAtEnd left) → length input ≤ limit → (meaning.is_partial input → ⊥)
+    → (e ≡ SourceFault → ⊥) → (e ≡ SinkFault → ⊥) → (status_of e ≡ 0) ⊎ (status_of e ≡ 1)
+whole-input_told e meaning limit octets input None taken ends is at_end within whole source sink = cc is
+whole-input_told e meaning limit octets input (Some rest) taken ends is at_end within whole source sink =
     let same : input ≡ octets ++ rest = cc is in
-    whole-input e status command c octets input rest taken taken_now noted noted_now told ends same at_end within whole cases
+    whole-input e meaning limit octets input rest taken ends same at_end within whole source sink
 
--- the command that was asked for ended
-pub as-command : {E : Type 0} (result : Result Ending E) (given given_now left left_now : Option (List ℕ)) (asked command : Command) (c : Configuration) (taken taken_now noted noted_now : Option (List ℕ)) → asked ≡ command
-    → IfOk result (λ ending. (octets : List ℕ) × Gave given given_now left left_now octets × (length octets ≤ c.limit + 1) × Ends ending command c octets taken taken_now noted noted_now)
-    → IfOk result (λ ending. (octets : List ℕ) × Gave given given_now left left_now octets × (length octets ≤ c.limit + 1) × Ends ending asked c octets taken taken_now noted noted_now)
-as-command result given given_now left left_now asked command c taken taken_now noted noted_now is h =
-    subst (λ (k : Command). IfOk result (λ ending. (octets : List ℕ) × Gave given given_now left left_now octets × (length octets ≤ c.limit + 1) × Ends ending k c octets taken taken_now noted noted_now)) (sym is) h
+-- ---- the command that was asked for
+
+-- what a command answers by octets that it was given
+abbrev pub Ended : {E : Type 0} → Result Ending E → (given given_now left left_now : Option (List ℕ)) → Command → Configuration → Taken → Type 0
+Ended result given given_now left left_now command c taken = IfOk result (λ ending. (octets : List ℕ) × Gave given given_now left left_now octets
+    × (length octets ≤ c.limit + 1) × Ends ending (meaning_of command c) c.limit octets taken)
+
+pub as-command : {E : Type 0} (result : Result Ending E) (given given_now left left_now : Option (List ℕ)) (asked command : Command) (c : Configuration) (taken : Taken) → asked ≡ command
+    → Ended result given given_now left left_now command c taken → Ended result given given_now left left_now asked c taken
+as-command result given given_now left left_now asked command c taken is h =
+    subst (λ (k : Command). Ended result given given_now left left_now k c taken) (sym is) h
 
 -- the same of one that left the notes as they were
 pub without-notes : {E : Type 0} (result : Result Ending E) (given given_now left left_now : Option (List ℕ)) (asked command : Command) (c : Configuration) (taken taken_now noted : Option (List ℕ)) → asked ≡ command
     → IfOk result (λ ending. (octets : List ℕ) × Gave given given_now left left_now octets × (length octets ≤ c.limit + 1)
-    × ((notes : Option (List ℕ)) → Ends ending command c octets taken taken_now notes notes))
-    → IfOk result (λ ending. (octets : List ℕ) × Gave given given_now left left_now octets × (length octets ≤ c.limit + 1) × Ends ending asked c octets taken taken_now noted noted)
+    × ((notes : Option (List ℕ)) → Ends ending (meaning_of command c) c.limit octets (taken_by taken taken_now notes notes)))
+    → Ended result given given_now left left_now asked c (taken_by taken taken_now noted noted)
 without-notes (Ok ending) given given_now left left_now asked command c taken taken_now noted is h =
-    (h.0, h.1, h.2, subst (λ (k : Command). Ends ending k c h.0 taken taken_now noted noted) (sym is) (h.3 noted))
+    (h.0, h.1, h.2, subst (λ (k : Command). Ends ending (meaning_of k c) c.limit h.0 (taken_by taken taken_now noted noted)) (sym is) (h.3 noted))
 without-notes (Err e) given given_now left left_now asked command c taken taken_now noted is h = tt
 
--- no window fails but of `check`
-pub never-window : {E : Type 0} (result : Result Ending E) (given given_now left left_now : Option (List ℕ)) (command : Command) (c : Configuration) (taken taken_now noted noted_now : Option (List ℕ)) (P : Type 0)
-    → (command ≡ Check → ⊥)
-    → IfOk result (λ ending. (octets : List ℕ) × Gave given given_now left left_now octets × (length octets ≤ c.limit + 1) × Ends ending command c octets taken taken_now noted noted_now)
-    → IfOk result (λ ending. (ending ≡ SourceFault) ⊎ (ending ≡ PastLimit) → P) → IfOk result (λ ending. (ending ≡ SourceFault) ⊎ (ending ≡ PastLimit) ⊎ (ending ≡ BadWindow) → P)
-never-window (Ok ending) given given_now left left_now command c taken taken_now noted noted_now P other h unended = λ which. elim which [
-  | inl source ↦ unended (inl source)
-  | inr rest ↦ elim rest [
-    | inl past ↦ unended (inr past)
-    | inr window ↦ absurd (other (window-checks ending command c h.0 taken taken_now noted noted_now h.3 window))
-  ]
-]
-never-window (Err e) given given_now left left_now command c taken taken_now noted noted_now P other h unended = tt
+-- and of one that left the source as it was too
+gave-nothing : (given left : Option (List ℕ)) → Gave given given left left []
+gave-nothing given left = record { given = sym (append_known-nil given); consumed = sym (prepend_known-nil left) }
 
--- a command whose input is always whole has read it to its end where it has ended
-pub never-partial : {E : Type 0} (result : Result Ending E) (P : Type 0) → IfOk result (λ ending. ending ≡ LeftOver → ⊥) → IfOk result (λ ending. (ending ≡ Done) ⊎ (ending ≡ Bad) → P)
-    → IfOk result (λ ending. (ending ≡ Done) ⊎ (ending ≡ Bad) ⊎ (ending ≡ LeftOver) → P)
-never-partial (Ok ending) P whole ended = λ which. elim which [
-  | inl done ↦ ended (inl done)
-  | inr rest ↦ elim rest [ inl bad ↦ ended (inr bad) | inr left ↦ absurd (whole left) ]
-]
-never-partial (Err e) P whole ended = tt
+pub without-input : {E : Type 0} (result : Result Ending E) (given left : Option (List ℕ)) (asked command : Command) (c : Configuration) (taken taken_now noted : Option (List ℕ)) → asked ≡ command
+    → IfOk result (λ ending. (notes : Option (List ℕ)) → Ends ending (meaning_of command c) c.limit [] (taken_by taken taken_now notes notes))
+    → Ended result given given left left asked c (taken_by taken taken_now noted noted)
+without-input (Ok ending) given left asked command c taken taken_now noted is h =
+    ([], gave-nothing given left, omega arith, subst (λ (k : Command). Ends ending (meaning_of k c) c.limit [] (taken_by taken taken_now noted noted)) (sym is) (h noted))
+without-input (Err e) given left asked command c taken taken_now noted is h = tt
+
+-- the course of one sink, and of notes that stayed as they were
+pub one-sink : {E : Type 0} (result : Result Ending E) (out out_now : SinkState) (out_last : Type 0) (notes : SinkState) (notes_last : Type 0)
+    → IfOk result (λ ending. SinkCourse (is_sink_fault ending) out out_now out_last) → IfOk result (λ ending. SinksCourse (is_sink_fault ending) out out_now out_last notes notes notes_last)
+one-sink (Ok ending) out out_now out_last notes notes_last h = go ending h
+  where
+    go : (e : Ending) → SinkCourse (is_sink_fault e) out out_now out_last → SinksCourse (is_sink_fault e) out out_now out_last notes notes notes_last
+    go SinkFault h = inl (h, refl)
+    go Done h = (h, refl)
+    go Bad h = (h, refl)
+    go BadWindow h = (h, refl)
+    go LeftOver h = (h, refl)
+    go SourceFault h = (h, refl)
+    go PastLimit h = (h, refl)
+one-sink (Err e) out out_now out_last notes notes_last h = tt

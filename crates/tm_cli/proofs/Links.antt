@@ -29,13 +29,13 @@ use Rattle.tm_channel.specs.Handing.{AreReceived}
 use Rattle.tm_channel.specs.Receive.{Receive}
 use Rattle.tm_channel.specs.SentStream.{SentUnit, IsSent, AreRepaired, AreWithin, AreAsSent, AreNear, sent_columns, unit_codeblock, unit_frames, unit_places, clean_answers, clean_items}
 use Rattle.tm_channel.proofs.SentPhase.{sent-skip}
-use Rattle.tm_cli.specs.Command.Command.{Decode}
+use Rattle.tm_driver.specs.Meaning.{Ends, WroteOutput, taken_by}
+use Rattle.tm_driver.specs.Statuses.{status_of}
+use Rattle.tm_driver.specs.declared.ending.Ending.{Ending}
+use Rattle.tm_driver.specs.declared.ending.Ending.TheVariants.{Done, Bad, BadWindow, LeftOver, SourceFault, SinkFault, PastLimit}
+use Rattle.tm_cli.specs.Decode.{HasBad, decode_meaning}
 use Rattle.tm_cli.specs.Report.{bad, report_text}
-use Rattle.tm_cli.specs.Output.{HasBad, WroteOutput}
-use Rattle.tm_cli.specs.Ending.{Ends, status_of}
 use Rattle.tm_cli.specs.Link.{KeepsCleanLink, KeepsDisturbedLink, KeepsTurnedInput, KeepsTurnedSymbols}
-use Rattle.tm_cli.specs.declared.ending.Ending.{Ending}
-use Rattle.tm_cli.specs.declared.ending.Ending.TheVariants.{Done, Bad, BadWindow, LeftOver, SourceFault, SinkFault, PastLimit}
 
 -- octets come to one list of bits, which there is, and to one list of items
 abbrev HasBits : Type 0
@@ -196,28 +196,28 @@ record Came (status : ℕ) (c : Configuration) (octets : List ℕ) (chosen : Opt
 
 -- the status is 0 where nothing is beyond repair
 good-status : (e : Ending) (status : ℕ) (c : Configuration) (octets : List ℕ) (taken taken_now noted noted_now : Option (List ℕ))
-    → status ≡ status_of e → Ends e Decode c octets taken taken_now noted noted_now → (status ≡ 0) ⊎ (status ≡ 1) → (HasBad c octets → ⊥) → status ≡ 0
+    → status ≡ status_of e → Ends e (decode_meaning c) c.limit octets (taken_by taken taken_now noted noted_now) → (status ≡ 0) ⊎ (status ≡ 1) → (HasBad c octets → ⊥) → status ≡ 0
 good-status Done status c octets taken taken_now noted noted_now told ends read good = told
 good-status Bad status c octets taken taken_now noted noted_now told ends read good = absurd (good ends.2)
 good-status LeftOver status c octets taken taken_now noted noted_now told ends read good = absurd ends.2
-good-status BadWindow status c octets taken taken_now noted noted_now told ends read good = absurd (cc ends.0)
+good-status BadWindow status c octets taken taken_now noted noted_now told ends read good = absurd ends.0
 good-status SourceFault status c octets taken taken_now noted noted_now told ends read good = absurd (omega (arith, told, read))
 good-status SinkFault status c octets taken taken_now noted noted_now told ends read good = absurd (omega (arith, told, read))
 good-status PastLimit status c octets taken taken_now noted noted_now told ends read good = absurd (omega (arith, told, read))
 
 -- and the whole output is written
 whole-output : (e : Ending) (status : ℕ) (c : Configuration) (octets : List ℕ) (taken taken_now noted noted_now : Option (List ℕ))
-    → status ≡ status_of e → Ends e Decode c octets taken taken_now noted noted_now → (status ≡ 0) ⊎ (status ≡ 1) → WroteOutput Decode c octets taken taken_now noted noted_now
+    → status ≡ status_of e → Ends e (decode_meaning c) c.limit octets (taken_by taken taken_now noted noted_now) → (status ≡ 0) ⊎ (status ≡ 1) → WroteOutput (decode_meaning c) octets (taken_by taken taken_now noted noted_now)
 whole-output Done status c octets taken taken_now noted noted_now told ends read = ends.0
 whole-output Bad status c octets taken taken_now noted noted_now told ends read = ends.0
 whole-output LeftOver status c octets taken taken_now noted noted_now told ends read = ends.0
-whole-output BadWindow status c octets taken taken_now noted noted_now told ends read = absurd (cc ends.0)
+whole-output BadWindow status c octets taken taken_now noted noted_now told ends read = absurd ends.0
 whole-output SourceFault status c octets taken taken_now noted noted_now told ends read = absurd (omega (arith, told, read))
 whole-output SinkFault status c octets taken taken_now noted noted_now told ends read = absurd (omega (arith, told, read))
 whole-output PastLimit status c octets taken taken_now noted noted_now told ends read = absurd (omega (arith, told, read))
 
 came : OnePhase → OneHanded → (e : Ending) (status : ℕ) (c : Configuration) (octets : List ℕ) (chosen : Option Chosen) (taken taken_now noted noted_now : Option (List ℕ))
-    → IsAccepted c → status ≡ status_of e → Ends e Decode c octets taken taken_now noted noted_now → (status ≡ 0) ⊎ (status ≡ 1) → IsChosen c octets chosen
+    → IsAccepted c → status ≡ status_of e → Ends e (decode_meaning c) c.limit octets (taken_by taken taken_now noted noted_now) → (status ≡ 0) ⊎ (status ≡ 1) → IsChosen c octets chosen
     → Came status c octets chosen taken taken_now noted noted_now
 came one_phase one e status c octets chosen taken taken_now noted noted_now ok told ends read choice =
     let wrote = whole-output e status c octets taken taken_now noted noted_now told ends read in
@@ -241,7 +241,7 @@ came one_phase one e status c octets chosen taken taken_now noted noted_now ok t
 
 -- what came of octets of which the phase is known
 came-free : OnePhase → OneHanded → (e : Ending) (status : ℕ) (c : Configuration) (octets : List ℕ) (taken taken_now noted noted_now : Option (List ℕ))
-    → IsAccepted c → status ≡ status_of e → Ends e Decode c octets taken taken_now noted noted_now → (status ≡ 0) ⊎ (status ≡ 1)
+    → IsAccepted c → status ≡ status_of e → Ends e (decode_meaning c) c.limit octets (taken_by taken taken_now noted noted_now) → (status ≡ 0) ⊎ (status ≡ 1)
     → ((chosen : Option Chosen) → IsChosen c octets chosen → chosen ≡ sent_phase c) → Came status c octets (sent_phase c) taken taken_now noted noted_now
 came-free one_phase one e status c octets taken taken_now noted noted_now ok told ends read known =
     let r = (whole-output e status c octets taken taken_now noted noted_now told ends read).1.are_received in
@@ -251,7 +251,7 @@ came-free one_phase one e status c octets taken taken_now noted noted_now ok tol
 -- ---- links
 
 pub keeps-clean : SentPhase → OnePhase → OneHanded → CleanBits → CleanItems → CleanFrames → (e : Ending) (status : ℕ) (c : Configuration) (octets : List ℕ) (taken taken_now noted noted_now : Option (List ℕ))
-    → IsAccepted c → status ≡ status_of e → Ends e Decode c octets taken taken_now noted noted_now → (status ≡ 0) ⊎ (status ≡ 1)
+    → IsAccepted c → status ≡ status_of e → Ends e (decode_meaning c) c.limit octets (taken_by taken taken_now noted noted_now) → (status ≡ 0) ⊎ (status ≡ 1)
     → KeepsCleanLink status c octets taken taken_now noted noted_now
 keeps-clean sent_phases one_phase one clean_bits clean frames e status c octets taken taken_now noted noted_now ok told ends read = λ input skip start small is.
     let r = came-free one_phase one e status c octets taken taken_now noted noted_now ok told ends read
@@ -268,7 +268,7 @@ keeps-clean sent_phases one_phase one clean_bits clean frames e status c octets 
     )
 
 pub keeps-disturbed : OnePhase → OneHanded → OneBits → SentItems → SentFrames → (e : Ending) (status : ℕ) (c : Configuration) (octets : List ℕ) (taken taken_now noted noted_now : Option (List ℕ))
-    → IsAccepted c → status ≡ status_of e → Ends e Decode c octets taken taken_now noted noted_now → (status ≡ 0) ⊎ (status ≡ 1)
+    → IsAccepted c → status ≡ status_of e → Ends e (decode_meaning c) c.limit octets (taken_by taken taken_now noted noted_now) → (status ≡ 0) ⊎ (status ≡ 1)
     → KeepsDisturbedLink status c octets taken taken_now noted noted_now
 keeps-disturbed one_phase one one_bits sent_items sent_frames e status c octets taken taken_now noted noted_now ok told ends read = λ bits units last chosen choice inner is.
     let r = came one_phase one e status c octets chosen taken taken_now noted noted_now ok told ends read choice in
@@ -284,7 +284,7 @@ keeps-disturbed one_phase one one_bits sent_items sent_frames e status c octets 
     )
 
 pub keeps-turned_input : OnePhase → OneHanded → OneItems → TurnedItems → (e : Ending) (status : ℕ) (c : Configuration) (octets : List ℕ) (taken taken_now noted noted_now : Option (List ℕ))
-    → IsAccepted c → status ≡ status_of e → Ends e Decode c octets taken taken_now noted noted_now → (status ≡ 0) ⊎ (status ≡ 1)
+    → IsAccepted c → status ≡ status_of e → Ends e (decode_meaning c) c.limit octets (taken_by taken taken_now noted noted_now) → (status ≡ 0) ⊎ (status ≡ 1)
     → KeepsTurnedInput c octets taken taken_now noted noted_now
 keeps-turned_input one_phase one one_items turned e status c octets taken taken_now noted noted_now ok told ends read = λ other bits items chosen plain find small is choice inner are.
     let r = came one_phase one e status c octets chosen taken taken_now noted noted_now ok told ends read (choice-plain c other octets chosen plain choice) in
@@ -298,7 +298,7 @@ keeps-turned_input one_phase one one_items turned e status c octets taken taken_
     )
 
 pub keeps-turned_symbols : TurnedPhase → OnePhase → OneHanded → HasBits → CleanBits → CleanFrames → TurnedSymbols → (e : Ending) (status : ℕ) (c : Configuration) (octets : List ℕ) (taken taken_now noted noted_now : Option (List ℕ))
-    → IsAccepted c → status ≡ status_of e → Ends e Decode c octets taken taken_now noted noted_now → (status ≡ 0) ⊎ (status ≡ 1)
+    → IsAccepted c → status ≡ status_of e → Ends e (decode_meaning c) c.limit octets (taken_by taken taken_now noted noted_now) → (status ≡ 0) ⊎ (status ≡ 1)
     → KeepsTurnedSymbols status c octets taken taken_now noted noted_now
 keeps-turned_symbols turned_phases one_phase one has_bits clean_bits frames turned e status c octets taken taken_now noted noted_now ok told ends read = λ input half find any skip small is.
     let r = came-free one_phase one e status c octets taken taken_now noted noted_now ok told ends read

@@ -1,6 +1,7 @@
 -- What was received of the octets that were read.
-use Rattle.std.proofs.Common.{◌≡◌, inl, inr, ℕ, ◌+◌, ◌*◌, ◌<◌, ◌≤◌, ◌^◌, Bool, List, [], ◌∷◌, ◌++◌, length, take, refl, ap, ◌∙◌, subst, arith, Option, Some, None, length-append, length-take, Err, IsErrOf}
+use Rattle.std.proofs.Common.{◌≡◌, ◌⊎◌, inl, inr, ℕ, ◌+◌, ◌*◌, ◌<◌, ◌≤◌, ◌^◌, Bool, true, false, cond, List, [], ◌∷◌, ◌++◌, length, take, refl, sym, ap, ◌∙◌, subst, arith, Option, Some, None, length-append, length-take, Err, IsErrOf}
 use Rattle.std.proofs.lemmas.Bool.{cases_lt}
+use Rattle.std.proofs.lemmas.List.{take_all}
 use Rattle.tm_base.specs.Takers.{HandedOver, HandedPart}
 use Rattle.tm_base.specs.Handed.{Handed, items_of}
 use Rattle.tm_base.proofs.Handing.{HandedOver-append, HandedPart-after}
@@ -28,12 +29,14 @@ use Rattle.tm_channel.specs.Handing.{ReceiveAll, AreReceived, AreReceivedDue, Ar
 use Rattle.tm_channel.specs.OctetReceiving.{OctetReceiving, StandsFor}
 use Rattle.tm_channel.specs.declared.receiver.RecvError.{RecvError}
 use Rattle.tm_channel.specs.declared.receiver.RecvError.TheVariants.{Taker, Stopped}
-use Rattle.tm_cli.specs.Reading.{FedUpTo}
-use Rattle.tm_cli.specs.Receiving.{HandedDue, HandedFirst, ReceivedUpTo}
-use Rattle.tm_cli.specs.declared.receiving.Received.{Received}
-use Rattle.tm_cli.specs.declared.receiving.Received.TheVariants.{Ended, SourceFault, TakerFault, PastLimit}
-use Rattle.tm_cli.specs.declared.turns.Pumped.{Pumped}
-use Rattle.tm_cli.proofs.Tracing.{fed-so}
+use Rattle.tm_driver.specs.Driven.{DrivenTo}
+use Rattle.tm_driver.specs.declared.ending.Ending.{Ending}
+use Rattle.tm_driver.specs.declared.ending.Ending.TheVariants.{Done, Bad, BadWindow, LeftOver, SourceFault, SinkFault, PastLimit}
+use Rattle.tm_driver.specs.declared.ending.Outcome.{Outcome}
+use Rattle.tm_driver.specs.declared.ending.Outcome.TheVariants.{Done as Whole, Bad as Beyond, LeftOver as Left}
+use Rattle.tm_driver.specs.declared.ending.Stop.{Stop}
+use Rattle.tm_driver.specs.declared.ending.Stop.TheVariants.{SinkFault as FeedFault}
+use Rattle.tm_cli.specs.Receiving.{HandedDue, HandedFirst, Receives, ReceivesPart, HandedLast, HandedLastPart, ReceivedAll, ReceivedTo}
 
 -- of two causes the other
 pub taker_failed : {T : Type 0} (e : RecvError) → (IsErrOf {T = T} (Err e) Stopped → ⊥) → IsErrOf {T = T} (Err e) Taker
@@ -88,14 +91,14 @@ few-in_turn AreItems c octets handed most few turn =
     let items : items_of handed ≡ turn.items = ap items_of turn.are ∙ items_of-in_turn turn.chosen turn.items in
     omega (arith, ap length items, few (skip_of turn.chosen) turn.items turn.are_items)
 
-few-received_due : (c : Configuration) (octets : List ℕ) (handed : List (Handed ItemValue)) → AreReceivedDue c octets handed → length (items_of handed) ≤ 8 * length octets
+pub few-received_due : (c : Configuration) (octets : List ℕ) (handed : List (Handed ItemValue)) → AreReceivedDue c octets handed → length (items_of handed) ≤ 8 * length octets
 few-received_due c octets handed (inl none) = omega (arith, ap (λ l. length (items_of l)) none.1)
 few-received_due c octets handed (inr turn) = few-in_turn (λ phase. ReceiveDue c phase octets) c octets handed (8 * length octets) (few-due c octets) turn.1
 
-few-received_first : (c : Configuration) (octets : List ℕ) (handed : List (Handed ItemValue)) → AreReceivedFirst c octets handed → length (items_of handed) ≤ 8 * length octets
+pub few-received_first : (c : Configuration) (octets : List ℕ) (handed : List (Handed ItemValue)) → AreReceivedFirst c octets handed → length (items_of handed) ≤ 8 * length octets
 few-received_first c octets handed turn = few-in_turn (λ phase. ReceiveFirst c phase octets) c octets handed (8 * length octets) (few-first c octets) turn.1
 
-few-received_front : (c : Configuration) (octets : List ℕ) (handed : List (Handed ItemValue)) → AreReceivedFront c octets handed → length (items_of handed) ≤ 8 * length octets
+pub few-received_front : (c : Configuration) (octets : List ℕ) (handed : List (Handed ItemValue)) → AreReceivedFront c octets handed → length (items_of handed) ≤ 8 * length octets
 few-received_front c octets handed = few-in_turn (λ phase. ReceiveFront c phase octets) c octets handed (8 * length octets) (few-front c octets)
 
 pub few-received : (c : Configuration) (count : ℕ) (octets : List ℕ) (handed : List (Handed ItemValue)) → AreReceived c octets handed count → length (items_of handed) ≤ 8 * length octets
@@ -169,25 +172,6 @@ pub due-none : {T : Type 0} (took : T → Handed ItemValue → T → Type 0) (c 
     → HandedDue c receiver (λ handed. HandedOver took taker handed taker) []
 due-none took c receiver taker accepted same stands = record { handed = []; config = same; stands = λ _. (stands, none-due c accepted); holds = refl }
 
--- from such a receiver
-pub handed-up_to : {T : Type 0} (took broke : T → Handed ItemValue → T → Type 0) (c : Configuration) (limit : ℕ) (before now receiver : OctetReceiving) (start last taker : T) (end : Pumped) (octets : List ℕ)
-    → IsAccepted c → before.config ≡ c → limit ≡ c.limit → StandsFor before [] [] → now ≡ receiver → last ≡ taker
-    → FedUpTo (λ octets. (c : Configuration) (from : T) (given : List ℕ) → HandedDue c before (λ handed. HandedOver took from handed start) given
-    → HandedDue c now (λ handed. HandedOver took from handed last) (given ++ octets))
-    (λ octets. (c : Configuration) (from : T) (given : List ℕ) → HandedDue c before (λ handed. HandedOver took from handed start) given
-    → HandedFirst c (λ handed. HandedPart took broke from handed last) (given ++ octets)) limit end octets
-    → FedUpTo (HandedDue c receiver (λ handed. HandedOver took start handed taker)) (HandedFirst c (λ handed. HandedPart took broke start handed taker)) c.limit end octets
-handed-up_to {T} took broke c limit before now receiver start last taker end octets accepted same up_to stands is_receiver is_taker p =
-    let fed : List ℕ → Type 0 = λ octets. (c : Configuration) (from : T) (given : List ℕ) → HandedDue c before (λ handed. HandedOver took from handed start) given
-    → HandedDue c now (λ handed. HandedOver took from handed last) (given ++ octets) in
-    let failed : List ℕ → Type 0 = λ octets. (c : Configuration) (from : T) (given : List ℕ) → HandedDue c before (λ handed. HandedOver took from handed start) given
-    → HandedFirst c (λ handed. HandedPart took broke from handed last) (given ++ octets) in
-    let new = due-none took c before start accepted same stands in
-    fed-so fed failed (HandedDue c receiver (λ handed. HandedOver took start handed taker)) (HandedFirst c (λ handed. HandedPart took broke start handed taker)) c.limit end octets
-    (λ os _ q. subst (λ r. HandedDue c r (λ handed. HandedOver took start handed taker) os) is_receiver (subst (λ t. HandedDue c now (λ handed. HandedOver took start handed t) os) is_taker (q c start [] new)))
-    (λ os _ q. subst (λ t. HandedFirst c (λ handed. HandedPart took broke start handed t) os) is_taker (q c start [] new))
-    (subst (λ (n : ℕ). FedUpTo fed failed n end octets) up_to p)
-
 -- ---- the end
 
 pub few : (c : Configuration) (octets : List ℕ) → IsAccepted c → length octets ≤ c.limit → length octets < 2 ^ 60
@@ -215,35 +199,95 @@ front-handed took broke c receiver start taker taker_now octets tried accepted w
       HandedPart-after took broke start taker taker_now p.handed tried p.holds handed,
     )
 
--- ---- what holds of what was handed over
+-- ---- from a new receiver
 
--- of what was received something follows
-pub received-each : {P : Type 0} (took broke : List (Handed ItemValue) → Type 0) (c : Configuration) (end : Received) (octets : List ℕ)
-    → ((handed : List (Handed ItemValue)) → took handed → P) → ((handed : List (Handed ItemValue)) → broke handed → P) → ReceivedUpTo took broke c end octets → P
-received-each took broke c (Ended count) octets each last p = each p.0 p.2
-received-each took broke c SourceFault octets each last p = each p.0 p.2
-received-each took broke c TakerFault octets each last p = last p.0 p.2
-received-each took broke c PastLimit octets each last p = each p.0 p.2
+-- what all of the octets come to
+all-received : {T : Type 0} (took : T → Handed ItemValue → T → Type 0) (c : Configuration) (receiver : OctetReceiving) (start taker : T) (end : T → ℕ → Type 0) (octets : List ℕ)
+    → IsAccepted c → length octets ≤ c.limit → HandedDue c receiver (λ handed. HandedOver took start handed taker) octets → HandedLast took receiver taker end
+    → ReceivedAll took c octets start end
+all-received took c receiver start taker end octets accepted within due last =
+    let all = all-handed took c receiver start taker last.middle octets last.last last.bits (few c octets accepted within) due last.handed last.received in
+    record { handed = all.0; bits = last.bits; middle = last.middle; are_received = all.1; over = all.2; is_end = last.is_end; within = within }
 
--- where items are so few that each is counted, of what was received something follows
-pub received-so : (took broke so failed : List (Handed ItemValue) → Type 0) (c : Configuration) (end : Received) (octets : List ℕ) → IsAccepted c
-    → ((handed : List (Handed ItemValue)) → length (items_of handed) < 2 ^ 53 → took handed → so handed)
-    → ((handed : List (Handed ItemValue)) → length (items_of handed) < 2 ^ 53 → broke handed → failed handed)
-    → ReceivedUpTo took broke c end octets → ReceivedUpTo so failed c end octets
-received-so took broke so failed c (Ended count) octets accepted each last p =
-    let most = accepted.limit in
-    let within = p.3 in
-    (p.0, p.1, each p.0 (omega (arith, few-received c count octets p.0 p.1)) p.2, p.3)
-received-so took broke so failed c SourceFault octets accepted each last p =
-    let most = accepted.limit in
-    let within = p.3 in
-    (p.0, p.1, each p.0 (omega (arith, few-received_due c octets p.0 p.1)) p.2, p.3)
-received-so took broke so failed c TakerFault octets accepted each last p =
-    let most = accepted.limit in
-    let os = take c.limit octets in
-    let small : length (items_of p.0) ≤ 8 * length os = elim p.1 [ inl are ↦ few-received_first c os p.0 are | inr are ↦ few-received_front c os p.0 are ] in
-    (p.0, p.1, last p.0 (omega (arith, small, length-take c.limit octets)) p.2)
-received-so took broke so failed c PastLimit octets accepted each last p =
-    let most = accepted.limit in
-    let os = take c.limit octets in
-    (p.0, p.1, each p.0 (omega (arith, few-received_due c os p.0 p.1, length-take c.limit octets)) p.2, p.3)
+-- an outcome tells whether something is beyond repair
+good-of : (is_good : Bool) → Whole ≡ cond is_good Whole Beyond → is_good ≡ true
+good-of true is = refl
+good-of false is = cc is
+
+bad-of : (is_good : Bool) → Beyond ≡ cond is_good Whole Beyond → is_good ≡ false
+bad-of true is = cc is
+bad-of false is = refl
+
+never-left : (is_good : Bool) → Left ≡ cond is_good Whole Beyond → ⊥
+never-left true is = cc is
+never-left false is = cc is
+
+-- what a receiver is fed, in the words of the driver
+abbrev Fed : {F T : Type 0} → (F → OctetReceiving) → (F → T) → (T → Handed ItemValue → T → Type 0) → F → F → List ℕ → Type 0
+Fed receiver taker took x y o = Receives took (receiver x) (receiver y) (taker x) (taker y) o
+
+abbrev FedPart : {F T : Type 0} → (F → OctetReceiving) → (F → T) → (took broke : T → Handed ItemValue → T → Type 0) → F → F → List ℕ → Stop → Type 0
+FedPart receiver taker took broke x y o stop = (stop ≡ FeedFault) × ReceivesPart took broke (receiver x) (taker x) (taker y) o
+
+abbrev Last : {F T : Type 0} → (F → OctetReceiving) → (F → T) → (T → Handed ItemValue → T → Type 0) → (T → ℕ → Bool → T → Type 0) → F → F → Outcome → Type 0
+Last receiver taker took told x y outcome =
+    (is_good : Bool) × (outcome ≡ cond is_good Whole Beyond) × HandedLast took (receiver x) (taker x) (λ middle bits. told middle bits is_good (taker y))
+
+abbrev LastPart : {F T : Type 0} → (F → OctetReceiving) → (F → T) → (took broke : T → Handed ItemValue → T → Type 0) → (T → ℕ → T → Type 0) → F → F → Type 0
+LastPart receiver taker took broke broke_end x y =
+    HandedLastPart took broke (receiver x) (taker x) (taker y) ⊎ HandedLast took (receiver x) (taker x) (λ middle bits. broke_end middle bits (taker y))
+
+received-to : {F T : Type 0} (receiver : F → OctetReceiving) (taker : F → T) (took broke : T → Handed ItemValue → T → Type 0) (told : T → ℕ → Bool → T → Type 0)
+    (broke_end : T → ℕ → T → Type 0) (c : Configuration) (a b : F) (ended unended : Type 0) (e : Ending) (octets : List ℕ)
+    → IsAccepted c → (receiver a).config ≡ c → StandsFor (receiver a) [] []
+    → DrivenTo (Fed receiver taker took) (FedPart receiver taker took broke) (Last receiver taker took told) (LastPart receiver taker took broke broke_end) c.limit a b ended unended e octets
+    → ReceivedTo took broke told broke_end c e octets (taker a) (taker b)
+received-to receiver taker took broke told broke_end c a b ended unended Done octets accepted same stands p =
+    let new = due-none took c (receiver a) (taker a) accepted same stands in
+    let m = p.middle in
+    let end = p.at_end in
+    all-received took c (receiver m) (taker a) (taker m) (λ middle bits. told middle bits true (taker b)) octets accepted p.within (p.were_fed c (taker a) [] new)
+    (subst (λ g. HandedLast took (receiver m) (taker m) (λ middle bits. told middle bits g (taker b))) (good-of end.0 end.1) end.2)
+received-to receiver taker took broke told broke_end c a b ended unended Bad octets accepted same stands p =
+    let new = due-none took c (receiver a) (taker a) accepted same stands in
+    let m = p.middle in
+    let end = p.at_end in
+    all-received took c (receiver m) (taker a) (taker m) (λ middle bits. told middle bits false (taker b)) octets accepted p.within (p.were_fed c (taker a) [] new)
+    (subst (λ g. HandedLast took (receiver m) (taker m) (λ middle bits. told middle bits g (taker b))) (bad-of end.0 end.1) end.2)
+received-to receiver taker took broke told broke_end c a b ended unended LeftOver octets accepted same stands p = never-left p.at_end.0 p.at_end.1
+received-to receiver taker took broke told broke_end c a b ended unended BadWindow octets accepted same stands p = cc p.0
+received-to receiver taker took broke told broke_end c a b ended unended SourceFault octets accepted same stands p =
+    let new = due-none took c (receiver a) (taker a) accepted same stands in
+    let due = p.0 c (taker a) [] new in
+    (due.handed, (due.stands (few c octets accepted p.1)).1, due.holds, p.1)
+received-to receiver taker took broke told broke_end c a b ended unended PastLimit octets accepted same stands p =
+    let new = due-none took c (receiver a) (taker a) accepted same stands in
+    let due = p.0 c (taker a) [] new in
+    let within : length (take c.limit octets) ≤ c.limit = omega (arith, length-take c.limit octets) in
+    (due.handed, (due.stands (few c (take c.limit octets) accepted within)).1, due.holds, p.1)
+received-to receiver taker took broke told broke_end c a b ended unended SinkFault octets accepted same stands (inl p) =
+    let new = due-none took c (receiver a) (taker a) accepted same stands in
+    let first = p.0.1 c (taker a) [] new in
+    let within : length (take c.limit octets) ≤ c.limit = omega (arith, length-take c.limit octets) in
+    inl (first.handed, inl (first.are_first (few c (take c.limit octets) accepted within)), first.holds)
+received-to {F} {T} receiver taker took broke told broke_end c a b ended unended SinkFault octets accepted same stands (inr p) =
+    let end = p.0 in
+    let m = end.middle in
+    let due = end.were_fed c (taker a) [] (due-none took c (receiver a) (taker a) accepted same stands) in
+    elim end.at_end as (λ _. ReceivedTo took broke told broke_end c SinkFault octets (taker a) (taker b)) [
+      | inl part ↦ (
+          let front = front-handed took broke c (receiver m) (taker a) (taker m) (taker b) octets part.tried accepted end.within due part.handed part.front in
+          inl (front.0, inr (subst (λ l. AreReceivedFront c l front.0) (sym (take_all c.limit octets end.within)) front.1), front.2)
+          )
+      | inr last ↦ inr (all-received took c (receiver m) (taker a) (taker m) (λ middle bits. broke_end middle bits (taker b)) octets accepted end.within due last)
+    ]
+
+pub received-driven : {F T : Type 0} (receiver : F → OctetReceiving) (taker : F → T) (took broke : T → Handed ItemValue → T → Type 0) (told : T → ℕ → Bool → T → Type 0)
+    (broke_end : T → ℕ → T → Type 0) (c : Configuration) (limit : ℕ) (a b : F) (ended unended : Type 0) (e : Ending) (octets : List ℕ)
+    → IsAccepted c → (receiver a).config ≡ c → StandsFor (receiver a) [] [] → limit ≡ c.limit
+    → DrivenTo (Fed receiver taker took) (FedPart receiver taker took broke) (Last receiver taker took told) (LastPart receiver taker took broke broke_end) limit a b ended unended e octets
+    → ReceivedTo took broke told broke_end c e octets (taker a) (taker b)
+received-driven receiver taker took broke told broke_end c limit a b ended unended e octets accepted same stands is p =
+    received-to receiver taker took broke told broke_end c a b ended unended e octets accepted same stands
+    (subst (λ (n : ℕ). DrivenTo (Fed receiver taker took) (FedPart receiver taker took broke) (Last receiver taker took told) (LastPart receiver taker took broke broke_end) n
+    a b ended unended e octets) is p)

@@ -1,106 +1,27 @@
 -- What sinks took of the phase and of items that were handed over one after another.
-use Rattle.std.proofs.Common.{◌≡◌, ◌⊎◌, inl, inr, ℕ, zero, suc, ◌+◌, ◌*◌, ◌<◌, ◌≤◌, ◌^◌, Bool, true, false, cond, List, [], ◌∷◌, ◌++◌, length, take, refl, sym, ◌∙◌, ap, subst, arith, append_assoc, length-append, Option}
-use Rattle.std.proofs.Math.Seq.{take-append-add, take-length}
-use Rattle.std.proofs.lemmas.List.{append-nil}
-use Rattle.std.specs.Io.KnownBytes.{append_known}
-use Rattle.tm_base.specs.Outside.{Rose}
-use Rattle.tm_base.specs.Written.{Wrote, WroteFront}
+use Rattle.std.proofs.Common.{◌≡◌, ◌⊎◌, inl, inr, ℕ, ◌+◌, ◌*◌, ◌<◌, ◌≤◌, ◌^◌, Bool, true, false, cond, List, [], ◌∷◌, ◌++◌, length, refl, sym, ◌∙◌, ap, subst, arith, append_assoc, length-append}
+use Rattle.tm_base.specs.Written.{WroteFront}
 use Rattle.tm_base.specs.Count.{raised_by}
 use Rattle.tm_base.specs.Takers.{HandedOver, HandedPart}
 use Rattle.tm_base.specs.Handed.{Handed, Phase, Item, items_of}
 use Rattle.tm_base.proofs.HandedItems.{items_of-append}
-use Rattle.tm_base.proofs.Known.{append_known-more, append_known-nil}
 use Rattle.tm_channel.specs.Items.{ItemValue, are_fixed, frames_of}
-use Rattle.tm_cli.specs.Lines.{item_text, phase_text}
+use Rattle.tm_driver.specs.Courses.{SinkState}
+use Rattle.tm_driver.specs.Lines.{phase_text}
+use Rattle.tm_driver.specs.Texts.{TookText, BrokeText}
+use Rattle.tm_driver.proofs.HandedAlong.{handed-along}
+use Rattle.tm_driver.proofs.SinkTexts.{took-none, took-more, broke-after, broke-front, took-front}
+use Rattle.tm_cli.specs.Lines.{item_text}
 use Rattle.tm_cli.specs.Receiving.{DecodedAll}
 use Rattle.tm_cli.specs.Report.{fixed_of, good, bad, handed_item_text, items_text}
-use Rattle.tm_cli.specs.Taken.{Standing, TookText, BrokeText, no_counts, number_of, ReportedHanded, ReportedAll, ReportBroke, handed_frames, DecodingBrokeAt, DecodingBroke}
+use Rattle.tm_cli.specs.Taken.{no_counts, number_of, ReportedHanded, ReportedAll, ReportBroke, handed_frames, DecodingBrokeAt, DecodingBroke}
 use Rattle.tm_cli.specs.declared.counts.Counts.{Counts}
-
--- ---- one text behind another
-pub took-none : (a : Standing) → TookText a a []
-took-none a = record { written = sym (append_known-nil a.taken); same = refl }
-
-pub took-more : (a b c : Standing) (x y : List ℕ) → TookText a b x → TookText b c y → TookText a c (x ++ y)
-took-more a b c x y p q = record {
-  written = q.written ∙ ap (λ k. append_known k y) p.written ∙ append_known-more a.taken x y;
-  same = q.same ∙ p.same;
-}
-
-pub broke-behind : (a b c : Standing) (last : Type 0) (x first text : List ℕ) → TookText a b x → BrokeText b c last first text → BrokeText a c last (x ++ first) text
-broke-behind a b c last x first text p q =
-    let w = q.written in
-    let part = take w.0 text in record {
-      written = (
-        w.0,
-        w.1 ∙ ap (λ k. append_known k (first ++ part)) p.written ∙ append_known-more a.taken x (first ++ part)
-            ∙ ap (append_known a.taken) (sym (append_assoc x first part)),
-      );
-      later = subst (λ (n : ℕ). n ≤ c.faults) p.same q.later;
-      rose = subst (λ (n : ℕ). Rose n c.faults last) p.same q.rose;
-    }
-
--- a sink took a text, and failed in the next
-pub broke-after : (a b c : Standing) (last : Type 0) (x text : List ℕ) → TookText a b x → BrokeText b c last [] text → BrokeText a c last x text
-broke-after a b c last x text p q = subst (λ l. BrokeText a c last l text) (append-nil x) (broke-behind a b c last x [] text p q)
-
--- a front of a text is a front of the text and more
-pub part-of : (n : ℕ) (text more : List ℕ) → (m : ℕ) × (take n text ≡ take m (text ++ more))
-part-of zero text more = (0, refl)
-part-of (suc n) [] more = (0, refl)
-part-of (suc n) (t ∷ ts) more = let r = part-of n ts more in (suc r.0, ap (λ l. t ∷ l) r.1)
-
--- a text and a part of the next are a front of both and more
-pub part-front : (before now : Option (List ℕ)) (first text more : List ℕ) → (count : ℕ) × Wrote before now (first ++ take count text) → WroteFront before now (first ++ (text ++ more))
-part-front before now first text more w =
-    let r = part-of w.0 text more in (
-      length first + r.0,
-      w.1 ∙ ap (append_known before) (ap (λ l. first ++ l) r.1 ∙ sym (take-append-add first (text ++ more) r.0)),
-    )
-
--- where a sink failed, it has taken a front
-pub broke-front : (a c : Standing) (last : Type 0) (first text more : List ℕ) → BrokeText a c last first text → WroteFront a.taken c.taken (first ++ (text ++ more))
-broke-front a c last first text more p = part-front a.taken c.taken first text more p.written
-
--- where a sink took a text, it has taken a front of the text and more
-pub took-front : (a c : Standing) (text more : List ℕ) → TookText a c text → WroteFront a.taken c.taken (text ++ more)
-took-front a c text more p =
-    let r = part-of (length text) text more in
-    (r.0, p.written ∙ ap (append_known a.taken) (sym (take-length text) ∙ r.1))
-
--- ---- items along which something holds at each step
-pub handed-along : {T I : Type 0} (P Q : T → I → T → Type 0) → ((a : T) (i : I) (b : T) → P a i b → Q a i b) → (items : List I) (a b : T)
-    → HandedOver P a items b → HandedOver Q a items b
-handed-along P Q each [] a b handed = handed
-handed-along P Q each (i ∷ items) a b handed = (handed.0, each a i handed.0 handed.1, handed-along P Q each items handed.0 b handed.2)
-
-pub part-along : {T I : Type 0} (P Q B C : T → I → T → Type 0) → ((a : T) (i : I) (b : T) → P a i b → Q a i b) → ((a : T) (i : I) (b : T) → B a i b → C a i b)
-    → (items : List I) (a b : T) → HandedPart P B a items b → HandedPart Q C a items b
-part-along P Q B C each last items a b part = record {
-  front = part.front;
-  next = part.next;
-  rest = part.rest;
-  middle = part.middle;
-  split = part.split;
-  handed = handed-along P Q each part.front a part.middle part.handed;
-  failed = last part.middle part.next b part.failed;
-}
 
 -- in front of what a taker failed at there are no more items than in all
 pub front-few : {I : Type 0} (handed front rest : List (Handed I)) (next : Handed I) → handed ≡ front ++ next ∷ rest → length (items_of front) ≤ length (items_of handed)
 front-few handed front rest next split =
     let all : items_of handed ≡ items_of front ++ items_of (next ∷ rest) = ap items_of split ∙ items_of-append front (next ∷ rest) in
     omega (arith, ap length all, length-append (items_of front) (items_of (next ∷ rest)))
-
--- what each step keeps
-pub handed-keeps : {T I K : Type 0} (P : T → I → T → Type 0) (key : T → K) → ((a : T) (i : I) (b : T) → P a i b → key b ≡ key a) → (items : List I) (a b : T)
-    → HandedOver P a items b → key b ≡ key a
-handed-keeps P key each [] a b handed = ap key (sym handed)
-handed-keeps P key each (i ∷ items) a b handed = handed-keeps P key each items handed.0 b handed.2 ∙ each a i handed.0 handed.1
-
-pub part-keeps : {T I K : Type 0} (P B : T → I → T → Type 0) (key : T → K) → ((a : T) (i : I) (b : T) → P a i b → key b ≡ key a) → ((a : T) (i : I) (b : T) → B a i b → key b ≡ key a)
-    → (items : List I) (a b : T) → HandedPart P B a items b → key b ≡ key a
-part-keeps P B key each last items a b part = last part.middle part.next b part.failed ∙ handed-keeps P key each part.front a part.middle part.handed
 
 -- ---- the text of lists
 frames-append : (xs ys : List ItemValue) → frames_of (xs ++ ys) ≡ frames_of xs ++ frames_of ys
@@ -139,7 +60,7 @@ good-and-bad [] = refl
 good-and-bad (item ∷ items) = let more = good-and-bad items in let one = one-of (are_fixed item.answers) in omega arith
 
 -- ---- the report of what was handed over
-reported-all : {T : Type 0} (lines : T → Standing) (counts : T → Counts) (handed : List (Handed ItemValue)) (a b : T)
+reported-all : {T : Type 0} (lines : T → SinkState) (counts : T → Counts) (handed : List (Handed ItemValue)) (a b : T)
     → HandedOver (λ x h y. ReportedHanded (lines x) (lines y) (counts x) (counts y) h) a handed b
     → (counts a).good + (counts a).bad + length (items_of handed) < 2 ^ 53 → (counts a).fixed + 2040 * length (items_of handed) < 2 ^ 64
     → ReportedAll (lines a) (lines b) (counts a) (counts b) handed
@@ -185,7 +106,7 @@ reported-all lines counts (Item item ∷ handed) a b over few small =
     }
 
 -- its frames
-frames-all : {T : Type 0} (out : T → Standing) (handed : List (Handed ItemValue)) (a b : T)
+frames-all : {T : Type 0} (out : T → SinkState) (handed : List (Handed ItemValue)) (a b : T)
     → HandedOver (λ x h y. TookText (out x) (out y) (handed_frames (h ∷ []))) a handed b → TookText (out a) (out b) (handed_frames handed)
 frames-all out [] a b over = subst (λ t. TookText (out a) (out t) []) over (took-none (out a))
 frames-all out (h ∷ handed) a b over =
@@ -195,7 +116,7 @@ frames-all out (h ∷ handed) a b over =
 -- ---- what the takers wrote that began without a count
 
 -- a report
-pub report-wrote : {T : Type 0} (lines : T → Standing) (counts : T → Counts) (handed : List (Handed ItemValue)) (a b : T) → counts a ≡ no_counts → length (items_of handed) < 2 ^ 53
+pub report-wrote : {T : Type 0} (lines : T → SinkState) (counts : T → Counts) (handed : List (Handed ItemValue)) (a b : T) → counts a ≡ no_counts → length (items_of handed) < 2 ^ 53
     → HandedOver (λ x h y. ReportedHanded (lines x) (lines y) (counts x) (counts y) h) a handed b → ReportedAll (lines a) (lines b) no_counts (counts b) handed
 report-wrote lines counts handed a b new few over =
     let good_none : (counts a).good ≡ 0 = ap (λ (k : Counts). k.good) new in
@@ -204,7 +125,7 @@ report-wrote lines counts handed a b new few over =
     subst (λ k. ReportedAll (lines a) (lines b) k (counts b) handed) new (reported-all lines counts handed a b over (omega arith) (omega arith))
 
 -- the number of the item behind those that were counted
-next-number : (before now : Standing) (counts : Counts) (handed : List (Handed ItemValue)) → ReportedAll before now no_counts counts handed → length (items_of handed) < 2 ^ 53
+next-number : (before now : SinkState) (counts : Counts) (handed : List (Handed ItemValue)) → ReportedAll before now no_counts counts handed → length (items_of handed) < 2 ^ 53
     → number_of counts ≡ length (items_of handed)
 next-number before now counts handed all few =
     let count = good-and-bad (items_of handed) in
@@ -212,7 +133,7 @@ next-number before now counts handed all few =
     let bad_now = all.bad in
     raised counts.good counts.bad (omega arith) ∙ omega arith
 
-pub report-broke : {T : Type 0} (lines : T → Standing) (last : T → Type 0) (counts : T → Counts) (handed : List (Handed ItemValue)) (a b : T)
+pub report-broke : {T : Type 0} (lines : T → SinkState) (last : T → Type 0) (counts : T → Counts) (handed : List (Handed ItemValue)) (a b : T)
     → counts a ≡ no_counts → length (items_of handed) < 2 ^ 53
     → HandedPart (λ x h y. ReportedHanded (lines x) (lines y) (counts x) (counts y) h)
     (λ x h y. BrokeText (lines x) (lines y) (last y) [] (handed_item_text (number_of (counts x)) h)) a handed b
@@ -230,7 +151,7 @@ report-broke lines last counts handed a b new few part =
     }
 
 -- frames, and their report
-pub decoding-wrote : {T : Type 0} (out notes : T → Standing) (counts : T → Counts) (handed : List (Handed ItemValue)) (a b : T) → counts a ≡ no_counts → length (items_of handed) < 2 ^ 53
+pub decoding-wrote : {T : Type 0} (out notes : T → SinkState) (counts : T → Counts) (handed : List (Handed ItemValue)) (a b : T) → counts a ≡ no_counts → length (items_of handed) < 2 ^ 53
     → HandedOver (λ x h y. TookText (out x) (out y) (handed_frames (h ∷ [])) × ReportedHanded (notes x) (notes y) (counts x) (counts y) h) a handed b
     → DecodedAll (out a) (out b) (notes a) (notes b) (counts b) handed
 decoding-wrote {T} out notes counts handed a b new few over =
@@ -239,7 +160,7 @@ decoding-wrote {T} out notes counts handed a b new few over =
       report-wrote notes counts handed a b new few (handed-along took (λ x h y. ReportedHanded (notes x) (notes y) (counts x) (counts y) h) (λ _ _ _ p. p.1) handed a b over),
     )
 
-pub decoding-broke : {T : Type 0} (out notes : T → Standing) (out_last notes_last : T → Type 0) (counts : T → Counts) (handed : List (Handed ItemValue)) (a b : T)
+pub decoding-broke : {T : Type 0} (out notes : T → SinkState) (out_last notes_last : T → Type 0) (counts : T → Counts) (handed : List (Handed ItemValue)) (a b : T)
     → counts a ≡ no_counts → length (items_of handed) < 2 ^ 53
     → HandedPart (λ x h y. TookText (out x) (out y) (handed_frames (h ∷ [])) × ReportedHanded (notes x) (notes y) (counts x) (counts y) h)
     (λ x h y. (BrokeText (out x) (out y) (out_last y) [] (handed_frames (h ∷ [])) × (notes y ≡ notes x))
@@ -271,7 +192,7 @@ decoding-broke out notes out_last notes_last counts handed a b new few part =
 
 -- ---- after a fault fronts stand
 
-pub lines-front : (before now : Standing) (last : Type 0) (front rest : List (Handed ItemValue)) (next : Handed ItemValue)
+pub lines-front : (before now : SinkState) (last : Type 0) (front rest : List (Handed ItemValue)) (next : Handed ItemValue)
     → BrokeText before now last (items_text 0 front) (handed_item_text (length (items_of front)) next) → WroteFront before.taken now.taken (items_text 0 (front ++ next ∷ rest))
 lines-front before now last front rest next broke =
     let n : ℕ = length (items_of front) in
@@ -279,11 +200,11 @@ lines-front before now last front rest next broke =
     subst (WroteFront before.taken now.taken) (sym (items_text-split front (next ∷ rest) ∙ ap (λ l. items_text 0 front ++ l) text.1))
     (broke-front before now last (items_text 0 front) (handed_item_text n next) text.0 broke)
 
-pub report-front : (before now : Standing) (last : Type 0) (handed : List (Handed ItemValue)) → ReportBroke before now last handed → WroteFront before.taken now.taken (items_text 0 handed)
+pub report-front : (before now : SinkState) (last : Type 0) (handed : List (Handed ItemValue)) → ReportBroke before now last handed → WroteFront before.taken now.taken (items_text 0 handed)
 report-front before now last handed broke =
     subst (WroteFront before.taken now.taken) (sym (ap (items_text 0) broke.split)) (lines-front before now last broke.front broke.rest broke.next broke.lines)
 
-pub decoding-fronts : (out out_now : Standing) (out_last : Type 0) (notes notes_now : Standing) (notes_last : Type 0) (handed : List (Handed ItemValue))
+pub decoding-fronts : (out out_now : SinkState) (out_last : Type 0) (notes notes_now : SinkState) (notes_last : Type 0) (handed : List (Handed ItemValue))
     → DecodingBroke out out_now out_last notes notes_now notes_last handed
     → WroteFront out.taken out_now.taken (handed_frames handed) × WroteFront notes.taken notes_now.taken (items_text 0 handed)
 decoding-fronts out out_now out_last notes notes_now notes_last handed broke =

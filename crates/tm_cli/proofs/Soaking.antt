@@ -23,12 +23,14 @@ use Rattle.tm_cli.specs.Lines.{report_end_text}
 use Rattle.tm_cli.specs.Receiving.{HandedDue}
 use Rattle.tm_cli.specs.Report.{good, bad, fixed}
 use Rattle.tm_cli.specs.Soak.{CountedHanded, counts_of, IsSoakLine}
-use Rattle.tm_cli.specs.Taken.{Standing, no_counts, ReportedHanded}
+use Rattle.tm_driver.specs.Courses.{SinkState}
+use Rattle.tm_driver.proofs.HandedAlong.{handed-along}
+use Rattle.tm_cli.specs.Taken.{no_counts, ReportedHanded}
 use Rattle.tm_cli.specs.declared.counts.Counts.{Counts}
 use Rattle.tm_cli.proofs.FewSymbols.{length-further}
 use Rattle.tm_cli.proofs.Generating.{units-none, units-more}
 use Rattle.tm_cli.proofs.Received.{due-none, due-more, few-received, all-handed}
-use Rattle.tm_cli.proofs.Reporting.{handed-along, report-wrote}
+use Rattle.tm_cli.proofs.Reporting.{report-wrote}
 
 -- ---- one unit
 
@@ -120,7 +122,7 @@ units-long c frame hits g at unit stand is small few =
 -- ---- counts
 
 -- a sink that tells nothing
-abbrev untold : Counts → Standing
+abbrev untold : Counts → SinkState
 untold _ = record { taken = None; faults = 0 }
 
 reported : (a : Counts) (h : Handed ItemValue) (b : Counts) → CountedHanded a h b → ReportedHanded (untold a) (untold b) a b h

@@ -1,5 +1,6 @@
--- The units that `soak` sends. Each frame takes its draws in turn from one generator: one for each octet of the frame, and then for each
--- column of its codeblock one that says where the changes of the column begin, and one for each change.
+-- The units that `soak` sends. Each frame takes its draws in turn from one generator: one for each
+-- octet of the frame, and then for each column of its codeblock one that says where the changes of
+-- the column begin, and one for each change.
 use Rattle.std.specs.Prelude.{ℕ, zero, suc, ◌+◌, ◌*◌, ◌%◌, List, [], ◌++◌, map, slice_index, slice_set, bit_xor}
 use Rattle.std.specs.List.{range_with_len}
 use Rattle.rand_pcg.specs.Lcg.{Lcg, started, advance, increment_of}
@@ -29,24 +30,29 @@ drawn_octets count g = map (λ index. draw g index % 256) (range_with_len 0 coun
 abbrev pub changed : (place change : ℕ) → List ℕ → List ℕ
 changed place change octets = slice_set octets place (bit_xor (slice_index octets place) change)
 
--- A codeblock with so many changes in a column. The first draw says at which symbol of the column they begin; they stand one behind the
--- other, and behind the last symbol they go on at the first. Each has a draw of its own for the bits that it turns over, one at least.
+-- A codeblock with so many changes in a column. The first draw says at which symbol of the column
+-- they begin; they stand one behind the other, and behind the last symbol they go on at the first.
+-- Each has a draw of its own for the bits that it turns over, one at least.
 unfoldable pub changed_column : Configuration → (column hits : ℕ) → Lcg → List ℕ → List ℕ
 changed_column c column zero g codeblock = codeblock
 changed_column c column (suc k) g codeblock =
     let first = draw g 0 in
     let own = draw g (k + 1) in
-    changed (column + c.depth * ((first + k) % word_length c)) (1 + own % 255) (changed_column c column k g codeblock)
+    changed (column + c.depth * ((first + k) % word_length c)) (1 + own % 255)
+    (changed_column c column k g codeblock)
 
 -- the same of each of so many columns, whose draws stand one behind the other
 unfoldable pub changed_columns : Configuration → (columns hits : ℕ) → Lcg → List ℕ → List ℕ
 changed_columns c zero hits g codeblock = codeblock
-changed_columns c (suc column) hits g codeblock = changed_column c column hits (drawn (column * (hits + 1)) g) (changed_columns c column hits g codeblock)
+changed_columns c (suc column) hits g codeblock = changed_column c column hits (drawn
+    (column * (hits + 1)) g) (changed_columns c column hits g codeblock)
 
--- the unit of a drawn frame: the marker, and its codeblock, changed in each column by the draws behind those of the frame
+-- the unit of a drawn frame: the marker, and its codeblock, changed in each column by the draws
+-- behind those of the frame
 unfoldable pub generated_unit : Configuration → (hits : ℕ) → Lcg → List ℕ
 generated_unit c hits g =
-    marker ++ changed_columns c c.depth hits (drawn c.frame_length g) (sent_codeblock c (drawn_octets c.frame_length g))
+    marker ++ changed_columns c c.depth hits (drawn c.frame_length g) (sent_codeblock c
+    (drawn_octets c.frame_length g))
 
 -- how many draws a unit takes
 abbrev pub draw_count : Configuration → (hits : ℕ) → ℕ
@@ -55,8 +61,10 @@ draw_count c hits = c.frame_length + c.depth * (hits + 1)
 -- the units of so many frames, one behind the other, of a generator that runs on over all of them
 unfoldable pub generated_units : Configuration → (frames hits : ℕ) → Lcg → List ℕ
 generated_units c zero hits g = []
-generated_units c (suc frame) hits g = generated_units c frame hits g ++ generated_unit c hits (drawn (frame * draw_count c hits) g)
+generated_units c (suc frame) hits g = generated_units c frame hits g ++ generated_unit c hits
+    (drawn (frame * draw_count c hits) g)
 
 -- what is sent for the units of all frames, through the inner code, which runs on over them too
 abbrev pub generated : Configuration → (seed frames hits : ℕ) → List ℕ
-generated c seed frames hits = symbols_of_octets c (generated_units c frames hits (generator_of seed))
+generated c seed frames hits = symbols_of_octets c (generated_units c frames hits
+    (generator_of seed))

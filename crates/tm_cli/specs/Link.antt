@@ -14,38 +14,53 @@ use Rattle.tm_channel.specs.Items.{ItemValue, AreItems, frames_of, turned_item}
 use Rattle.tm_channel.specs.SentStream.{SentUnit, IsSent, AreAsSent, AreNear, unit_frames, unit_places, clean_items}
 use Rattle.tm_cli.specs.Report.{report_text}
 
--- Octets that `encode` sends for an input come back as its whole frames, where nothing was disturbed, none is skipped and it is known
--- where the first path starts. The report says so of the phase, where it is to be found, and of each frame that nothing was wrong, and
--- the status is 0.
-abbrev pub KeepsCleanLink : ℕ → Configuration → List ℕ → (taken taken_now noted noted_now : Option (List ℕ)) → Type 0
+-- Octets that `encode` sends for an input come back as its whole frames, where nothing was
+-- disturbed, none is skipped and it is known where the first path starts. The report says so of the
+-- phase, where it is to be found, and of each frame that nothing was wrong, and the status is 0.
+abbrev pub KeepsCleanLink : ℕ → Configuration → List ℕ
+    → (taken taken_now noted noted_now : Option (List ℕ)) → Type 0
 KeepsCleanLink status c octets taken taken_now noted noted_now =
     (input : List ℕ) → c.skip ≡ 0 → IsStartKnown c → AreOctets input → octets ≡ sent c input
     → (status ≡ 0) × Wrote taken taken_now (concat (whole_frames c.frame_length input))
-    × Wrote noted noted_now (report_text (in_turn (sent_phase c) (clean_items c 0 (whole_frames c.frame_length input))) (8 * length (cadus c input)))
+    × Wrote noted noted_now (report_text
+    (in_turn (sent_phase c) (clean_items c 0 (whole_frames c.frame_length input))) (8 * length
+    (cadus c input)))
 
--- Where the octets behind the phase come to the bits of units, however disturbed and with gaps between them, the output is the frames, and
--- the notes are the report, of items that stand exactly at the units' markers. Where no codeblock is disturbed beyond the repair bound,
--- the output is the frames that were sent, in order, and the status is 0.
-abbrev pub KeepsDisturbedLink : ℕ → Configuration → List ℕ → (taken taken_now noted noted_now : Option (List ℕ)) → Type 0
+-- Where the octets behind the phase come to the bits of units, however disturbed and with gaps
+-- between them, the output is the frames, and the notes are the report, of items that stand exactly
+-- at the units' markers. Where no codeblock is disturbed beyond the repair bound, the output is the
+-- frames that were sent, in order, and the status is 0.
+abbrev pub KeepsDisturbedLink : ℕ → Configuration → List ℕ
+    → (taken taken_now noted noted_now : Option (List ℕ)) → Type 0
 KeepsDisturbedLink status c octets taken taken_now noted noted_now =
     (bits : List Bool) (units : List SentUnit) (last : List Bool) (chosen : Option Chosen)
     → IsChosen c octets chosen → Inner c (skip_of chosen) octets bits → IsSent c bits units last
     → (items : List ItemValue) × AreAsSent c (unit_places c units) units items
-    × Wrote taken taken_now (frames_of items) × Wrote noted noted_now (report_text (in_turn chosen items) (length bits))
-    × (AreNear c (unit_places c units) units → (status ≡ 0) × Wrote taken taken_now (unit_frames units))
+    × Wrote taken taken_now (frames_of items)
+    × Wrote noted noted_now (report_text (in_turn chosen items) (length bits))
+    × (AreNear c (unit_places c units) units → (status ≡ 0)
+    × Wrote taken taken_now (unit_frames units))
 
--- With no inner code and inverted markers, the octets with each bit turned over have the same frames, and the report says of each codeblock
--- that it was received in the other polarity.
-abbrev pub KeepsTurnedInput : Configuration → List ℕ → (taken taken_now noted noted_now : Option (List ℕ)) → Type 0
+-- With no inner code and inverted markers, the octets with each bit turned over have the same
+-- frames, and the report says of each codeblock that it was received in the other polarity.
+abbrev pub KeepsTurnedInput : Configuration → List ℕ
+    → (taken taken_now noted noted_now : Option (List ℕ)) → Type 0
 KeepsTurnedInput c octets taken taken_now noted noted_now =
-    (other : List ℕ) (bits : List Bool) (items : List ItemValue) (chosen : Option Chosen) → c.inner ≡ 0 → c.polarity ≡ 1 → AreOctets other → octets ≡ turned_octets other
+    (other : List ℕ) (bits : List Bool) (items : List ItemValue) (chosen : Option Chosen)
+    → c.inner ≡ 0 → c.polarity ≡ 1 → AreOctets other → octets ≡ turned_octets other
     → IsChosen c other chosen → Inner c (skip_of chosen) other bits → AreItems c bits items
-    → Wrote taken taken_now (frames_of items) × Wrote noted noted_now (report_text (in_turn chosen (map turned_item items)) (length bits))
+    → Wrote taken taken_now (frames_of items)
+    × Wrote noted noted_now (report_text (in_turn chosen (map turned_item items)) (length bits))
 
--- At rate 1/2 with inverted markers, where paths start from any register and none is skipped, the symbols that `encode` sends for an
--- input, each turned over, come back as its whole frames, each in the other polarity and with nothing wrong, and the status is 0.
-abbrev pub KeepsTurnedSymbols : ℕ → Configuration → List ℕ → (taken taken_now noted noted_now : Option (List ℕ)) → Type 0
+-- At rate 1/2 with inverted markers, where paths start from any register and none is skipped, the
+-- symbols that `encode` sends for an input, each turned over, come back as its whole frames, each
+-- in the other polarity and with nothing wrong, and the status is 0.
+abbrev pub KeepsTurnedSymbols : ℕ → Configuration → List ℕ
+    → (taken taken_now noted noted_now : Option (List ℕ)) → Type 0
 KeepsTurnedSymbols status c octets taken taken_now noted noted_now =
-    (input : List ℕ) → c.inner ≡ 12 → c.polarity ≡ 1 → c.start ≡ 1 → c.skip ≡ 0 → AreOctets input → octets ≡ turned_octets (sent c input)
+    (input : List ℕ) → c.inner ≡ 12 → c.polarity ≡ 1 → c.start ≡ 1 → c.skip ≡ 0 → AreOctets input
+    → octets ≡ turned_octets (sent c input)
     → (status ≡ 0) × Wrote taken taken_now (concat (whole_frames c.frame_length input))
-    × Wrote noted noted_now (report_text (in_turn (sent_phase c) (map turned_item (clean_items c 0 (whole_frames c.frame_length input)))) (8 * length (cadus c input)))
+    × Wrote noted noted_now (report_text
+    (in_turn (sent_phase c) (map turned_item
+    (clean_items c 0 (whole_frames c.frame_length input)))) (8 * length (cadus c input)))

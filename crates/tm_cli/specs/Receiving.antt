@@ -1,59 +1,110 @@
 -- What is received of the octets that were read, and what is handed over of it.
-use Rattle.std.specs.Prelude.{◌≡◌, ◌⊎◌, ℕ, ◌+◌, ◌^◌, ◌<◌, ◌≤◌, List, length, take}
-use Rattle.tm_base.specs.Handed.{Handed, items_of}
+use Rattle.std.specs.Prelude.{◌≡◌, ◌⊎◌, ℕ, ◌+◌, ◌^◌, ◌<◌, ◌≤◌, Bool, true, false, List, ◌++◌, length, take}
+use Rattle.tm_base.specs.Handed.{Handed}
+use Rattle.tm_base.specs.Takers.{HandedOver, HandedPart}
 use Rattle.tm_config.specs.Configuration.{Configuration}
 use Rattle.tm_channel.specs.Items.{ItemValue}
 use Rattle.tm_channel.specs.Handing.{AreReceived, AreReceivedDue, AreReceivedFirst, AreReceivedFront}
 use Rattle.tm_channel.specs.OctetReceiving.{OctetReceiving, StandsFor}
-use Rattle.tm_cli.specs.Faults.{OneFailed}
-use Rattle.tm_cli.specs.Report.{bad, items_text, items_end_text, report_text}
-use Rattle.tm_cli.specs.Taken.{Standing, TookText, BrokeText, no_counts, ReportedAll, handed_frames}
+use Rattle.tm_driver.specs.Courses.{SinkState}
+use Rattle.tm_driver.specs.Texts.{TookText}
+use Rattle.tm_driver.specs.declared.ending.Ending.{Ending}
+use Rattle.tm_driver.specs.declared.ending.Ending.TheVariants.{Done, Bad, BadWindow, LeftOver, SourceFault, SinkFault, PastLimit}
+use Rattle.tm_cli.specs.Taken.{no_counts, ReportedAll, handed_frames}
 use Rattle.tm_cli.specs.declared.counts.Counts.{Counts}
-use Rattle.tm_cli.specs.declared.ending.Ending.{Ending}
-use Rattle.tm_cli.specs.declared.ending.Ending.TheVariants.{Done, Bad, SinkFault}
-use Rattle.tm_cli.specs.declared.receiving.Received.{Received}
-use Rattle.tm_cli.specs.declared.receiving.Received.TheVariants.{Ended, SourceFault, TakerFault, PastLimit}
 
--- a receiver that was given these octets and no others, and what it has handed over, of which something holds
-pub record HandedDue (c : Configuration) (receiver : OctetReceiving) (took : List (Handed ItemValue) → Type 0) (octets : List ℕ) : Type 0 where
+-- a receiver that was given these octets and no others, and what it has handed over, of which
+-- something holds
+pub record HandedDue (c : Configuration) (receiver : OctetReceiving) (took : List
+    (Handed ItemValue) → Type 0) (octets : List ℕ) : Type 0 where
   pub handed : List (Handed ItemValue)
   pub config : receiver.config ≡ c
-  pub stands : length octets < 2 ^ 60 → StandsFor receiver octets handed × AreReceivedDue c octets handed
+  pub stands : length octets < 2 ^ 60 → StandsFor receiver octets handed
+      × AreReceivedDue c octets handed
   pub holds : took handed
 
 -- of the first of what is handed over of the octets something holds
-pub record HandedFirst (c : Configuration) (broke : List (Handed ItemValue) → Type 0) (octets : List ℕ) : Type 0 where
+pub record HandedFirst (c : Configuration) (broke : List (Handed ItemValue)
+    → Type 0) (octets : List ℕ) : Type 0 where
   pub handed : List (Handed ItemValue)
   pub are_first : length octets < 2 ^ 60 → AreReceivedFirst c octets handed
   pub holds : broke handed
 
--- How receiving ended, and what holds of what was handed over: `broke` where it was handed over in part, and else `took`.
-abbrev pub ReceivedUpTo : (took broke : List (Handed ItemValue) → Type 0) → Configuration → Received → List ℕ → Type 0
--- all of the octets, which come to so many bits
-ReceivedUpTo took broke c (Ended count) octets = (handed : List (Handed ItemValue)) × AreReceived c octets handed count × took handed × (length octets ≤ c.limit)
--- what is due for the octets so far
-ReceivedUpTo took broke c SourceFault octets = (handed : List (Handed ItemValue)) × AreReceivedDue c octets handed × took handed × (length octets ≤ c.limit)
--- the first of what is handed over of the octets up to the limit, where these go on or at their end
-ReceivedUpTo took broke c TakerFault octets = (handed : List (Handed ItemValue))
-    × (AreReceivedFirst c (take c.limit octets) handed ⊎ AreReceivedFront c (take c.limit octets) handed) × broke handed
--- what is due for the octets up to the limit, past which there is one
-ReceivedUpTo took broke c PastLimit octets = (handed : List (Handed ItemValue)) × AreReceivedDue c (take c.limit octets) handed × took handed × (length octets ≡ c.limit + 1)
+-- From a receiver and a taker to later ones exactly these octets were received, and what is due of
+-- them was taken; or it was taken in part.
+abbrev pub Receives : {T : Type 0} → (took : T → Handed ItemValue → T → Type 0)
+    → (receiver receiver_now : OctetReceiving) → (taker taker_now : T) → List ℕ → Type 0
+Receives {T} took receiver receiver_now taker taker_now octets = (c : Configuration) (start : T)
+    (given : List ℕ)
+    → HandedDue c receiver (λ handed. HandedOver took start handed taker) given
+    → HandedDue c receiver_now (λ handed. HandedOver took start handed taker_now) (given ++ octets)
 
--- One sink took the frames of what was handed over and another one the lines, and the items are counted.
-abbrev pub DecodedAll : (out out_now notes notes_now : Standing) → Counts → List (Handed ItemValue) → Type 0
-DecodedAll out out_now notes notes_now counts handed = TookText out out_now (handed_frames handed) × ReportedAll notes notes_now no_counts counts handed
+abbrev pub ReceivesPart : {T : Type 0} → (took broke : T → Handed ItemValue → T → Type 0)
+    → (receiver : OctetReceiving) → (taker taker_now : T) → List ℕ → Type 0
+ReceivesPart {T} took broke receiver taker taker_now octets = (c : Configuration) (start : T)
+    (given : List ℕ)
+    → HandedDue c receiver (λ handed. HandedOver took start handed taker) given
+    → HandedFirst c (λ handed. HandedPart took broke start handed taker_now) (given ++ octets)
 
--- the counts of faults of the two sinks, once receiving has ended
-pub record DecodingFaults (end : Received) (out out_now : Standing) (out_last : Type 0) (notes notes_now : Standing) (notes_last : Type 0) : Type 0 where
-  pub out_later : out.faults ≤ out_now.faults
-  pub notes_later : notes.faults ≤ notes_now.faults
-  pub out_same : (end ≡ TakerFault → ⊥) → out_now.faults ≡ out.faults
-  pub notes_same : (end ≡ TakerFault → ⊥) → notes_now.faults ≡ notes.faults
-  pub one_failed : end ≡ TakerFault → OneFailed out.faults out_now.faults out_last notes.faults notes_now.faults notes_last
+-- what is left at the end of the octets was taken, with so many bits in all, and then something
+-- holds; or it was taken in part
+pub record HandedLast {T : Type 0} (took : T → Handed ItemValue → T
+    → Type 0) (receiver : OctetReceiving) (before : T) (end : T → ℕ → Type 0) : Type 0 where
+  pub last : List (Handed ItemValue)
+  pub bits : ℕ
+  pub middle : T
+  pub handed : HandedOver took before last middle
+  pub received : (given : List ℕ) (done : List (Handed ItemValue)) → StandsFor receiver given done
+      → AreReceived receiver.config given (done ++ last) bits
+  pub is_end : end middle bits
 
--- how a command ends by the end of its report, and what its sink took of the report of what was handed over of so many bits
-abbrev pub ToldEnd : Ending → List (Handed ItemValue) → ℕ → (before now : Standing) → Type 0 → Type 0
-ToldEnd Done handed bits before now is_last = TookText before now (report_text handed bits) × (bad (items_of handed) ≡ 0)
-ToldEnd Bad handed bits before now is_last = TookText before now (report_text handed bits) × (bad (items_of handed) ≡ 0 → ⊥)
-ToldEnd SinkFault handed bits before now is_last = BrokeText before now is_last (items_text 0 handed) (items_end_text (items_of handed) bits)
-ToldEnd ending handed bits before now is_last = ⊥
+pub record HandedLastPart {T : Type 0} (took broke : T → Handed ItemValue → T
+    → Type 0) (receiver : OctetReceiving) (before now : T) : Type 0 where
+  pub tried : List (Handed ItemValue)
+  pub handed : HandedPart took broke before tried now
+  pub front : (given : List ℕ) (done : List (Handed ItemValue)) → StandsFor receiver given done
+      → AreReceivedFront receiver.config given (done ++ tried)
+
+-- all of the octets of an input within the limit was taken, and then something holds of the number
+-- of bits
+pub record ReceivedAll {T : Type 0} (took : T → Handed ItemValue → T
+    → Type 0) (c : Configuration) (octets : List ℕ) (before : T) (end : T → ℕ → Type 0) : Type 0 where
+  pub handed : List (Handed ItemValue)
+  pub bits : ℕ
+  pub middle : T
+  pub are_received : AreReceived c octets handed bits
+  pub over : HandedOver took before handed middle
+  pub is_end : end middle bits
+  pub within : length octets ≤ c.limit
+
+-- How receiving ended, and what was taken then: all of the octets, and the end of their report,
+-- which says whether nothing in them is beyond repair; what is due for them; or a part, or all and
+-- a part of that end.
+abbrev pub ReceivedTo : {T : Type 0} → (took broke : T → Handed ItemValue → T → Type 0)
+    → (told : T → ℕ → Bool → T → Type 0) → (broke_end : T → ℕ → T → Type 0)
+    → Configuration → Ending → List ℕ → (before now : T) → Type 0
+ReceivedTo took broke told broke_end c Done octets before now = ReceivedAll took c octets before
+    (λ middle bits. told middle bits true now)
+ReceivedTo took broke told broke_end c Bad octets before now = ReceivedAll took c octets before
+    (λ middle bits. told middle bits false now)
+ReceivedTo took broke told broke_end c BadWindow octets before now = ⊥
+ReceivedTo took broke told broke_end c LeftOver octets before now = ⊥
+ReceivedTo took broke told broke_end c SourceFault octets before now = (handed : List
+    (Handed ItemValue)) × AreReceivedDue c octets handed
+    × HandedOver took before handed now × (length octets ≤ c.limit)
+ReceivedTo took broke told broke_end c SinkFault octets before now =
+    ((handed : List (Handed ItemValue))
+    × (AreReceivedFirst c (take c.limit octets) handed
+    ⊎ AreReceivedFront c (take c.limit octets) handed)
+    × HandedPart took broke before handed now)
+    ⊎ ReceivedAll took c octets before (λ middle bits. broke_end middle bits now)
+ReceivedTo took broke told broke_end c PastLimit octets before now = (handed : List
+    (Handed ItemValue)) × AreReceivedDue c (take c.limit octets) handed
+    × HandedOver took before handed now × (length octets ≡ c.limit + 1)
+
+-- One sink took the frames of what was handed over and another one the lines, and the items are
+-- counted.
+abbrev pub DecodedAll : (out out_now notes notes_now : SinkState) → Counts
+    → List (Handed ItemValue) → Type 0
+DecodedAll out out_now notes notes_now counts handed = TookText out out_now (handed_frames handed)
+    × ReportedAll notes notes_now no_counts counts handed

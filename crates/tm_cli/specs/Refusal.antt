@@ -13,7 +13,7 @@ use Rattle.tm_words.specs.declared.job.Job.{Job}
 use Rattle.tm_cli.specs.Command.{Command, command_of}
 use Rattle.tm_cli.specs.Command.Command.{Word, Soak, Erased, Check}
 use Rattle.tm_cli.specs.Soak.{soak_refusal, soak_reason}
-use Rattle.tm_cli.specs.Word.{word_refusal, word_reason}
+use Rattle.tm_records.specs.Word.{word_refusal, word_reason}
 use Rattle.tm_cli.specs.declared.refusal.Refusal.{Refusal}
 use Rattle.tm_cli.specs.declared.refusal.Refusal.TheVariants.{Words, Value, OfWord, OfSoak}
 
@@ -25,7 +25,8 @@ refusal_of_command c Erased = if c.code == 0 then Some (Value Code) else None
 refusal_of_command c Check = if c.inner == 0 then Some (Value Inner) else None
 refusal_of_command c command = None
 
--- the refusal for the first value of the configuration that is outside its list or range, and behind these for what a command alone has
+-- the refusal for the first value of the configuration that is outside its list or range, and
+-- behind these for what a command alone has
 abbrev pub refusal_behind : Option ConfigError → Configuration → Command → Option Refusal
 refusal_behind (Some error) c command = Some (Value error)
 refusal_behind None c command = refusal_of_command c command
@@ -33,7 +34,8 @@ refusal_behind None c command = refusal_of_command c command
 -- the refusal of a job; no job is refused as the words
 abbrev pub refusal_of_job : Option Job → Option Refusal
 refusal_of_job None = Some Words
-refusal_of_job (Some job) = refusal_behind (refusal_of_raw job.raw) (configuration_of job.raw) (command_of job)
+refusal_of_job (Some job) = refusal_behind (refusal_of_raw job.raw) (configuration_of job.raw)
+    (command_of job)
 
 -- words that clap's rule does not take are refused as such, and others for their job
 abbrev pub first_refusal : Kinds → Option Job → Option Refusal

@@ -1,11 +1,11 @@
--- The report of what was received, and the trace of the soft decoder.
-use Rattle.std.specs.Prelude.{ℕ, ◌+◌, if◌then◌else◌, List, [], ◌∷◌, ◌++◌, length}
+-- The report of what was received.
+use Rattle.std.specs.Prelude.{ℕ, ◌+◌, if◌then◌else◌, List, [], ◌∷◌, ◌++◌}
 use Rattle.tm_rs_solve.specs.declared.answers.Answer.{Answer}
 use Rattle.tm_rs_solve.specs.declared.answers.Answer.TheVariants.{Fixed, Beyond}
 use Rattle.tm_base.specs.Handed.{Handed, Phase, Item, items_of}
 use Rattle.tm_channel.specs.Items.{ItemValue, are_fixed}
-use Rattle.tm_viterbi.specs.WindowBlock.{WindowBlock}
-use Rattle.tm_cli.specs.Lines.{item_text, report_end_text, block_text, trace_end_text, phase_text}
+use Rattle.tm_driver.specs.Lines.{phase_text}
+use Rattle.tm_cli.specs.Lines.{item_text, report_end_text}
 
 -- how many codeblocks have no column beyond repair
 abbrev pub good : List ItemValue → ℕ
@@ -46,18 +46,3 @@ items_end_text items bits = report_end_text (good items) (bad items) (fixed item
 -- the report of what was handed over of so many bits
 abbrev pub report_text : List (Handed ItemValue) → ℕ → List ℕ
 report_text handed bits = items_text 0 handed ++ items_end_text (items_of handed) bits
-
--- the line of the phase, or that of the next window
-abbrev pub handed_block_text : ℕ → Handed WindowBlock → List ℕ
-handed_block_text number (Phase skip cost) = phase_text skip cost
-handed_block_text number (Item block) = block_text number block
-
--- the lines of what was handed over, with the windows numbered from `number` on
-abbrev pub blocks_text : ℕ → List (Handed WindowBlock) → List ℕ
-blocks_text number [] = []
-blocks_text number (Phase skip cost ∷ handed) = phase_text skip cost ++ blocks_text number handed
-blocks_text number (Item block ∷ handed) = block_text number block ++ blocks_text (number + 1) handed
-
--- the trace of what was handed over of so many bits, with so many octets behind the last step
-abbrev pub trace_text : List (Handed WindowBlock) → (bits leftover : ℕ) → List ℕ
-trace_text handed bits leftover = blocks_text 0 handed ++ trace_end_text (length (items_of handed)) bits leftover

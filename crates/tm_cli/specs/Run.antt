@@ -1,37 +1,111 @@
 -- What the top call answers and writes.
-use Rattle.std.specs.Prelude.{◌≡◌, ◌⊎◌, ℕ, ◌+◌, ◌≤◌, List, length, Option}
-use Rattle.tm_base.specs.Written.{Wrote, WroteFront}
+use Rattle.std.specs.Prelude.{◌≡◌, ◌⊎◌, ℕ, ◌+◌, ◌≤◌, true, false, List, length, Some}
+use Rattle.clap.specs.Words.{Text}
+use Rattle.tm_base.specs.Outside.{Rose}
+use Rattle.tm_base.specs.Written.{Gave, Wrote, WroteFront}
 use Rattle.tm_config.specs.Configuration.{Configuration}
-use Rattle.tm_cli.specs.Command.{Command}
-use Rattle.tm_cli.specs.Command.Command.{Decode, Check}
-use Rattle.tm_cli.specs.Ending.{Ends, status_of}
-use Rattle.tm_cli.specs.Link.{KeepsCleanLink, KeepsDisturbedLink, KeepsTurnedInput, KeepsTurnedSymbols}
-use Rattle.tm_cli.specs.Refusal.{reason_of}
-use Rattle.tm_cli.specs.Shown.{ShowsLeast, PassesCertified}
+use Rattle.tm_driver.specs.Courses.{SourceState, SinkState, SourceCourse, SinkCourse, SinksCourse}
+use Rattle.tm_driver.specs.Meaning.{Ends, taken_by}
+use Rattle.tm_driver.specs.Statuses.{is_sink_fault, status_of}
+use Rattle.tm_driver.specs.declared.ending.Ending.{Ending}
+use Rattle.tm_driver.specs.declared.ending.Ending.TheVariants.{Bad, SinkFault}
+use Rattle.tm_path_commands.specs.Shown.{ShowsLeast, PassesCertified}
+use Rattle.tm_cli.specs.Command.{Command, reads}
+use Rattle.tm_cli.specs.Command.Command.{Encode, Decode, Check}
 use Rattle.tm_cli.specs.Lines.{refusal_text}
-use Rattle.tm_cli.specs.declared.ending.Ending.{Ending}
-use Rattle.tm_cli.specs.declared.ending.Ending.TheVariants.{Bad}
+use Rattle.tm_cli.specs.Link.{KeepsCleanLink, KeepsDisturbedLink, KeepsTurnedInput, KeepsTurnedSymbols}
+use Rattle.tm_cli.specs.Meanings.{meaning_of}
+use Rattle.tm_cli.specs.Refusal.{reason_of, refusal_of}
 use Rattle.tm_cli.specs.declared.refusal.Refusal.{Refusal}
 
--- a command read these octets, at most one past the limit, and ended in one way, which the status tells; some commands read none
-pub record Answers (status : ℕ) (command : Command) (c : Configuration) (octets : List ℕ) (taken taken_now noted noted_now : Option (List ℕ)) : Type 0 where
+-- where the source, the output and the notes of a call stood before it, and where they stand behind
+-- it
+pub record Call : Type 1 where
+  pub source : SourceState
+  pub source_now : SourceState
+  pub source_last : Type 0
+  pub out : SinkState
+  pub out_now : SinkState
+  pub out_last : Type 0
+  pub notes : SinkState
+  pub notes_now : SinkState
+  pub notes_last : Type 0
+
+abbrev pub call_of : (source source_now : SourceState) → Type 0 → (out out_now : SinkState)
+    → Type 0 → (notes notes_now : SinkState) → Type 0 → Call
+call_of source source_now source_last out out_now out_last notes notes_now notes_last = record {
+  source = source;
+  source_now = source_now;
+  source_last = source_last;
+  out = out;
+  out_now = out_now;
+  out_last = out_last;
+  notes = notes;
+  notes_now = notes_now;
+  notes_last = notes_last;
+}
+
+-- no count of faults rose
+pub record HasNoFault (call : Call) : Type 0 where
+  pub source : Rose call.source.faults call.source_now.faults call.source_last → ⊥
+  pub out : Rose call.out.faults call.out_now.faults call.out_last → ⊥
+  pub notes : Rose call.notes.faults call.notes_now.faults call.notes_last → ⊥
+
+-- At a fault of a sink `encode` stops: the output failed, the end of the input was not told yet and
+-- the notes are as they were; or the notes failed, and all was read and sent.
+abbrev pub StopsEncoding : Call → Type 0
+StopsEncoding call =
+    (SinkCourse true call.out call.out_now call.out_last
+    × (call.source_now.ended ≡ call.source.ended) × (call.notes_now ≡ call.notes))
+    ⊎ (SinkCourse true call.notes call.notes_now call.notes_last × (call.source_now.ended ≡ true)
+    × (call.out_now.faults ≡ call.out.faults))
+
+-- What a command did in a call by which words asked for it, and the status by that. The source gave
+-- octets, at most one past the limit; some commands read none.
+pub record Answers (status : ℕ) (command : Command) (c : Configuration) (call : Call) : Type 0 where
+  pub octets : List ℕ
+  pub gave : Gave call.source.given call.source_now.given call.source.left call.source_now.left octets
   pub at_most : length octets ≤ c.limit + 1
+  -- how it ended, what was written then, and what the source and the sinks went through
   pub ending : Ending
   pub is : status ≡ status_of ending
-  pub ends : Ends ending command c octets taken taken_now noted noted_now
-  -- where `decode` read its whole input, sent frames come back
-  pub clean : command ≡ Decode → (status ≡ 0) ⊎ (status ≡ 1) → KeepsCleanLink status c octets taken taken_now noted noted_now
-  pub disturbed : command ≡ Decode → (status ≡ 0) ⊎ (status ≡ 1) → KeepsDisturbedLink status c octets taken taken_now noted noted_now
-  -- in the other polarity too
-  pub turned_input : command ≡ Decode → (status ≡ 0) ⊎ (status ≡ 1) → KeepsTurnedInput c octets taken taken_now noted noted_now
-  pub turned_symbols : command ≡ Decode → (status ≡ 0) ⊎ (status ≡ 1) → KeepsTurnedSymbols status c octets taken taken_now noted noted_now
+  pub ends : Ends ending (meaning_of command c) c.limit octets
+      (taken_by call.out.taken call.out_now.taken call.notes.taken call.notes_now.taken)
+  pub source : reads command ≡ true
+      → SourceCourse ending call.source call.source_now call.source_last
+  pub sinks : SinksCourse
+      (is_sink_fault ending) call.out call.out_now call.out_last call.notes call.notes_now call.notes_last
+  pub stops : command ≡ Encode → ending ≡ SinkFault → StopsEncoding call
   -- status 1 of `check` tells a window that fails alone, and so how little was read behind it
   pub by_window : command ≡ Check → ending ≡ Bad → ⊥
-  -- where `check` answers 0, the paths of the certificate cost the least; what `certify` writes passes
-  pub shown : command ≡ Check → status ≡ 0 → ShowsLeast c octets taken taken_now
-  pub passes : command ≡ Check → PassesCertified status c octets noted noted_now
+  -- without a fault; and where the source tells its input, which is whole and within the limit
+  pub complete : HasNoFault call → (status ≡ 0) ⊎ (status ≡ 1) ⊎ (status ≡ 6) ⊎ (status ≡ 7)
+  pub whole_input : (input : List ℕ) → call.source.left ≡ Some input → length input ≤ c.limit
+      → ((meaning_of command c).is_partial input → ⊥)
+      → HasNoFault call → (status ≡ 0) ⊎ (status ≡ 1)
+  -- where `decode` read its whole input, sent frames come back
+  pub clean : command ≡ Decode → (status ≡ 0) ⊎ (status ≡ 1)
+      → KeepsCleanLink status c octets call.out.taken call.out_now.taken call.notes.taken call.notes_now.taken
+  pub disturbed : command ≡ Decode → (status ≡ 0) ⊎ (status ≡ 1)
+      → KeepsDisturbedLink status c octets call.out.taken call.out_now.taken call.notes.taken call.notes_now.taken
+  -- in the other polarity too
+  pub turned_input : command ≡ Decode → (status ≡ 0) ⊎ (status ≡ 1)
+      → KeepsTurnedInput c octets call.out.taken call.out_now.taken call.notes.taken call.notes_now.taken
+  pub turned_symbols : command ≡ Decode → (status ≡ 0) ⊎ (status ≡ 1)
+      → KeepsTurnedSymbols status c octets call.out.taken call.out_now.taken call.notes.taken call.notes_now.taken
+  -- where `check` answers 0, the paths of the certificate cost the least; what `certify` writes
+  -- passes
+  pub shown : command ≡ Check → status ≡ 0 → ShowsLeast c octets call.out.taken call.out_now.taken
+  pub passes : command ≡ Check
+      → PassesCertified status c octets call.notes.taken call.notes_now.taken
 
--- the line of a refusal was written, or a front of it by notes that failed
-abbrev pub WroteRefusal : Refusal → (noted noted_now : Option (List ℕ)) → (same rose : Type 0) → Type 0
-WroteRefusal why noted noted_now same rose =
-    (same × Wrote noted noted_now (refusal_text (reason_of why))) ⊎ (rose × WroteFront noted noted_now (refusal_text (reason_of why)))
+-- The words are refused: the notes took the line with the first reason and told no fault, or they
+-- failed and took a prefix of it.
+pub record IsRefused (words : List Text) (notes notes_now : SinkState)
+    (notes_last : Type 0) : Type 0 where
+  pub why : Refusal
+  pub is : refusal_of words ≡ Some why
+  pub line : (SinkCourse false notes notes_now notes_last
+      × Wrote notes.taken notes_now.taken (refusal_text (reason_of why)))
+      ⊎ (SinkCourse true notes notes_now notes_last
+      × WroteFront notes.taken notes_now.taken (refusal_text (reason_of why)))

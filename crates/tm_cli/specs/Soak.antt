@@ -1,9 +1,12 @@
 -- The command `soak`: generated frames, and what is received of them.
-use Rattle.std.specs.Prelude.{◌≡◌, ℕ, ◌*◌, ◌^◌, ◌≤◌, if◌then◌else◌, nat_le, nat_lt, List, codes, Option, Some, None}
+use Rattle.std.specs.Prelude.{◌≡◌, ℕ, ◌*◌, ◌^◌, ◌≤◌, if◌then◌else◌, nat_le, nat_lt, List, [], codes, Option, Some, None}
 use Rattle.tm_config.specs.Configuration.{Configuration}
 use Rattle.tm_base.specs.Handed.{Handed, items_of, on_handed}
 use Rattle.tm_channel.specs.Items.{ItemValue}
 use Rattle.tm_channel.specs.Handing.{AreReceived}
+use Rattle.tm_base.specs.Written.{Wrote}
+use Rattle.tm_driver.specs.Meaning.{Meaning}
+use Rattle.tm_cli.specs.Decode.{HasBad}
 use Rattle.tm_cli.specs.Generated.{generated}
 use Rattle.tm_cli.specs.Report.{good, bad, fixed, fixed_of, items_end_text}
 use Rattle.tm_cli.specs.Taken.{counts_after}
@@ -11,10 +14,12 @@ use Rattle.tm_cli.specs.declared.counts.Counts.{Counts}
 use Rattle.tm_cli.specs.declared.soak_refusal.SoakRefusal.{SoakRefusal}
 use Rattle.tm_cli.specs.declared.soak_refusal.SoakRefusal.TheVariants.{Seed, Frames, Hits}
 
--- the first value that is outside its range, or none; no more symbols of a codeword are changed than it has check symbols
+-- the first value that is outside its range, or none; no more symbols of a codeword are changed
+-- than it has check symbols
 abbrev pub soak_refusal : Configuration → (seed frames hits : ℕ) → Option SoakRefusal
 soak_refusal c seed frames hits =
-    if nat_lt seed (2 ^ 63) then if nat_le frames 1000000 then if nat_le hits (2 * c.code) then None else Some Hits else Some Frames else Some Seed
+    if nat_lt seed (2 ^ 63) then if nat_le frames 1000000 then if nat_le hits
+    (2 * c.code) then None else Some Hits else Some Frames else Some Seed
 
 -- the reason that the line gives
 abbrev pub soak_reason : SoakRefusal → List ℕ
@@ -29,7 +34,8 @@ pub record Counted (was : Counts) (item : ItemValue) (counts : Counts) : Type 0 
 
 -- an item was counted, and no phase
 abbrev pub CountedHanded : Counts → Handed ItemValue → Counts → Type 0
-CountedHanded was handed counts = on_handed (λ before skip cost now. now ≡ before) Counted was handed counts
+CountedHanded was handed counts = on_handed
+    (λ before skip cost now. now ≡ before) Counted was handed counts
 
 -- what is counted of items
 abbrev pub counts_of : List ItemValue → Counts
@@ -41,3 +47,14 @@ pub record IsSoakLine (c : Configuration) (seed frames hits : ℕ) (line : List 
   pub bits : ℕ
   pub are_received : AreReceived c (generated c seed frames hits) handed bits
   pub is_line : line ≡ items_end_text (items_of handed) bits
+
+-- `soak`: that line goes to the output, and there are no notes. It reads nothing.
+abbrev pub soak_meaning : (seed frames hits : ℕ) → Configuration → Meaning
+soak_meaning seed frames hits c = record {
+  is_output = λ octets output. IsSoakLine c seed frames hits output.out × (output.notes ≡ []);
+  is_due = λ octets output. ⊥;
+  is_partial = λ octets. ⊥;
+  is_bad = λ octets. HasBad c (generated c seed frames hits);
+  is_in_order = λ octets output taken. Wrote taken.notes taken.notes_now [];
+  stops_at_bad = ⊥;
+}

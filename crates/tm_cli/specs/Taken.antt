@@ -1,34 +1,15 @@
 -- What the takers of items and of windows write and count.
-use Rattle.std.specs.Prelude.{◌≡◌, ◌⊎◌, ℕ, ◌+◌, ◌≤◌, if◌then◌else◌, List, [], ◌∷◌, ◌++◌, length, take, Option}
-use Rattle.tm_base.specs.Outside.{Rose}
-use Rattle.tm_base.specs.Written.{Wrote}
+use Rattle.std.specs.Prelude.{◌≡◌, ◌⊎◌, ℕ, ◌+◌, ◌≤◌, if◌then◌else◌, List, [], ◌∷◌, ◌++◌, length}
 use Rattle.tm_base.specs.Count.{raised_by}
 use Rattle.tm_base.specs.Handed.{Handed, Phase, Item, items_of}
 use Rattle.tm_rs_solve.specs.declared.answers.Answer.{Answer}
 use Rattle.tm_channel.specs.Items.{ItemValue, are_fixed, frames_of}
-use Rattle.tm_viterbi.specs.WindowBlock.{WindowBlock}
-use Rattle.tm_cli.specs.Lines.{item_text, block_text, phase_text}
-use Rattle.tm_cli.specs.Report.{fixed_of, good, bad, fixed, handed_item_text, items_text, handed_block_text, blocks_text}
+use Rattle.tm_driver.specs.Courses.{SinkState}
+use Rattle.tm_driver.specs.Lines.{phase_text}
+use Rattle.tm_driver.specs.Texts.{TookText, BrokeText}
+use Rattle.tm_cli.specs.Lines.{item_text}
+use Rattle.tm_cli.specs.Report.{fixed_of, good, bad, fixed, handed_item_text, items_text}
 use Rattle.tm_cli.specs.declared.counts.Counts.{Counts}
-
--- where a sink stands: the octets that it has taken, where it tells them, and its count of faults
-pub record Standing : Type 0 where
-  pub taken : Option (List ℕ)
-  pub faults : ℕ
-
-abbrev pub standing : Option (List ℕ) → ℕ → Standing
-standing taken faults = record { taken = taken; faults = faults }
-
--- a sink took the whole of a text
-pub record TookText (before now : Standing) (text : List ℕ) : Type 0 where
-  pub written : Wrote before.taken now.taken text
-  pub same : now.faults ≡ before.faults
-
--- a sink took the whole of `first`, and failed in the text behind it
-pub record BrokeText (before now : Standing) (is_last : Type 0) (first text : List ℕ) : Type 0 where
-  pub written : (count : ℕ) × Wrote before.taken now.taken (first ++ take count text)
-  pub later : before.faults ≤ now.faults
-  pub rose : Rose before.faults now.faults is_last
 
 -- before the first item
 abbrev pub no_counts : Counts
@@ -47,69 +28,58 @@ counts_after counts answers = record {
 }
 
 -- the line of an item was taken, and the item counted
-pub record Reported (before now : Standing) (was counts : Counts) (item : ItemValue) : Type 0 where
+pub record Reported (before now : SinkState) (was counts : Counts) (item : ItemValue) : Type 0 where
   pub line : TookText before now (item_text (number_of was) item)
   pub counted : counts ≡ counts_after was item.answers
   pub few : fixed_of item.answers ≤ 2040
 
 -- the same of an item, or the line of the phase was taken, and nothing counted
-abbrev pub ReportedHanded : (before now : Standing) → (was counts : Counts) → Handed ItemValue → Type 0
-ReportedHanded before now was counts (Phase skip cost) = (counts ≡ was) × TookText before now (phase_text skip cost)
+abbrev pub ReportedHanded : (before now : SinkState) → (was counts : Counts) → Handed ItemValue
+    → Type 0
+ReportedHanded before now was counts (Phase skip cost) = (counts ≡ was)
+    × TookText before now (phase_text skip cost)
 ReportedHanded before now was counts (Item item) = Reported before now was counts item
 
 -- the same of all, one behind the other
-pub record ReportedAll (before now : Standing) (was counts : Counts) (handed : List (Handed ItemValue)) : Type 0 where
+pub record ReportedAll (before now : SinkState) (was counts : Counts) (handed : List
+    (Handed ItemValue)) : Type 0 where
   pub lines : TookText before now (items_text (was.good + was.bad) handed)
   pub good : counts.good ≡ was.good + good (items_of handed)
   pub bad : counts.bad ≡ was.bad + bad (items_of handed)
   pub fixed : counts.fixed ≡ was.fixed + fixed (items_of handed)
 
 -- the sink failed in the line of the phase or of one of the items
-pub record ReportBroke (before now : Standing) (is_last : Type 0) (handed : List (Handed ItemValue)) : Type 0 where
+pub record ReportBroke (before now : SinkState) (is_last : Type 0) (handed : List
+    (Handed ItemValue)) : Type 0 where
   pub front : List (Handed ItemValue)
   pub next : Handed ItemValue
   pub rest : List (Handed ItemValue)
   pub split : handed ≡ front ++ next ∷ rest
-  pub lines : BrokeText before now is_last (items_text 0 front) (handed_item_text (length (items_of front)) next)
+  pub lines : BrokeText before now is_last (items_text 0 front) (handed_item_text
+      (length (items_of front)) next)
 
 -- the frames of the items of what was handed over
 abbrev pub handed_frames : List (Handed ItemValue) → List ℕ
 handed_frames handed = frames_of (items_of handed)
 
--- Behind the frames and lines of `front`, a sink failed: the one of the frames in the frame of `next`, and then its line was not begun, or
--- the one of the lines in its line, and then its frame was taken. A phase has no frame.
-abbrev pub DecodingBrokeAt : (out out_now : Standing) → Type 0 → (notes notes_now : Standing) → Type 0 → List (Handed ItemValue) → Handed ItemValue → Type 0
+-- Behind the frames and lines of `front`, a sink failed: the one of the frames in the frame of
+-- `next`, and then its line was not begun, or the one of the lines in its line, and then its frame
+-- was taken. A phase has no frame.
+abbrev pub DecodingBrokeAt : (out out_now : SinkState) → Type 0 → (notes notes_now : SinkState)
+    → Type 0 → List (Handed ItemValue) → Handed ItemValue → Type 0
 DecodingBrokeAt out out_now out_last notes notes_now notes_last front next =
-    (BrokeText out out_now out_last (handed_frames front) (handed_frames (next ∷ [])) × TookText notes notes_now (items_text 0 front))
-    ⊎ (TookText out out_now (handed_frames (front ++ next ∷ [])) × BrokeText notes notes_now notes_last (items_text 0 front) (handed_item_text (length (items_of front)) next))
+    (BrokeText out out_now out_last (handed_frames front) (handed_frames (next ∷ []))
+    × TookText notes notes_now (items_text 0 front))
+    ⊎ (TookText out out_now (handed_frames (front ++ next ∷ []))
+    × BrokeText notes notes_now notes_last (items_text 0 front) (handed_item_text
+    (length (items_of front)) next))
 
 -- a sink failed in the frame or in the line of one of the items, or in the line of the phase
-pub record DecodingBroke (out out_now : Standing) (out_last : Type 0) (notes notes_now : Standing) (notes_last : Type 0) (handed : List (Handed ItemValue)) : Type 0 where
+pub record DecodingBroke (out out_now : SinkState) (out_last : Type 0)
+    (notes notes_now : SinkState) (notes_last : Type 0) (handed : List
+    (Handed ItemValue)) : Type 0 where
   pub front : List (Handed ItemValue)
   pub next : Handed ItemValue
   pub rest : List (Handed ItemValue)
   pub split : handed ≡ front ++ next ∷ rest
   pub broke : DecodingBrokeAt out out_now out_last notes notes_now notes_last front next
-
--- the line of a window was taken, and the window counted
-pub record Traced (before now : Standing) (was count : ℕ) (block : WindowBlock) : Type 0 where
-  pub line : TookText before now (block_text was block)
-  pub counted : count ≡ raised_by 1 was
-
--- the same of a window, or the line of the phase was taken, and nothing counted
-abbrev pub TracedHanded : (before now : Standing) → (was count : ℕ) → Handed WindowBlock → Type 0
-TracedHanded before now was count (Phase skip cost) = (count ≡ was) × TookText before now (phase_text skip cost)
-TracedHanded before now was count (Item block) = Traced before now was count block
-
--- the same of all, one behind the other
-pub record TracedAll (before now : Standing) (was count : ℕ) (handed : List (Handed WindowBlock)) : Type 0 where
-  pub lines : TookText before now (blocks_text was handed)
-  pub counted : count ≡ was + length (items_of handed)
-
--- the sink failed in the line of the phase or of one of the windows
-pub record TraceBroke (before now : Standing) (is_last : Type 0) (handed : List (Handed WindowBlock)) : Type 0 where
-  pub front : List (Handed WindowBlock)
-  pub next : Handed WindowBlock
-  pub rest : List (Handed WindowBlock)
-  pub split : handed ≡ front ++ next ∷ rest
-  pub lines : BrokeText before now is_last (blocks_text 0 front) (handed_block_text (length (items_of front)) next)

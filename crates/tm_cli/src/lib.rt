@@ -1,39 +1,30 @@
-//! The program: the commands, the lines that they write, and the top call `run`, which carries every promise from the octets
-//! read to the octets written and the exit status. What reads takes its octets through one loop (`turns`), whatever the
-//! command; a command answers how it ended (`Ending`), and `run` the status.
+//! The program: the commands that send and receive frames, the lines that they write, and the top call `run`, which carries every
+//! promise from the octets read to the octets written and the exit status. Commands of the layers below come from tm_path_commands and
+//! tm_records. What each command writes is its meaning (`specs/Meanings.antt`); all that read are driven by tm_driver.
 #![tactic(auto)]
 
-mod certificate;
-mod certify;
-mod check;
 mod counts;
 mod decode;
 mod encode;
-mod ending;
 mod ends;
-mod erased;
-mod feed;
 mod generated;
-mod line;
 mod lines;
 mod link;
 mod obey;
 mod receiving;
 mod refusal;
-mod report;
 mod soak;
 mod soak_refusal;
 mod takers;
 mod top;
-mod trace;
-mod turns;
 mod unit_symbols;
-mod word;
 
 pub use counts::Counts;
-pub use ends::{end_report, end_trace};
+pub use ends::end_report;
 pub use generated::generate_unit;
-pub use lines::{block_line, blocks_line, frame_line, frames_line, phase_line};
-pub use takers::{Decoding, Report, Trace};
+pub use lines::{frame_line, frames_line};
+pub use takers::{Decoding, Report};
+pub use tm_driver::phase_line;
+pub use tm_path_commands::{Trace, block_line, blocks_line, end_trace};
 pub use tm_words::{HexText, Job, JobKind, WordsError, read_words};
 pub use top::run;

@@ -2,10 +2,11 @@
 ghost use Rattle.std.specs.Prelude.{◌≡◌, ◌⊎◌, ℕ, List, Option};
 ghost use Rattle.tm_config.specs.Accepted.{IsAccepted};
 ghost use Rattle.tm_config.specs.Configuration.{Configuration};
-ghost use Rattle.tm_cli.specs.Command.Command.{Decode};
-ghost use Rattle.tm_cli.specs.declared.ending.Ending.{Ending};
-ghost use Rattle.tm_cli.specs.Ending.{Ends, status_of};
+ghost use Rattle.tm_cli.specs.Decode.{decode_meaning};
 ghost use Rattle.tm_cli.specs.Link.{KeepsCleanLink, KeepsDisturbedLink, KeepsTurnedInput, KeepsTurnedSymbols};
+ghost use Rattle.tm_driver.specs.Meaning.{Ends, taken_by};
+ghost use Rattle.tm_driver.specs.Statuses.{status_of};
+ghost use Rattle.tm_driver.specs.declared.ending.Ending.{Ending};
 
 use tm_channel::{clean_law, disturbed_law, items_law, polarity_law, received_law};
 use tm_inner::{clean_inner_law, inner_law};
@@ -15,16 +16,16 @@ use tm_phase::phase_law;
 /// too. It does nothing.
 pub fn link_law()
     ensures clean { (ending : Ending) (status : ℕ) (c : Configuration) (octets : List ℕ) (taken taken_now noted noted_now : Option (List ℕ))
-        → IsAccepted c → status ≡ status_of ending → Ends ending Decode c octets taken taken_now noted noted_now → (status ≡ 0) ⊎ (status ≡ 1)
+        → IsAccepted c → status ≡ status_of ending → Ends ending (decode_meaning c) c.limit octets (taken_by taken taken_now noted noted_now) → (status ≡ 0) ⊎ (status ≡ 1)
         → KeepsCleanLink status c octets taken taken_now noted noted_now }
     ensures disturbed { (ending : Ending) (status : ℕ) (c : Configuration) (octets : List ℕ) (taken taken_now noted noted_now : Option (List ℕ))
-        → IsAccepted c → status ≡ status_of ending → Ends ending Decode c octets taken taken_now noted noted_now → (status ≡ 0) ⊎ (status ≡ 1)
+        → IsAccepted c → status ≡ status_of ending → Ends ending (decode_meaning c) c.limit octets (taken_by taken taken_now noted noted_now) → (status ≡ 0) ⊎ (status ≡ 1)
         → KeepsDisturbedLink status c octets taken taken_now noted noted_now }
     ensures turned_input { (ending : Ending) (status : ℕ) (c : Configuration) (octets : List ℕ) (taken taken_now noted noted_now : Option (List ℕ))
-        → IsAccepted c → status ≡ status_of ending → Ends ending Decode c octets taken taken_now noted noted_now → (status ≡ 0) ⊎ (status ≡ 1)
+        → IsAccepted c → status ≡ status_of ending → Ends ending (decode_meaning c) c.limit octets (taken_by taken taken_now noted noted_now) → (status ≡ 0) ⊎ (status ≡ 1)
         → KeepsTurnedInput c octets taken taken_now noted noted_now }
     ensures turned_symbols { (ending : Ending) (status : ℕ) (c : Configuration) (octets : List ℕ) (taken taken_now noted noted_now : Option (List ℕ))
-        → IsAccepted c → status ≡ status_of ending → Ends ending Decode c octets taken taken_now noted noted_now → (status ≡ 0) ⊎ (status ≡ 1)
+        → IsAccepted c → status ≡ status_of ending → Ends ending (decode_meaning c) c.limit octets (taken_by taken taken_now noted noted_now) → (status ≡ 0) ⊎ (status ≡ 1)
         → KeepsTurnedSymbols status c octets taken taken_now noted noted_now }
 {
     items_law();

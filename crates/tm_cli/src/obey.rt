@@ -1,27 +1,23 @@
 // Does what a command asks for.
 ghost use Rattle.std.specs.Prelude.{◌≡◌, ◌⊎◌, ℕ, ◌+◌, ◌≤◌, List, length, true, false, None, IfOk, OnErr};
-ghost use Rattle.std.specs.Io.KnownBytes.{IsAtEnd};
-ghost use Rattle.tm_base.specs.Outside.{Rose};
 ghost use Rattle.tm_base.specs.Written.{Gave};
 ghost use Rattle.tm_cli.specs.Command.{command_of, reads};
-ghost use Rattle.tm_cli.specs.Ending.{Ends};
-ghost use Rattle.tm_cli.specs.Faults.{OneFailed};
+ghost use Rattle.tm_cli.specs.Meanings.{meaning_of};
 ghost use Rattle.tm_cli.specs.Refusal.{refusal_of_command};
+ghost use Rattle.tm_driver.specs.Courses.{SinkCourse, SinksCourse, SourceCourse, sink_state, source_state};
+ghost use Rattle.tm_driver.specs.Meaning.{Ends, taken_by};
+ghost use Rattle.tm_driver.specs.Statuses.{is_sink_fault};
 
-use crate::certify::certify;
-use crate::check::check;
-use crate::decode::decode;
+use crate::decode::{decode, report};
 use crate::encode::encode;
-use crate::ending::Ending;
-use crate::erased::erased;
-use crate::report::report;
 use crate::soak::soak;
-use crate::trace::trace;
-use crate::word::word;
 use std::alloc::Global;
 use std::thread::Threads;
 use tm_base::{NoMemory, Sink, Source};
 use tm_channel::Config;
+use tm_driver::Ending;
+use tm_path_commands::{certify, check, trace};
+use tm_records::{erased, word};
 use tm_words::{Job, JobKind};
 
 /// Does what a command asks for, and answers how it ended. Where there is not enough memory, nothing is read or written.
@@ -35,27 +31,30 @@ pub fn obey<R: Threads + Sync, S: Source, O: Sink, N: Sink>(
     notes: &mut N,
 ) -> Result<Ending, NoMemory>
     requires { refusal_of_command config.now (command_of job.now) ≡ None }
-    ensures ends { IfOk result (λ ending. (octets : List ℕ) × Gave (S.given source.old) (S.given source.new) (S.left source.old) (S.left source.new) octets
+    ensures ends { IfOk result (λ ending. (octets : List ℕ)
+        × Gave (S.given source.old) (S.given source.new) (S.left source.old) (S.left source.new) octets
         × (length octets ≤ config.now.limit + 1)
-        × Ends ending (command_of job.now) config.now octets (O.taken out.old) (O.taken out.new) (N.taken notes.old) (N.taken notes.new)) }
+        × Ends ending (meaning_of (command_of job.now) config.now) config.now.limit octets
+        (taken_by (O.taken out.old) (O.taken out.new) (N.taken notes.old) (N.taken notes.new))) }
     ensures memory { OnErr result ((source.new ≡ source.old) × (out.new ≡ out.old) × (notes.new ≡ notes.old)) }
     ensures unread { reads (command_of job.now) ≡ false → (source.new ≡ source.old) × (notes.new ≡ notes.old) }
-    ensures ended { reads (command_of job.now) ≡ true → IfOk result (λ ending. (ending ≡ Ending.Done) ⊎ (ending ≡ Ending.Bad) ⊎ (ending ≡ Ending.LeftOver) → S.ended source.new ≡ true) }
-    ensures at_end { reads (command_of job.now) ≡ true → IfOk result (λ ending. (ending ≡ Ending.Done) ⊎ (ending ≡ Ending.Bad) ⊎ (ending ≡ Ending.LeftOver) → IsAtEnd (S.left source.new)) }
-    ensures unended { IfOk result (λ ending. (ending ≡ Ending.SourceFault) ⊎ (ending ≡ Ending.PastLimit) ⊎ (ending ≡ Ending.BadWindow) → S.ended source.new ≡ S.ended source.old) }
+    ensures source { reads (command_of job.now) ≡ true → IfOk result (λ ending. SourceCourse ending
+        (source_state (S.given source.old) (S.left source.old) (S.ended source.old) (S.faults source.old))
+        (source_state (S.given source.new) (S.left source.new) (S.ended source.new) (S.faults source.new))
+        (S.is_last source.new)) }
+    ensures sinks { IfOk result (λ ending. SinksCourse (is_sink_fault ending)
+        (sink_state (O.taken out.old) (O.faults out.old)) (sink_state (O.taken out.new) (O.faults out.new))
+        (O.is_last out.new)
+        (sink_state (N.taken notes.old) (N.faults notes.old))
+        (sink_state (N.taken notes.new) (N.faults notes.new)) (N.is_last notes.new)) }
+    ensures stops { job.now.kind ≡ JobKind.Encode → IfOk result (λ ending. ending ≡ Ending.SinkFault
+        → (SinkCourse true (sink_state (O.taken out.old) (O.faults out.old))
+        (sink_state (O.taken out.new) (O.faults out.new)) (O.is_last out.new)
+        × (S.ended source.new ≡ S.ended source.old) × (notes.new ≡ notes.old))
+        ⊎ (SinkCourse true (sink_state (N.taken notes.old) (N.faults notes.old))
+        (sink_state (N.taken notes.new) (N.faults notes.new)) (N.is_last notes.new)
+        × (S.ended source.new ≡ true) × (O.faults out.new ≡ O.faults out.old))) }
     ensures not_bad { job.now.kind ≡ JobKind.Check → IfOk result (λ ending. ending ≡ Ending.Bad → ⊥) }
-    ensures source_fault { IfOk result (λ ending. ending ≡ Ending.SourceFault → Rose (S.faults source.old) (S.faults source.new) (S.is_last source.new)) }
-    ensures source_later { S.faults source.old ≤ S.faults source.new }
-    ensures source_same { IfOk result (λ ending. (ending ≡ Ending.SourceFault → ⊥) → S.faults source.new ≡ S.faults source.old) }
-    ensures sink_fault { IfOk result (λ ending. ending ≡ Ending.SinkFault → OneFailed (O.faults out.old) (O.faults out.new) (O.is_last out.new)
-        (N.faults notes.old) (N.faults notes.new) (N.is_last notes.new)) }
-    ensures encode_stops { IfOk result (λ ending. ending ≡ Ending.SinkFault → job.now.kind ≡ JobKind.Encode
-        → (Rose (O.faults out.old) (O.faults out.new) (O.is_last out.new) × (S.ended source.new ≡ S.ended source.old) × (notes.new ≡ notes.old))
-        ⊎ (Rose (N.faults notes.old) (N.faults notes.new) (N.is_last notes.new) × (S.ended source.new ≡ true) × (O.faults out.new ≡ O.faults out.old))) }
-    ensures out_later { O.faults out.old ≤ O.faults out.new }
-    ensures out_same { IfOk result (λ ending. (ending ≡ Ending.SinkFault → ⊥) → O.faults out.new ≡ O.faults out.old) }
-    ensures notes_later { N.faults notes.old ≤ N.faults notes.new }
-    ensures notes_same { IfOk result (λ ending. (ending ≡ Ending.SinkFault → ⊥) → N.faults notes.new ≡ N.faults notes.old) }
 {
     match job.kind {
         JobKind::Encode => Ok(encode(config, source, out, notes)),

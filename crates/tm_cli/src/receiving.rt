@@ -1,22 +1,31 @@
-// Receives the soft octets of a source: hands over their phase, where it is to be found, and the items that are found in them.
-ghost use Rattle.std.specs.Prelude.{◌≡◌, ◌⊎◌, ℕ, ◌+◌, ◌≤◌, List, [], ◌++◌, length, true, false, IfOk, OnErr};
-ghost use Rattle.std.specs.Io.KnownBytes.{IsAtEnd};
+// Receives the soft octets of a source: hands over their phase, where it is to be found, the items that are found in them, and the end of
+// their report.
+ghost use Rattle.std.specs.Prelude.{◌≡◌, ℕ, ◌+◌, ◌≤◌, Bool, List, length, IfOk, OnErr};
 ghost use Rattle.tm_base.specs.Handed.{on_handed};
-ghost use Rattle.tm_base.specs.Outside.{Rose};
-ghost use Rattle.tm_base.specs.Takers.{HandedOver, HandedPart};
 ghost use Rattle.tm_base.specs.Written.{Gave};
 ghost use Rattle.tm_config.specs.Accepted.{IsAccepted};
-ghost use Rattle.tm_config.specs.Configuration.{Configuration};
-ghost use Rattle.tm_channel.specs.OctetReceiving.{StandsFor};
-ghost use Rattle.tm_cli.specs.Reading.{FedUpTo};
-ghost use Rattle.tm_cli.specs.Receiving.{HandedDue, HandedFirst, ReceivedUpTo};
+ghost use Rattle.tm_cli.specs.Receiving.{ReceivedTo};
+ghost use Rattle.tm_driver.specs.Courses.{SourceCourse, source_state};
 
-use crate::feed::Feed;
-use crate::turns::{Pumped, pump};
 use std::alloc::Global;
 use std::thread::Threads;
 use tm_base::{Failed, NoMemory, Source};
 use tm_channel::{Config, ItemTaker, OpenGate, Receiver};
+use tm_driver::{Ending, Feed, Outcome, Stop, drive};
+
+/// Takes the end of a report, behind its items.
+pub trait ReportEnd {
+    /// The end of the report of so many bits was written, and whether no column was beyond repair.
+    ghost told: { Self → ℕ → Bool → Self → Type 0 };
+
+    /// A sink failed in it.
+    ghost broke_end: { Self → ℕ → Self → Type 0 };
+
+    /// Writes the end of the report of so many bits. Answers whether no column was beyond repair.
+    fn end(&mut self, bits: u64) -> Result<bool, Failed>
+        ensures told { IfOk result (λ is_good. told self.old bits is_good self.new) }
+        ensures broke { OnErr result (broke_end self.old bits self.new) };
+}
 
 // A receiver, its threads, and what takes what it hands over.
 struct Receiving<'a, 'b, 'c, R, T> {
@@ -25,26 +34,32 @@ struct Receiving<'a, 'b, 'c, R, T> {
     taker: &'c mut T,
 }
 
-impl<'a, 'b, 'c, R: Threads + Sync, T: ItemTaker> Feed for Receiving<'a, 'b, 'c, R, T> {
-    ghost use Rattle.std.specs.Prelude.{◌≡◌, false, refl};
+// What the sinks of the taker went through follows from what it took.
+impl<'a, 'b, 'c, R: Threads + Sync, T: ItemTaker + ReportEnd> Feed for Receiving<'a, 'b, 'c, R, T> {
+    ghost use Rattle.std.specs.Prelude.{◌≡◌, ◌⊎◌, ◌++◌, Bool, false, if◌then◌else◌, ⊤, refl};
     ghost use Rattle.tm_base.specs.Handed.{on_handed};
     ghost use Rattle.std.specs.Thread.{IsSync};
     ghost use Rattle.std.proofs.Common.{◌∙◌, subst, sym, append_assoc};
     ghost use Rattle.std.proofs.lemmas.List.{append-nil};
+    ghost use Rattle.tm_base.specs.Takers.{HandedOver, HandedPart};
+    ghost use Rattle.tm_cli.specs.Receiving.{HandedDue, HandedFirst, Receives, ReceivesPart, HandedLast, HandedLastPart};
+    ghost use Rattle.tm_driver.specs.declared.ending.Outcome.TheVariants.{Done, Bad};
+    ghost use Rattle.tm_driver.specs.declared.ending.Stop.TheVariants.{SinkFault};
 
-    ghost fed = { λ a b octets. (c : Configuration) (start : T) (given : List ℕ)
-        → HandedDue c a.receiver.now (λ handed. HandedOver (on_handed T.took_phase T.took) start handed a.taker.now) given
-        → HandedDue c b.receiver.now (λ handed. HandedOver (on_handed T.took_phase T.took) start handed b.taker.now) (given ++ octets) };
+    ghost fed = { λ a b octets. Receives (on_handed T.took_phase T.took) a.receiver.now b.receiver.now a.taker.now b.taker.now octets };
 
-    ghost broke = { λ a b octets. (c : Configuration) (start : T) (given : List ℕ)
-        → HandedDue c a.receiver.now (λ handed. HandedOver (on_handed T.took_phase T.took) start handed a.taker.now) given
-        → HandedFirst c (λ handed. HandedPart (on_handed T.took_phase T.took) (on_handed T.broke_phase T.broke) start handed b.taker.now) (given ++ octets) };
+    ghost stopped = { λ a b octets stop. (stop ≡ SinkFault)
+        × ReceivesPart (on_handed T.took_phase T.took) (on_handed T.broke_phase T.broke) a.receiver.now a.taker.now b.taker.now octets };
+
+    ghost finished = { λ a b outcome. (is_good : Bool) × (outcome ≡ (if is_good then Done else Bad))
+        × HandedLast (on_handed T.took_phase T.took) a.receiver.now a.taker.now (λ middle bits. T.told middle bits is_good b.taker.now) };
+
+    ghost failed = { λ a b. HandedLastPart (on_handed T.took_phase T.took) (on_handed T.broke_phase T.broke) a.receiver.now a.taker.now b.taker.now
+        ⊎ HandedLast (on_handed T.took_phase T.took) a.receiver.now a.taker.now (λ middle bits. T.broke_end middle bits b.taker.now) };
+
+    ghost sinks = { λ a b has_failed. ⊤ };
 
     ghost same = { λ a b. (b.receiver.ghost_name ≡ a.receiver.ghost_name) × (b.taker.ghost_name ≡ a.taker.ghost_name) };
-
-    ghost faults = { λ r. T.faults r.taker.now };
-
-    ghost is_last = { λ r. T.is_last r.taker.now };
 
     ghost is_ready = { λ r. IsSync R.row × (r.receiver.now.has_stopped ≡ false) };
 
@@ -57,134 +72,71 @@ impl<'a, 'b, 'c, R: Threads + Sync, T: ItemTaker> Feed for Receiving<'a, 'b, 'c,
     ghost fed_more = { λ a b last first second p q c start given was. subst (HandedDue c last.receiver.now (λ handed. HandedOver (on_handed T.took_phase T.took) start handed last.taker.now))
         (append_assoc given first second) (q c start (given ++ first) (p c start given was)) };
 
-    ghost broke_more = { λ a b last first second p q c start given was. subst (HandedFirst c (λ handed. HandedPart (on_handed T.took_phase T.took) (on_handed T.broke_phase T.broke) start handed last.taker.now))
-        (append_assoc given first second) (q c start (given ++ first) (p c start given was)) };
+    ghost stopped_more = { λ a b last first second stop p q. (
+      q.0,
+      λ c start given was.
+          subst (HandedFirst c (λ handed. HandedPart (on_handed T.took_phase T.took) (on_handed T.broke_phase T.broke) start handed last.taker.now))
+          (append_assoc given first second) (q.1 c start (given ++ first) (p c start given was)),
+    ) };
 
-    fn feed(&mut self, piece: &[u8]) -> Result<(), Failed> {
+    ghost sinks_none = { λ a. tt };
+
+    ghost sinks_more = { λ a b c has_failed p q. tt };
+
+    fn feed(&mut self, piece: &[u8]) -> Result<(), Stop> {
         match self.receiver.feed(self.rt, piece, self.taker, &OpenGate) {
             Ok(()) => Ok(()),
+            Err(_) => Err(Stop::SinkFault),
+        }
+    }
+
+    fn finish(&mut self) -> Result<Outcome, Failed> {
+        match self.receiver.finish(self.rt, self.taker, &OpenGate) {
+            Ok(bits) => match self.taker.end(bits) {
+                Ok(true) => Ok(Outcome::Done),
+                Ok(false) => Ok(Outcome::Bad),
+                Err(Failed) => Err(Failed),
+            },
             Err(_) => Err(Failed),
         }
     }
 }
 
-/// How receiving ended.
-#[derive(Clone, Copy, Debug, PartialEq, Eq)]
-pub enum Received {
-    /// The input was read to its end, and all is handed over. So many bits were received.
-    Ended(u64),
-    /// The source failed.
-    SourceFault,
-    /// The taker failed.
-    TakerFault,
-    /// The source gave an octet past the limit.
-    PastLimit,
-}
-
-// Hands over what is due for what the source gives, up to the limit. Answers how reading ended.
-fn receive_pieces<R: Threads + Sync, S: Source, T: ItemTaker>(
-    rt: &R,
-    config: &Config,
-    receiver: &mut Receiver,
-    source: &mut S,
-    taker: &mut T,
-) -> Pumped
-    requires ready { receiver.old.has_stopped ≡ false }
-    requires config { receiver.old.config ≡ config.now }
-    requires new { StandsFor receiver.old [] [] }
-    ensures handed { (octets : List ℕ) × Gave (S.given source.old) (S.given source.new) (S.left source.old) (S.left source.new) octets
-        × (length octets ≤ config.now.limit + 1)
-        × FedUpTo (HandedDue config.now receiver.new (λ handed. HandedOver (on_handed T.took_phase T.took) taker.old handed taker.new))
-        (HandedFirst config.now (λ handed. HandedPart (on_handed T.took_phase T.took) (on_handed T.broke_phase T.broke) taker.old handed taker.new)) config.now.limit result octets }
-    ensures accepted { IsAccepted config.now }
-    ensures ready { result ≡ Pumped.Ended → receiver.new.has_stopped ≡ false }
-    ensures ended { result ≡ Pumped.Ended → S.ended source.new ≡ true }
-    ensures at_end { result ≡ Pumped.Ended → IsAtEnd (S.left source.new) }
-    ensures unended { (result ≡ Pumped.Ended → ⊥) → S.ended source.new ≡ S.ended source.old }
-    ensures source_fault { result ≡ Pumped.SourceFault → Rose (S.faults source.old) (S.faults source.new) (S.is_last source.new) }
-    ensures source_later { S.faults source.old ≤ S.faults source.new }
-    ensures source_same { (result ≡ Pumped.SourceFault → ⊥) → S.faults source.new ≡ S.faults source.old }
-    ensures taker_fault { result ≡ Pumped.FeedFault → Rose (T.faults taker.old) (T.faults taker.new) (T.is_last taker.new) }
-    ensures taker_later { T.faults taker.old ≤ T.faults taker.new }
-    ensures taker_same { (result ≡ Pumped.FeedFault → ⊥) → T.faults taker.new ≡ T.faults taker.old }
-{
-    let mut receiving = Receiving {
-        rt,
-        receiver,
-        taker,
-    };
-    let end = pump(config.limit(), source, &mut receiving);
-    let Receiving {
-        rt: _,
-        receiver: _,
-        taker: _,
-    } = receiving;
-    end
-}
-
-// Hands over what is due for what the source gives, up to the limit, and at the end of the input what is left.
-fn receive_input<R: Threads + Sync, S: Source, T: ItemTaker>(
-    rt: &R,
-    config: &Config,
-    receiver: &mut Receiver,
-    source: &mut S,
-    taker: &mut T,
-) -> Received
-    requires ready { receiver.old.has_stopped ≡ false }
-    requires config { receiver.old.config ≡ config.now }
-    requires new { StandsFor receiver.old [] [] }
-    ensures received { (octets : List ℕ) × Gave (S.given source.old) (S.given source.new) (S.left source.old) (S.left source.new) octets
-        × (length octets ≤ config.now.limit + 1)
-        × ReceivedUpTo (λ handed. HandedOver (on_handed T.took_phase T.took) taker.old handed taker.new) (λ handed. HandedPart (on_handed T.took_phase T.took) (on_handed T.broke_phase T.broke) taker.old handed taker.new) config.now result octets }
-    ensures accepted { IsAccepted config.now }
-    ensures ended { (count : ℕ) → result ≡ Received.Ended count → S.ended source.new ≡ true }
-    ensures at_end { (count : ℕ) → result ≡ Received.Ended count → IsAtEnd (S.left source.new) }
-    ensures unended { (result ≡ Received.SourceFault) ⊎ (result ≡ Received.PastLimit) → S.ended source.new ≡ S.ended source.old }
-    ensures source_fault { result ≡ Received.SourceFault → Rose (S.faults source.old) (S.faults source.new) (S.is_last source.new) }
-    ensures source_later { S.faults source.old ≤ S.faults source.new }
-    ensures source_same { (result ≡ Received.SourceFault → ⊥) → S.faults source.new ≡ S.faults source.old }
-    ensures taker_fault { result ≡ Received.TakerFault → Rose (T.faults taker.old) (T.faults taker.new) (T.is_last taker.new) }
-    ensures taker_later { T.faults taker.old ≤ T.faults taker.new }
-    ensures taker_same { (result ≡ Received.TakerFault → ⊥) → T.faults taker.new ≡ T.faults taker.old }
-{
-    match receive_pieces(rt, config, receiver, source, taker) {
-        Pumped::Ended => match receiver.finish(rt, taker, &OpenGate) {
-            Ok(count) => Received::Ended(count),
-            Err(_) => Received::TakerFault,
-        },
-        Pumped::SourceFault => Received::SourceFault,
-        Pumped::FeedFault => Received::TakerFault,
-        Pumped::PastLimit => Received::PastLimit,
-    }
-}
-
-/// Hands over the symbol phase of the soft octets of a source, where it is to be found, and their items, up to the limit in
-/// octets. After a fault of the source or of the taker nothing more is read or handed over. It takes all its memory before it
-/// reads; where there is not enough, it reads nothing.
-pub fn receive<R: Threads + Sync, S: Source, T: ItemTaker>(
+/// Hands over the symbol phase of the soft octets of a source, where it is to be found, their items, up to the limit in
+/// octets, and at the end of the input the end of their report. After a fault of the source or of the taker nothing more is read or handed
+/// over. It takes all its memory before it reads; where there is not enough, it reads nothing.
+pub fn receive<R: Threads + Sync, S: Source, T: ItemTaker + ReportEnd>(
     rt: &R,
     alloc: Global,
     config: &Config,
     source: &mut S,
     taker: &mut T,
-) -> Result<Received, NoMemory>
-    ensures received { IfOk result (λ received. (octets : List ℕ) × Gave (S.given source.old) (S.given source.new) (S.left source.old) (S.left source.new) octets
+) -> Result<Ending, NoMemory>
+    ensures received { IfOk result (λ ending. (octets : List ℕ)
+        × Gave (S.given source.old) (S.given source.new) (S.left source.old) (S.left source.new) octets
         × (length octets ≤ config.now.limit + 1)
-        × ReceivedUpTo (λ handed. HandedOver (on_handed T.took_phase T.took) taker.old handed taker.new) (λ handed. HandedPart (on_handed T.took_phase T.took) (on_handed T.broke_phase T.broke) taker.old handed taker.new) config.now received octets) }
+        × ReceivedTo (on_handed T.took_phase T.took) (on_handed T.broke_phase T.broke) T.told T.broke_end config.now ending octets taker.old taker.new) }
     ensures memory { OnErr result ((source.new ≡ source.old) × (taker.new ≡ taker.old)) }
-    ensures accepted { IfOk result (λ _. IsAccepted config.now) }
-    ensures ended { IfOk result (λ received. (count : ℕ) → received ≡ Received.Ended count → S.ended source.new ≡ true) }
-    ensures at_end { IfOk result (λ received. (count : ℕ) → received ≡ Received.Ended count → IsAtEnd (S.left source.new)) }
-    ensures unended { IfOk result (λ received. (received ≡ Received.SourceFault) ⊎ (received ≡ Received.PastLimit) → S.ended source.new ≡ S.ended source.old) }
-    ensures source_fault { IfOk result (λ received. received ≡ Received.SourceFault → Rose (S.faults source.old) (S.faults source.new) (S.is_last source.new)) }
-    ensures source_later { S.faults source.old ≤ S.faults source.new }
-    ensures source_same { IfOk result (λ received. (received ≡ Received.SourceFault → ⊥) → S.faults source.new ≡ S.faults source.old) }
-    ensures taker_fault { IfOk result (λ received. received ≡ Received.TakerFault → Rose (T.faults taker.old) (T.faults taker.new) (T.is_last taker.new)) }
-    ensures taker_later { T.faults taker.old ≤ T.faults taker.new }
-    ensures taker_same { IfOk result (λ received. (received ≡ Received.TakerFault → ⊥) → T.faults taker.new ≡ T.faults taker.old) }
+    ensures accepted { IsAccepted config.now }
+    ensures source { IfOk result (λ ending. SourceCourse ending
+        (source_state (S.given source.old) (S.left source.old) (S.ended source.old) (S.faults source.old))
+        (source_state (S.given source.new) (S.left source.new) (S.ended source.new) (S.faults source.new))
+        (S.is_last source.new)) }
 {
+    let limit = config.limit();
     let Ok(mut receiver) = Receiver::open(alloc, *config) else {
         return Err(NoMemory);
     };
-    Ok(receive_input(rt, config, &mut receiver, source, taker))
+    let mut receiving = Receiving {
+        rt,
+        receiver: &mut receiver,
+        taker,
+    };
+    let ending = drive(limit, source, &mut receiving);
+    let Receiving {
+        rt: _,
+        receiver: _,
+        taker: _,
+    } = receiving;
+    Ok(ending)
 }

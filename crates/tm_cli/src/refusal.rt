@@ -1,5 +1,8 @@
 // Why the words are refused, and what they ask for.
-ghost use Rattle.std.specs.Prelude.{◌≡◌, ◌≤◌, length, map, string_bytes, Some, None, ℕ};
+ghost use Rattle.std.specs.Prelude.{◌≡◌, ◌≤◌, length, map, string_bytes, Some, None, ℕ, OnOk, OnErr};
+ghost use Rattle.tm_base.specs.Outside.{HasCause};
+ghost use Rattle.tm_base.specs.Written.{Wrote, WroteFront};
+ghost use Rattle.tm_cli.specs.Lines.{refusal_text};
 ghost use Rattle.tm_config.specs.Configuration.{configuration_of, Configuration};
 ghost use Rattle.tm_config.specs.Accepted.{IsAccepted};
 ghost use Rattle.tm_words.specs.declared.job.Job.{Job};
@@ -7,9 +10,11 @@ ghost use Rattle.tm_cli.specs.Command.{command_of};
 ghost use Rattle.tm_cli.specs.Refusal.{reason_of, reason_of_value, refusal_of, refusal_of_command, IsAsked};
 
 use crate::soak_refusal::{SoakRefusal, test_soak};
-use crate::word::{WordRefusal, test_word};
 use std::alloc::Global;
+use tm_base::{Failed, Sink};
 use tm_channel::{Config, ConfigError};
+use tm_driver::Line;
+use tm_records::{WordRefusal, test_word};
 use tm_words::{Job, JobKind, WordsError, read_words};
 
 /// Why the words are refused.
@@ -116,4 +121,17 @@ pub fn ask(alloc: Global, words: &[String]) -> Asked
         None => Asked::Command(job, config),
         Some(why) => Asked::Refused(why),
     }
+}
+
+/// Writes why the words are refused.
+pub fn refusal_line<N: Sink>(notes: &mut N, why: Refusal) -> Result<(), Failed>
+    ensures ok { OnOk result (Wrote (N.taken notes.old) (N.taken notes.new) (refusal_text (reason_of why))) }
+    ensures err { OnErr result (WroteFront (N.taken notes.old) (N.taken notes.new) (refusal_text (reason_of why))) }
+    ensures cause { HasCause (N.faults notes.old) (N.faults notes.new) (N.is_last notes.new) result }
+{
+    let mut line = Line::new();
+    line.text(b"refused: ");
+    line.text(why.reason());
+    line.text(b"\n");
+    line.put(notes)
 }

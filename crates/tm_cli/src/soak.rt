@@ -1,8 +1,6 @@
 // The command `soak`: generated frames are sent, and what is received of them is counted.
-ghost use Rattle.std.specs.Prelude.{◌≡◌, ◌⊎◌, ◌+◌, ◌*◌, ◌^◌, ◌≤◌, ℕ, List, [], ◌++◌, length, false, None, IfOk, OnErr};
-ghost use Rattle.tm_base.specs.Outside.{Rose};
+ghost use Rattle.std.specs.Prelude.{◌≡◌, ◌⊎◌, ◌+◌, ◌*◌, ◌^◌, ◌≤◌, ℕ, List, [], ◌++◌, length, false, Option, None, IfOk, OnErr};
 ghost use Rattle.tm_base.specs.Takers.{HandedOver};
-ghost use Rattle.tm_base.specs.Written.{Wrote, WroteFront};
 ghost use Rattle.tm_config.specs.Accepted.{IsAccepted};
 ghost use Rattle.tm_config.specs.Configuration.{Configuration};
 ghost use Rattle.tm_inner.specs.Sending.{StandsFor as SenderStandsFor};
@@ -12,14 +10,15 @@ ghost use Rattle.tm_channel.specs.Handing.{AreReceived};
 ghost use Rattle.tm_channel.specs.Items.{ItemValue};
 ghost use Rattle.tm_channel.specs.OctetReceiving.{StandsFor};
 ghost use Rattle.tm_cli.specs.Generated.{generated};
-ghost use Rattle.tm_cli.specs.Output.{HasBad};
 ghost use Rattle.tm_cli.specs.Receiving.{HandedDue};
-ghost use Rattle.tm_cli.specs.Soak.{soak_refusal, CountedHanded, counts_of, IsSoakLine};
+ghost use Rattle.tm_cli.specs.Soak.{soak_meaning, soak_refusal, CountedHanded, counts_of};
 ghost use Rattle.tm_cli.specs.Taken.{no_counts};
 ghost use Rattle.tm_cli.specs.declared.counts.Counts.{Counts};
+ghost use Rattle.tm_driver.specs.Courses.{SinkCourse, sink_state};
+ghost use Rattle.tm_driver.specs.Meaning.{Ends, taken_by};
+ghost use Rattle.tm_driver.specs.Statuses.{is_sink_fault};
 
 use crate::counts::Counts;
-use crate::ending::Ending;
 use crate::generated::generate_unit;
 use crate::lines::frames_line;
 use crate::unit_symbols::UnitSymbols;
@@ -28,6 +27,7 @@ use std::alloc::Global;
 use std::thread::Threads;
 use tm_base::{Failed, NoMemory, Sink};
 use tm_channel::{Config, InnerSender, Item, ItemTaker, OpenGate, Receiver, received_law};
+use tm_driver::Ending;
 
 // The most octets of a unit.
 const MOST: usize = 2044;
@@ -73,11 +73,14 @@ fn pass_unit<R: Threads + Sync>(
     requires ready { receiver.old.has_stopped ≡ false }
     ensures fresh { sender.new.has_failed ≡ false }
     ensures config { sender.new.config ≡ sender.old.config }
-    ensures stands { (given : List ℕ) → SenderStandsFor sender.old given → SenderStandsFor sender.new (given ++ unit.now) }
+    ensures stands { (given : List ℕ) → SenderStandsFor sender.old given
+        → SenderStandsFor sender.new (given ++ unit.now) }
     ensures ready { receiver.new.has_stopped ≡ false }
     ensures handed { (c : Configuration) (start : Counts) (given : List ℕ) → SenderStandsFor sender.old given
-        → HandedDue c receiver.old (λ handed. HandedOver CountedHanded start handed counts.old) (symbols_of_octets sender.old.config given)
-        → HandedDue c receiver.new (λ handed. HandedOver CountedHanded start handed counts.new) (symbols_of_octets sender.old.config (given ++ unit.now)) }
+        → HandedDue c receiver.old
+        (λ handed. HandedOver CountedHanded start handed counts.old) (symbols_of_octets sender.old.config given)
+        → HandedDue c receiver.new
+        (λ handed. HandedOver CountedHanded start handed counts.new) (symbols_of_octets sender.old.config (given ++ unit.now)) }
 {
     let mut symbols = UnitSymbols::new();
     let sent = sender.push(unit, &mut symbols);
@@ -103,7 +106,8 @@ fn pass_frames<R: Threads + Sync>(
     ensures accepted { IsAccepted config.now }
     ensures few { length (generated config.now seed frames hits) ≤ 2 ^ 15 * frames }
     ensures ready { receiver.new.has_stopped ≡ false }
-    ensures handed { HandedDue config.now receiver.new (λ handed. HandedOver CountedHanded no_counts handed result) (generated config.now seed frames hits) }
+    ensures handed { HandedDue config.now receiver.new
+        (λ handed. HandedOver CountedHanded no_counts handed result) (generated config.now seed frames hits) }
 {
     let mut draws = Lcg64Xsh32::new(seed, 0);
     let mut sender = InnerSender::new(config);
@@ -132,7 +136,8 @@ fn count_frames<R: Threads + Sync>(
     requires config { receiver.old.config ≡ config.now }
     requires new { StandsFor receiver.old [] [] }
     ensures accepted { IsAccepted config.now }
-    ensures counted { (handed : List (Handed ItemValue)) × AreReceived config.now (generated config.now seed frames hits) handed result.1
+    ensures counted { (handed : List (Handed ItemValue))
+        × AreReceived config.now (generated config.now seed frames hits) handed result.1
         × (result.0 ≡ counts_of (items_of handed)) }
 {
     let mut counts = pass_frames(rt, config, seed, frames, hits, receiver);
@@ -153,16 +158,14 @@ pub fn soak<R: Threads + Sync, O: Sink>(
     out: &mut O,
 ) -> Result<Ending, NoMemory>
     requires { soak_refusal config.now seed frames hits ≡ None }
-    ensures answers { IfOk result (λ ending. (ending ≡ Ending.Done) ⊎ (ending ≡ Ending.Bad) ⊎ (ending ≡ Ending.SinkFault)) }
+    ensures ends { IfOk result (λ ending. (noted : Option (List ℕ))
+        → Ends ending (soak_meaning seed frames hits config.now) config.now.limit []
+        (taken_by (O.taken out.old) (O.taken out.new) noted noted)) }
     ensures memory { OnErr result (out.new ≡ out.old) }
-    ensures line { IfOk result (λ ending. (line : List ℕ) × IsSoakLine config.now seed frames hits line
-        × WroteFront (O.taken out.old) (O.taken out.new) line
-        × ((ending ≡ Ending.SinkFault → ⊥) → Wrote (O.taken out.old) (O.taken out.new) line)) }
-    ensures done { IfOk result (λ ending. ending ≡ Ending.Done → HasBad config.now (generated config.now seed frames hits) → ⊥) }
-    ensures bad { IfOk result (λ ending. ending ≡ Ending.Bad → HasBad config.now (generated config.now seed frames hits)) }
-    ensures fault { IfOk result (λ ending. ending ≡ Ending.SinkFault → Rose (O.faults out.old) (O.faults out.new) (O.is_last out.new)) }
-    ensures later { O.faults out.old ≤ O.faults out.new }
-    ensures same { IfOk result (λ ending. (ending ≡ Ending.SinkFault → ⊥) → O.faults out.new ≡ O.faults out.old) }
+    ensures answers { IfOk result (λ ending. (ending ≡ Ending.Done) ⊎ (ending ≡ Ending.Bad) ⊎ (ending ≡ Ending.SinkFault)) }
+    ensures sink { IfOk result (λ ending. SinkCourse (is_sink_fault ending)
+        (sink_state (O.taken out.old) (O.faults out.old)) (sink_state (O.taken out.new) (O.faults out.new))
+        (O.is_last out.new)) }
 {
     received_law();
     let Ok(mut receiver) = Receiver::open(alloc, *config) else {

@@ -1,26 +1,19 @@
 // The top call.
-ghost use Rattle.std.specs.Prelude.{◌≡◌, ◌⊎◌, ℕ, ◌≤◌, List, length, map, string_bytes, Some, IsSome, true, false};
-ghost use Rattle.std.specs.Io.KnownBytes.{IsAtEnd};
-ghost use Rattle.tm_base.specs.Outside.{Rose};
-ghost use Rattle.tm_base.specs.Written.{Gave};
+ghost use Rattle.std.specs.Prelude.{◌≡◌, ◌⊎◌, ◌≤◌, map, string_bytes, IsSome, false};
 ghost use Rattle.tm_config.specs.Configuration.{configuration_of};
 ghost use Rattle.tm_words.specs.declared.job.Job.{Job};
-ghost use Rattle.tm_words.specs.declared.job.JobKind.TheVariants.{Encode, Check};
 ghost use Rattle.tm_cli.specs.Command.{command_of, reads};
-ghost use Rattle.tm_cli.specs.Faults.{OneFailed};
 ghost use Rattle.tm_cli.specs.Refusal.{refusal_of, IsAsked};
-ghost use Rattle.tm_cli.specs.Output.{IsPartial};
-ghost use Rattle.tm_cli.specs.Run.{Answers, WroteRefusal};
-ghost use Rattle.tm_cli.specs.declared.refusal.Refusal.{Refusal};
+ghost use Rattle.tm_cli.specs.Run.{Answers, IsRefused, call_of};
+ghost use Rattle.tm_driver.specs.Courses.{sink_state, source_state};
 
-use crate::certificate::certificate_law;
-use crate::lines::refusal_line;
 use crate::link::link_law;
 use crate::obey::obey;
-use crate::refusal::{Asked, ask};
+use crate::refusal::{Asked, ask, refusal_line};
 use std::alloc::Global;
 use std::thread::Threads;
 use tm_base::{NoMemory, Sink, Source};
+use tm_path_commands::certificate_law;
 
 /// Runs the program: reads its words, the first of which is its name and is not looked at, and then does what they ask for:
 ///
@@ -49,9 +42,9 @@ use tm_base::{NoMemory, Sink, Source};
 ///   record is. Or a window of the certificate of `check` fails: nothing more is read, and the notes get the line `bad ` with its number and
 ///   the reason.
 /// - 2: the words are refused. Nothing is read, and `out` stays as it was; the notes get the line `refused: ` with the first
-///   reason, or a front of it where they fail.
+///   reason, or a prefix of it where they fail.
 /// - 3: the source failed. What is due for the octets before is written, and nothing more.
-/// - 4: `out` or `notes` failed, and nothing more is read or written. What was written is a front of the output.
+/// - 4: `out` or `notes` failed, and nothing more is read or written. What was written is a prefix of the output.
 /// - 5: there was not enough memory. Nothing is read or written.
 /// - 6: the input of `encode` is not whole frames, or that of `erased` not whole records. All is written for those that are, and the
 ///   notes get the line `left over ` with the number of octets behind them. Or the certificate of `check` ends inside of a window or where
@@ -65,54 +58,31 @@ pub fn run<R: Threads + Sync, S: Source, O: Sink, N: Sink>(
     out: &mut O,
     notes: &mut N,
 ) -> u8
-    ensures statuses { (result ≡ 0) ⊎ (result ≡ 1) ⊎ (result ≡ 2) ⊎ (result ≡ 3) ⊎ (result ≡ 4) ⊎ (result ≡ 5) ⊎ (result ≡ 6) ⊎ (result ≡ 7) }
+    ensures statuses { result ≤ 7 }
 
     // The words are refused.
-    ensures refused { IsSome (refusal_of (map string_bytes words.now)) → (result ≡ 2) ⊎ (result ≡ 5) }
-    ensures refused_only { result ≡ 2 → IsSome (refusal_of (map string_bytes words.now)) }
-    ensures refusal_line { (why : Refusal) → refusal_of (map string_bytes words.now) ≡ Some why → result ≡ 2
-        → WroteRefusal why (N.taken notes.old) (N.taken notes.new) (N.faults notes.new ≡ N.faults notes.old)
-        (Rose (N.faults notes.old) (N.faults notes.new) (N.is_last notes.new)) }
+    ensures refused { IsSome (refusal_of (map string_bytes words.now))
+        → (result ≡ 2) ⊎ (result ≡ 5) }
+    ensures refusal { result ≡ 2 → IsRefused (map string_bytes words.now)
+        (sink_state (N.taken notes.old) (N.faults notes.old))
+        (sink_state (N.taken notes.new) (N.faults notes.new)) (N.is_last notes.new) }
     ensures unread { (result ≡ 2) ⊎ (result ≡ 5) → (source.new ≡ source.old) × (out.new ≡ out.old) }
     ensures memory { result ≡ 5 → notes.new ≡ notes.old }
 
-    // The words are accepted: by the octets that were read, and, where the source tells its input, by all of it.
-    ensures answered { (job : Job) → IsAsked (map string_bytes words.now) job → (result ≡ 5 → ⊥) → (octets : List ℕ)
-        × Gave (S.given source.old) (S.given source.new) (S.left source.old) (S.left source.new) octets
-        × Answers result (command_of job) (configuration_of job.raw) octets (O.taken out.old) (O.taken out.new) (N.taken notes.old) (N.taken notes.new) }
-    ensures only_words { (job : Job) → IsAsked (map string_bytes words.now) job → reads (command_of job) ≡ false
-        → (source.new ≡ source.old) × (notes.new ≡ notes.old) }
-    ensures ended { (job : Job) → IsAsked (map string_bytes words.now) job → reads (command_of job) ≡ true
-        → (result ≡ 0) ⊎ ((result ≡ 1) × (job.kind ≡ Check → ⊥)) ⊎ (result ≡ 6) → S.ended source.new ≡ true }
-    ensures at_end { (job : Job) → IsAsked (map string_bytes words.now) job → reads (command_of job) ≡ true
-        → (result ≡ 0) ⊎ ((result ≡ 1) × (job.kind ≡ Check → ⊥)) ⊎ (result ≡ 6) → IsAtEnd (S.left source.new) }
-    ensures stopped { (job : Job) → IsAsked (map string_bytes words.now) job → job.kind ≡ Check → result ≡ 1 → S.ended source.new ≡ S.ended source.old }
-    ensures unended { (result ≡ 3) ⊎ (result ≡ 7) → S.ended source.new ≡ S.ended source.old }
-    ensures complete { (job : Job) → IsAsked (map string_bytes words.now) job
-        → (Rose (S.faults source.old) (S.faults source.new) (S.is_last source.new) → ⊥)
-        → (Rose (O.faults out.old) (O.faults out.new) (O.is_last out.new) → ⊥)
-        → (Rose (N.faults notes.old) (N.faults notes.new) (N.is_last notes.new) → ⊥)
-        → (result ≡ 0) ⊎ (result ≡ 1) ⊎ (result ≡ 5) ⊎ (result ≡ 6) ⊎ (result ≡ 7) }
-    ensures whole_input { (job : Job) (input : List ℕ) → IsAsked (map string_bytes words.now) job
-        → S.left source.old ≡ Some input → length input ≤ (configuration_of job.raw).limit → (IsPartial (command_of job) (configuration_of job.raw) input → ⊥)
-        → (Rose (S.faults source.old) (S.faults source.new) (S.is_last source.new) → ⊥)
-        → (Rose (O.faults out.old) (O.faults out.new) (O.is_last out.new) → ⊥)
-        → (Rose (N.faults notes.old) (N.faults notes.new) (N.is_last notes.new) → ⊥)
-        → (result ≡ 0) ⊎ (result ≡ 1) ⊎ (result ≡ 5) }
-
-    // Faults have their causes.
-    ensures read_fault { result ≡ 3 → Rose (S.faults source.old) (S.faults source.new) (S.is_last source.new) }
-    ensures write_fault { result ≡ 4 → OneFailed (O.faults out.old) (O.faults out.new) (O.is_last out.new)
-        (N.faults notes.old) (N.faults notes.new) (N.is_last notes.new) }
-    ensures encode_stops { (job : Job) → IsAsked (map string_bytes words.now) job → job.kind ≡ Encode → result ≡ 4
-        → (Rose (O.faults out.old) (O.faults out.new) (O.is_last out.new) × (S.ended source.new ≡ S.ended source.old) × (notes.new ≡ notes.old))
-        ⊎ (Rose (N.faults notes.old) (N.faults notes.new) (N.is_last notes.new) × (S.ended source.new ≡ true) × (O.faults out.new ≡ O.faults out.old)) }
-    ensures source_later { S.faults source.old ≤ S.faults source.new }
-    ensures source_same { (result ≡ 3 → ⊥) → S.faults source.new ≡ S.faults source.old }
-    ensures out_later { O.faults out.old ≤ O.faults out.new }
-    ensures out_same { (result ≡ 4 → ⊥) → O.faults out.new ≡ O.faults out.old }
-    ensures notes_later { N.faults notes.old ≤ N.faults notes.new }
-    ensures notes_same { (result ≡ 4 → ⊥) → (result ≡ 2 → ⊥) → N.faults notes.new ≡ N.faults notes.old }
+    // They are accepted, and ask for a job.
+    ensures answered { (job : Job) → IsAsked (map string_bytes words.now) job → (result ≡ 5 → ⊥)
+        → Answers result (command_of job) (configuration_of job.raw) (call_of
+        (source_state (S.given source.old) (S.left source.old)
+        (S.ended source.old) (S.faults source.old))
+        (source_state (S.given source.new) (S.left source.new)
+        (S.ended source.new) (S.faults source.new))
+        (S.is_last source.new)
+        (sink_state (O.taken out.old) (O.faults out.old))
+        (sink_state (O.taken out.new) (O.faults out.new)) (O.is_last out.new)
+        (sink_state (N.taken notes.old) (N.faults notes.old))
+        (sink_state (N.taken notes.new) (N.faults notes.new)) (N.is_last notes.new)) }
+    ensures only_words { (job : Job) → IsAsked (map string_bytes words.now) job
+        → reads (command_of job) ≡ false → (source.new ≡ source.old) × (notes.new ≡ notes.old) }
 {
     link_law();
     certificate_law();

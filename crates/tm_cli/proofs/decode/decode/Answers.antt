@@ -1,60 +1,37 @@
-use Rattle.std.proofs.Common.{subst, take}
-use Rattle.tm_cli.specs.Receiving.{ReceivedUpTo, DecodedAll}
-use Rattle.tm_cli.specs.Taken.{standing, DecodingBroke}
-use Rattle.tm_cli.specs.declared.receiving.Received.{Received}
-use Rattle.tm_cli.proofs.Reports.{decode-told, decode-early, decode-failed}
+use Rattle.std.proofs.Common.{rules, ◌≡◌}
+use Rattle.std.proofs.lemmas.Result.{IfOk-weaker}
+use Rattle.tm_driver.specs.Courses.{sink_state}
+use Rattle.tm_driver.specs.Meaning.{Ends, taken_by}
+use Rattle.tm_cli.specs.Decode.{decode_meaning}
+use Rattle.tm_cli.specs.declared.takers.Decoding.{Decoding}
+use Rattle.tm_cli.proofs.Reports.{decode-ends}
 use Rattle.tm_cli.proofs.decode.decode.Goals as goal
 
-pub returns-in-Ended-clause-ends : goal.returns-in-Ended-clause-ends
-returns-in-Ended-clause-ends g c =
-    let h = c.in-Ok.ensures.decoded in
-    let config = c.args.config.now in
-    let out = standing (g.O.Sink.taken c.args.out.now) (g.O.Sink.faults c.args.out.now) in
-    let out_now = standing (g.O.Sink.taken c.decode_items.new.out) (g.O.Sink.faults c.decode_items.new.out) in
-    let out_last = g.O.Sink.is_last c.decode_items.new.out in
-    let notes = standing (g.N.Sink.taken c.args.notes.now) (g.N.Sink.faults c.args.notes.now) in
-    let notes_now = standing (g.N.Sink.taken c.decode_items.new.notes) (g.N.Sink.faults c.decode_items.new.notes) in
-    let notes_last = g.N.Sink.is_last c.decode_items.new.notes in
-    let p = subst (λ (end : Received). ReceivedUpTo (DecodedAll out out_now notes notes_now c.in-Ok.counts) (DecodingBroke out out_now out_last notes notes_now notes_last) config end h.0) c.in-Ended.is h.3 in
-    let after = standing (g.N.Sink.taken c.tell_end.new.lines) (g.N.Sink.faults c.tell_end.new.lines) in
-    let told = c.tell_end.ensures.told notes p.0 p.2.1 in
-    (h.0, h.1, h.2, decode-told c.received_law.ensures.one c.tell_end.result config c.in-Ended.bits h.0 p.0 out out_now notes after (g.N.Sink.is_last c.tell_end.new.lines) c.in-Ok.ensures.accepted p.1 p.3 p.2.0 told)
+pub returns-clause-ends : goal.returns-clause-ends
+returns-clause-ends g c = IfOk-weaker c.receive-ended.result _ _ (λ ending r.
+    let law = c.received_law.ensures in
+    let now = c.receive-ended.new.taker in
+    let done = decode-ends (λ (t : Decoding g.row.O.Denot g.row.N.Denot). t.out.ghost_name) (λ (t : Decoding g.row.O.Denot g.row.N.Denot). t.report.lines.ghost_name)
+    (λ (t : Decoding g.row.O.Denot g.row.N.Denot). t.out.now) (λ (o : g.row.O.Denot). sink_state (g.O.Sink.taken o) (g.O.Sink.faults o)) (λ (t : Decoding g.row.O.Denot g.row.N.Denot). t.report.lines.now)
+    (λ (n : g.row.N.Denot). sink_state (g.N.Sink.taken n) (g.N.Sink.faults n)) (λ (t : Decoding g.row.O.Denot g.row.N.Denot). g.O.Sink.is_last t.out.now)
+    (λ (t : Decoding g.row.O.Denot g.row.N.Denot). g.N.Sink.is_last t.report.lines.now) (λ (t : Decoding g.row.O.Denot g.row.N.Denot). t.report.counts)
+    c.args.config.now ending r.0 _ now law.exists law.one law.due law.first law.front (search rules) c.receive-ended.ensures.accepted r.3 in
+    let out_same : now.out.ghost_name ≡ _ = done.out_same in
+    let notes_same : now.report.lines.ghost_name ≡ _ = done.notes_same in
+    let ends : Ends ending (decode_meaning c.args.config.now) c.args.config.now.limit r.0
+    (taken_by (g.O.Sink.taken c.args.out.now) (g.O.Sink.taken now.out.now) (g.N.Sink.taken c.args.notes.now) (g.N.Sink.taken now.report.lines.now)) = done.ends in
+    (r.0, r.1, r.2, search rules)) c.receive-ended.ensures.received
 
-pub returns-in-SourceFault-clause-ends : goal.returns-in-SourceFault-clause-ends
-returns-in-SourceFault-clause-ends g c =
-    let h = c.in-Ok.ensures.decoded in
-    let config = c.args.config.now in
-    let out = standing (g.O.Sink.taken c.args.out.now) (g.O.Sink.faults c.args.out.now) in
-    let out_now = standing (g.O.Sink.taken c.decode_items.new.out) (g.O.Sink.faults c.decode_items.new.out) in
-    let out_last = g.O.Sink.is_last c.decode_items.new.out in
-    let notes = standing (g.N.Sink.taken c.args.notes.now) (g.N.Sink.faults c.args.notes.now) in
-    let notes_now = standing (g.N.Sink.taken c.decode_items.new.notes) (g.N.Sink.faults c.decode_items.new.notes) in
-    let notes_last = g.N.Sink.is_last c.decode_items.new.notes in
-    let p = subst (λ (end : Received). ReceivedUpTo (DecodedAll out out_now notes notes_now c.in-Ok.counts) (DecodingBroke out out_now out_last notes notes_now notes_last) config end h.0) c.in-SourceFault.is h.3 in
-    (h.0, h.1, h.2, (decode-early c.received_law.ensures.exists c.received_law.ensures.due config h.0 p.0 out out_now notes notes_now c.in-Ok.counts c.in-Ok.ensures.accepted p.1 p.2, p.3))
-
-pub returns-in-TakerFault-clause-ends : goal.returns-in-TakerFault-clause-ends
-returns-in-TakerFault-clause-ends g c =
-    let h = c.in-Ok.ensures.decoded in
-    let config = c.args.config.now in
-    let out = standing (g.O.Sink.taken c.args.out.now) (g.O.Sink.faults c.args.out.now) in
-    let out_now = standing (g.O.Sink.taken c.decode_items.new.out) (g.O.Sink.faults c.decode_items.new.out) in
-    let out_last = g.O.Sink.is_last c.decode_items.new.out in
-    let notes = standing (g.N.Sink.taken c.args.notes.now) (g.N.Sink.faults c.args.notes.now) in
-    let notes_now = standing (g.N.Sink.taken c.decode_items.new.notes) (g.N.Sink.faults c.decode_items.new.notes) in
-    let notes_last = g.N.Sink.is_last c.decode_items.new.notes in
-    let p = subst (λ (end : Received). ReceivedUpTo (DecodedAll out out_now notes notes_now c.in-Ok.counts) (DecodingBroke out out_now out_last notes notes_now notes_last) config end h.0) c.in-TakerFault.is h.3 in
-    (h.0, h.1, h.2, decode-failed c.received_law.ensures.exists c.received_law.ensures.first c.received_law.ensures.front config h.0 p.0 out out_now out_last notes notes_now notes_last c.in-Ok.ensures.accepted p.1 p.2)
-
-pub returns-in-PastLimit-clause-ends : goal.returns-in-PastLimit-clause-ends
-returns-in-PastLimit-clause-ends g c =
-    let h = c.in-Ok.ensures.decoded in
-    let config = c.args.config.now in
-    let out = standing (g.O.Sink.taken c.args.out.now) (g.O.Sink.faults c.args.out.now) in
-    let out_now = standing (g.O.Sink.taken c.decode_items.new.out) (g.O.Sink.faults c.decode_items.new.out) in
-    let out_last = g.O.Sink.is_last c.decode_items.new.out in
-    let notes = standing (g.N.Sink.taken c.args.notes.now) (g.N.Sink.faults c.args.notes.now) in
-    let notes_now = standing (g.N.Sink.taken c.decode_items.new.notes) (g.N.Sink.faults c.decode_items.new.notes) in
-    let notes_last = g.N.Sink.is_last c.decode_items.new.notes in
-    let p = subst (λ (end : Received). ReceivedUpTo (DecodedAll out out_now notes notes_now c.in-Ok.counts) (DecodingBroke out out_now out_last notes notes_now notes_last) config end h.0) c.in-PastLimit.is h.3 in
-    (h.0, h.1, h.2, (decode-early c.received_law.ensures.exists c.received_law.ensures.due config (take config.limit h.0) p.0 out out_now notes notes_now c.in-Ok.counts c.in-Ok.ensures.accepted p.1 p.2, p.3))
+pub returns-clause-sinks : goal.returns-clause-sinks
+returns-clause-sinks g c = IfOk-weaker c.receive-ended.result _ _ (λ ending r.
+    let law = c.received_law.ensures in
+    let now = c.receive-ended.new.taker in
+    let done = decode-ends (λ (t : Decoding g.row.O.Denot g.row.N.Denot). t.out.ghost_name) (λ (t : Decoding g.row.O.Denot g.row.N.Denot). t.report.lines.ghost_name)
+    (λ (t : Decoding g.row.O.Denot g.row.N.Denot). t.out.now) (λ (o : g.row.O.Denot). sink_state (g.O.Sink.taken o) (g.O.Sink.faults o)) (λ (t : Decoding g.row.O.Denot g.row.N.Denot). t.report.lines.now)
+    (λ (n : g.row.N.Denot). sink_state (g.N.Sink.taken n) (g.N.Sink.faults n)) (λ (t : Decoding g.row.O.Denot g.row.N.Denot). g.O.Sink.is_last t.out.now)
+    (λ (t : Decoding g.row.O.Denot g.row.N.Denot). g.N.Sink.is_last t.report.lines.now) (λ (t : Decoding g.row.O.Denot g.row.N.Denot). t.report.counts)
+    c.args.config.now ending r.0 _ now law.exists law.one law.due law.first law.front (search rules) c.receive-ended.ensures.accepted r.3 in
+    let out_same : now.out.ghost_name ≡ _ = done.out_same in
+    let notes_same : now.report.lines.ghost_name ≡ _ = done.notes_same in
+    let sinks = done.sinks in
+    search rules) c.receive-ended.ensures.received

@@ -1,33 +1,23 @@
 use Rattle.std.specs.Io.KnownBytes.{IsAtEnd}
 use Rattle.std.specs.Option.{IsSome}
-use Rattle.std.proofs.Common.{◌⊎◌, inl, inr, ◌≡◌, true, false, ℕ, List, map, string_bytes, Some, None, refl, sym, ◌∙◌, ap, subst, arith}
+use Rattle.std.proofs.Common.{◌⊎◌, inl, inr, ◌≡◌, ◌≤◌, false, ℕ, List, map, string_bytes, Some, None, refl, sym, ◌∙◌, ap, subst}
 use Rattle.tm_config.specs.Configuration.{Configuration, configuration_of}
+use Rattle.tm_driver.specs.Courses.{sink_state, source_state}
+use Rattle.tm_driver.specs.Meaning.{Ends, taken_by}
+use Rattle.tm_driver.specs.declared.ending.Ending.TheVariants.{LeftOver, SourceFault, SinkFault}
 use Rattle.tm_words.specs.declared.job.Job.{Job}
-use Rattle.tm_words.specs.declared.job.JobKind.TheVariants as kind
 use Rattle.tm_cli.specs.Command.{Command, command_of, reads}
 use Rattle.tm_cli.specs.Command.Command.{Decode, Check}
-use Rattle.tm_cli.specs.declared.ending.Ending.{Ending}
-use Rattle.tm_cli.specs.declared.ending.Ending.TheVariants.{Done, Bad, BadWindow, LeftOver, SourceFault, SinkFault, PastLimit}
-use Rattle.tm_cli.specs.Ending.{Ends, status_of}
+use Rattle.tm_cli.specs.Meanings.{meaning_of}
 use Rattle.tm_cli.specs.Refusal.{IsAsked}
+use Rattle.tm_cli.specs.Run.{Answers, Call, HasNoFault, StopsEncoding, call_of}
 use Rattle.tm_cli.specs.declared.refusal.Refusal.{Refusal}
-use Rattle.tm_cli.specs.Run.{Answers}
-use Rattle.tm_cli.proofs.Answering.{of-check, ended-told, window-checks, window-told, sink-told, left-reads, without-fault, whole-input_told}
+use Rattle.tm_cli.proofs.Answering.{of-check, of-encode, left-reads, source-reads, status-small, not-told, without-fault, sink-rose, whole-input_told}
 use Rattle.tm_cli.proofs.top.run.Goals as goal
 
 -- words ask for one job
 same-job : (words : List (List ℕ)) (a b : Job) → IsAsked words a → IsAsked words b → a ≡ b
 same-job words a b p q = let e : Some a ≡ Some b = sym p.read ∙ q.read in cc e
-
--- want of memory is no ending
-no-ending : (e : Ending) → status_of e ≡ 5 → ⊥
-no-ending Done is = omega arith
-no-ending Bad is = omega arith
-no-ending BadWindow is = omega arith
-no-ending LeftOver is = omega arith
-no-ending SourceFault is = omega arith
-no-ending SinkFault is = omega arith
-no-ending PastLimit is = omega arith
 
 pub returns-in-Ok-clause-answered : goal.returns-in-Ok-clause-answered
 returns-in-Ok-clause-answered g c = λ job asked _.
@@ -41,42 +31,54 @@ returns-in-Ok-clause-answered g c = λ job asked _.
     let now = g.O.Sink.taken c.obey.new.out in
     let noted = g.N.Sink.taken c.args.notes.now in
     let noted_now = g.N.Sink.taken c.obey.new.notes in
-    let decodes : command ≡ Decode → Ends ending Decode config h.0 taken now noted noted_now = λ is. subst (λ (k : Command). Ends ending k config h.0 taken now noted noted_now) is h.3 in
-    let checks : command ≡ Check → Ends ending Check config h.0 taken now noted noted_now = λ is. subst (λ (k : Command). Ends ending k config h.0 taken now noted noted_now) is h.3 in
-    let answer : Answers c.status.result command config h.0 taken now noted noted_now = record {
+    let all = taken_by taken now noted noted_now in
+    let is = c.status.ensures in
+    let out = sink_state taken (g.O.Sink.faults c.args.out.now) in
+    let out_now = sink_state now (g.O.Sink.faults c.obey.new.out) in
+    let notes = sink_state noted (g.N.Sink.faults c.args.notes.now) in
+    let notes_now = sink_state noted_now (g.N.Sink.faults c.obey.new.notes) in
+    let call : Call = call_of
+    (source_state (g.S.Source.given c.args.source.now) (g.S.Source.left c.args.source.now) (g.S.Source.ended c.args.source.now) (g.S.Source.faults c.args.source.now))
+    (source_state (g.S.Source.given c.obey.new.source) (g.S.Source.left c.obey.new.source) (g.S.Source.ended c.obey.new.source) (g.S.Source.faults c.obey.new.source))
+    (g.S.Source.is_last c.obey.new.source) out out_now (g.O.Sink.is_last c.obey.new.out) notes notes_now (g.N.Sink.is_last c.obey.new.notes) in
+    let decodes : command ≡ Decode → Ends ending (meaning_of Decode config) config.limit h.0 all = λ asks. subst (λ (k : Command). Ends ending (meaning_of k config) config.limit h.0 all) asks h.3 in
+    let checks : command ≡ Check → Ends ending (meaning_of Check config) config.limit h.0 all = λ asks. subst (λ (k : Command). Ends ending (meaning_of k config) config.limit h.0 all) asks h.3 in
+    let no_sink : HasNoFault call → ending ≡ SinkFault → ⊥ = λ none failed.
+    elim (sink-rose ending out out_now (g.O.Sink.is_last c.obey.new.out) notes notes_now (g.N.Sink.is_last c.obey.new.notes) c.in-Ok.ensures.sinks failed) [
+      | inl p ↦ none.out p.0
+      | inr p ↦ none.notes p.0
+    ] in
+    let no_source : HasNoFault call → ending ≡ SourceFault → ⊥ = λ none failed.
+    none.source ((c.in-Ok.ensures.source (source-reads ending command config h.0 all h.3 failed)).fault failed) in
+    let at_end : ending ≡ LeftOver → IsAtEnd (g.S.Source.left c.obey.new.source) = λ over.
+    ((c.in-Ok.ensures.source (left-reads ending command config h.0 all h.3 over)).ended (inr (inr over))).1 in
+    let answer : Answers c.status.result command config call = record {
+      octets = h.0;
+      gave = h.1;
       at_most = h.2;
       ending = ending;
-      is = c.status.ensures;
+      is = is;
       ends = h.3;
-      clean = λ is. c.link_law.ensures.clean ending c.status.result config h.0 taken now noted noted_now read.2 c.status.ensures (decodes is);
-      disturbed = λ is. c.link_law.ensures.disturbed ending c.status.result config h.0 taken now noted noted_now read.2 c.status.ensures (decodes is);
-      turned_input = λ is. c.link_law.ensures.turned_input ending c.status.result config h.0 taken now noted noted_now read.2 c.status.ensures (decodes is);
-      turned_symbols = λ is. c.link_law.ensures.turned_symbols ending c.status.result config h.0 taken now noted noted_now read.2 c.status.ensures (decodes is);
-      by_window = λ is bad. c.in-Ok.ensures.not_bad (of-check c.in-Command.job is) bad;
-      shown = λ is. c.certificate_law.ensures.shown ending c.status.result config h.0 taken now noted noted_now c.status.ensures (checks is);
-      passes = λ is. c.certificate_law.ensures.passes ending c.status.result config h.0 taken now noted noted_now read.2 c.status.ensures (checks is);
-    } in (
-      h.0,
-      h.1,
-      subst (λ (j : Job). Answers c.status.result (command_of j) (configuration_of j.raw) h.0 taken now noted noted_now) same
-          (subst (λ (x : Configuration). Answers c.status.result command x h.0 taken now noted noted_now) (sym read.1) answer),
-    )
-
-pub returns-in-Ok-clause-whole_input : goal.returns-in-Ok-clause-whole_input
-returns-in-Ok-clause-whole_input g c = λ job input asked told within whole no_read no_write no_note.
-    let left = g.S.Source.left c.obey.new.source in
-    let ending = c.in-Ok.ending in
-    let ends = c.in-Ok.ensures.ends in
-    let at_end : c.status.result ≡ 6 → IsAtEnd left = λ six.
-    let over = left-reads ending c.status.result (command_of c.in-Command.job) c.in-Command.config ends.0 (g.O.Sink.taken c.args.out.now) (g.O.Sink.taken c.obey.new.out)
-    (g.N.Sink.taken c.args.notes.now) (g.N.Sink.taken c.obey.new.notes) c.status.ensures ends.3 six in c.in-Ok.ensures.at_end over.1 (inr (inr over.0)) in
-    let cases : (c.status.result ≡ 0) ⊎ (c.status.result ≡ 1) ⊎ (c.status.result ≡ 5) ⊎ (c.status.result ≡ 6) ⊎ (c.status.result ≡ 7) =
-    without-fault ending c.status.result c.status.ensures (λ is. no_read (c.in-Ok.ensures.source_fault is))
-    (λ is. elim (c.in-Ok.ensures.sink_fault is) [ inl out ↦ no_write out.0 | inr notes ↦ no_note notes.0 ]) in
-    let read : c.status.result ≡ 5 → ⊥ = λ memory. no-ending ending (sym c.status.ensures ∙ memory) in
-    let h = returns-in-Ok-clause-answered g c job asked read in
-    whole-input_told h.2.ending c.status.result (command_of job) (configuration_of job.raw) h.0 input left (g.O.Sink.taken c.args.out.now) (g.O.Sink.taken c.obey.new.out)
-    (g.N.Sink.taken c.args.notes.now) (g.N.Sink.taken c.obey.new.notes) h.2.is h.2.ends (sym told ∙ h.1.consumed) at_end within whole cases
+      source = c.in-Ok.ensures.source;
+      sinks = c.in-Ok.ensures.sinks;
+      stops = λ asks failed. elim (c.in-Ok.ensures.stops (of-encode c.in-Command.job asks) failed) as (λ _. StopsEncoding call) [
+        | inl p ↦ inl (p.0, p.1, ap (λ (n : g.row.N.Denot). sink_state (g.N.Sink.taken n) (g.N.Sink.faults n)) p.2)
+        | inr p ↦ inr p
+      ];
+      by_window = λ asks bad. c.in-Ok.ensures.not_bad (of-check c.in-Command.job asks) bad;
+      complete = λ none. subst (λ (s : ℕ). (s ≡ 0) ⊎ (s ≡ 1) ⊎ (s ≡ 6) ⊎ (s ≡ 7)) (sym is) (without-fault ending (no_source none) (no_sink none));
+      whole_input = λ input told within whole none. subst (λ (s : ℕ). (s ≡ 0) ⊎ (s ≡ 1)) (sym is)
+          (whole-input_told ending (meaning_of command config) config.limit h.0 input (g.S.Source.left c.obey.new.source) all h.3 (sym told ∙ h.1.consumed) at_end within whole
+          (no_source none) (no_sink none));
+      clean = λ asks. c.link_law.ensures.clean ending c.status.result config h.0 taken now noted noted_now read.2 is (decodes asks);
+      disturbed = λ asks. c.link_law.ensures.disturbed ending c.status.result config h.0 taken now noted noted_now read.2 is (decodes asks);
+      turned_input = λ asks. c.link_law.ensures.turned_input ending c.status.result config h.0 taken now noted noted_now read.2 is (decodes asks);
+      turned_symbols = λ asks. c.link_law.ensures.turned_symbols ending c.status.result config h.0 taken now noted noted_now read.2 is (decodes asks);
+      shown = λ asks. c.certificate_law.ensures.shown ending c.status.result config h.0 taken now noted noted_now is (checks asks);
+      passes = λ asks. c.certificate_law.ensures.passes ending c.status.result config h.0 taken now noted noted_now read.2 is (checks asks);
+    } in
+    subst (λ (j : Job). Answers c.status.result (command_of j) (configuration_of j.raw) call) same
+    (subst (λ (x : Configuration). Answers c.status.result command x call) (sym read.1) answer)
 
 pub returns-in-Ok-clause-refused : goal.returns-in-Ok-clause-refused
 returns-in-Ok-clause-refused g c = λ some.
@@ -84,40 +86,20 @@ returns-in-Ok-clause-refused g c = λ some.
     let none : IsSome {T = Refusal} None = subst (IsSome {T = Refusal}) read.0.accepted some in
     cc none
 
+pub returns-in-Ok-clause-refusal : goal.returns-in-Ok-clause-refusal
+returns-in-Ok-clause-refusal g c = λ two. absurd (not-told c.in-Ok.ending (inl (sym c.status.ensures ∙ two)))
+
+pub returns-in-Ok-clause-unread : goal.returns-in-Ok-clause-unread
+returns-in-Ok-clause-unread g c = λ which. absurd (not-told c.in-Ok.ending (elim which [ inl two ↦ inl (sym c.status.ensures ∙ two) | inr five ↦ inr (sym c.status.ensures ∙ five) ]))
+
+pub returns-in-Ok-clause-memory : goal.returns-in-Ok-clause-memory
+returns-in-Ok-clause-memory g c = λ five. absurd (not-told c.in-Ok.ending (inr (sym c.status.ensures ∙ five)))
+
+pub returns-in-Ok-clause-statuses : goal.returns-in-Ok-clause-statuses
+returns-in-Ok-clause-statuses g c = subst (λ (s : ℕ). s ≤ 7) (sym c.status.ensures) (status-small c.in-Ok.ending)
+
 pub returns-in-Ok-clause-only_words : goal.returns-in-Ok-clause-only_words
 returns-in-Ok-clause-only_words g c = λ job asked none.
     let read = c.in-Command.ensures.command c.in-Command.job c.in-Command.config refl in
     let same : job ≡ c.in-Command.job = same-job (map string_bytes c.args.words.now) job c.in-Command.job asked read.0 in
     c.in-Ok.ensures.unread (subst (λ (j : Job). reads (command_of j) ≡ false) same none)
-
-pub returns-in-Ok-clause-ended : goal.returns-in-Ok-clause-ended
-returns-in-Ok-clause-ended g c = λ job asked some which.
-    let read = c.in-Command.ensures.command c.in-Command.job c.in-Command.config refl in
-    let same : job ≡ c.in-Command.job = same-job (map string_bytes c.args.words.now) job c.in-Command.job asked read.0 in
-    let ends = c.in-Ok.ensures.ends in
-    c.in-Ok.ensures.ended (subst (λ (j : Job). reads (command_of j) ≡ true) same some)
-    (ended-told c.in-Ok.ending c.status.result (job.kind ≡ kind.Check) c.status.ensures (λ is. ap (λ (j : Job). j.kind) same
-    ∙ of-check c.in-Command.job (window-checks c.in-Ok.ending (command_of c.in-Command.job) c.in-Command.config ends.0 (g.O.Sink.taken c.args.out.now) (g.O.Sink.taken c.obey.new.out)
-    (g.N.Sink.taken c.args.notes.now) (g.N.Sink.taken c.obey.new.notes) ends.3 is)) which)
-
-pub returns-in-Ok-clause-at_end : goal.returns-in-Ok-clause-at_end
-returns-in-Ok-clause-at_end g c = λ job asked some which.
-    let read = c.in-Command.ensures.command c.in-Command.job c.in-Command.config refl in
-    let same : job ≡ c.in-Command.job = same-job (map string_bytes c.args.words.now) job c.in-Command.job asked read.0 in
-    let ends = c.in-Ok.ensures.ends in
-    c.in-Ok.ensures.at_end (subst (λ (j : Job). reads (command_of j) ≡ true) same some)
-    (ended-told c.in-Ok.ending c.status.result (job.kind ≡ kind.Check) c.status.ensures (λ is. ap (λ (j : Job). j.kind) same
-    ∙ of-check c.in-Command.job (window-checks c.in-Ok.ending (command_of c.in-Command.job) c.in-Command.config ends.0 (g.O.Sink.taken c.args.out.now) (g.O.Sink.taken c.obey.new.out)
-    (g.N.Sink.taken c.args.notes.now) (g.N.Sink.taken c.obey.new.notes) ends.3 is)) which)
-
-pub returns-in-Ok-clause-stopped : goal.returns-in-Ok-clause-stopped
-returns-in-Ok-clause-stopped g c = λ job asked checks one.
-    let read = c.in-Command.ensures.command c.in-Command.job c.in-Command.config refl in
-    let same : job ≡ c.in-Command.job = same-job (map string_bytes c.args.words.now) job c.in-Command.job asked read.0 in
-    c.in-Ok.ensures.unended (inr (inr (window-told c.in-Ok.ending c.status.result c.status.ensures (c.in-Ok.ensures.not_bad (ap (λ (j : Job). j.kind) (sym same) ∙ checks)) one)))
-
-pub returns-in-Ok-clause-encode_stops : goal.returns-in-Ok-clause-encode_stops
-returns-in-Ok-clause-encode_stops g c = λ job asked encodes four.
-    let read = c.in-Command.ensures.command c.in-Command.job c.in-Command.config refl in
-    let same : job ≡ c.in-Command.job = same-job (map string_bytes c.args.words.now) job c.in-Command.job asked read.0 in
-    c.in-Ok.ensures.encode_stops (sink-told c.in-Ok.ending c.status.result c.status.ensures four) (ap (λ (j : Job). j.kind) (sym same) ∙ encodes)

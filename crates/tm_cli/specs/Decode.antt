@@ -1,0 +1,79 @@
+-- The commands `decode` and `report`: the frames and the report of what is received of their input.
+use Rattle.std.specs.Prelude.{◌≡◌, ℕ, List, [], ◌∷◌, ◌++◌, length}
+use Rattle.tm_base.specs.Handed.{Handed, items_of}
+use Rattle.tm_base.specs.Written.{Wrote}
+use Rattle.tm_config.specs.Configuration.{Configuration}
+use Rattle.tm_channel.specs.Items.{ItemValue}
+use Rattle.tm_channel.specs.Handing.{AreReceived, AreReceivedDue}
+use Rattle.tm_driver.specs.Meaning.{Meaning, Taken}
+use Rattle.tm_driver.specs.Texts.{StopsAt}
+use Rattle.tm_cli.specs.Report.{bad, handed_item_text, items_text, items_end_text, report_text}
+use Rattle.tm_cli.specs.Taken.{handed_frames}
+
+-- the frames of what was received with these octets, and the report of it, which begins with their
+-- phase where it is to be found
+pub record IsDecoded (c : Configuration) (octets : List ℕ) (frames report : List ℕ) : Type 0 where
+  pub handed : List (Handed ItemValue)
+  pub bits : ℕ
+  pub are_received : AreReceived c octets handed bits
+  pub are_frames : frames ≡ handed_frames handed
+  pub is_report : report ≡ report_text handed bits
+
+-- the frames and the lines of what is due for the octets, whatever octets come: of the phase, once
+-- it is settled, and of items
+pub record IsDecodedDue (c : Configuration) (octets : List ℕ) (frames lines : List ℕ) : Type 0 where
+  pub handed : List (Handed ItemValue)
+  pub are_due : AreReceivedDue c octets handed
+  pub are_frames : frames ≡ handed_frames handed
+  pub are_lines : lines ≡ items_text 0 handed
+
+-- a codeblock that was received with these octets has a column beyond repair
+abbrev pub HasBad : Configuration → List ℕ → Type 0
+HasBad c octets = (handed : List (Handed ItemValue)) × ((bits : ℕ)
+    × AreReceived c octets handed bits) × (bad (items_of handed) ≡ 0 → ⊥)
+
+-- the frame of what is handed over next, and its line; behind the last there is no frame, and the
+-- report ends
+abbrev pub next_frame : List (Handed ItemValue) → List ℕ
+next_frame [] = []
+next_frame (next ∷ rest) = handed_frames (next ∷ [])
+
+abbrev pub next_line : (front rest : List (Handed ItemValue)) → (bits : ℕ) → List ℕ
+next_line front [] bits = items_end_text (items_of front) bits
+next_line front (next ∷ rest) bits = handed_item_text (length (items_of front)) next
+
+-- The output took the frames of the first of what was handed over, and the notes their lines, and
+-- no more but a part of what comes next: of the next frame or, once the output has taken that, of
+-- its line. Behind the last this is the end of the report.
+pub record AreInOrder (handed : List (Handed ItemValue)) (bits : ℕ) (taken : Taken) : Type 0 where
+  pub front : List (Handed ItemValue)
+  pub rest : List (Handed ItemValue)
+  pub split : handed ≡ front ++ rest
+  pub stops : StopsAt (handed_frames front) (items_text 0 front) (next_frame rest)
+      (next_line front rest bits) taken.out taken.out_now taken.notes taken.notes_now
+
+-- `decode`: the frames go to the output and the report to the notes, the line of an item behind its
+-- frame.
+abbrev pub decode_meaning : Configuration → Meaning
+decode_meaning c = record {
+  is_output = λ octets output. IsDecoded c octets output.out output.notes;
+  is_due = λ octets output. IsDecodedDue c octets output.out output.notes;
+  is_partial = λ octets. ⊥;
+  is_bad = λ octets. HasBad c octets;
+  is_in_order = λ octets output taken. (handed : List (Handed ItemValue)) × (bits : ℕ)
+      × AreReceived c octets handed bits × AreInOrder handed bits taken;
+  stops_at_bad = ⊥;
+}
+
+-- `report`: the report goes to the output, and there are no notes.
+abbrev pub report_meaning : Configuration → Meaning
+report_meaning c = record {
+  is_output = λ octets output. (frames : List ℕ) × IsDecoded c octets frames output.out
+      × (output.notes ≡ []);
+  is_due = λ octets output. (frames : List ℕ) × IsDecodedDue c octets frames output.out
+      × (output.notes ≡ []);
+  is_partial = λ octets. ⊥;
+  is_bad = λ octets. HasBad c octets;
+  is_in_order = λ octets output taken. Wrote taken.notes taken.notes_now [];
+  stops_at_bad = ⊥;
+}
