@@ -25,7 +25,7 @@ use Rattle.tm_rs_code.specs.Erasures.{NearestErased}
 use Rattle.tm_rs_solve.specs.Answers.{found_erased}
 use Rattle.tm_rs_solve.specs.declared.answers.ErasedAnswer.{ErasedAnswer}
 use Rattle.tm_rs_solve.specs.declared.answers.ErasedAnswer.TheVariants.{Fixed as FixedBoth, Beyond as BeyondBoth}
-use Rattle.tm_records.specs.Batch.{Batch}
+use Rattle.tm_records.specs.Batch.{Batch, opened}
 use Rattle.tm_records.specs.declared.coding.Coding.{Coding}
 use Rattle.tm_records.specs.Erased.{coding_of, erased_meaning, erased_text, nearest_text, nearest_lines, is_beyond, record_rest}
 use Rattle.tm_records.specs.Erasing.{Holds, HasSpace, Broke, Stand, HoldsAt, HoldsMore, BreaksMore, ToldAll, BrokeLast, outcome_with}
@@ -254,9 +254,9 @@ piece-all given piece count = append_assoc given (take count piece) (drop count 
     ∙ ap (λ l. given ++ l) (take-append-drop count piece)
 
 -- nothing was taken yet
-pub holds-none : (c : Coding) (batch : Batch) (start : Option (List ℕ))
-    → batch ≡ record { coding = c; octets = []; nearest = [] } → Holds c batch false start start []
-holds-none c batch start new = record {
+pub holds-none : (c : Coding) (workers : ℕ) (batch : Batch) (start : Option (List ℕ))
+    → batch ≡ opened c workers → Holds c batch false start start []
+holds-none c workers batch start new = record {
   coding = ap (λ (b : Batch). b.coding) new;
   nearest = [];
   each = tt;

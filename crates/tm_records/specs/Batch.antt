@@ -8,12 +8,17 @@ use Rattle.tm_workers.specs.declared.words.ErasedWord.{ErasedWord}
 use Rattle.tm_records.specs.declared.coding.Coding.{Coding}
 use Rattle.tm_records.specs.Records.{first_erased, first_word, record_size}
 
--- the octets of a batch that were taken so far, and what was found nearest to the words of its
--- records when they were decoded
+-- how a batch's words are decoded and by how many workers, its octets that were taken so far, and
+-- what was found nearest to the words of its records when they were decoded
 pub record Batch : Type 0 where
   pub coding : Coding
+  pub workers : ℕ
   pub octets : List ℕ
   pub nearest : List NearestErased
+
+-- a batch that took nothing yet
+abbrev pub opened : Coding → ℕ → Batch
+opened c workers = record { coding = c; workers = workers; octets = []; nearest = [] }
 
 -- there is room for 256 records of this size: so many octets are taken, and so many records were
 -- decoded

@@ -7,7 +7,8 @@ ghost use Rattle.tm_driver.specs.Courses.{SinksCourse, SourceCourse, sink_state,
 ghost use Rattle.tm_driver.specs.Meaning.{Ends, taken_by};
 ghost use Rattle.tm_driver.specs.Statuses.{is_sink_fault};
 ghost use Rattle.tm_rs_solve.specs.Answers.{found_erased};
-ghost use Rattle.tm_records.specs.Erased.{erased_meaning, erased_text, is_beyond, nearest_lines};
+ghost use Rattle.tm_records.specs.Batch.{opened};
+ghost use Rattle.tm_records.specs.Erased.{coding_of, erased_meaning, erased_text, is_beyond, nearest_lines};
 ghost use Rattle.tm_records.specs.Erasing.{Broke, BreaksMore, HasSpace, Holds, HoldsMore, outcome_with, stand};
 ghost use Rattle.tm_records.specs.Records.{AreNearest, record_size};
 ghost use Rattle.tm_records.specs.declared.coding.Coding.{Coding};
@@ -258,6 +259,19 @@ impl<'a, 'b, 'c, 'd, R: Threads + Sync, O: Sink, N: Sink> Feed
     }
 }
 
+// Room for a batch of records that are decoded as the configuration says, and by its workers.
+fn records_by(alloc: Global, config: &Config) -> Result<Records, NoMemory>
+    requires { 0 < config.now.code }
+    ensures { IfOk result (λ records. records ≡ opened (coding_of config.now) config.now.workers) }
+{
+    let coding = Coding {
+        params: Params::new(config.code(), config.word_length()).unwrap(),
+        basis: Basis::numbered(config.basis()),
+        repair: config.repair() as u8,
+    };
+    Records::open(alloc, coding, config.workers() as u8)
+}
+
 /// Repairs the word of each record of the source, up to the limit in octets, and writes a line for it: `fixed A B HEX`,
 /// or `beyond`. A record is the octets of a word and a flag for each, 0 where its symbol is good and any other where it
 /// is erased. Records are decoded 256 at a time, by the workers of the configuration. At the end of the input it writes
@@ -287,12 +301,7 @@ pub fn erased<R: Threads + Sync, S: Source, O: Sink, N: Sink>(
         (O.is_last out.new) (sink_state (N.taken notes.old) (N.faults notes.old))
         (sink_state (N.taken notes.new) (N.faults notes.new)) (N.is_last notes.new)) }
 {
-    let coding = Coding {
-        params: Params::new(config.code(), config.word_length()).unwrap(),
-        basis: Basis::numbered(config.basis()),
-        repair: config.repair() as u8,
-    };
-    let Ok(mut records) = Records::open(alloc, coding, config.workers() as u8) else {
+    let Ok(mut records) = records_by(alloc, config) else {
         return Err(NoMemory);
     };
     let mut erasing = Erasing {

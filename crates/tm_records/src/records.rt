@@ -2,7 +2,7 @@
 ghost use Rattle.std.specs.Prelude.{◌≡◌, ◌<◌, ◌≤◌, ◌*◌, ◌-◌, ◌↔◌, ◌++◌, ℕ, List, [], length, map, min, take, IfOk, IsTrue, Some, slice_get};
 ghost use Rattle.tm_dual.specs.Octet.{sent_octet};
 ghost use Rattle.tm_rs_solve.specs.Answers.{found_erased};
-ghost use Rattle.tm_records.specs.Batch.{Batch};
+ghost use Rattle.tm_records.specs.Batch.{Batch, opened};
 ghost use Rattle.tm_records.specs.Records.{AreNearest, left_over, record_size};
 
 use crate::coding::Coding;
@@ -45,6 +45,7 @@ impl Model for Records {
 
     ghost view = { λ r. record {
       coding = r.coding;
+      workers = r.workers;
       octets = take r.taken r.octets.items;
       nearest = all_nearest r.coding (take r.decoded r.words.items);
     } };
@@ -75,7 +76,7 @@ impl Records {
     pub fn open(alloc: Global, coding: Coding, workers: u8) -> Result<Records, NoMemory>
         requires bound { coding.repair ≤ coding.params.e }
         requires workers { (0 < workers) × (workers ≤ 64) }
-        ensures { IfOk result (λ records. records ≡ record { coding = coding; octets = []; nearest = [] }) }
+        ensures { IfOk result (λ records. records ≡ opened coding workers) }
     {
         let size = 2 * coding.params.n() as usize;
         let Ok((octets, words)) = room(alloc, size) else {
@@ -98,6 +99,7 @@ impl Records {
         ensures count { result ≡ min (length piece.now) (256 * record_size self.old.coding - length self.old.octets) }
         ensures octets { self.new.octets ≡ self.old.octets ++ take result piece.now }
         ensures coding { self.new.coding ≡ self.old.coding }
+        ensures workers { self.new.workers ≡ self.old.workers }
     {
         let first = self.taken;
         let count = piece.len().min(self.octets.len() - first);
@@ -121,6 +123,7 @@ impl Records {
         ensures nearest { AreNearest self.old.coding self.old.octets self.new.nearest }
         ensures octets { self.new.octets ≡ self.old.octets }
         ensures coding { self.new.coding ≡ self.old.coding }
+        ensures workers { self.new.workers ≡ self.old.workers }
     {
         let count = self.taken / self.size;
         decode_records(
@@ -176,6 +179,7 @@ impl Records {
     pub fn clear(&mut self)
         ensures octets { self.new.octets ≡ [] }
         ensures coding { self.new.coding ≡ self.old.coding }
+        ensures workers { self.new.workers ≡ self.old.workers }
     {
         self.taken = 0;
         self.decoded = 0;

@@ -1,5 +1,6 @@
-use Rattle.std.proofs.Common.{rules, ◌≡◌, ◌+◌, ◌≤◌, ℕ, [], length, subst}
+use Rattle.std.proofs.Common.{rules, ◌≡◌, ◌+◌, ◌≤◌, ℕ, length, subst}
 use Rattle.tm_driver.specs.Meaning.{Ends, taken_by}
+use Rattle.tm_records.specs.Batch.{opened}
 use Rattle.tm_records.specs.Erased.{coding_of, erased_meaning}
 use Rattle.tm_records.specs.Erasing.{stand}
 use Rattle.tm_records.specs.declared.erased_command.Erasing.{Erasing}
@@ -14,8 +15,8 @@ returns-clause-ends g c =
     let taken = taken_by (g.O.Sink.taken c.args.out.now) (g.O.Sink.taken c.drive-ending.new.feed.out.now)
     (g.N.Sink.taken c.args.notes.now)
     (g.N.Sink.taken c.drive-ending.new.feed.notes.now) in
-    let new : c.in-Ok.records ≡ record { coding = coding_of config; octets = []; nearest = [] } = search rules in
-    let none = holds-none (coding_of config) c.in-Ok.records (g.O.Sink.taken c.args.out.now) new in
+    let new : c.in-Ok.records ≡ opened (coding_of config) config.workers = search rules in
+    let none = holds-none (coding_of config) config.workers c.in-Ok.records (g.O.Sink.taken c.args.out.now) new in
     let shown : Ends ending (erased_meaning config) c.limit.result h.0 taken =
     ends-erased (λ (e : Erasing g.row.R.Denot g.row.O.Denot g.row.N.Denot). stand e.records.now e.beyond
     (g.O.Sink.taken e.out.now)) (λ e. e.notes.now) g.N.Sink.taken
