@@ -1,34 +1,156 @@
--- What is known of each configuration that passed the tests.
-use Rattle.std.specs.Prelude.{◌≡◌, ◌⊎◌, ◌*◌, ◌≤◌, ◌^◌}
-use Rattle.std.specs.Option.{ForSome}
+-- Which values are accepted, and why others are refused.
+use Rattle.std.specs.Prelude.{◌≡◌, ℕ, ◌*◌, ◌/◌, ◌%◌, ◌≤◌, ◌==◌, ◌&&◌, Bool, true, false, nat_le}
+use Rattle.std.specs.Prelude.{List, [], ◌∷◌, Option, Some, None, codes, if◌then◌else◌}
+use Rattle.std.specs.List.{list_any}
+use Rattle.tm_config.specs.declared.ranges.TheConstants.{DEEPEST, MOST_TOLERANCE, MOST_SKIP, MOST_WORKERS}
+use Rattle.tm_config.specs.declared.ranges.TheConstants.{MOST_LIMIT, MOST_FLY, LEAST_KEEP, MOST_KEEP, MOST_AHEAD}
 use Rattle.tm_config.specs.Configuration.{Configuration, data_length, most_data}
+use Rattle.tm_config.specs.Configuration.{correctable, is_uncoded, all_codes, code_of}
+use Rattle.tm_config.specs.Configuration.{number_of_rate, all_rates, number_of_switch, all_switches}
+use Rattle.tm_config.specs.Configuration.{number_of_basis, all_bases, number_of_form, all_forms}
+use Rattle.tm_config.specs.Configuration.{number_of_start, all_starts, number_of_sought, all_sought}
+use Rattle.tm_config.specs.declared.values.Raw.{Raw}
+use Rattle.tm_config.specs.declared.values.OuterCode.TheVariants.{Uncoded}
+use Rattle.tm_config.specs.declared.error.ConfigError.{ConfigError}
+use Rattle.tm_config.specs.declared.error.ConfigError.TheVariants.{Code, Depth, Length, Inner, Switch, Basis, Tolerance, Repair, Soft, Start, Skip, Workers, Limit, Fly, Keep, Ahead, Phase, Polarity}
 
--- each value is within its list or range
+-- each value is within its range; the others are choices, and any of them is accepted
 pub record IsAccepted (c : Configuration) : Type 0 where
-  pub code : (c.code ≡ 16) ⊎ (c.code ≡ 8) ⊎ (c.code ≡ 0)
   pub some_depth : 1 ≤ c.depth
-  pub depth : c.depth ≤ 8
-  pub no_depth : c.code ≡ 0 → c.depth ≡ 1
+  pub depth : c.depth ≤ DEEPEST
+  pub no_depth : c.code ≡ Uncoded → c.depth ≡ 1
   -- the frame is whole columns of data
   pub whole : c.frame_length ≡ c.depth * data_length c
   pub some_data : 1 ≤ data_length c
   pub data_fits : data_length c ≤ most_data c.code
-  pub inner : (c.inner ≡ 0) ⊎ (c.inner ≡ 12) ⊎ (c.inner ≡ 23) ⊎ (c.inner ≡ 34) ⊎ (c.inner ≡ 56) ⊎ (c.inner ≡ 78)
-  pub invert : ForSome c.invert (λ invert. invert ≤ 1)
-  pub randomize : c.randomize ≤ 1
-  pub basis : c.basis ≤ 1
-  pub tolerance : c.tolerance ≤ 8
-  pub repair : c.repair ≤ c.code
-  pub soft : c.soft ≤ 1
-  pub start : c.start ≤ 1
-  pub skip : c.skip ≤ 15
+  pub tolerance : c.tolerance ≤ MOST_TOLERANCE
+  pub repair : c.repair ≤ correctable c.code
+  pub skip : c.skip ≤ MOST_SKIP
   pub some_workers : 1 ≤ c.workers
-  pub workers : c.workers ≤ 64
+  pub workers : c.workers ≤ MOST_WORKERS
   pub some_limit : 1 ≤ c.limit
-  pub limit : c.limit ≤ 2 ^ 40
-  pub fly : c.fly ≤ 15
-  pub some_keep : 64 ≤ c.keep
-  pub keep : c.keep ≤ 65536
-  pub ahead : c.ahead ≤ 4096
-  pub phase : c.phase ≤ 1
-  pub polarity : c.polarity ≤ 1
+  pub limit : c.limit ≤ MOST_LIMIT
+  pub fly : c.fly ≤ MOST_FLY
+  pub some_keep : LEAST_KEEP ≤ c.keep
+  pub keep : c.keep ≤ MOST_KEEP
+  pub ahead : c.ahead ≤ MOST_AHEAD
+
+-- the value is one of a list
+abbrev pub is_listed : ℕ → List ℕ → Bool
+is_listed value values = list_any (λ listed. value == listed) values
+
+-- one of these has the number
+abbrev pub is_number : {A : Type 0} → (A → ℕ) → List A → ℕ → Bool
+is_number number_of values number = list_any (λ value. number == number_of value) values
+
+-- the value is at least the one and at most the other
+abbrev pub is_within : ℕ → ℕ → ℕ → Bool
+is_within least most value = nat_le least value && nat_le value most
+
+-- an option that is not given fits, and else its value has to
+abbrev pub fits_if_given : (ℕ → Bool) → Option ℕ → Bool
+fits_if_given fits None = true
+fits_if_given fits (Some value) = fits value
+
+-- an interleaving depth of the standard (CCSDS 131.0-B, Reed-Solomon Coding); 1 alone where there
+-- is no code
+abbrev pub depth_fits : Raw → Bool
+depth_fits raw =
+    if is_uncoded (code_of raw.code)
+    then raw.depth == 1
+    else is_listed raw.depth (1 ∷ 2 ∷ 3 ∷ 4 ∷ 5 ∷ DEEPEST ∷ [])
+
+-- the frame fills as many codewords as the depth says, each with at least one data octet and no
+-- more than it holds
+abbrev pub length_fits : Raw → Bool
+length_fits raw = fits_if_given (λ length. (length % raw.depth == 0)
+    && is_within 1 (most_data (code_of raw.code)) (length / raw.depth)) raw.length
+
+abbrev pub switch_fits : ℕ → Bool
+switch_fits = is_number number_of_switch all_switches
+
+abbrev pub switches_fit : Raw → Bool
+switches_fit raw = fits_if_given switch_fits raw.invert && switch_fits raw.randomize
+
+abbrev pub sought_fits : ℕ → Bool
+sought_fits = is_number number_of_sought all_sought
+
+-- no more symbols are repaired than the code corrects
+abbrev pub repair_fits : Raw → Bool
+repair_fits raw =
+    fits_if_given (λ repair. nat_le repair (correctable (code_of raw.code))) raw.repair
+
+-- the test of each option, in the order in which they are tried, with the error of one that fails
+abbrev pub tests : Raw → List (Bool × ConfigError)
+tests raw =
+    (is_number correctable all_codes raw.code, Code)
+    ∷ (depth_fits raw, Depth)
+    ∷ (length_fits raw, Length)
+    ∷ (is_number number_of_rate all_rates raw.inner, Inner)
+    ∷ (switches_fit raw, Switch)
+    ∷ (is_number number_of_basis all_bases raw.basis, Basis)
+    ∷ (nat_le raw.tolerance MOST_TOLERANCE, Tolerance)
+    ∷ (repair_fits raw, Repair)
+    ∷ (is_number number_of_form all_forms raw.soft, Soft)
+    ∷ (is_number number_of_start all_starts raw.start, Start)
+    ∷ (nat_le raw.skip MOST_SKIP, Skip)
+    ∷ (is_within 1 MOST_WORKERS raw.workers, Workers)
+    ∷ (is_within 1 MOST_LIMIT raw.limit, Limit)
+    ∷ (nat_le raw.fly MOST_FLY, Fly)
+    ∷ (is_within LEAST_KEEP MOST_KEEP raw.keep, Keep)
+    ∷ (nat_le raw.ahead MOST_AHEAD, Ahead)
+    ∷ (sought_fits raw.phase, Phase)
+    ∷ (sought_fits raw.polarity, Polarity)
+    ∷ []
+
+-- the error of the first test that fails
+abbrev pub first_error : List (Bool × ConfigError) → Option ConfigError
+first_error [] = None
+first_error ((true, error) ∷ rest) = first_error rest
+first_error ((false, error) ∷ rest) = Some error
+
+-- the error of the first value that is outside its list or range, or none
+unfoldable pub refusal_of : Raw → Option ConfigError
+refusal_of raw = first_error (tests raw)
+
+-- the names of the options
+abbrev pub name_of : ConfigError → List ℕ
+name_of Code = codes "code"
+name_of Depth = codes "depth"
+name_of Length = codes "length"
+name_of Inner = codes "inner"
+name_of Switch = codes "switch"
+name_of Basis = codes "basis"
+name_of Tolerance = codes "tolerance"
+name_of Repair = codes "repair"
+name_of Soft = codes "soft"
+name_of Start = codes "start"
+name_of Skip = codes "skip"
+name_of Workers = codes "workers"
+name_of Limit = codes "limit"
+name_of Fly = codes "fly"
+name_of Keep = codes "keep"
+name_of Ahead = codes "ahead"
+name_of Phase = codes "phase"
+name_of Polarity = codes "polarity"
+
+-- their places in the order of the tests
+abbrev pub place_of : ConfigError → ℕ
+place_of Code = 0
+place_of Depth = 1
+place_of Length = 2
+place_of Inner = 3
+place_of Switch = 4
+place_of Basis = 5
+place_of Tolerance = 6
+place_of Repair = 7
+place_of Soft = 8
+place_of Start = 9
+place_of Skip = 10
+place_of Workers = 11
+place_of Limit = 12
+place_of Fly = 13
+place_of Keep = 14
+place_of Ahead = 15
+place_of Phase = 16
+place_of Polarity = 17

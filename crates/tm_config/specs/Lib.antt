@@ -1,4 +1,2 @@
-pub mod Defaults
 pub mod Configuration
 pub mod Accepted
-pub mod Refusal

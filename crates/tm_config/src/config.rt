@@ -1,108 +1,37 @@
 // A configuration whose values are all within their lists and ranges.
-ghost use Rattle.std.specs.Prelude.{◌≡◌, None, Some, OnOk, IfOk, IfErr};
-ghost use Rattle.tm_config.specs.Configuration.{configuration_of, word_length};
-ghost use Rattle.tm_config.specs.Accepted.{IsAccepted};
-ghost use Rattle.tm_config.specs.Refusal.{refusal_of};
+ghost use Rattle.std.specs.Prelude.{◌≡◌, ◌≢◌, ◌⊎◌, ◌*◌, ◌<◌, ◌≤◌, None, Some, OnOk, IfOk, IfErr, option_map};
+ghost use Rattle.tm_config.specs.Configuration.{HaveNumbers, configuration_of, word_length, correctable, number_of_rate, number_of_switch, number_of_basis, number_of_form, number_of_start, number_of_sought};
+ghost use Rattle.tm_config.specs.Accepted.{IsAccepted, refusal_of};
+ghost use Rattle.tm_config.specs.declared.ranges.TheConstants.{LONGEST_WORD};
 
 use crate::ranges::{frame_length, refusal};
-use crate::{ConfigError, Raw};
+use crate::values::{
+    are_on, code_of, form_of, is_on, number_of_sought, number_of_switch, rate_of, sought_of,
+    start_of,
+};
+use crate::{ConfigError, OuterCode, Raw, SoftForm, Values};
 use std::marker::Model;
+use tm_conv::Rate;
+use tm_dual::Basis;
+use tm_viterbi::Start;
 
 /// The configuration of a link, each value within its list or range, and all resolved but `invert`.
 #[derive(Clone, Copy, Debug)]
 pub struct Config {
-    code: u64,
-    depth: u64,
-    frame_length: u64,
-    inner: u64,
-    invert: Option<u64>,
-    randomize: u64,
-    basis: u64,
-    tolerance: u64,
-    repair: u64,
-    soft: u64,
-    start: u64,
-    skip: u64,
-    workers: u64,
-    limit: u64,
-    fly: u64,
-    keep: u64,
-    ahead: u64,
-    phase: u64,
-    polarity: u64,
+    values: Values,
 }
 
 impl Model for Config {
-    ghost use Rattle.tm_config.specs.Configuration.{Configuration};
+    ghost use Rattle.tm_config.specs.declared.values.Values.{Values};
     ghost use Rattle.tm_config.specs.Accepted.{IsAccepted};
 
-    ghost Value = { Configuration };
+    ghost Value = { Values };
 
-    ghost view = { λ c. record {
-      code = c.code;
-      depth = c.depth;
-      frame_length = c.frame_length;
-      inner = c.inner;
-      invert = c.invert;
-      randomize = c.randomize;
-      basis = c.basis;
-      tolerance = c.tolerance;
-      repair = c.repair;
-      soft = c.soft;
-      start = c.start;
-      skip = c.skip;
-      workers = c.workers;
-      limit = c.limit;
-      fly = c.fly;
-      keep = c.keep;
-      ahead = c.ahead;
-      phase = c.phase;
-      polarity = c.polarity;
-    } };
+    ghost view = { λ c. c.values };
 
-    ghost invariant = { λ c. IsAccepted (record {
-      code = c.code;
-      depth = c.depth;
-      frame_length = c.frame_length;
-      inner = c.inner;
-      invert = c.invert;
-      randomize = c.randomize;
-      basis = c.basis;
-      tolerance = c.tolerance;
-      repair = c.repair;
-      soft = c.soft;
-      start = c.start;
-      skip = c.skip;
-      workers = c.workers;
-      limit = c.limit;
-      fly = c.fly;
-      keep = c.keep;
-      ahead = c.ahead;
-      phase = c.phase;
-      polarity = c.polarity;
-    }) };
+    ghost invariant = { λ c. IsAccepted c.values };
 
-    ghost inverse = { λ c. record {
-      code = c.code;
-      depth = c.depth;
-      frame_length = c.frame_length;
-      inner = c.inner;
-      invert = c.invert;
-      randomize = c.randomize;
-      basis = c.basis;
-      tolerance = c.tolerance;
-      repair = c.repair;
-      soft = c.soft;
-      start = c.start;
-      skip = c.skip;
-      workers = c.workers;
-      limit = c.limit;
-      fly = c.fly;
-      keep = c.keep;
-      ahead = c.ahead;
-      phase = c.phase;
-      polarity = c.polarity;
-    } };
+    ghost inverse = { λ values. record { values = values } };
 }
 
 impl Config {
@@ -118,58 +47,43 @@ impl Config {
     pub fn check(raw: &Raw) -> Result<Config, ConfigError>
         ensures ok { OnOk result (refusal_of raw.now ≡ None) }
         ensures config { IfOk result (λ config. config ≡ configuration_of raw.now) }
+        ensures numbers { IfOk result (HaveNumbers raw.now) }
         ensures accepted { IfOk result IsAccepted }
         ensures err { IfErr result (λ error. refusal_of raw.now ≡ Some error) }
     {
         match refusal(raw) {
             Some(error) => Err(error),
-            None => Ok(Config::resolved(raw)),
+            None => Ok(Config {
+                values: resolved(raw),
+            }),
         }
     }
 
-    // The values, with those that were not given.
-    fn resolved(raw: &Raw) -> Config
-        requires { refusal_of raw.now ≡ None }
-        ensures config { result ≡ configuration_of raw.now }
-        ensures accepted { IsAccepted result }
+    /// The values, with a type for each choice.
+    pub fn values(&self) -> &Values
+        ensures value { result.now ≡ self.now }
+        ensures accepted { IsAccepted self.now }
     {
-        Config {
-            code: raw.code,
-            depth: raw.depth,
-            frame_length: frame_length(raw),
-            inner: raw.inner,
-            invert: raw.invert,
-            randomize: raw.randomize,
-            basis: raw.basis,
-            tolerance: raw.tolerance,
-            repair: raw.repair.unwrap_or(raw.code),
-            soft: raw.soft,
-            start: raw.start,
-            skip: raw.skip,
-            workers: raw.workers,
-            limit: raw.limit,
-            fly: raw.fly,
-            keep: raw.keep,
-            ahead: raw.ahead,
-            phase: raw.phase,
-            polarity: raw.polarity,
-        }
+        &self.values
     }
 
     /// The symbols of a codeword, n: its data and its 2E check symbols. Where there is no code, the octets of a frame.
     pub fn word_length(&self) -> u64
         ensures value { result ≡ word_length self.now }
+        ensures fits { self.now.code ≢ OuterCode.Uncoded
+            → (2 * correctable self.now.code < result) × (result ≤ LONGEST_WORD) }
         ensures accepted { IsAccepted self.now }
     {
-        self.frame_length / self.depth + 2 * self.code
+        self.values.frame_length / self.values.depth + 2 * self.values.code.correctable()
     }
 
     /// How many wrong symbols of a codeword the Reed-Solomon code corrects, E: 16 or 8, or 0 where there is no code.
     pub fn code(&self) -> u64
-        ensures value { result ≡ self.now.code }
+        ensures value { result ≡ correctable self.now.code }
+        ensures some { self.now.code ≢ OuterCode.Uncoded → (result ≡ 16) ⊎ (result ≡ 8) }
         ensures accepted { IsAccepted self.now }
     {
-        self.code
+        self.values.code.correctable()
     }
 
     /// The interleaving depth, 1 to 8: the codewords of a codeblock.
@@ -177,7 +91,7 @@ impl Config {
         ensures value { result ≡ self.now.depth }
         ensures accepted { IsAccepted self.now }
     {
-        self.depth
+        self.values.depth
     }
 
     /// The octets of a transfer frame.
@@ -185,40 +99,53 @@ impl Config {
         ensures value { result ≡ self.now.frame_length }
         ensures accepted { IsAccepted self.now }
     {
-        self.frame_length
+        self.values.frame_length
     }
 
     /// The rate of the convolutional code by its two digits, as 12 for 1/2, or 0 where there is none.
     pub fn inner(&self) -> u64
-        ensures value { result ≡ self.now.inner }
+        ensures value { result ≡ number_of_rate self.now.inner }
         ensures accepted { IsAccepted self.now }
     {
-        self.inner
+        match self.values.inner {
+            None => 0,
+            Some(Rate::R12) => 12,
+            Some(Rate::R23) => 23,
+            Some(Rate::R34) => 34,
+            Some(Rate::R56) => 56,
+            Some(Rate::R78) => 78,
+        }
     }
 
     /// Whether each second symbol of the convolutional code is inverted, 0 or 1, or `None` for what the rate asks for.
     /// It has no effect where there is no inner code.
     pub fn invert(&self) -> Option<u64>
-        ensures value { result ≡ self.now.invert }
+        ensures value { result ≡ option_map number_of_switch self.now.invert }
         ensures accepted { IsAccepted self.now }
     {
-        self.invert
+        match self.values.invert {
+            None => None,
+            Some(is_inverted) => Some(number_of_switch(is_inverted)),
+        }
     }
 
     /// 1 where codeblocks are randomized, and else 0.
     pub fn randomize(&self) -> u64
-        ensures value { result ≡ self.now.randomize }
+        ensures value { result ≡ number_of_switch self.now.randomize }
         ensures accepted { IsAccepted self.now }
     {
-        self.randomize
+        number_of_switch(self.values.randomize)
     }
 
     /// The representation of the symbols: 0 for the dual basis, 1 for the polynomial basis.
     pub fn basis(&self) -> u64
-        ensures value { result ≡ self.now.basis }
+        ensures value { result ≡ number_of_basis self.now.basis }
         ensures accepted { IsAccepted self.now }
     {
-        self.basis
+        match self.values.basis {
+            Basis::Dual => 0,
+            Basis::Poly => 1,
+        }
     }
 
     /// How many bits of a sync marker may be wrong.
@@ -226,7 +153,7 @@ impl Config {
         ensures value { result ≡ self.now.tolerance }
         ensures accepted { IsAccepted self.now }
     {
-        self.tolerance
+        self.values.tolerance
     }
 
     /// How many wrong symbols of a codeword are corrected at most, up to E.
@@ -234,23 +161,29 @@ impl Config {
         ensures value { result ≡ self.now.repair }
         ensures accepted { IsAccepted self.now }
     {
-        self.repair
+        self.values.repair
     }
 
     /// The form of a soft symbol: 0 for unsigned, 1 for signed octets. It has no effect where there is no inner code.
     pub fn soft(&self) -> u64
-        ensures value { result ≡ self.now.soft }
+        ensures value { result ≡ number_of_form self.now.soft }
         ensures accepted { IsAccepted self.now }
     {
-        self.soft
+        match self.values.soft {
+            SoftForm::Unsigned => 0,
+            SoftForm::Signed => 1,
+        }
     }
 
     /// Where the inner decoder's paths start: 0 for register zero, 1 for any register.
     pub fn start(&self) -> u64
-        ensures value { result ≡ self.now.start }
+        ensures value { result ≡ number_of_start self.now.start }
         ensures accepted { IsAccepted self.now }
     {
-        self.start
+        match self.values.start {
+            Start::Zero => 0,
+            Start::Any => 1,
+        }
     }
 
     /// How many soft symbols, or bits where there is no inner code, are dropped from the front.
@@ -258,7 +191,7 @@ impl Config {
         ensures value { result ≡ self.now.skip }
         ensures accepted { IsAccepted self.now }
     {
-        self.skip
+        self.values.skip
     }
 
     /// How many workers decode.
@@ -266,7 +199,7 @@ impl Config {
         ensures value { result ≡ self.now.workers }
         ensures accepted { IsAccepted self.now }
     {
-        self.workers
+        self.values.workers
     }
 
     /// The most octets that are read.
@@ -274,7 +207,7 @@ impl Config {
         ensures value { result ≡ self.now.limit }
         ensures accepted { IsAccepted self.now }
     {
-        self.limit
+        self.values.limit
     }
 
     /// How many markers in a row may be missing.
@@ -282,7 +215,7 @@ impl Config {
         ensures value { result ≡ self.now.fly }
         ensures accepted { IsAccepted self.now }
     {
-        self.fly
+        self.values.fly
     }
 
     /// The steps of a window of the inner decoder that are kept.
@@ -290,7 +223,7 @@ impl Config {
         ensures value { result ≡ self.now.keep }
         ensures accepted { IsAccepted self.now }
     {
-        self.keep
+        self.values.keep
     }
 
     /// The steps that a window has beyond those that are kept.
@@ -298,22 +231,51 @@ impl Config {
         ensures value { result ≡ self.now.ahead }
         ensures accepted { IsAccepted self.now }
     {
-        self.ahead
+        self.values.ahead
     }
 
     /// The phase of the symbols: 0 where it is given, 1 where it is to be found.
     pub fn phase(&self) -> u64
-        ensures value { result ≡ self.now.phase }
+        ensures value { result ≡ number_of_sought self.now.phase }
         ensures accepted { IsAccepted self.now }
     {
-        self.phase
+        number_of_sought(self.values.phase)
     }
 
     /// The polarity of the symbols: 0 where it is given, 1 where it is to be found.
     pub fn polarity(&self) -> u64
-        ensures value { result ≡ self.now.polarity }
+        ensures value { result ≡ number_of_sought self.now.polarity }
         ensures accepted { IsAccepted self.now }
     {
-        self.polarity
+        number_of_sought(self.values.polarity)
+    }
+}
+
+// The values, with those that were not given.
+fn resolved(raw: &Raw) -> Values
+    requires { refusal_of raw.now ≡ None }
+    ensures { result ≡ configuration_of raw.now }
+{
+    let code = code_of(raw.code);
+    Values {
+        code,
+        depth: raw.depth,
+        frame_length: frame_length(raw),
+        inner: rate_of(raw.inner),
+        invert: are_on(raw.invert),
+        randomize: is_on(raw.randomize),
+        basis: Basis::numbered(raw.basis),
+        tolerance: raw.tolerance,
+        repair: raw.repair.unwrap_or(code.correctable()),
+        soft: form_of(raw.soft),
+        start: start_of(raw.start),
+        skip: raw.skip,
+        workers: raw.workers,
+        limit: raw.limit,
+        fly: raw.fly,
+        keep: raw.keep,
+        ahead: raw.ahead,
+        phase: sought_of(raw.phase),
+        polarity: sought_of(raw.polarity),
     }
 }

@@ -1,18 +1,43 @@
 // The test of each value, and the first that fails.
 ghost use Rattle.std.specs.Prelude.{◌≡◌, ◌*◌, None, unwrap_or};
-ghost use Rattle.tm_config.specs.Configuration.{most_data};
-ghost use Rattle.tm_config.specs.Refusal.{is_within, code_fits, depth_fits, length_fits, inner_fits, switches_fit, repair_fits, first_error, refusal_of};
+ghost use Rattle.tm_config.specs.Configuration.{most_data, code_of, correctable, all_codes, number_of_rate, all_rates};
+ghost use Rattle.tm_config.specs.Accepted.{is_number, is_within, switch_fits, depth_fits, length_fits, switches_fit, repair_fits, first_error, refusal_of};
 
-use crate::{ConfigError, Raw};
+use crate::values::code_of;
+use crate::{ConfigError, OuterCode, Raw};
+
+// The most symbols of a codeword.
+pub const LONGEST_WORD: u64 = 255;
+
+// The most octets of a codeblock: those of eight such words, which interleave at the greatest depth.
+pub const LONGEST_CODEBLOCK: u64 = 2040;
+
+pub const DEEPEST: u64 = 8;
+
+// The bounds of the other values, by their options.
+pub const MOST_TOLERANCE: u64 = 8;
+
+pub const MOST_SKIP: u64 = 15;
+
+pub const MOST_WORKERS: u64 = 64;
+
+pub const MOST_LIMIT: u64 = 1 << 40;
+
+pub const MOST_FLY: u64 = 15;
+
+pub const LEAST_KEEP: u64 = 64;
+
+pub const MOST_KEEP: u64 = 65_536;
+
+pub const MOST_AHEAD: u64 = 4096;
 
 // The most data octets of a codeword, or of a frame where there is no code.
-fn most_data(code: u64) -> u64
+fn most_data(code: OuterCode) -> u64
     ensures { result ≡ most_data code }
 {
-    if code == 0 {
-        2040
-    } else {
-        255u64.saturating_sub(code.saturating_mul(2))
+    match code {
+        OuterCode::Uncoded => LONGEST_CODEBLOCK,
+        _ => LONGEST_WORD.saturating_sub(code.correctable().saturating_mul(2)),
     }
 }
 
@@ -22,19 +47,18 @@ fn is_within(least: u64, most: u64, value: u64) -> bool
     (least..=most).contains(&value)
 }
 
-fn code_fits(raw: &Raw) -> bool
-    ensures { result ≡ code_fits raw.now }
+fn code_fits(code: u64) -> bool
+    ensures { result ≡ is_number correctable all_codes code }
 {
-    matches!(raw.code, 16 | 8 | 0)
+    matches!(code, 16 | 8 | 0)
 }
 
 fn depth_fits(raw: &Raw) -> bool
     ensures { result ≡ depth_fits raw.now }
 {
-    if raw.code == 0 {
-        raw.depth == 1
-    } else {
-        matches!(raw.depth, 1 | 2 | 3 | 4 | 5 | 8)
+    match code_of(raw.code) {
+        OuterCode::Uncoded => raw.depth == 1,
+        _ => matches!(raw.depth, 1 | 2 | 3 | 4 | 5 | DEEPEST),
     }
 }
 
@@ -46,23 +70,30 @@ fn length_fits(raw: &Raw) -> bool
         Some(length) => {
             raw.depth > 0
                 && length % raw.depth == 0
-                && is_within(1, most_data(raw.code), length / raw.depth)
+                && is_within(1, most_data(code_of(raw.code)), length / raw.depth)
         }
     }
 }
 
-fn inner_fits(raw: &Raw) -> bool
-    ensures { result ≡ inner_fits raw.now }
+fn inner_fits(inner: u64) -> bool
+    ensures { result ≡ is_number number_of_rate all_rates inner }
 {
-    matches!(raw.inner, 0 | 12 | 23 | 34 | 56 | 78)
+    matches!(inner, 0 | 12 | 23 | 34 | 56 | 78)
+}
+
+// Whether a choice of two has the number.
+fn is_choice(number: u64) -> bool
+    ensures { result ≡ switch_fits number }
+{
+    matches!(number, 0 | 1)
 }
 
 fn switches_fit(raw: &Raw) -> bool
     ensures { result ≡ switches_fit raw.now }
 {
     match raw.invert {
-        None => raw.randomize <= 1,
-        Some(invert) => invert <= 1 && raw.randomize <= 1,
+        None => is_choice(raw.randomize),
+        Some(invert) => is_choice(invert) && is_choice(raw.randomize),
     }
 }
 
@@ -71,7 +102,7 @@ fn repair_fits(raw: &Raw) -> bool
 {
     match raw.repair {
         None => true,
-        Some(repair) => repair <= raw.code,
+        Some(repair) => repair <= code_of(raw.code).correctable(),
     }
 }
 
@@ -92,34 +123,40 @@ pub fn refusal(raw: &Raw) -> Option<ConfigError>
     ensures { result ≡ refusal_of raw.now }
 {
     first_error(&[
-        (code_fits(raw), ConfigError::Code),
+        (code_fits(raw.code), ConfigError::Code),
         (depth_fits(raw), ConfigError::Depth),
         (length_fits(raw), ConfigError::Length),
-        (inner_fits(raw), ConfigError::Inner),
+        (inner_fits(raw.inner), ConfigError::Inner),
         (switches_fit(raw), ConfigError::Switch),
-        (raw.basis <= 1, ConfigError::Basis),
-        (raw.tolerance <= 8, ConfigError::Tolerance),
+        (is_choice(raw.basis), ConfigError::Basis),
+        (raw.tolerance <= MOST_TOLERANCE, ConfigError::Tolerance),
         (repair_fits(raw), ConfigError::Repair),
-        (raw.soft <= 1, ConfigError::Soft),
-        (raw.start <= 1, ConfigError::Start),
-        (raw.skip <= 15, ConfigError::Skip),
-        (is_within(1, 64, raw.workers), ConfigError::Workers),
-        (is_within(1, 1 << 40, raw.limit), ConfigError::Limit),
-        (raw.fly <= 15, ConfigError::Fly),
-        (is_within(64, 65_536, raw.keep), ConfigError::Keep),
-        (raw.ahead <= 4096, ConfigError::Ahead),
-        (raw.phase <= 1, ConfigError::Phase),
-        (raw.polarity <= 1, ConfigError::Polarity),
+        (is_choice(raw.soft), ConfigError::Soft),
+        (is_choice(raw.start), ConfigError::Start),
+        (raw.skip <= MOST_SKIP, ConfigError::Skip),
+        (
+            is_within(1, MOST_WORKERS, raw.workers),
+            ConfigError::Workers,
+        ),
+        (is_within(1, MOST_LIMIT, raw.limit), ConfigError::Limit),
+        (raw.fly <= MOST_FLY, ConfigError::Fly),
+        (
+            is_within(LEAST_KEEP, MOST_KEEP, raw.keep),
+            ConfigError::Keep,
+        ),
+        (raw.ahead <= MOST_AHEAD, ConfigError::Ahead),
+        (is_choice(raw.phase), ConfigError::Phase),
+        (is_choice(raw.polarity), ConfigError::Polarity),
     ])
 }
 
 // The octets of a frame, of the longest one where its length is not given.
 pub fn frame_length(raw: &Raw) -> u64
     requires { refusal_of raw.now ≡ None }
-    ensures { result ≡ unwrap_or raw.now.length (raw.now.depth * most_data raw.now.code) }
+    ensures { result ≡ unwrap_or raw.now.length (raw.now.depth * most_data (code_of raw.now.code)) }
 {
     match raw.length {
         Some(length) => length,
-        None => raw.depth * most_data(raw.code),
+        None => raw.depth * most_data(code_of(raw.code)),
     }
 }

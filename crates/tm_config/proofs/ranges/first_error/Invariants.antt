@@ -1,5 +1,5 @@
 use Rattle.std.proofs.Common.{◌≡◌, drop}
-use Rattle.tm_config.specs.Refusal.{first_error}
+use Rattle.tm_config.specs.Accepted.{first_error}
 use Rattle.tm_config.proofs.ranges.first_error.Given as goal
 
 abbrev pub invariant-loop-fits : goal.invariant-loop-fits
