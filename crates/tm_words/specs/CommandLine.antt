@@ -4,33 +4,10 @@ use Rattle.std.specs.Str.{bytes_eq}
 use Rattle.clap.specs.Words.{App, Shape, Rule, Text, new_rule}
 use Rattle.clap.specs.Simple.{new_shape}
 use Rattle.clap.specs.Faults.{fault_of}
+use Rattle.tm_words.specs.Options.{options, soak_options}
 use Rattle.tm_words.specs.declared.job.JobKind.{JobKind}
-use Rattle.tm_words.specs.declared.job.JobKind.TheVariants.{Encode, Decode, Report, Trace, Word, Soak, Erased, Certify, Check}
+use Rattle.tm_words.specs.declared.job.JobKind.TheVariants.{Encode, Decode, Report, Trace, Word, Soak, Erased, Certify, Check, Bits}
 use Rattle.clap.specs.declared.builder.action.ArgAction.TheVariants.{Set}
-
--- the options of every command
-abbrev pub options : List Text
-options =
-    codes "code"
-    ∷ codes "depth"
-    ∷ codes "length"
-    ∷ codes "inner"
-    ∷ codes "invert"
-    ∷ codes "randomize"
-    ∷ codes "basis"
-    ∷ codes "tolerance"
-    ∷ codes "repair"
-    ∷ codes "soft"
-    ∷ codes "start"
-    ∷ codes "skip"
-    ∷ codes "workers"
-    ∷ codes "limit"
-    ∷ codes "fly"
-    ∷ codes "keep"
-    ∷ codes "ahead"
-    ∷ codes "phase"
-    ∷ codes "polarity"
-    ∷ []
 
 -- an option that is not required and has one value, `--name value`
 abbrev pub option_rule : Text → Rule
@@ -40,7 +17,7 @@ option_rule name = record (new_rule name) { long = Some name; action = Some Set 
 abbrev pub word_rule : Text → Rule
 word_rule name = record (new_rule name) { required = true; action = Some Set }
 
--- a command with more options
+-- a command with more options, by their names
 abbrev pub with_options : List Text → Shape → Shape
 with_options names shape = record shape { rules = shape.rules ++ map option_rule names }
 
@@ -50,12 +27,12 @@ with_word name shape = record shape { rules = shape.rules ++ word_rule name ∷ 
 
 -- a command that has the options of every command and no more
 abbrev pub plain_command : Text → Shape
-plain_command name = with_options options (new_shape name)
+plain_command name = with_options (map (λ option. option.0) options) (new_shape name)
 
 -- a command of a name with what it has: `word` a word, and `soak` options of its own
 abbrev pub command_shape : Text → JobKind → Shape
 command_shape name Word = with_word (codes "hex") (plain_command name)
-command_shape name Soak = with_options (codes "seed" ∷ codes "frames" ∷ codes "hits" ∷ []) (plain_command name)
+command_shape name Soak = with_options (map (λ option. option.0) soak_options) (plain_command name)
 command_shape name _ = plain_command name
 
 -- the names of the commands, and what each asks for
@@ -70,6 +47,7 @@ commands =
     ∷ (codes "erased", Erased)
     ∷ (codes "certify", Certify)
     ∷ (codes "check", Check)
+    ∷ (codes "bits", Bits)
     ∷ []
 
 -- the program with its commands: one of them is required, and there is no help or version

@@ -30,4 +30,5 @@ job_of kind rows = plain_job kind rows
 
 -- the job that the words give, where clap's rule takes them
 abbrev pub job_of_words : List Text → Option Job
-job_of_words words = option_map (λ matched. job_of (kind_of_name matched.0) matched.1) (subcommand_of command_line words)
+job_of_words words = option_map (λ matched. job_of (kind_of_name matched.0) matched.1)
+    (subcommand_of command_line words)

@@ -6,35 +6,11 @@ ghost use Rattle.clap.specs.declared.builder.command.Command.TheViews.{out-Comma
 ghost use Rattle.tm_words.specs.CommandLine.{option_rule, word_rule, with_options, plain_command, command_shape, with_commands, command_line, kind_among, kind_of_name};
 
 use crate::JobKind;
+use crate::options::{OPTIONS, OptionRow, SOAK_OPTIONS};
 use clap::{Arg, ArgAction, Command};
 use std::alloc::{AllocError, Global};
 
-static OPTIONS: [&str; 19] = [
-    "code",
-    "depth",
-    "length",
-    "inner",
-    "invert",
-    "randomize",
-    "basis",
-    "tolerance",
-    "repair",
-    "soft",
-    "start",
-    "skip",
-    "workers",
-    "limit",
-    "fly",
-    "keep",
-    "ahead",
-    "phase",
-    "polarity",
-];
-
-// The options that `soak` has besides.
-static SOAK_OPTIONS: [&str; 3] = ["seed", "frames", "hits"];
-
-static COMMANDS: [(&str, JobKind); 9] = [
+static COMMANDS: [(&str, JobKind); 10] = [
     ("encode", JobKind::Encode),
     ("decode", JobKind::Decode),
     ("report", JobKind::Report),
@@ -44,6 +20,7 @@ static COMMANDS: [(&str, JobKind); 9] = [
     ("erased", JobKind::Erased),
     ("certify", JobKind::Certify),
     ("check", JobKind::Check),
+    ("bits", JobKind::Bits),
 ];
 
 // An option of one value.
@@ -62,18 +39,19 @@ fn word<'a>(alloc: Global, name: &'a str) -> Arg<'a>
     Arg::new(alloc, name).required(true).action(ArgAction::Set)
 }
 
-// Adds an option for each name.
+// Adds options.
 fn add_options<'a>(
     alloc: Global,
     command: Command<'a>,
-    names: &'a [&'a str],
+    options: &'a [OptionRow<'a>],
 ) -> Result<Command<'a>, AllocError>
     requires { (fields_of command).has_globals ≡ false }
-    ensures app { IfOk result (λ c. app_of c ≡ on_top (with_options (map (λ name. name.now) names.entry.now)) (app_of command.entry)) }
+    ensures app { IfOk result (λ c. app_of c
+        ≡ on_top (with_options (map (λ option. option.0.now) options.entry.now)) (app_of command.entry)) }
     ensures local { IfOk result (λ c. (fields_of c).has_globals ≡ false) }
 {
     let mut command = command;
-    for name in names {
+    for (name, _) in options {
         command = command.arg(option(alloc, *name))?;
     }
     Ok(command)
@@ -117,7 +95,8 @@ fn with_commands<'a>(
     alloc: Global,
     commands: &'a [(&'a str, JobKind)],
 ) -> Result<Command<'a>, AllocError>
-    ensures app { IfOk result (λ c. app_of c ≡ with_commands (map (λ command. command_shape command.0.now command.1) commands.entry.now)) }
+    ensures app { IfOk result (λ c. app_of c ≡ with_commands
+        (map (λ command. command_shape command.0.now command.1) commands.entry.now)) }
     ensures local { IfOk result (λ c. (fields_of c).has_globals ≡ false) }
 {
     let mut line = program(alloc);

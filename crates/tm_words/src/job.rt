@@ -26,6 +26,8 @@ pub enum JobKind {
     Certify,
     /// A certificate is checked.
     Check,
+    /// The received bits are written.
+    Bits,
 }
 
 /// The bytes of a word that is to be hexadecimal. They are not tested yet.

@@ -35,7 +35,8 @@ fn refusal(error: &clap::Error) -> WordsError
 fn parse<'a>(alloc: Global, words: &'a [String]) -> Result<ArgMatches<'a>, WordsError>
     ensures refused { IsErrOf result WordsError.Words → AreTaken (map string_bytes words.entry.now) → ⊥ }
     ensures taken { OnOk result (AreTaken (map string_bytes words.entry.now)) }
-    ensures matches { IfOk result (λ m. subcommand_rows_of m ≡ subcommand_of command_line (map string_bytes words.entry.now)) }
+    ensures matches { IfOk result (λ m. subcommand_rows_of m
+        ≡ subcommand_of command_line (map string_bytes words.entry.now)) }
     ensures present { IfOk result (λ m. has_subcommand m ≡ true) }
 {
     let command = match command_line(alloc) {

@@ -94,7 +94,8 @@ any report --skip 3|Report||1 100 0\n\
 any trace --skip 3|Trace||1 100 0\n\
 any erased --skip 3|Erased||1 100 0\n\
 any certify --skip 3|Certify||1 100 0\n\
-any check --skip 3|Check||1 100 0\n";
+any check --skip 3|Check||1 100 0\n\
+any bits --skip 3|Bits||1 100 0\n";
 
 // The same of a word to be repaired.
 static WITH_A_WORD: &str = "\
@@ -137,7 +138,7 @@ fn check_jobs(rt: &impl Abort, alloc: Global, rows: &str) -> Result<(), AllocErr
 
 #[test]
 fn gives_a_whole_job(rt: HostRuntime) -> Result<(), Fail> {
-    assert_eq!(rt; WHOLE_JOBS.lines().count(), 7);
+    assert_eq!(rt; WHOLE_JOBS.lines().count(), 8);
     check_jobs(&rt, rt.alloc(), WHOLE_JOBS)?;
     Ok(())
 }
@@ -203,7 +204,8 @@ tmchan erased 00\n\
 tmchan erased --hits 1\n\
 tmchan certify 00\n\
 tmchan check 00\n\
-tmchan check --hits 1\n";
+tmchan check --hits 1\n\
+tmchan bits 00\n";
 
 fn check_refused(rt: &impl Abort, alloc: Global) -> Result<(), AllocError> {
     for line in REFUSED.lines() {
@@ -221,7 +223,7 @@ fn check_refused(rt: &impl Abort, alloc: Global) -> Result<(), AllocError> {
 
 #[test]
 fn refuses_words(rt: HostRuntime) -> Result<(), Fail> {
-    assert_eq!(rt; REFUSED.lines().count(), 46);
+    assert_eq!(rt; REFUSED.lines().count(), 47);
     check_refused(&rt, rt.alloc())?;
     Ok(())
 }

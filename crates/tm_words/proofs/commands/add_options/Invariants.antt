@@ -7,6 +7,7 @@ use Rattle.tm_words.proofs.commands.add_options.Given as goal
 
 abbrev pub invariant-loop-name : goal.invariant-loop-name
 invariant-loop-name l = record {
-  app : app_of l.command ≡ on_top (with_options (map (λ name. name.now) (take l.name-index l.names))) (app_of l.fn.command);
+  app : app_of l.command
+      ≡ on_top (with_options (map (λ option. option.0.now) (take l.name-index l.options))) (app_of l.fn.command);
   local : (fields_of l.command).has_globals ≡ false;
 }
