@@ -1,1 +1,5 @@
 mod Runs
+mod Endings
+mod Existing
+pub mod Gatherings
+mod Fronts

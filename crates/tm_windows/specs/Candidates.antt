@@ -18,18 +18,28 @@ ClosedWith shape from blocks to = Closed shape.rate shape.invert shape.keep shap
 -- the block that a candidate is, all of whose steps but those ahead are kept
 abbrev pub block_of : WindowShape → Candidate → WindowBlock
 block_of shape c =
-    record { start = c.path.start; steps = shape.keep + shape.ahead; kept = shape.keep; metric = c.path.metric; bits = c.bits.items; end_state = c.path.end_state }
+    record {
+      start = c.path.start;
+      steps = shape.keep + shape.ahead;
+      kept = shape.keep;
+      metric = c.path.metric;
+      bits = c.bits.items;
+      end_state = c.path.end_state;
+    }
 
--- it is the block of the window from step t on with the octets, from the registers that were taken to be its start set
+-- it is the block of the window from step t on with the octets, from the registers that were taken
+-- to be its start set
 abbrev pub IsCandidate : WindowShape → ℕ → List ℕ → Candidate → Type 0
-IsCandidate shape t octets c = ClosesWith shape (record { starts = c.starts; t = t; octets = octets }) (block_of shape c)
+IsCandidate shape t octets c = ClosesWith shape
+    (record { starts = c.starts; t = t; octets = octets }) (block_of shape c)
 
--- the candidates from number `from` to number `to` are those of windows one behind another, of which number 0 begins at step t with the
--- octets
+-- the candidates from number `from` to number `to` are those of windows one behind another, of
+-- which number 0 begins at step t with the octets
 abbrev pub AreCandidates : WindowShape → ℕ → List ℕ → ℕ → ℕ → List Candidate → Type 0
 AreCandidates shape t octets from to candidates =
     (k : ℕ) (d : Candidate) → from ≤ k → k < to
-    → IsCandidate shape (t + k * shape.keep) (drop (steps_size shape.rate t (k * shape.keep)) octets) (slice_index_or candidates k d)
+    → IsCandidate shape (t + k * shape.keep)
+    (drop (steps_size shape.rate t (k * shape.keep)) octets) (slice_index_or candidates k d)
 
 -- each has room for the bits of so many steps
 abbrev pub HaveRoom : ℕ → List Candidate → Type 0
@@ -38,4 +48,8 @@ HaveRoom steps candidates = All (λ c. vec_len c.bits ≡ steps) candidates
 -- where a window begins, `count` windows behind the one from step t on with the octets
 abbrev pub place_behind : WindowShape → ℕ → List ℕ → ℕ → Option ℕ → Place
 place_behind shape t octets count starts =
-    record { starts = starts; t = t + count * shape.keep; octets = drop (steps_size shape.rate t (count * shape.keep)) octets }
+    record {
+      starts = starts;
+      t = t + count * shape.keep;
+      octets = drop (steps_size shape.rate t (count * shape.keep)) octets;
+    }

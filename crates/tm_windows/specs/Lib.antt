@@ -1,2 +1,5 @@
 pub mod Candidates
 pub mod Sharing
+pub mod HeldOctets
+pub mod Gathered
+pub mod ParallelDecoding

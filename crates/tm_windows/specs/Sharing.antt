@@ -1,8 +1,21 @@
--- What contracts see of the workers that decode windows side by side.
-use Rattle.std.specs.Prelude.{ℕ}
+-- What contracts see of the workers that decode windows side by side, and how many windows they
+-- are given.
+use Rattle.std.specs.Prelude.{ℕ, ◌*◌, ◌/◌, nat_lt, if◌then◌else◌}
 use Rattle.tm_viterbi.specs.declared.window_decoder.WindowShape.{WindowShape}
 
--- the shape of their windows, and how many they take at a time
+-- the shape of their windows, how many they take at a time, and how many workers there are
 pub record Sharing : Type 0 where
   pub shape : WindowShape
   pub most : ℕ
+  pub workers : ℕ
+
+-- how many of so many workers windows are shared out among: one alone where few steps are kept or
+-- few stand ahead, since a guess costs too much there, or is wrong too often
+abbrev pub workers_for : ℕ → ℕ → ℕ → ℕ
+workers_for workers keep ahead =
+    if nat_lt keep 1024 then 1 else if nat_lt ahead 64 then 1 else workers
+
+-- how many windows they have at a time: one alone a single window, and each of several those of
+-- 131,072 steps
+abbrev pub windows_for : ℕ → ℕ → ℕ
+windows_for workers keep = if nat_lt 1 workers then workers * (131072 / keep) else 1

@@ -32,8 +32,8 @@ pub(crate) fn decode_window(
     candidate.starts = starts;
 }
 
-/// Decodes a window for each candidate, one behind another: the first from step t on and from these registers, and each other one
-/// from the register behind the one before it.
+/// Decodes a window for each candidate, one behind another: the first from step t on and from these registers, and each
+/// other one from the register behind the one before it.
 pub(crate) fn decode_run(
     decoder: &mut WindowDecoder,
     shape: WindowShape,

@@ -6,11 +6,12 @@ use crate::candidate::Candidate;
 use tm_conv::steps_len;
 use tm_viterbi::{WindowDecoder, WindowShape};
 
-// How many steps before a window, and how many of its own, a guess looks at: with so many, no guess of a thousand was wrong at 0 dB.
+// How many steps before a window, and how many of its own, a guess looks at: with so many, no guess of a thousand was
+// wrong at 0 dB.
 const STEPS_SEEN: usize = 256;
 
-// A guess of the register at step t, whose octets begin at place `at`: where the best path over the steps around it passes. Nothing
-// but time rests on it. The candidate's bits are overwritten.
+// A guess of the register at step t, whose octets begin at place `at`: where the best path over the steps around it
+// passes. Nothing but time rests on it. The candidate's bits are overwritten.
 fn guess(
     decoder: &mut WindowDecoder,
     shape: WindowShape,
@@ -48,7 +49,8 @@ fn guess(
     path.end_state
 }
 
-/// The start set of the window from step t on, whose octets begin at place `at`, where it is known, and else a guess of it.
+/// The start set of the window from step t on, whose octets begin at place `at`, where it is known, and else a guess of
+/// it.
 pub(crate) fn known_or_guessed(
     decoder: &mut WindowDecoder,
     shape: WindowShape,

@@ -1,13 +1,18 @@
-//! The windows of the soft decoder (CCSDS 131.0-B, Convolutional Coding), several at a time by many workers: each worker decodes from
-//! a guess of the register that a window starts from, and what is handed over is settled in order, so that it is the same for any
-//! number of workers and any guess. It stands on the decoder of a window of tm_viterbi.
+//! The windows of the soft decoder (CCSDS 131.0-B, Convolutional Coding), several at a time by many workers: each
+//! worker decodes from a guess of the register that a window starts from, and what is handed over is settled in order,
+//! so that it is the same for any number of workers and any guess. It stands on the decoder of a window of tm_viterbi.
 #![tactic(auto)]
 
 mod candidate;
+mod closing;
 mod decoding;
+mod gathering;
 mod guessing;
+mod held;
+mod parallel_decoder;
 mod settling;
 mod sharing;
 mod window_workers;
 
+pub use parallel_decoder::ParallelDecoder;
 pub use window_workers::WindowWorkers;

@@ -1,10 +1,11 @@
 // The blocks of windows that were decoded from registers which were only taken to be their starts, settled in order.
-ghost use Rattle.std.specs.Prelude.{◌≡◌, ◌+◌, ◌*◌, ◌^◌, ◌<◌, ◌≤◌, IsTrue, IfOk, OnErr, List, length, vec_len};
+ghost use Rattle.std.specs.Prelude.{◌≡◌, ◌+◌, ◌*◌, ◌^◌, ◌<◌, ◌≤◌, IsTrue, IfOk, OnErr, OnOk, List, length, vec_len};
 ghost use Rattle.std.specs.Option.{ForSome};
 ghost use Rattle.tm_conv.specs.Path.{steps_size};
 ghost use Rattle.tm_base.specs.Takers.{HandedOver, HandedPart};
 ghost use Rattle.tm_base.specs.Outside.{HasCause};
 ghost use Rattle.tm_viterbi.specs.WindowBlock.{WindowBlock};
+ghost use Rattle.tm_viterbi.specs.Blocks.{IsBlock};
 ghost use Rattle.tm_viterbi.specs.Due.{Place};
 ghost use Rattle.tm_windows.specs.Candidates.{IsCandidate, AreCandidates, HaveRoom, ClosesWith, ClosedWith, block_of, place_behind};
 
@@ -32,7 +33,8 @@ fn hand_block<B: BlockTaker>(
     blocks: &mut B,
 ) -> Result<u8, Failed>
     requires { shape.keep + shape.ahead ≤ 69632 }
-    ensures ok { IfOk result (λ next. (next ≡ candidate.now.path.end_state) × B.took blocks.old (block_of shape candidate.now) blocks.new) }
+    ensures ok { IfOk result (λ next. (next ≡ candidate.now.path.end_state)
+        × B.took blocks.old (block_of shape candidate.now) blocks.new) }
     ensures err { OnErr result (B.broke blocks.old (block_of shape candidate.now) blocks.new) }
     ensures cause { HasCause (B.faults blocks.old) (B.faults blocks.new) (B.is_last blocks.new) result }
 {
@@ -50,8 +52,8 @@ fn hand_block<B: BlockTaker>(
     }
 }
 
-// Hands over the block of the window from step t on that starts from these registers: the candidate, where it was decoded from
-// them, and else it is decoded again. Answers the register behind its kept steps.
+// Hands over the block of the window from step t on that starts from these registers: the candidate, where it was
+// decoded from them, and else it is decoded again. Answers the register behind its kept steps.
 fn settle<B: BlockTaker>(
     candidate: &mut Candidate,
     decoder: &mut WindowDecoder,
@@ -67,7 +69,8 @@ fn settle<B: BlockTaker>(
     requires bits { vec_len candidate.old.bits ≡ shape.keep + shape.ahead }
     requires start { ForSome starts (λ register. register < 64) }
     requires few { t < 2 ^ 61 }
-    ensures ok { IfOk result (λ next. (block : WindowBlock) × B.took blocks.old block blocks.new × (block.end_state ≡ next) × (block.kept ≡ shape.keep)
+    ensures ok { IfOk result (λ next. (block : WindowBlock) × B.took blocks.old block blocks.new
+        × (block.end_state ≡ next) × (block.kept ≡ shape.keep)
         × ClosesWith shape (record { starts = starts; t = t; octets = octets.now }) block) }
     ensures small { IfOk result (λ next. next < 64) }
     ensures err { OnErr result ((block : WindowBlock) × B.broke blocks.old block blocks.new
@@ -82,8 +85,8 @@ fn settle<B: BlockTaker>(
     hand_block(candidate, shape, blocks)
 }
 
-/// Hands over the blocks of windows one behind another, of which the first starts from these registers, and answers the register
-/// behind the kept steps of the last. A window that was decoded from another register is decoded again.
+/// Hands over the blocks of windows one behind another, of which the first starts from these registers, and answers the
+/// register behind the kept steps of the last. A window that was decoded from another register is decoded again.
 pub(crate) fn settle_run<B: BlockTaker>(
     candidates: &mut [Candidate],
     decoder: &mut WindowDecoder,
@@ -101,7 +104,8 @@ pub(crate) fn settle_run<B: BlockTaker>(
     requires start { ForSome starts (λ register. register < 64) }
     requires few { t + length candidates.old * shape.keep < 2 ^ 61 }
     ensures ok { IfOk result (λ next. (more : List WindowBlock) × HandedOver B.took blocks.old more blocks.new
-        × ClosedWith shape (record { starts = starts; t = t; octets = octets.now }) more (place_behind shape t octets.now (length candidates.old) next)) }
+        × ClosedWith shape (record { starts = starts; t = t; octets = octets.now }) more
+        (place_behind shape t octets.now (length candidates.old) next)) }
     ensures small { IfOk result (λ next. ForSome next (λ register. register < 64)) }
     ensures err { OnErr result ((tried : List WindowBlock) × HandedPart B.took B.broke blocks.old tried blocks.new
         × (to : Place) × ClosedWith shape (record { starts = starts; t = t; octets = octets.now }) tried to) }
@@ -129,4 +133,44 @@ pub(crate) fn settle_run<B: BlockTaker>(
         now += shape.keep as u64;
     }
     Ok(starts)
+}
+
+/// Decodes the last window, of so many steps, all of them kept, and hands its block over.
+pub(crate) fn hand_last<B: BlockTaker>(
+    candidate: &mut Candidate,
+    decoder: &mut WindowDecoder,
+    shape: WindowShape,
+    starts: Option<u8>,
+    t: u64,
+    octets: &[u8],
+    steps: usize,
+    blocks: &mut B,
+) -> Result<(), Failed>
+    requires shape { decoder.old ≡ shape }
+    requires small { shape.keep + shape.ahead ≤ 69632 }
+    requires bits { vec_len candidate.old.bits ≡ shape.keep + shape.ahead }
+    requires steps { steps ≤ shape.keep + shape.ahead }
+    requires start { ForSome starts (λ register. register < 64) }
+    requires octets { steps_size shape.rate t steps ≤ length octets.now }
+    requires few { t < 2 ^ 61 }
+    ensures ok { OnOk result ((last : WindowBlock) × B.took blocks.old last blocks.new
+        × IsBlock shape.rate shape.invert shape.keep shape.ahead starts t steps octets.now last) }
+    ensures err { OnErr result ((last : WindowBlock) × B.broke blocks.old last blocks.new
+        × IsBlock shape.rate shape.invert shape.keep shape.ahead starts t steps octets.now last) }
+    ensures cause { HasCause (B.faults blocks.old) (B.faults blocks.new) (B.is_last blocks.new) result }
+    ensures bits { vec_len candidate.new.bits ≡ vec_len candidate.old.bits }
+    ensures same { decoder.new ≡ shape }
+{
+    let bits = candidate.bits.as_mut_slice();
+    let bits = &mut bits[..steps];
+    let path = decoder.decode(starts, t, steps, octets, bits);
+    let block = Block {
+        start: path.start,
+        steps: steps as u32,
+        kept: steps as u32,
+        metric: path.metric,
+        bits,
+        end_state: path.end_state,
+    };
+    blocks.block(&block)
 }

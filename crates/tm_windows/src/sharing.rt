@@ -27,7 +27,8 @@ fn decode_part(
     requires bits { HaveRoom (shape.keep + shape.ahead) candidates.old }
     requires start { ForSome known (λ starts. ForSome starts (λ register. register < 64)) }
     requires within { at ≤ length octets.now }
-    requires room { at + steps_size shape.rate t (length candidates.old * shape.keep + shape.ahead + 1) ≤ length octets.now }
+    requires room { at + steps_size shape.rate t
+        (length candidates.old * shape.keep + shape.ahead + 1) ≤ length octets.now }
     requires few { t + length candidates.old * shape.keep < 2 ^ 61 }
     ensures candidates { AreCandidates shape t (drop at octets.now) 0 (length candidates.old) candidates.new }
     ensures bits { HaveRoom (shape.keep + shape.ahead) candidates.new }
@@ -40,9 +41,9 @@ fn decode_part(
     decode_run(decoder, shape, candidates, starts, t, &octets[at..]);
 }
 
-/// Decodes a window for each candidate, by at most as many workers as there are decoders: each has one part of the windows, and the
-/// parts are nearly equal. The first window begins at step t, and its octets at place `at`; `known` is its start set. Each worker
-/// but the first begins with a guess. It takes no memory.
+/// Decodes a window for each candidate, by at most as many workers as there are decoders: each has one part of the
+/// windows, and the parts are nearly equal. The first window begins at step t, and its octets at place `at`; `known` is
+/// its start set. Each worker but the first begins with a guess. It takes no memory.
 #[cycle(parts)]
 pub(crate) fn decode_evenly<R: Threads + Sync>(
     rt: &R,
@@ -60,7 +61,8 @@ pub(crate) fn decode_evenly<R: Threads + Sync>(
     requires long { (length candidates.old ≤ 2 ^ 32) × (length octets.now ≤ 2 ^ 62) }
     requires start { ForSome known (λ starts. ForSome starts (λ register. register < 64)) }
     requires within { at ≤ length octets.now }
-    requires room { at + steps_size shape.rate t (length candidates.old * shape.keep + shape.ahead + 1) ≤ length octets.now }
+    requires room { at + steps_size shape.rate t
+        (length candidates.old * shape.keep + shape.ahead + 1) ≤ length octets.now }
     requires few { t + length candidates.old * shape.keep < 2 ^ 61 }
     ensures candidates { AreCandidates shape t (drop at octets.now) 0 (length candidates.old) candidates.new }
     ensures bits { HaveRoom (shape.keep + shape.ahead) candidates.new }
@@ -102,27 +104,39 @@ fn decode_both<R: Threads + Sync>(
     requires start { ForSome known (λ starts. ForSome starts (λ register. register < 64)) }
     requires long { length octets.now ≤ 2 ^ 62 }
     requires first { ((0 < length first.old) × (length first.old ≤ 64)) × All (λ d. d ≡ shape) first.old }
-    requires front { HaveRoom (shape.keep + shape.ahead) front.old × (length front.old ≤ 2 ^ 32) × (at ≤ length octets.now)
-        × (at + steps_size shape.rate t (length front.old * shape.keep + shape.ahead + 1) ≤ length octets.now) × (t + length front.old * shape.keep < 2 ^ 61) }
+    requires front { HaveRoom (shape.keep + shape.ahead) front.old × (length front.old ≤ 2 ^ 32)
+        × (at ≤ length octets.now)
+        × (at + steps_size shape.rate t (length front.old * shape.keep + shape.ahead + 1) ≤ length octets.now)
+        × (t + length front.old * shape.keep < 2 ^ 61) }
     requires others { ((0 < length others.old) × (length others.old ≤ 64)) × All (λ d. d ≡ shape) others.old }
-    requires back { HaveRoom (shape.keep + shape.ahead) back.old × (length back.old ≤ 2 ^ 32) × (place ≤ length octets.now)
-        × (place + steps_size shape.rate behind (length back.old * shape.keep + shape.ahead + 1) ≤ length octets.now) × (behind + length back.old * shape.keep < 2 ^ 61) }
-    ensures front { AreCandidates shape t (drop at octets.now) 0 (length front.old) front.new × HaveRoom (shape.keep + shape.ahead) front.new × All (λ d. d ≡ shape) first.new }
-    ensures back { AreCandidates shape behind (drop place octets.now) 0 (length back.old) back.new × HaveRoom (shape.keep + shape.ahead) back.new × All (λ d. d ≡ shape) others.new }
+    requires back { HaveRoom (shape.keep + shape.ahead) back.old × (length back.old ≤ 2 ^ 32)
+        × (place ≤ length octets.now)
+        × (place + steps_size shape.rate behind (length back.old * shape.keep + shape.ahead + 1) ≤ length octets.now)
+        × (behind + length back.old * shape.keep < 2 ^ 61) }
+    ensures front { AreCandidates shape t (drop at octets.now) 0 (length front.old) front.new
+        × HaveRoom (shape.keep + shape.ahead) front.new × All (λ d. d ≡ shape) first.new }
+    ensures back { AreCandidates shape behind (drop place octets.now) 0 (length back.old) back.new
+        × HaveRoom (shape.keep + shape.ahead) back.new × All (λ d. d ≡ shape) others.new }
 {
     let mut decode_front = ||
-        requires { IsSync R.row × ForSome known (λ starts. ForSome starts (λ register. register < 64)) × (length octets.now ≤ 2 ^ 62)
+        requires { IsSync R.row × ForSome known (λ starts. ForSome starts (λ register. register < 64))
+            × (length octets.now ≤ 2 ^ 62)
             × ((0 < length first.now) × (length first.now ≤ 64)) × All (λ d. d ≡ shape) first.now
             × HaveRoom (shape.keep + shape.ahead) front.now × (length front.now ≤ 2 ^ 32) × (at ≤ length octets.now)
-            × (at + steps_size shape.rate t (length front.now * shape.keep + shape.ahead + 1) ≤ length octets.now) × (t + length front.now * shape.keep < 2 ^ 61) }
-        ensures { AreCandidates shape t (drop at octets.entry.now) 0 (length front.entry.now) front.exit.now × HaveRoom (shape.keep + shape.ahead) front.exit.now × All (λ d. d ≡ shape) first.exit.now }
+            × (at + steps_size shape.rate t (length front.now * shape.keep + shape.ahead + 1) ≤ length octets.now)
+            × (t + length front.now * shape.keep < 2 ^ 61) }
+        ensures { AreCandidates shape t (drop at octets.entry.now) 0 (length front.entry.now) front.exit.now
+            × HaveRoom (shape.keep + shape.ahead) front.exit.now × All (λ d. d ≡ shape) first.exit.now }
     { decode_evenly(rt, shape, first, known, t, octets, at, front) };
     let mut decode_back = ||
         requires { IsSync R.row × (length octets.now ≤ 2 ^ 62)
             × ((0 < length others.now) × (length others.now ≤ 64)) × All (λ d. d ≡ shape) others.now
             × HaveRoom (shape.keep + shape.ahead) back.now × (length back.now ≤ 2 ^ 32) × (place ≤ length octets.now)
-            × (place + steps_size shape.rate behind (length back.now * shape.keep + shape.ahead + 1) ≤ length octets.now) × (behind + length back.now * shape.keep < 2 ^ 61) }
-        ensures { AreCandidates shape behind (drop place octets.entry.now) 0 (length back.entry.now) back.exit.now × HaveRoom (shape.keep + shape.ahead) back.exit.now × All (λ d. d ≡ shape) others.exit.now }
+            × (place + steps_size shape.rate behind
+            (length back.now * shape.keep + shape.ahead + 1) ≤ length octets.now)
+            × (behind + length back.now * shape.keep < 2 ^ 61) }
+        ensures { AreCandidates shape behind (drop place octets.entry.now) 0 (length back.entry.now) back.exit.now
+            × HaveRoom (shape.keep + shape.ahead) back.exit.now × All (λ d. d ≡ shape) others.exit.now }
     { decode_evenly(rt, shape, others, None, behind, octets, place, back) };
     join_mut(rt, &mut decode_front, &mut decode_back);
 }

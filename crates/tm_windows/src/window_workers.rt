@@ -1,16 +1,18 @@
 // Workers, with all that they need, that close several windows side by side.
-ghost use Rattle.std.specs.Prelude.{◌≡◌, ◌+◌, ◌*◌, ◌^◌, ◌<◌, ◌≤◌, IfOk, OnErr, List, length, vec_len};
+ghost use Rattle.std.specs.Prelude.{◌≡◌, ◌+◌, ◌*◌, ◌^◌, ◌<◌, ◌≤◌, IfOk, OnErr, OnOk, List, length, vec_len};
 ghost use Rattle.std.specs.List.{All};
 ghost use Rattle.std.specs.Option.{ForSome};
 ghost use Rattle.tm_base.specs.Outside.{HasCause};
 ghost use Rattle.tm_base.specs.Takers.{HandedOver, HandedPart};
 ghost use Rattle.tm_conv.specs.Path.{steps_size};
 ghost use Rattle.tm_viterbi.specs.WindowBlock.{WindowBlock};
+ghost use Rattle.tm_viterbi.specs.Blocks.{IsBlock};
 ghost use Rattle.tm_viterbi.specs.Due.{Place};
 ghost use Rattle.tm_windows.specs.Candidates.{ClosedWith, HaveRoom, place_behind};
 
 use crate::candidate::Candidate;
-use crate::settling::settle_run;
+use crate::decoding::decode_run;
+use crate::settling::{hand_last, settle_run};
 use crate::sharing::decode_evenly;
 use std::alloc::{AllocError, Global};
 use std::marker::Model;
@@ -18,8 +20,8 @@ use std::thread::Threads;
 use tm_base::{Failed, NoMemory};
 use tm_viterbi::{BlockTaker, WindowDecoder, WindowShape};
 
-/// Workers that decode windows side by side, each with a decoder of its own, and room for the blocks of some windows. All memory is
-/// taken at `open`.
+/// Workers that decode windows side by side, each with a decoder of its own, and room for the blocks of some windows.
+/// All memory is taken at `open`.
 #[derive(Drop)]
 pub struct WindowWorkers {
     shape: WindowShape,
@@ -35,7 +37,7 @@ impl Model for WindowWorkers {
 
     ghost Value = { Sharing };
 
-    ghost view = { λ w. record { shape = w.shape; most = vec_len w.candidates } };
+    ghost view = { λ w. record { shape = w.shape; most = vec_len w.candidates; workers = vec_len w.decoders } };
 
     ghost invariant = { λ w. (w.shape.keep + w.shape.ahead ≤ 69632) × ((0 < vec_len w.decoders) × (vec_len w.decoders ≤ 64)) × (vec_len w.candidates ≤ 2 ^ 32)
         × All (λ d. d ≡ w.shape) w.decoders.items × HaveRoom (w.shape.keep + w.shape.ahead) w.candidates.items };
@@ -94,7 +96,8 @@ fn close_run<R: Threads + Sync, B: BlockTaker>(
     requires room { steps_size shape.rate t (count * shape.keep + shape.ahead + 1) ≤ length octets.now }
     requires few { t + count * shape.keep < 2 ^ 61 }
     ensures ok { IfOk result (λ next. (more : List WindowBlock) × HandedOver B.took blocks.old more blocks.new
-        × ClosedWith shape (record { starts = starts; t = t; octets = octets.now }) more (place_behind shape t octets.now count next)) }
+        × ClosedWith shape (record { starts = starts; t = t; octets = octets.now }) more
+        (place_behind shape t octets.now count next)) }
     ensures small { IfOk result (λ next. ForSome next (λ register. register < 64)) }
     ensures err { OnErr result ((tried : List WindowBlock) × HandedPart B.took B.broke blocks.old tried blocks.new
         × (to : Place) × ClosedWith shape (record { starts = starts; t = t; octets = octets.now }) tried to) }
@@ -115,9 +118,42 @@ fn close_run<R: Threads + Sync, B: BlockTaker>(
     )
 }
 
+// The same with no thread, by one decoder.
+fn close_run_alone<B: BlockTaker>(
+    shape: WindowShape,
+    decoder: &mut WindowDecoder,
+    candidates: &mut [Candidate],
+    starts: Option<u8>,
+    t: u64,
+    octets: &[u8],
+    count: usize,
+    blocks: &mut B,
+) -> Result<Option<u8>, Failed>
+    requires shape { decoder.old ≡ shape }
+    requires small { shape.keep + shape.ahead ≤ 69632 }
+    requires most { count ≤ length candidates.old }
+    requires bits { HaveRoom (shape.keep + shape.ahead) candidates.old }
+    requires start { ForSome starts (λ register. register < 64) }
+    requires room { steps_size shape.rate t (count * shape.keep + shape.ahead + 1) ≤ length octets.now }
+    requires few { t + count * shape.keep < 2 ^ 61 }
+    ensures ok { IfOk result (λ next. (more : List WindowBlock) × HandedOver B.took blocks.old more blocks.new
+        × ClosedWith shape (record { starts = starts; t = t; octets = octets.now }) more
+        (place_behind shape t octets.now count next)) }
+    ensures small { IfOk result (λ next. ForSome next (λ register. register < 64)) }
+    ensures err { OnErr result ((tried : List WindowBlock) × HandedPart B.took B.broke blocks.old tried blocks.new
+        × (to : Place) × ClosedWith shape (record { starts = starts; t = t; octets = octets.now }) tried to) }
+    ensures cause { HasCause (B.faults blocks.old) (B.faults blocks.new) (B.is_last blocks.new) result }
+    ensures bits { HaveRoom (shape.keep + shape.ahead) candidates.new }
+    ensures same { decoder.new ≡ shape }
+{
+    let (run, _) = candidates.split_at_mut(count);
+    decode_run(decoder, shape, run, starts, t, octets);
+    settle_run(run, decoder, shape, starts, t, octets, blocks)
+}
+
 impl WindowWorkers {
-    /// So many workers, 1 to 64, for windows of this shape, which have at most 69,632 steps, and room for `most` windows at a time, at
-    /// most 2^32. It fails only where there isn't enough memory.
+    /// So many workers, 1 to 64, for windows of this shape, which have at most 69,632 steps, and room for `most`
+    /// windows at a time, at most 2^32. It fails only where there isn't enough memory.
     pub fn open(
         alloc: Global,
         shape: WindowShape,
@@ -127,7 +163,7 @@ impl WindowWorkers {
         requires steps { shape.keep + shape.ahead ≤ 69632 }
         requires workers { (0 < workers) × (workers ≤ 64) }
         requires most { most ≤ 2 ^ 32 }
-        ensures { IfOk result (λ w. w ≡ record { shape = shape; most = most }) }
+        ensures { IfOk result (λ w. w ≡ record { shape = shape; most = most; workers = workers }) }
     {
         let Ok(decoders) = new_decoders(alloc, shape, usize::from(workers)) else {
             return Err(NoMemory);
@@ -142,10 +178,10 @@ impl WindowWorkers {
         })
     }
 
-    /// Closes the next `count` windows side by side and hands over their blocks in order: the first window begins at step `t` with
-    /// `octets`, and starts from the register `starts` or from any; the last has one more step behind it. The octets are at most
-    /// 2^62, and the steps below 2^61. Answers the register from which the window behind them starts. The blocks are the same for any
-    /// number of workers.
+    /// Closes the next `count` windows side by side and hands over their blocks in order: the first window begins at
+    /// step `t` with `octets`, and starts from the register `starts` or from any; the last has one more step behind
+    /// it. The octets are at most 2^62, and the steps below 2^61. Answers the register from which the window behind
+    /// them starts. The blocks are the same for any number of workers.
     ///
     /// `Failed` comes only where the taker's count of faults rose; a front of the blocks was then handed over.
     pub fn close<R: Threads + Sync, B: BlockTaker>(
@@ -159,14 +195,17 @@ impl WindowWorkers {
     ) -> Result<Option<u8>, Failed>
         requires most { count ≤ self.old.most }
         requires start { ForSome starts (λ register. register < 64) }
-        requires room { steps_size self.old.shape.rate t (count * self.old.shape.keep + self.old.shape.ahead + 1) ≤ length octets.now }
+        requires room { steps_size self.old.shape.rate t
+            (count * self.old.shape.keep + self.old.shape.ahead + 1) ≤ length octets.now }
         requires long { length octets.now ≤ 2 ^ 62 }
         requires few { t + count * self.old.shape.keep < 2 ^ 61 }
         ensures ok { IfOk result (λ next. (more : List WindowBlock) × HandedOver B.took blocks.old more blocks.new
-            × ClosedWith self.old.shape (record { starts = starts; t = t; octets = octets.now }) more (place_behind self.old.shape t octets.now count next)) }
+            × ClosedWith self.old.shape (record { starts = starts; t = t; octets = octets.now }) more
+            (place_behind self.old.shape t octets.now count next)) }
         ensures small { IfOk result (λ next. ForSome next (λ register. register < 64)) }
         ensures err { OnErr result ((tried : List WindowBlock) × HandedPart B.took B.broke blocks.old tried blocks.new
-            × (to : Place) × ClosedWith self.old.shape (record { starts = starts; t = t; octets = octets.now }) tried to) }
+            × (to : Place) × ClosedWith self.old.shape
+            (record { starts = starts; t = t; octets = octets.now }) tried to) }
         ensures cause { HasCause (B.faults blocks.old) (B.faults blocks.new) (B.is_last blocks.new) result }
         ensures same { self.new ≡ self.old }
     {
@@ -174,6 +213,82 @@ impl WindowWorkers {
         let candidates = self.candidates.as_mut_slice();
         close_run(
             rt, self.shape, decoders, candidates, starts, t, octets, count, blocks,
+        )
+    }
+
+    /// Closes the next `count` windows as `close` does, but one behind another, with no thread.
+    pub fn close_alone<B: BlockTaker>(
+        &mut self,
+        starts: Option<u8>,
+        t: u64,
+        octets: &[u8],
+        count: usize,
+        blocks: &mut B,
+    ) -> Result<Option<u8>, Failed>
+        requires most { count ≤ self.old.most }
+        requires start { ForSome starts (λ register. register < 64) }
+        requires room { steps_size self.old.shape.rate t (count * self.old.shape.keep + self.old.shape.ahead + 1)
+            ≤ length octets.now }
+        requires few { t + count * self.old.shape.keep < 2 ^ 61 }
+        ensures ok { IfOk result (λ next. (more : List WindowBlock) × HandedOver B.took blocks.old more blocks.new
+            × ClosedWith self.old.shape (record { starts = starts; t = t; octets = octets.now }) more
+            (place_behind self.old.shape t octets.now count next)) }
+        ensures small { IfOk result (λ next. ForSome next (λ register. register < 64)) }
+        ensures err { OnErr result ((tried : List WindowBlock) × HandedPart B.took B.broke blocks.old tried blocks.new
+            × (to : Place) × ClosedWith self.old.shape
+            (record { starts = starts; t = t; octets = octets.now }) tried to) }
+        ensures cause { HasCause (B.faults blocks.old) (B.faults blocks.new) (B.is_last blocks.new) result }
+        ensures same { self.new ≡ self.old }
+    {
+        let decoders = self.decoders.as_mut_slice();
+        let candidates = self.candidates.as_mut_slice();
+        close_run_alone(
+            self.shape,
+            &mut decoders[0],
+            candidates,
+            starts,
+            t,
+            octets,
+            count,
+            blocks,
+        )
+    }
+
+    /// Hands over the block of the last window, of `steps` steps, all of them kept: it begins at step `t`, below
+    /// 2^61, with `octets`, and starts from the register `starts` or from any.
+    ///
+    /// `Failed` comes only where the taker's count of faults rose.
+    pub fn close_last<B: BlockTaker>(
+        &mut self,
+        starts: Option<u8>,
+        t: u64,
+        octets: &[u8],
+        steps: usize,
+        blocks: &mut B,
+    ) -> Result<(), Failed>
+        requires some { 0 < self.old.most }
+        requires start { ForSome starts (λ register. register < 64) }
+        requires steps { steps ≤ self.old.shape.keep + self.old.shape.ahead }
+        requires octets { steps_size self.old.shape.rate t steps ≤ length octets.now }
+        requires few { t < 2 ^ 61 }
+        ensures ok { OnOk result ((last : WindowBlock) × B.took blocks.old last blocks.new
+            × IsBlock self.old.shape.rate self.old.shape.invert self.old.shape.keep self.old.shape.ahead starts t steps octets.now last) }
+        ensures err { OnErr result ((last : WindowBlock) × B.broke blocks.old last blocks.new
+            × IsBlock self.old.shape.rate self.old.shape.invert self.old.shape.keep self.old.shape.ahead starts t steps octets.now last) }
+        ensures cause { HasCause (B.faults blocks.old) (B.faults blocks.new) (B.is_last blocks.new) result }
+        ensures same { self.new ≡ self.old }
+    {
+        let decoders = self.decoders.as_mut_slice();
+        let candidates = self.candidates.as_mut_slice();
+        hand_last(
+            &mut candidates[0],
+            &mut decoders[0],
+            self.shape,
+            starts,
+            t,
+            octets,
+            steps,
+            blocks,
         )
     }
 }

@@ -29,7 +29,7 @@ fn close_batches<R: Threads + Sync>(
     octets: &[u8],
     digest: &mut Digest,
 ) -> Result<(), Failed>
-    requires shape { workers.old ≡ record { shape = shape; most = 7 } }
+    requires shape { (workers.old.shape ≡ shape) × (workers.old.most ≡ 7) }
     requires keep { shape.keep ≤ 65536 }
     requires ahead { shape.ahead ≤ 4096 }
     requires start { ForSome first (λ register. register < 64) }

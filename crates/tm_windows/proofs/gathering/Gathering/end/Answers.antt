@@ -1,0 +1,33 @@
+use Rattle.std.proofs.Common.{◌++◌, ◌∷◌, [], inr}
+use Rattle.tm_base.proofs.Handing.{HandedOver-append, HandedPart-after, HandedPart-first}
+use Rattle.tm_windows.specs.Gathered.{settings_of}
+use Rattle.tm_windows.proofs.Gatherings.{blocks_after}
+use Rattle.tm_windows.proofs.gathering.Gathering.end.Goals as goal
+
+pub returns-in-Ok-end_open-clause-ok : goal.returns-in-Ok-end_open-clause-ok
+returns-in-Ok-end_open-clause-ok g c =
+    let first = c.in-Ok.ensures.ok in
+    let last = c.in-Ok-end_open.ensures.ok in (
+      first.0 ++ last.0,
+      HandedOver-append _ c.args.blocks.now c.close.new.blocks c.end_open.new.blocks first.0 last.0 first.1 last.1,
+      λ all done r.
+          blocks_after (settings_of c.close.new.self) (settings_of c.args.self.now) all done first.0 last.0
+          c.in-Ok-end_open.left c.close.ensures.settings
+          (last.2 all (done ++ first.0) (first.2 all [] done r)),
+    )
+
+pub returns-in-Err-end_open-clause-err : goal.returns-in-Err-end_open-clause-err
+returns-in-Err-end_open-clause-err g c =
+    let first = c.in-Ok.ensures.ok in
+    let last = c.in-Err-end_open.ensures.err in (
+      first.0 ++ last.0 ∷ [],
+      HandedPart-after _ _ c.args.blocks.now c.close.new.blocks c.end_open.new.blocks first.0 (last.0 ∷ []) first.1
+          (HandedPart-first _ _ c.close.new.blocks c.end_open.new.blocks last.0 [] last.1),
+      λ all done r.
+          let are = last.2 all (done ++ first.0) (first.2 all [] done r) in
+          inr (
+            are.0,
+            blocks_after (settings_of c.close.new.self) (settings_of c.args.self.now) all done first.0
+                (last.0 ∷ []) are.0 c.close.ensures.settings are.1,
+          ),
+    )

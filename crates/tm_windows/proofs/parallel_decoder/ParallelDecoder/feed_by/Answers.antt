@@ -1,0 +1,67 @@
+use Rattle.std.proofs.Common.{◌≡◌, ◌+◌, ◌++◌, ◌∙◌, ℕ, List, sym, subst, ap, arith, append_assoc, refl, length, length-append}
+use Rattle.tm_viterbi.specs.Due.{AreDue, AreFirst}
+use Rattle.tm_windows.specs.Gathered.{settings_of}
+use Rattle.tm_windows.specs.ParallelDecoding.{ParallelDecoding, StandsFor}
+use Rattle.tm_windows.proofs.Gatherings.{Reaches-append, AreDue-reached, due_with, first_with, first_longer, has_room}
+use Rattle.tm_windows.proofs.parallel_decoder.ParallelDecoder.feed_by.Goals as goal
+
+pub invariant_of-self : goal.invariant_of-self
+invariant_of-self g c = (
+  omega (arith, c.take.ensures.counted, c.self.invariant.0),
+  omega (arith, c.counted-piece.ensures.fits),
+  has_room c.take.new.self c.take.ensures.is_open,
+)
+
+pub invariant_of-self-in-Err : goal.invariant_of-self-in-Err
+invariant_of-self-in-Err g c = (
+  omega (arith, c.take.ensures.counted, c.self.invariant.0),
+  omega (arith, c.counted-piece.ensures.fits),
+  has_room c.take.new.self c.take.ensures.is_open,
+)
+
+pub returns-in-Ok-clause-handed : goal.returns-in-Ok-clause-handed
+returns-in-Ok-clause-handed g c =
+    let s = c.self.inside.gathering in
+    let taken = c.counted-piece.result.now in
+    let ok = c.in-Ok.ensures.ok in
+    let old = c.args.self.now in
+    let now : ParallelDecoding = record {
+      settings = settings_of c.take.new.self;
+      has_stopped = c.self.inside.has_stopped;
+      count = c.self.inside.count + length taken;
+      gathering = c.take.new.self;
+    } in
+    let set : settings_of s ≡ old.settings = ap (λ (d : ParallelDecoding). d.settings) c.self.view_is in (
+      ok.0,
+      ok.1,
+      λ given done few stands.
+          let stood = subst (λ (d : ParallelDecoding). StandsFor d given done) (sym c.self.view_is) stands in
+          let reaches = ok.2 (given ++ taken) done (Reaches-append s given taken done stood.reaches) in
+          let due = AreDue-reached c.take.new.self (given ++ taken) (done ++ ok.0) reaches c.take.ensures.is_open in
+          let same = c.counted-piece.ensures.all (omega (arith, few, stood.count)) in
+          subst (λ (v : List ℕ). StandsFor now (given ++ v) (done ++ ok.0) × AreDue old.settings (given ++ v) (done ++ ok.0)) same (
+            record {
+              settings = refl;
+              count = omega (arith, stood.count, length-append given taken);
+              reaches = reaches;
+            },
+            due_with _ _ (given ++ taken) (done ++ ok.0) (c.take.ensures.settings ∙ set) due,
+          ),
+    )
+
+pub returns-in-Err-clause-front : goal.returns-in-Err-clause-front
+returns-in-Err-clause-front g c = λ _.
+    let s = c.self.inside.gathering in
+    let old = c.args.self.now in
+    let taken = c.counted-piece.result.now in
+    let more = c.counted-piece.ensures.front in
+    let err = c.in-Err.ensures.err in
+    let set : settings_of s ≡ old.settings = ap (λ (d : ParallelDecoding). d.settings) c.self.view_is in (
+      err.0,
+      err.1,
+      λ given done stands.
+          let stood = subst (λ (d : ParallelDecoding). StandsFor d given done) (sym c.self.view_is) stands in
+          let first = err.2 (given ++ taken) done (Reaches-append s given taken done stood.reaches) in
+          subst (λ (v : List ℕ). AreFirst old.settings v (done ++ err.0)) (append_assoc given taken more.0 ∙ ap (λ (v : List ℕ). given ++ v) more.1)
+          (first_longer old.settings (given ++ taken) more.0 (done ++ err.0) (first_with _ _ (given ++ taken) (done ++ err.0) set first)),
+    )

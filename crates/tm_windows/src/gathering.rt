@@ -1,0 +1,352 @@
+// The octets of windows whose blocks were not handed over yet, and the workers that decode them.
+ghost use Rattle.std.specs.Prelude.{◌≡◌, ◌↔◌, ◌++◌, ◌∷◌, ◌⊎◌, ℕ, ◌+◌, ◌-◌, ◌*◌, ◌^◌, ◌<◌, ◌≤◌, IsTrue, List, [], false, IfOk, OnOk, OnErr, drop, length, min};
+ghost use Rattle.std.specs.Option.{ForSome};
+ghost use Rattle.tm_base.specs.Outside.{HasCause};
+ghost use Rattle.tm_base.specs.Takers.{HandedOver, HandedPart};
+ghost use Rattle.tm_conv.specs.Path.{steps_size};
+ghost use Rattle.tm_viterbi.specs.Starts.{first_start};
+ghost use Rattle.tm_viterbi.specs.WindowBlock.{WindowBlock};
+
+use crate::closing::Closing;
+use crate::held::Held;
+use crate::window_workers::WindowWorkers;
+use std::alloc::Global;
+use tm_base::{Failed, NoMemory};
+use tm_conv::{Rate, best_path_law, steps_len};
+use tm_viterbi::{BlockTaker, Start, WindowShape};
+
+/// A stream whose windows before step `t` are closed, and the octets from there on.
+#[derive(Drop)]
+pub(crate) struct Gathering {
+    pub(crate) start: Start,
+    pub(crate) shape: WindowShape,
+    pub(crate) most: usize,
+    pub(crate) starts: Option<u8>,
+    pub(crate) t: u64,
+    pub(crate) held: Held,
+    pub(crate) workers: WindowWorkers,
+    ghost workers_shape: { workers.shape ≡ shape },
+    ghost workers_most: { workers.most ≡ most },
+    ghost sizes: { (64 ≤ shape.keep) × (shape.keep ≤ 65536) × (shape.ahead ≤ 4096) },
+    ghost some: { (0 < most) × (most ≤ 2 ^ 17) },
+    ghost register: { ForSome starts (λ register. register < 64) },
+    ghost room: { (2 * (most * shape.keep + shape.ahead + 1) ≤ held.room) × (held.room ≤ 2 ^ 40) },
+}
+
+fn first_start(start: Start) -> Option<u8>
+    ensures value { result ≡ first_start start }
+    ensures small { ForSome result (λ register. register < 64) }
+{
+    match start {
+        Start::Zero => Some(0),
+        Start::Any => None,
+    }
+}
+
+// How many whole steps so many octets have from step t on, at most `limit`.
+fn whole_steps(rate: Rate, t: u64, len: usize, limit: usize) -> usize
+    requires few { (t < 2 ^ 60) × (limit < 2 ^ 60) }
+    ensures whole { steps_size rate t result ≤ len }
+    ensures most { result ≤ limit }
+    ensures all { result < limit → len < steps_size rate t (result + 1) }
+{
+    let mut low = 0;
+    let mut above = limit + 1;
+    while above - low > 1 {
+        let middle = low + (above - low) / 2;
+        if steps_len(rate, t, middle) <= len {
+            low = middle;
+        } else {
+            above = middle;
+        }
+    }
+    low
+}
+
+// How many windows so many octets close from step t on, at most `most`.
+fn closed_windows(shape: WindowShape, t: u64, len: usize, most: usize) -> usize
+    requires sizes { (64 ≤ shape.keep) × (shape.keep ≤ 65536) × (shape.ahead ≤ 4096) }
+    requires most { most ≤ 2 ^ 17 }
+    requires few { t < 2 ^ 60 }
+    ensures most { result ≤ most }
+    ensures room { 0 < result → steps_size shape.rate t (result * shape.keep + shape.ahead + 1) ≤ len }
+    ensures all { len ≤ steps_size shape.rate t (most * shape.keep + shape.ahead + 1)
+        → len < steps_size shape.rate t ((result + 1) * shape.keep + shape.ahead + 1) }
+{
+    let limit = most * shape.keep + shape.ahead + 1;
+    let steps = whole_steps(shape.rate, t, len, limit);
+    steps.saturating_sub(shape.ahead + 1) / shape.keep
+}
+
+impl Gathering {
+    ghost use Rattle.tm_viterbi.specs.Blocks.{AreBlocksOf};
+    ghost use Rattle.tm_viterbi.specs.Due.{AreDue, AreFirst};
+    ghost use Rattle.tm_windows.specs.Gathered.{settings_of, room_of, reached, HasRoom, IsOpen, Reaches};
+
+    /// A stream of which no octet was given yet, and so many workers with room for `most` windows at a time. All
+    /// memory is taken here.
+    pub(crate) fn new(
+        alloc: Global,
+        start: Start,
+        shape: WindowShape,
+        workers: u8,
+        most: usize,
+    ) -> Result<Gathering, NoMemory>
+        requires sizes { (64 ≤ shape.keep) × (shape.keep ≤ 65536) × (shape.ahead ≤ 4096) }
+        requires workers { (0 < workers) × (workers ≤ 64) }
+        requires most { (0 < most) × (most ≤ 2 ^ 17) }
+        ensures shape { IfOk result (λ g. (g.shape ≡ shape) × (g.start ≡ start)) }
+        ensures workers { IfOk result (λ g. g.workers ≡ record { shape = shape; most = most; workers = workers }) }
+        ensures began { IfOk result (λ g. (reached g ≡ 0) × HasRoom g × Reaches g [] [] []) }
+    {
+        let workers = WindowWorkers::open(alloc, shape, workers, most)?;
+        let room = 2 * (most * shape.keep + shape.ahead + 1);
+        let Ok(held) = Held::open(alloc, room) else {
+            return Err(NoMemory);
+        };
+        Ok(Gathering {
+            start,
+            shape,
+            most,
+            starts: first_start(start),
+            t: 0,
+            held,
+            workers,
+        })
+    }
+
+    // For how many octets there is room beside those that are held.
+    fn room_left(&self) -> usize
+        requires few { self.now.t < 2 ^ 60 }
+        ensures { result ≡ room_of self.now - length self.now.held.octets }
+    {
+        let steps = self.most * self.shape.keep + self.shape.ahead + 1;
+        steps_len(self.shape.rate, self.t, steps).saturating_sub(self.held.as_slice().len())
+    }
+
+    // Takes of the next octets as many as there is room for, and answers how many.
+    fn fill(&mut self, rest: &[u8]) -> usize
+        requires room { HasRoom self.old }
+        requires few { self.old.t < 2 ^ 60 }
+        ensures count { result ≡ min (length rest.now) (room_of self.old - length self.old.held.octets) }
+        ensures reaches { (all : List ℕ) (done : List WindowBlock) → Reaches self.old all rest.now done
+            → Reaches self.new all (drop result rest.now) done }
+        ensures room { HasRoom self.new }
+        ensures counted { reached self.new ≡ reached self.old + result }
+        ensures same { (settings_of self.new ≡ settings_of self.old) × (self.new.t ≡ self.old.t) }
+    {
+        let count = rest.len().min(self.room_left());
+        self.held.append(&rest[..count]);
+        count
+    }
+
+    // Hands over the blocks of the windows that the octets held close. Where the taker fails no octet is held any more.
+    fn close<C: Closing<B>, B: BlockTaker>(
+        &mut self,
+        closing: &C,
+        blocks: &mut B,
+    ) -> Result<(), Failed>
+        requires ready { C.is_ready closing.now }
+        requires room { HasRoom self.old }
+        requires few { self.old.t < 2 ^ 60 }
+        ensures ok { OnOk result ((more : List WindowBlock) × HandedOver B.took blocks.old more blocks.new
+            × ((all rest : List ℕ) (done : List WindowBlock) → Reaches self.old all rest done
+            → Reaches self.new all rest (done ++ more))) }
+        ensures err { OnErr result ((tried : List WindowBlock) × HandedPart B.took B.broke blocks.old tried blocks.new
+            × ((all rest : List ℕ) (done : List WindowBlock) → Reaches self.old all rest done
+            → AreFirst (settings_of self.old) all (done ++ tried))) }
+        ensures is_open { IsOpen self.new }
+        ensures counted { reached self.new ≤ reached self.old }
+        ensures settings { settings_of self.new ≡ settings_of self.old }
+        ensures cause { HasCause (B.faults blocks.old) (B.faults blocks.new) (B.is_last blocks.new) result }
+    {
+        let octets = self.held.as_slice();
+        let count = closed_windows(self.shape, self.t, octets.len(), self.most);
+        if count == 0 {
+            return Ok(());
+        }
+        match closing.close(
+            &mut self.workers,
+            self.starts,
+            self.t,
+            octets,
+            count,
+            blocks,
+        ) {
+            Ok(next) => {
+                let steps = count * self.shape.keep;
+                self.held
+                    .drop_front(steps_len(self.shape.rate, self.t, steps));
+                self.starts = next;
+                self.t += steps as u64;
+                Ok(())
+            }
+            Err(Failed) => {
+                self.held.clear();
+                Err(Failed)
+            }
+        }
+    }
+
+    // Takes the next octets of a piece, until a batch of windows is closed, and hands over the blocks. Answers how many
+    // octets these are.
+    fn take_next<C: Closing<B>, B: BlockTaker>(
+        &mut self,
+        closing: &C,
+        rest: &[u8],
+        blocks: &mut B,
+    ) -> Result<usize, Failed>
+        requires ready { C.is_ready closing.now }
+        requires room { HasRoom self.old }
+        requires few { self.old.t < 2 ^ 60 }
+        ensures ok { IfOk result (λ n. (n ≤ length rest.now) × (more : List WindowBlock)
+            × HandedOver B.took blocks.old more blocks.new
+            × ((all : List ℕ) (done : List WindowBlock) → Reaches self.old all rest.now done
+            → Reaches self.new all (drop n rest.now) (done ++ more))) }
+        ensures some { IfOk result (λ n. IsOpen self.old → 0 < length rest.now → 0 < n) }
+        ensures err { OnErr result ((tried : List WindowBlock) × HandedPart B.took B.broke blocks.old tried blocks.new
+            × ((all : List ℕ) (done : List WindowBlock) → Reaches self.old all rest.now done
+            → AreFirst (settings_of self.old) all (done ++ tried))) }
+        ensures is_open { IsOpen self.new }
+        ensures counted { IfOk result (λ n. reached self.new ≤ reached self.old + n) }
+        ensures stays { OnErr result (reached self.new ≤ reached self.old + length rest.now) }
+        ensures settings { settings_of self.new ≡ settings_of self.old }
+        ensures cause { HasCause (B.faults blocks.old) (B.faults blocks.new) (B.is_last blocks.new) result }
+    {
+        let count = self.fill(rest);
+        match self.close(closing, blocks) {
+            Ok(()) => Ok(count),
+            Err(Failed) => Err(Failed),
+        }
+    }
+
+    /// Takes a piece, and hands over the blocks of the windows that are closed by it and the octets before it.
+    pub(crate) fn take<C: Closing<B>, B: BlockTaker>(
+        &mut self,
+        closing: &C,
+        piece: &[u8],
+        blocks: &mut B,
+    ) -> Result<(), Failed>
+        requires ready { C.is_ready closing.now }
+        requires room { HasRoom self.old }
+        requires few { reached self.old + length piece.now < 2 ^ 60 }
+        ensures ok { OnOk result ((more : List WindowBlock) × HandedOver B.took blocks.old more blocks.new
+            × ((all : List ℕ) (done : List WindowBlock) → Reaches self.old all piece.now done
+            → Reaches self.new all [] (done ++ more))) }
+        ensures err { OnErr result ((tried : List WindowBlock) × HandedPart B.took B.broke blocks.old tried blocks.new
+            × ((all : List ℕ) (done : List WindowBlock) → Reaches self.old all piece.now done
+            → AreFirst (settings_of self.old) all (done ++ tried))) }
+        ensures settings { settings_of self.new ≡ settings_of self.old }
+        ensures counted { reached self.new ≤ reached self.old + length piece.now }
+        ensures is_open { IsOpen self.new }
+        ensures cause { HasCause (B.faults blocks.old) (B.faults blocks.new) (B.is_last blocks.new) result }
+    {
+        let mut at = match self.take_next(closing, piece, blocks) {
+            Ok(count) => count,
+            Err(Failed) => return Err(Failed),
+        };
+        while at < piece.len() {
+            match self.take_next(closing, &piece[at..], blocks) {
+                Ok(count) => at += count,
+                Err(Failed) => return Err(Failed),
+            }
+        }
+        Ok(())
+    }
+
+    /// Takes a piece, where there is room for it, and decodes nothing. Answers whether there was room.
+    pub(crate) fn gather(&mut self, piece: &[u8]) -> bool
+        requires room { HasRoom self.old }
+        requires few { self.old.t < 2 ^ 60 }
+        ensures fits { IsTrue result ↔ length self.old.held.octets + length piece.now ≤ room_of self.old }
+        ensures reaches { IsTrue result → (all : List ℕ) (done : List WindowBlock)
+            → Reaches self.old all piece.now done → Reaches self.new all [] done }
+        ensures counted { IsTrue result → reached self.new ≡ reached self.old + length piece.now }
+        ensures unchanged { result ≡ false → self.new ≡ self.old }
+        ensures room { HasRoom self.new }
+        ensures settings { settings_of self.new ≡ settings_of self.old }
+    {
+        if piece.len() > self.room_left() {
+            return false;
+        }
+        self.fill(piece);
+        true
+    }
+
+    /// How many windows the octets held close.
+    pub(crate) fn count_closed(&self) -> usize
+        requires room { HasRoom self.now }
+        requires few { self.now.t < 2 ^ 60 }
+        ensures most { result ≤ self.now.most }
+        ensures due { (all : List ℕ) (done : List WindowBlock) → Reaches self.now all [] done
+            → (more : List WindowBlock) × (length more ≡ result) × AreDue (settings_of self.now) all (done ++ more) }
+    {
+        best_path_law();
+        closed_windows(self.shape, self.t, self.held.as_slice().len(), self.most)
+    }
+
+    /// Hands over the blocks of the windows that the octets held close, and that of the last window, where a step is
+    /// left for it. Answers how many octets are left over.
+    pub(crate) fn end<C: Closing<B>, B: BlockTaker>(
+        &mut self,
+        closing: &C,
+        blocks: &mut B,
+    ) -> Result<u8, Failed>
+        requires ready { C.is_ready closing.now }
+        requires room { HasRoom self.old }
+        requires few { self.old.t + length self.old.held.octets < 2 ^ 60 }
+        ensures ok { IfOk result (λ left. (last : List WindowBlock) × HandedOver B.took blocks.old last blocks.new
+            × ((all : List ℕ) (done : List WindowBlock) → Reaches self.old all [] done
+            → AreBlocksOf (settings_of self.old) all (done ++ last) left)) }
+        ensures err { OnErr result ((tried : List WindowBlock) × HandedPart B.took B.broke blocks.old tried blocks.new
+            × ((all : List ℕ) (done : List WindowBlock) → Reaches self.old all [] done
+            → AreFirst (settings_of self.old) all (done ++ tried) ⊎ ((left : ℕ)
+            × AreBlocksOf (settings_of self.old) all (done ++ tried) left))) }
+        ensures left { IfOk result (λ left. left ≤ 1) }
+        ensures settings { settings_of self.new ≡ settings_of self.old }
+        ensures counted { reached self.new ≤ reached self.old }
+        ensures is_open { IsOpen self.new }
+        ensures cause { HasCause (B.faults blocks.old) (B.faults blocks.new) (B.is_last blocks.new) result }
+    {
+        match self.close(closing, blocks) {
+            Ok(()) => {}
+            Err(Failed) => return Err(Failed),
+        }
+        match self.end_open(blocks) {
+            Ok(left) => Ok(left),
+            Err(Failed) => Err(Failed),
+        }
+    }
+
+    // The same where no window is closed.
+    fn end_open<B: BlockTaker>(&mut self, blocks: &mut B) -> Result<u8, Failed>
+        requires is_open { IsOpen self.old }
+        requires few { self.old.t < 2 ^ 60 }
+        ensures ok { IfOk result (λ left. (last : List WindowBlock) × HandedOver B.took blocks.old last blocks.new
+            × ((all : List ℕ) (done : List WindowBlock) → Reaches self.old all [] done
+            → AreBlocksOf (settings_of self.old) all (done ++ last) left)) }
+        ensures err { OnErr result ((last : WindowBlock) × B.broke blocks.old last blocks.new
+            × ((all : List ℕ) (done : List WindowBlock) → Reaches self.old all [] done → (left : ℕ)
+            × AreBlocksOf (settings_of self.old) all (done ++ last ∷ []) left)) }
+        ensures left { IfOk result (λ left. left ≤ 1) }
+        ensures settings { settings_of self.new ≡ settings_of self.old }
+        ensures counted { reached self.new ≡ reached self.old }
+        ensures is_open { IsOpen self.new }
+        ensures cause { HasCause (B.faults blocks.old) (B.faults blocks.new) (B.is_last blocks.new) result }
+    {
+        let octets = self.held.as_slice();
+        let limit = self.shape.keep + self.shape.ahead;
+        let steps = whole_steps(self.shape.rate, self.t, octets.len(), limit);
+        let left = (octets.len() - steps_len(self.shape.rate, self.t, steps)) as u8;
+        if steps == 0 {
+            return Ok(left);
+        }
+        match self
+            .workers
+            .close_last(self.starts, self.t, octets, steps, blocks)
+        {
+            Ok(()) => Ok(left),
+            Err(Failed) => Err(Failed),
+        }
+    }
+}

@@ -1,0 +1,363 @@
+// The decoder of a stream, with workers.
+ghost use Rattle.std.specs.Prelude.{◌≡◌, ◌≢◌, ◌↔◌, ◌++◌, ◌⊎◌, ℕ, ◌+◌, ◌*◌, ◌^◌, ◌<◌, ◌≤◌, IsTrue, List, [], true, false, IfOk, OnOk, IsErrOf, Err, length};
+ghost use Rattle.tm_base.specs.Outside.{Rose};
+ghost use Rattle.tm_base.specs.Takers.{HandedOver, HandedPart};
+ghost use Rattle.tm_viterbi.specs.WindowBlock.{WindowBlock};
+ghost use Rattle.tm_viterbi.specs.Settings.{Settings};
+ghost use Rattle.tm_viterbi.specs.Blocks.{AreBlocksOf};
+ghost use Rattle.tm_viterbi.specs.Due.{AreDue, AreFirst};
+ghost use Rattle.tm_windows.specs.Gathered.{IsOpen, room_of};
+ghost use Rattle.tm_windows.specs.Sharing.{workers_for, windows_for};
+ghost use Rattle.tm_windows.specs.ParallelDecoding.{StandsFor};
+
+use crate::closing::{Closing, OneByOne, SideBySide};
+use crate::gathering::Gathering;
+use std::alloc::Global;
+use std::marker::Model;
+use std::thread::Threads;
+use tm_base::{Failed, NoMemory};
+use tm_conv::Rate;
+use tm_viterbi::{BlockTaker, FeedError, Start, WindowShape};
+
+// The steps of the windows that a worker has at a time: so many that making a thread costs little beside them.
+const STEPS_EACH: usize = 131_072;
+
+// The least windows for which workers pay: a guess runs over some hundred steps, and is often wrong where few stand
+// ahead.
+const LEAST_KEEP: u32 = 1_024;
+
+const LEAST_AHEAD: u32 = 64;
+
+/// The soft decoder (CCSDS 131.0-B, Convolutional Coding), fed in pieces of soft octets as `tm_viterbi::Decoder` is,
+/// whose windows many workers decode side by side: all those that octets close. Octets may also be gathered, so that
+/// there are more windows to share out. It takes all its memory at `open`.
+#[derive(Drop)]
+pub struct ParallelDecoder {
+    gathering: Gathering,
+    // The octets given.
+    count: u64,
+    has_stopped: bool,
+}
+
+impl Model for ParallelDecoder {
+    ghost use Rattle.std.specs.Prelude.{◌≤◌, ◌<◌, ◌^◌};
+    ghost use Rattle.tm_windows.specs.Gathered.{settings_of, reached, HasRoom};
+    ghost use Rattle.tm_windows.specs.ParallelDecoding.{ParallelDecoding};
+
+    ghost Value = { ParallelDecoding };
+
+    ghost view = { λ d. record {
+      settings = settings_of d.gathering;
+      has_stopped = d.has_stopped;
+      count = d.count;
+      gathering = d.gathering;
+    } };
+
+    ghost invariant = { λ d. (reached d.gathering ≤ d.count) × (d.count < 2 ^ 60) × HasRoom d.gathering };
+}
+
+// How many of so many workers windows are shared out among.
+fn worker_count(workers: u8, keep: u32, ahead: u32) -> u8
+    ensures { result ≡ workers_for workers keep ahead }
+{
+    if keep < LEAST_KEEP || ahead < LEAST_AHEAD {
+        1
+    } else {
+        workers
+    }
+}
+
+// How many windows so many workers have at a time.
+fn window_count(workers: u8, keep: u32) -> usize
+    requires workers { (0 < workers) × (workers ≤ 64) }
+    requires keep { (64 ≤ keep) × (keep ≤ 65536) }
+    ensures value { result ≡ windows_for workers keep }
+    ensures small { (0 < result) × (result ≤ 2 ^ 17) }
+{
+    if workers > 1 {
+        usize::from(workers) * (STEPS_EACH / keep as usize)
+    } else {
+        1
+    }
+}
+
+// The octets of a piece, or none of them where more would be given in all than are counted.
+fn counted(count: u64, piece: &[u8]) -> &[u8]
+    requires { count < 2 ^ 60 }
+    ensures fits { count + length result.now < 2 ^ 60 }
+    ensures all { count + length piece.now < 2 ^ 60 → result.now ≡ piece.now }
+    ensures front { (more : List ℕ) × (result.now ++ more ≡ piece.now) }
+{
+    if piece.len() as u64 >= (1 << 60) - count {
+        &piece[..0]
+    } else {
+        piece
+    }
+}
+
+impl ParallelDecoder {
+    /// A decoder that was given nothing yet, with 1 to 64 workers, for windows of `keep` steps, 64 to 65,536, and
+    /// `ahead` more, at most 4,096. Where `invert` is set each second sum was sent inverted. Of each window but the
+    /// last `keep` steps are kept. Where fewer than 1,024 steps are kept or fewer than 64 stand ahead, one worker
+    /// decodes all windows.
+    ///
+    /// It fails only where there isn't enough memory.
+    pub fn open(
+        alloc: Global,
+        rate: Rate,
+        invert: bool,
+        start: Start,
+        keep: u32,
+        ahead: u32,
+        workers: u8,
+    ) -> Result<ParallelDecoder, NoMemory>
+        requires keep { (64 ≤ keep) × (keep ≤ 65536) }
+        requires ahead { ahead ≤ 4096 }
+        requires workers { (0 < workers) × (workers ≤ 64) }
+        ensures settings { IfOk result (λ d.
+            d.settings ≡ record { rate = rate; invert = invert; start = start; keep = keep; ahead = ahead }) }
+        ensures workers { IfOk result (λ d. d.gathering.workers.workers ≡ workers_for workers keep ahead) }
+        ensures most { IfOk result (λ d. d.gathering.workers.most ≡ windows_for (workers_for workers keep ahead) keep) }
+        ensures fresh { IfOk result (λ d. d.has_stopped ≡ false) }
+        ensures stands { IfOk result (λ d. StandsFor d [] []) }
+    {
+        let workers = worker_count(workers, keep, ahead);
+        let most = window_count(workers, keep);
+        let shape = WindowShape {
+            rate,
+            invert,
+            keep: keep as usize,
+            ahead: ahead as usize,
+        };
+        let gathering = Gathering::new(alloc, start, shape, workers, most)?;
+        Ok(ParallelDecoder {
+            gathering,
+            count: 0,
+            has_stopped: false,
+        })
+    }
+
+    /// Takes the next soft octets, and hands over the blocks of the windows that are closed by all octets so far: a
+    /// window is closed once the step behind it is whole. The blocks are the same for any number of workers.
+    ///
+    /// `Taker` comes where `blocks` fails; a front of the blocks was then handed over. `Stopped` comes where an earlier
+    /// call answered `Taker` or `finish` was called; nothing is handed over then.
+    ///
+    /// The octets given in all are to be below 2^60.
+    pub fn feed<R: Threads + Sync, B: BlockTaker>(
+        &mut self,
+        rt: &R,
+        piece: &[u8],
+        blocks: &mut B,
+    ) -> Result<(), FeedError>
+        ensures stopped { IsErrOf result FeedError.Stopped ↔ IsTrue self.old.has_stopped }
+        ensures unchanged { IsErrOf result FeedError.Stopped → (self.new ≡ self.old) × (blocks.new ≡ blocks.old) }
+        ensures stops { IsTrue self.new.has_stopped ↔ OnOk result ⊥ }
+        ensures settings { self.new.settings ≡ self.old.settings }
+        ensures handed { OnOk result ((more : List WindowBlock) × HandedOver B.took blocks.old more blocks.new
+            × ((given : List ℕ) (done : List WindowBlock) → length given + length piece.now < 2 ^ 60
+            → StandsFor self.old given done
+            → StandsFor self.new (given ++ piece.now) (done ++ more)
+            × AreDue self.old.settings (given ++ piece.now) (done ++ more))) }
+        ensures is_open { OnOk result (IsOpen self.new.gathering) }
+        ensures front { IsErrOf result FeedError.Taker → (tried : List WindowBlock)
+            × HandedPart B.took B.broke blocks.old tried blocks.new
+            × ((given : List ℕ) (done : List WindowBlock) → StandsFor self.old given done
+            → AreFirst self.old.settings (given ++ piece.now) (done ++ tried)) }
+        ensures later { B.faults blocks.old ≤ B.faults blocks.new }
+        ensures rose { IsErrOf result FeedError.Taker
+            → Rose (B.faults blocks.old) (B.faults blocks.new) (B.is_last blocks.new) }
+        ensures same { result ≢ Err FeedError.Taker → B.faults blocks.new ≡ B.faults blocks.old }
+    {
+        self.feed_by(&SideBySide { rt }, piece, blocks)
+    }
+
+    /// Does what `feed` does, but decodes the windows one behind another, with no thread.
+    pub fn feed_alone<B: BlockTaker>(
+        &mut self,
+        piece: &[u8],
+        blocks: &mut B,
+    ) -> Result<(), FeedError>
+        ensures stopped { IsErrOf result FeedError.Stopped ↔ IsTrue self.old.has_stopped }
+        ensures unchanged { IsErrOf result FeedError.Stopped → (self.new ≡ self.old) × (blocks.new ≡ blocks.old) }
+        ensures stops { IsTrue self.new.has_stopped ↔ OnOk result ⊥ }
+        ensures settings { self.new.settings ≡ self.old.settings }
+        ensures handed { OnOk result ((more : List WindowBlock) × HandedOver B.took blocks.old more blocks.new
+            × ((given : List ℕ) (done : List WindowBlock) → length given + length piece.now < 2 ^ 60
+            → StandsFor self.old given done
+            → StandsFor self.new (given ++ piece.now) (done ++ more)
+            × AreDue self.old.settings (given ++ piece.now) (done ++ more))) }
+        ensures is_open { OnOk result (IsOpen self.new.gathering) }
+        ensures front { IsErrOf result FeedError.Taker → (tried : List WindowBlock)
+            × HandedPart B.took B.broke blocks.old tried blocks.new
+            × ((given : List ℕ) (done : List WindowBlock) → StandsFor self.old given done
+            → AreFirst self.old.settings (given ++ piece.now) (done ++ tried)) }
+        ensures later { B.faults blocks.old ≤ B.faults blocks.new }
+        ensures rose { IsErrOf result FeedError.Taker
+            → Rose (B.faults blocks.old) (B.faults blocks.new) (B.is_last blocks.new) }
+        ensures same { result ≢ Err FeedError.Taker → B.faults blocks.new ≡ B.faults blocks.old }
+    {
+        self.feed_by(&OneByOne, piece, blocks)
+    }
+
+    fn feed_by<C: Closing<B>, B: BlockTaker>(
+        &mut self,
+        closing: &C,
+        piece: &[u8],
+        blocks: &mut B,
+    ) -> Result<(), FeedError>
+        requires ready { C.is_ready closing.now }
+        ensures stopped { IsErrOf result FeedError.Stopped ↔ IsTrue self.old.has_stopped }
+        ensures unchanged { IsErrOf result FeedError.Stopped → (self.new ≡ self.old) × (blocks.new ≡ blocks.old) }
+        ensures stops { IsTrue self.new.has_stopped ↔ OnOk result ⊥ }
+        ensures settings { self.new.settings ≡ self.old.settings }
+        ensures handed { OnOk result ((more : List WindowBlock) × HandedOver B.took blocks.old more blocks.new
+            × ((given : List ℕ) (done : List WindowBlock) → length given + length piece.now < 2 ^ 60
+            → StandsFor self.old given done
+            → StandsFor self.new (given ++ piece.now) (done ++ more)
+            × AreDue self.old.settings (given ++ piece.now) (done ++ more))) }
+        ensures is_open { OnOk result (IsOpen self.new.gathering) }
+        ensures front { IsErrOf result FeedError.Taker → (tried : List WindowBlock)
+            × HandedPart B.took B.broke blocks.old tried blocks.new
+            × ((given : List ℕ) (done : List WindowBlock) → StandsFor self.old given done
+            → AreFirst self.old.settings (given ++ piece.now) (done ++ tried)) }
+        ensures later { B.faults blocks.old ≤ B.faults blocks.new }
+        ensures rose { IsErrOf result FeedError.Taker
+            → Rose (B.faults blocks.old) (B.faults blocks.new) (B.is_last blocks.new) }
+        ensures same { result ≢ Err FeedError.Taker → B.faults blocks.new ≡ B.faults blocks.old }
+    {
+        if self.has_stopped {
+            return Err(FeedError::Stopped);
+        }
+        let piece = counted(self.count, piece);
+        self.count += piece.len() as u64;
+        match self.gathering.take(closing, piece, blocks) {
+            Ok(()) => Ok(()),
+            Err(Failed) => {
+                self.has_stopped = true;
+                Err(FeedError::Taker)
+            }
+        }
+    }
+
+    /// Takes the next soft octets, where there is room for all of them, and decodes none: the blocks of the windows
+    /// that they close are due from then on, and handed over by the next `feed` or `finish`. Answers whether it took
+    /// them. There is room for the octets that close as many windows as all workers have at a time, and none where an
+    /// earlier call answered `Taker` or `finish` was called.
+    ///
+    /// The octets given in all are to be below 2^60.
+    pub fn gather(&mut self, piece: &[u8]) -> bool
+        ensures fits { IsTrue result ↔ (self.old.has_stopped ≡ false) × (self.old.count + length piece.now < 2 ^ 60)
+            × (length self.old.gathering.held.octets + length piece.now ≤ room_of self.old.gathering) }
+        ensures unchanged { result ≡ false → self.new ≡ self.old }
+        ensures settings { (self.new.settings ≡ self.old.settings) × (self.new.has_stopped ≡ self.old.has_stopped) }
+        ensures gathered { IsTrue result → (given : List ℕ) (done : List WindowBlock) → StandsFor self.old given done
+            → StandsFor self.new (given ++ piece.now) done }
+    {
+        if self.has_stopped || piece.len() as u64 >= (1 << 60) - self.count {
+            return false;
+        }
+        if !self.gathering.gather(piece) {
+            return false;
+        }
+        self.count += piece.len() as u64;
+        true
+    }
+
+    /// How many blocks are due and were not handed over yet: those of the windows that the octets gathered close.
+    pub fn count_closed(&self) -> usize
+        ensures { (given : List ℕ) (done : List WindowBlock) → StandsFor self.now given done
+            → (more : List WindowBlock) × (length more ≡ result) × AreDue self.now.settings given (done ++ more) }
+    {
+        self.gathering.count_closed()
+    }
+
+    /// Hands over the blocks that are due and were not handed over yet, and that of the last window, where a step is
+    /// left for it. Answers how many octets are left over behind the last whole step: none or one. It is called once,
+    /// at the end of the stream.
+    ///
+    /// `Taker` comes where `blocks` fails; a front of the blocks was then handed over. `Stopped` comes where an earlier
+    /// call answered `Taker` or `finish` was called; nothing is handed over then.
+    pub fn finish<R: Threads + Sync, B: BlockTaker>(
+        &mut self,
+        rt: &R,
+        blocks: &mut B,
+    ) -> Result<u8, FeedError>
+        ensures stopped { IsErrOf result FeedError.Stopped ↔ IsTrue self.old.has_stopped }
+        ensures unchanged { IsErrOf result FeedError.Stopped → (self.new ≡ self.old) × (blocks.new ≡ blocks.old) }
+        ensures stops { self.new.has_stopped ≡ true }
+        ensures settings { self.new.settings ≡ self.old.settings }
+        ensures handed { IfOk result (λ left. (last : List WindowBlock) × HandedOver B.took blocks.old last blocks.new
+            × ((given : List ℕ) (done : List WindowBlock) → StandsFor self.old given done
+            → AreBlocksOf self.old.settings given (done ++ last) left)) }
+        ensures front { IsErrOf result FeedError.Taker → (tried : List WindowBlock)
+            × HandedPart B.took B.broke blocks.old tried blocks.new
+            × ((given : List ℕ) (done : List WindowBlock) → StandsFor self.old given done
+            → AreFirst self.old.settings given (done ++ tried) ⊎ ((left : ℕ)
+            × AreBlocksOf self.old.settings given (done ++ tried) left)) }
+        ensures left { IfOk result (λ left. left ≤ 1) }
+        ensures later { B.faults blocks.old ≤ B.faults blocks.new }
+        ensures rose { IsErrOf result FeedError.Taker
+            → Rose (B.faults blocks.old) (B.faults blocks.new) (B.is_last blocks.new) }
+        ensures same { result ≢ Err FeedError.Taker → B.faults blocks.new ≡ B.faults blocks.old }
+    {
+        self.finish_by(&SideBySide { rt }, blocks)
+    }
+
+    /// Does what `finish` does, but decodes the windows one behind another, with no thread.
+    pub fn finish_alone<B: BlockTaker>(&mut self, blocks: &mut B) -> Result<u8, FeedError>
+        ensures stopped { IsErrOf result FeedError.Stopped ↔ IsTrue self.old.has_stopped }
+        ensures unchanged { IsErrOf result FeedError.Stopped → (self.new ≡ self.old) × (blocks.new ≡ blocks.old) }
+        ensures stops { self.new.has_stopped ≡ true }
+        ensures settings { self.new.settings ≡ self.old.settings }
+        ensures handed { IfOk result (λ left. (last : List WindowBlock) × HandedOver B.took blocks.old last blocks.new
+            × ((given : List ℕ) (done : List WindowBlock) → StandsFor self.old given done
+            → AreBlocksOf self.old.settings given (done ++ last) left)) }
+        ensures front { IsErrOf result FeedError.Taker → (tried : List WindowBlock)
+            × HandedPart B.took B.broke blocks.old tried blocks.new
+            × ((given : List ℕ) (done : List WindowBlock) → StandsFor self.old given done
+            → AreFirst self.old.settings given (done ++ tried) ⊎ ((left : ℕ)
+            × AreBlocksOf self.old.settings given (done ++ tried) left)) }
+        ensures left { IfOk result (λ left. left ≤ 1) }
+        ensures later { B.faults blocks.old ≤ B.faults blocks.new }
+        ensures rose { IsErrOf result FeedError.Taker
+            → Rose (B.faults blocks.old) (B.faults blocks.new) (B.is_last blocks.new) }
+        ensures same { result ≢ Err FeedError.Taker → B.faults blocks.new ≡ B.faults blocks.old }
+    {
+        self.finish_by(&OneByOne, blocks)
+    }
+
+    fn finish_by<C: Closing<B>, B: BlockTaker>(
+        &mut self,
+        closing: &C,
+        blocks: &mut B,
+    ) -> Result<u8, FeedError>
+        requires ready { C.is_ready closing.now }
+        ensures stopped { IsErrOf result FeedError.Stopped ↔ IsTrue self.old.has_stopped }
+        ensures unchanged { IsErrOf result FeedError.Stopped → (self.new ≡ self.old) × (blocks.new ≡ blocks.old) }
+        ensures stops { self.new.has_stopped ≡ true }
+        ensures settings { self.new.settings ≡ self.old.settings }
+        ensures handed { IfOk result (λ left. (last : List WindowBlock) × HandedOver B.took blocks.old last blocks.new
+            × ((given : List ℕ) (done : List WindowBlock) → StandsFor self.old given done
+            → AreBlocksOf self.old.settings given (done ++ last) left)) }
+        ensures front { IsErrOf result FeedError.Taker → (tried : List WindowBlock)
+            × HandedPart B.took B.broke blocks.old tried blocks.new
+            × ((given : List ℕ) (done : List WindowBlock) → StandsFor self.old given done
+            → AreFirst self.old.settings given (done ++ tried) ⊎ ((left : ℕ)
+            × AreBlocksOf self.old.settings given (done ++ tried) left)) }
+        ensures left { IfOk result (λ left. left ≤ 1) }
+        ensures later { B.faults blocks.old ≤ B.faults blocks.new }
+        ensures rose { IsErrOf result FeedError.Taker
+            → Rose (B.faults blocks.old) (B.faults blocks.new) (B.is_last blocks.new) }
+        ensures same { result ≢ Err FeedError.Taker → B.faults blocks.new ≡ B.faults blocks.old }
+    {
+        if self.has_stopped {
+            return Err(FeedError::Stopped);
+        }
+        self.has_stopped = true;
+        let Ok(left) = self.gathering.end(closing, blocks) else {
+            return Err(FeedError::Taker);
+        };
+        Ok(left)
+    }
+}
