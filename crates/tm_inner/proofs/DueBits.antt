@@ -10,7 +10,6 @@ use Rattle.tm_viterbi.specs.WindowBlock.{WindowBlock}
 use Rattle.tm_viterbi.specs.Blocks.{AreBlocksOf}
 use Rattle.tm_viterbi.specs.Due.{AreFirst}
 use Rattle.tm_viterbi.specs.Clean.{kept_bits}
-use Rattle.tm_inner.specs.Symbols.{rate_of}
 use Rattle.tm_inner.specs.Inner.{settings_of, soft_value, soft_octets, BlocksAt, DueAt, bits_at, AreInnerDue, AreInnerBlocks, inner_bits}
 
 -- windows that are closed stay so
@@ -56,4 +55,4 @@ due-first stay first (Some rate) c phase octets more due blocks left is all =
 pub bits-first : StayClosed → StandFirst → (c : Configuration) (phase : ℕ) (octets more : List ℕ) (due blocks : List WindowBlock) (left : ℕ)
     → AreInnerDue c phase octets due → AreInnerBlocks c phase (octets ++ more) blocks left
     → (rest : List Bool) × (inner_bits c (octets ++ more) blocks ≡ inner_bits c octets due ++ rest)
-bits-first stay first c = due-first stay first (rate_of c.inner) c
+bits-first stay first c = due-first stay first c.inner c

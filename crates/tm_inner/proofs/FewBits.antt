@@ -13,7 +13,6 @@ use Rattle.tm_viterbi.specs.Clean.{kept_bits}
 use Rattle.tm_viterbi.specs.Due.{Place, Closed, behind, first_place}
 use Rattle.tm_viterbi.specs.Starts.{first_start}
 use Rattle.tm_viterbi.proofs.CleanBlocks.{steps-mono}
-use Rattle.tm_inner.specs.Symbols.{rate_of}
 use Rattle.tm_inner.specs.Inner.{settings_of, soft_octets, BlocksAt, DueAt, bits_at, AreInnerBlocks, AreInnerDue, inner_bits}
 use Rattle.tm_inner.specs.Receiving.{FirstAt, AreInnerFirst}
 use Rattle.tm_inner.proofs.ReceivedBits.{block-bits, kept-le, kept-count, length-soft}
@@ -51,11 +50,11 @@ few-whole (Some rate) c phase octets blocks left are =
 
 -- the bits of first blocks, and of all blocks
 pub first-few : (c : Configuration) (phase : ℕ) (octets : List ℕ) (blocks : List WindowBlock) → AreInnerFirst c phase octets blocks → length (inner_bits c octets blocks) ≤ 8 * length octets
-first-few c = few-first (rate_of c.inner) c
+first-few c = few-first c.inner c
 
 pub whole-few : (c : Configuration) (phase : ℕ) (octets : List ℕ) (blocks : List WindowBlock) (left : ℕ) → AreInnerBlocks c phase octets blocks left
     → length (inner_bits c octets blocks) ≤ 8 * length octets
-whole-few c = few-whole (rate_of c.inner) c
+whole-few c = few-whole c.inner c
 
 -- due blocks are first ones
 due-is-first : (rate : Option Rate) (c : Configuration) (phase : ℕ) (octets : List ℕ) (blocks : List WindowBlock) → DueAt rate c phase octets blocks → FirstAt rate c phase octets blocks
@@ -63,7 +62,7 @@ due-is-first None c phase octets blocks are = are
 due-is-first (Some rate) c phase octets blocks are = (are.to, are.closed)
 
 pub first-of-due : (c : Configuration) (phase : ℕ) (octets : List ℕ) (blocks : List WindowBlock) → AreInnerDue c phase octets blocks → AreInnerFirst c phase octets blocks
-first-of-due c = due-is-first (rate_of c.inner) c
+first-of-due c = due-is-first c.inner c
 
 -- ---- the blocks of a window and of so many octets more keep no more bits than these have
 
@@ -149,7 +148,7 @@ pub more-few : (c : Configuration) (phase : ℕ) (given octets : List ℕ) (done
     → length (kept_bits more) ≤ c.keep + c.ahead + length octets
 more-few c phase given octets done more =
     with_rate (λ rate. DueAt rate c phase given done → FirstAt rate c phase (given ++ octets) (done ++ more) → length (kept_bits more) ≤ c.keep + c.ahead + length octets)
-    (λ due first. none done more first) (λ rate. more-at rate c phase given octets done more) (rate_of c.inner)
+    (λ due first. none done more first) (λ rate. more-at rate c phase given octets done more) c.inner
   where
     none : (xs ys : List WindowBlock) → xs ++ ys ≡ [] → length (kept_bits ys) ≤ c.keep + c.ahead + length octets
     none [] ys is = omega (arith, ap (λ (l : List WindowBlock). length (kept_bits l)) is)
@@ -160,7 +159,7 @@ pub last-few : (c : Configuration) (phase : ℕ) (given : List ℕ) (done last :
     → length (kept_bits last) ≤ c.keep + c.ahead
 last-few c phase given done last left =
     with_rate (λ rate. DueAt rate c phase given done → BlocksAt rate c phase given (done ++ last) left → length (kept_bits last) ≤ c.keep + c.ahead)
-    (λ due are. none done last are.0) (λ rate. last-at rate c phase given done last left) (rate_of c.inner)
+    (λ due are. none done last are.0) (λ rate. last-at rate c phase given done last left) c.inner
   where
     none : (xs ys : List WindowBlock) → xs ++ ys ≡ [] → length (kept_bits ys) ≤ c.keep + c.ahead
     none [] ys is = omega (arith, ap (λ (l : List WindowBlock). length (kept_bits l)) is)
@@ -176,4 +175,4 @@ none-due (Some rate) c = record {
 }
 
 pub due-none : (c : Configuration) → AreInnerDue c 0 [] []
-due-none c = none-due (rate_of c.inner) c
+due-none c = none-due c.inner c

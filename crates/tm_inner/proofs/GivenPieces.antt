@@ -1,23 +1,24 @@
 -- A decoder that is given one piece after another, and what its blocks are of a configuration.
-use Rattle.std.proofs.Common.{◌≡◌, ℕ, zero, suc, ◌+◌, ◌-◌, ◌<◌, ◌≤◌, slice_set, slice_index_or, min, ◌==◌, ◌%◌, if◌then◌else◌, inl, inr, length-drop, Bool, List, [], ◌∷◌, ◌++◌, length, take, drop, map, refl, sym, ap, ◌∙◌, subst, arith, append_assoc, length-append, false, take-append-drop, length-take, Option, Some, None, Err, IsErrOf, true, not}
+use Rattle.std.proofs.Common.{◌⊎◌, ◌≡◌, ℕ, zero, suc, ◌+◌, ◌-◌, ◌<◌, ◌≤◌, slice_set, slice_index_or, min, ◌%◌, if◌then◌else◌, inl, inr, length-drop, Bool, List, [], ◌∷◌, ◌++◌, length, take, drop, map, refl, sym, ap, ◌∙◌, subst, arith, append_assoc, length-append, false, take-append-drop, length-take, Option, Some, None, Err, IsErrOf}
 use Rattle.std.proofs.lemmas.Bool.{cases_lt}
 use Rattle.std.proofs.lemmas.List.{append-nil, drop_all, take_all, drop-map, length-map, map-append}
 use Rattle.std.proofs.Math.Seq.{take-add}
 use Rattle.tm_base.proofs.Handing.{HandedOver-append, HandedPart-after}
-use Rattle.tm_config.specs.Configuration.{Configuration}
+use Rattle.tm_config.specs.Configuration.{Configuration, is_signed}
 use Rattle.tm_conv.specs.declared.rates.Rate.{Rate}
 use Rattle.tm_viterbi.specs.Settings.{Settings}
 use Rattle.tm_viterbi.specs.WindowBlock.{WindowBlock}
 use Rattle.tm_viterbi.specs.Blocks.{AreBlocksOf}
 use Rattle.tm_viterbi.specs.Due.{AreDue, AreFirst}
-use Rattle.tm_viterbi.specs.Decoding.{Decoding}
+use Rattle.tm_inner.specs.declared.inner_decoder.InnerDecoder.{InnerDecoder}
 use Rattle.tm_viterbi.specs.declared.decoder.FeedError.{FeedError}
 use Rattle.tm_viterbi.specs.declared.decoder.FeedError.TheVariants.{Taker, Stopped}
-use Rattle.tm_inner.specs.Symbols.{rate_of}
 use Rattle.tm_inner.specs.Inner.{soft_value, soft_octets, BlocksAt, DueAt, AreInnerBlocks, AreInnerDue}
 use Rattle.tm_inner.specs.Phase.{skipped_at, phase_octets}
-use Rattle.tm_inner.specs.Receiving.{IsDecoderOf, Decodes, DecodesFor, FindsFirst, FirstAt, AreInnerFirst, Hands, HandsFront, HeldOctets, InnerReceiving, from_form, soft_form}
+use Rattle.tm_inner.specs.InnerDecoding.{StandsIn, settings_in}
+use Rattle.tm_inner.specs.Receiving.{HasClosedAll, IsDecoderOf, DecodesFor, FindsFirst, FirstAt, AreInnerFirst, Hands, HandsFront, HeldOctets, InnerReceiving, from_form, soft_form}
 use Rattle.tm_inner.proofs.DueBits.{drop-split}
+use Rattle.tm_inner.proofs.DueBlocks.{due-in}
 
 -- ---- pieces, one after another
 
@@ -71,26 +72,33 @@ hands-longer took broke Stands First a taker now first second stay p = record {
 
 -- ---- the blocks of a configuration
 
-pub blocks-of : (c : Configuration) (d : Decoding) (phase : ℕ) (given : List ℕ) (blocks : List WindowBlock) (left : ℕ) → IsDecoderOf c (Some d)
-    → AreBlocksOf d.settings (soft_octets c phase given) blocks left → AreInnerBlocks c phase given blocks left
+pub blocks-of : (c : Configuration) (d : InnerDecoder) (phase : ℕ) (given : List ℕ) (blocks : List WindowBlock) (left : ℕ) → IsDecoderOf c (Some d)
+    → AreBlocksOf (settings_in d) (soft_octets c phase given) blocks left → AreInnerBlocks c phase given blocks left
 blocks-of c d phase given blocks left of are =
     subst (λ (r : Option Rate). BlocksAt r c phase given blocks left) (sym of.1)
     (subst (λ (s : Settings). AreBlocksOf s (soft_octets c phase given) blocks left) of.2 are)
 
-pub blocks-none : (c : Configuration) (phase : ℕ) (given : List ℕ) (blocks : List WindowBlock) → rate_of c.inner ≡ None → blocks ≡ [] → AreInnerBlocks c phase given blocks 0
+pub blocks-none : (c : Configuration) (phase : ℕ) (given : List ℕ) (blocks : List WindowBlock) → c.inner ≡ None → blocks ≡ [] → AreInnerBlocks c phase given blocks 0
 blocks-none c phase given blocks none is = subst (λ (r : Option Rate). BlocksAt r c phase given blocks 0) (sym none) (is, refl)
 
-pub due-of : (c : Configuration) (decoder : Option Decoding) (phase : ℕ) (given : List ℕ) (blocks : List WindowBlock) → IsDecoderOf c decoder
-    → DecodesFor decoder (soft_octets c phase given) blocks → AreInnerDue c phase given blocks
-due-of c None phase given blocks of is = subst (λ (r : Option Rate). DueAt r c phase given blocks) (sym of) is
-due-of c (Some d) phase given blocks of is =
-    subst (λ (r : Option Rate). DueAt r c phase given blocks) (sym of.1) (subst (λ (s : Settings). AreDue s (soft_octets c phase given) blocks) of.2 is.due)
+pub due-of : (c : Configuration) (decoder : Option InnerDecoder) (phase : ℕ) (given : List ℕ) (blocks : List WindowBlock) → IsDecoderOf c decoder
+    → HasClosedAll decoder → DecodesFor decoder (soft_octets c phase given) blocks → AreInnerDue c phase given blocks
+due-of c None phase given blocks of closed is = subst (λ (r : Option Rate). DueAt r c phase given blocks) (sym of) is
+due-of c (Some d) phase given blocks of closed is =
+    subst (λ (r : Option Rate). DueAt r c phase given blocks) (sym of.1) (subst (λ (s : Settings). AreDue s (soft_octets c phase given) blocks) of.2 (due-in d (soft_octets c phase given) blocks closed is))
 
-pub first-of : (c : Configuration) (decoder : Option Decoding) (phase : ℕ) (given : List ℕ) (blocks : List WindowBlock) → IsDecoderOf c decoder
+pub first-of : (c : Configuration) (decoder : Option InnerDecoder) (phase : ℕ) (given : List ℕ) (blocks : List WindowBlock) → IsDecoderOf c decoder
     → FindsFirst decoder (soft_octets c phase given) blocks → AreInnerFirst c phase given blocks
 first-of c None phase given blocks of is = subst (λ (r : Option Rate). FirstAt r c phase given blocks) (sym of) is
 first-of c (Some d) phase given blocks of is =
     subst (λ (r : Option Rate). FirstAt r c phase given blocks) (sym of.1) (subst (λ (s : Settings). AreFirst s (soft_octets c phase given) blocks) of.2 is)
+
+-- first blocks of closed windows, or first ones of all
+pub front-of : (c : Configuration) (d : InnerDecoder) (phase : ℕ) (given : List ℕ) (blocks : List WindowBlock) → IsDecoderOf c (Some d)
+    → AreFirst (settings_in d) (soft_octets c phase given) blocks ⊎ ((left : ℕ) × AreBlocksOf (settings_in d) (soft_octets c phase given) blocks left)
+    → AreInnerFirst c phase given blocks ⊎ ((left : ℕ) × AreInnerBlocks c phase given blocks left)
+front-of c d phase given blocks of (inl first) = inl (first-of c (Some d) phase given blocks of first)
+front-of c d phase given blocks of (inr all) = inr (all.0, blocks-of c d phase given blocks all.0 of all.1)
 
 -- of two causes the other
 pub taker_alone : {T : Type 0} (e : FeedError) → (IsErrOf {T = T} (Err e) Stopped → ⊥) → IsErrOf {T = T} (Err e) Taker
@@ -132,34 +140,25 @@ plain-form (octet ∷ octets) = ap (λ l. octet ∷ l) (plain-form octets)
 
 -- ---- a decoder that there is
 
-pub hands-some : {T : Type 0} (took : T → WindowBlock → T → Type 0) (d now : Decoding) (taker taker_now : T) (soft : List ℕ)
-    → Hands took Decodes d now taker taker_now soft → Hands took DecodesFor (Some d) (Some now) taker taker_now soft
+pub hands-some : {T : Type 0} (took : T → WindowBlock → T → Type 0) (d now : InnerDecoder) (taker taker_now : T) (soft : List ℕ)
+    → Hands took StandsIn d now taker taker_now soft → Hands took DecodesFor (Some d) (Some now) taker taker_now soft
 hands-some took d now taker taker_now soft p = record { more = p.more; handed = p.handed; stands = p.stands }
 
-pub hands_front-some : {T : Type 0} (took broke : T → WindowBlock → T → Type 0) (d : Decoding) (taker taker_now : T) (soft : List ℕ)
-    → HandsFront took broke Decodes (AreFirst d.settings) d taker taker_now soft → HandsFront took broke DecodesFor (FindsFirst (Some d)) (Some d) taker taker_now soft
+pub hands_front-some : {T : Type 0} (took broke : T → WindowBlock → T → Type 0) (d : InnerDecoder) (taker taker_now : T) (soft : List ℕ)
+    → HandsFront took broke StandsIn (AreFirst (settings_in d)) d taker taker_now soft → HandsFront took broke DecodesFor (FindsFirst (Some d)) (Some d) taker taker_now soft
 hands_front-some took broke d taker taker_now soft p = record { tried = p.tried; handed = p.handed; first = p.first }
 
-pub decoded : {T : Type 0} (took : T → WindowBlock → T → Type 0) (o : Option Decoding) (d now : Decoding) (taker taker_now : T) (soft all : List ℕ) → o ≡ Some d → soft ≡ all
-    → Hands took Decodes d now taker taker_now soft → Hands took DecodesFor o (Some now) taker taker_now all
+pub decoded : {T : Type 0} (took : T → WindowBlock → T → Type 0) (o : Option InnerDecoder) (d now : InnerDecoder) (taker taker_now : T) (soft all : List ℕ) → o ≡ Some d → soft ≡ all
+    → Hands took StandsIn d now taker taker_now soft → Hands took DecodesFor o (Some now) taker taker_now all
 decoded took o d now taker taker_now soft all is same p =
     subst (Hands took DecodesFor o (Some now) taker taker_now) same
-    (subst (λ (q : Option Decoding). Hands took DecodesFor q (Some now) taker taker_now soft) (sym is) (hands-some took d now taker taker_now soft p))
+    (subst (λ (q : Option InnerDecoder). Hands took DecodesFor q (Some now) taker taker_now soft) (sym is) (hands-some took d now taker taker_now soft p))
 
-pub decoded_front : {T : Type 0} (took broke : T → WindowBlock → T → Type 0) (o : Option Decoding) (d : Decoding) (taker taker_now : T) (soft all : List ℕ) → o ≡ Some d → soft ≡ all
-    → HandsFront took broke Decodes (AreFirst d.settings) d taker taker_now soft → HandsFront took broke DecodesFor (FindsFirst o) o taker taker_now all
+pub decoded_front : {T : Type 0} (took broke : T → WindowBlock → T → Type 0) (o : Option InnerDecoder) (d : InnerDecoder) (taker taker_now : T) (soft all : List ℕ) → o ≡ Some d → soft ≡ all
+    → HandsFront took broke StandsIn (AreFirst (settings_in d)) d taker taker_now soft → HandsFront took broke DecodesFor (FindsFirst o) o taker taker_now all
 decoded_front took broke o d taker taker_now soft all is same p =
     subst (HandsFront took broke DecodesFor (FindsFirst o) o taker taker_now) same
-    (subst (λ (q : Option Decoding). HandsFront took broke DecodesFor (FindsFirst q) q taker taker_now soft) (sym is) (hands_front-some took broke d taker taker_now soft p))
-
--- ---- octets of a configuration's soft form
-
-formed : (is_plain : Bool) (octets : List ℕ) → map (λ octet. if is_plain then octet else (octet + 128) % 256) octets ≡ from_form (not is_plain) octets
-formed true octets = refl
-formed false octets = refl
-
-pub soft-formed : (c : Configuration) (octets : List ℕ) → soft_form c octets ≡ from_form (not (c.soft == 0)) octets
-soft-formed c octets = formed (c.soft == 0) octets
+    (subst (λ (q : Option InnerDecoder). HandsFront took broke DecodesFor (FindsFirst q) q taker taker_now soft) (sym is) (hands_front-some took broke d taker taker_now soft p))
 
 -- ---- the octets of an inner receiver
 
@@ -170,44 +169,44 @@ drop-least n octets = elim (cases_lt (length octets) n) as (λ _. drop (min n (l
 ]
 
 -- the soft octets of a longer list, where this many of the further ones are skipped
-pub phase_octets-more : (c : Configuration) (given octets : List ℕ) (skipped : ℕ) → skipped ≡ min (skipped_at (rate_of c.inner) c - length given) (length octets)
+pub phase_octets-more : (c : Configuration) (given octets : List ℕ) (skipped : ℕ) → skipped ≡ min (skipped_at c.inner c - length given) (length octets)
     → phase_octets c (given ++ octets) ≡ phase_octets c given ++ soft_form c (drop skipped octets)
 phase_octets-more c given octets skipped is =
-    let n = skipped_at (rate_of c.inner) c in
+    let n = skipped_at c.inner c in
     ap (map (soft_value c)) (drop-split n given octets) ∙ map-append (soft_value c) (drop n given) (drop (n - length given) octets)
     ∙ ap (λ l. phase_octets c given ++ map (soft_value c) l) (sym (drop-least (n - length given) octets) ∙ ap (λ k. drop k octets) (sym is))
 
 -- the next octets, turned
-pub soft-turned : (r : InnerReceiving) (soft skipped : ℕ) (given octets now : List ℕ) → soft ≡ r.config.soft → length given ≡ r.count
-    → skipped ≡ min (skipped_at (rate_of r.config.inner) r.config - r.count) (length now) → now ≡ from_form (not (soft == 0)) octets
+pub soft-turned : (r : InnerReceiving) (signed : Bool) (skipped : ℕ) (given octets now : List ℕ) → signed ≡ is_signed r.config.soft → length given ≡ r.count
+    → skipped ≡ min (skipped_at r.config.inner r.config - r.count) (length now) → now ≡ from_form signed octets
     → phase_octets r.config (given ++ octets) ≡ phase_octets r.config given ++ drop skipped now
-soft-turned r soft skipped given octets now same count skip is =
+soft-turned r signed skipped given octets now same count skip is =
     let c = r.config in
-    let form : now ≡ soft_form c octets = is ∙ ap (λ (n : ℕ). from_form (not (n == 0)) octets) same ∙ sym (soft-formed c octets) in
+    let form : now ≡ soft_form c octets = is ∙ ap (λ (b : Bool). from_form b octets) same in
     let size : length now ≡ length octets = ap length form ∙ length-map octets (soft_value c) in
-    let skips : skipped ≡ min (skipped_at (rate_of c.inner) c - length given) (length octets) =
-    skip ∙ ap (λ (n : ℕ). min (skipped_at (rate_of c.inner) c - n) (length now)) (sym count) ∙ ap (min (skipped_at (rate_of c.inner) c - length given)) size in
+    let skips : skipped ≡ min (skipped_at c.inner c - length given) (length octets) =
+    skip ∙ ap (λ (n : ℕ). min (skipped_at c.inner c - n) (length now)) (sym count) ∙ ap (min (skipped_at c.inner c - length given)) size in
     phase_octets-more c given octets skipped skips
     ∙ ap (λ l. phase_octets c given ++ l) (sym (drop-map (soft_value c) skipped octets) ∙ ap (drop skipped) (sym form))
 
 pub few-soft : (c : Configuration) (given : List ℕ) → length (phase_octets c given) ≤ length given
-few-soft c given = omega (arith, length-map (drop (skipped_at (rate_of c.inner) c) given) (soft_value c), length-drop (skipped_at (rate_of c.inner) c) given)
+few-soft c given = omega (arith, length-map (drop (skipped_at c.inner c) given) (soft_value c), length-drop (skipped_at c.inner c) given)
 
 -- those behind the phase are the ones that are decoded
 pub soft-behind : (c : Configuration) (phase n : ℕ) (given : List ℕ) → n ≡ c.skip → drop phase (map (soft_value c) (drop n given)) ≡ soft_octets c phase given
 soft-behind c phase n given is = drop-map (soft_value c) phase (drop n given) ∙ ap (λ k. map (soft_value c) (drop phase (drop k given))) is
 
-pub decodes-behind : (c : Configuration) (decoder : Option Decoding) (phase : ℕ) (given : List ℕ) (blocks : List WindowBlock) → IsDecoderOf c decoder
+pub decodes-behind : (c : Configuration) (decoder : Option InnerDecoder) (phase : ℕ) (given : List ℕ) (blocks : List WindowBlock) → IsDecoderOf c decoder
     → DecodesFor decoder (drop phase (phase_octets c given)) blocks → DecodesFor decoder (soft_octets c phase given) blocks
 decodes-behind c None phase given blocks of is = is
 decodes-behind c (Some d) phase given blocks of is =
-    subst (λ (l : List ℕ). Decodes d l blocks) (soft-behind c phase (skipped_at (rate_of c.inner) c) given (ap (λ (r : Option Rate). skipped_at r c) of.1)) is
+    subst (λ (l : List ℕ). StandsIn d l blocks) (soft-behind c phase (skipped_at c.inner c) given (ap (λ (r : Option Rate). skipped_at r c) of.1)) is
 
-pub finds-behind : (c : Configuration) (decoder : Option Decoding) (phase : ℕ) (given : List ℕ) (blocks : List WindowBlock) → IsDecoderOf c decoder
+pub finds-behind : (c : Configuration) (decoder : Option InnerDecoder) (phase : ℕ) (given : List ℕ) (blocks : List WindowBlock) → IsDecoderOf c decoder
     → FindsFirst decoder (drop phase (phase_octets c given)) blocks → FindsFirst decoder (soft_octets c phase given) blocks
 finds-behind c None phase given blocks of is = is
 finds-behind c (Some d) phase given blocks of is =
-    subst (λ (l : List ℕ). AreFirst d.settings l blocks) (soft-behind c phase (skipped_at (rate_of c.inner) c) given (ap (λ (r : Option Rate). skipped_at r c) of.1)) is
+    subst (λ (l : List ℕ). AreFirst (settings_in d) l blocks) (soft-behind c phase (skipped_at c.inner c) given (ap (λ (r : Option Rate). skipped_at r c) of.1)) is
 
 -- ---- octets that are held
 
@@ -224,6 +223,6 @@ taken-all is_signed held octets now taken room most is less =
     (omega (arith, most, less, ap length is, length-append held (from_form is_signed (take taken octets)), length-map (take taken octets) (λ octet. if is_signed then (octet + 128) % 256 else octet), length-take taken octets))
 
 -- octets of a configuration's form, in two parts
-pub form-parts : (c : Configuration) (soft taken : ℕ) (octets : List ℕ) → soft ≡ c.soft
-    → from_form (not (soft == 0)) (take taken octets) ++ from_form (not (soft == 0)) (drop taken octets) ≡ soft_form c octets
-form-parts c soft taken octets is = form-split (not (soft == 0)) taken octets ∙ ap (λ (n : ℕ). from_form (not (n == 0)) octets) is ∙ sym (soft-formed c octets)
+pub form-parts : (c : Configuration) (signed : Bool) (taken : ℕ) (octets : List ℕ) → signed ≡ is_signed c.soft
+    → from_form signed (take taken octets) ++ from_form signed (drop taken octets) ≡ soft_form c octets
+form-parts c signed taken octets is = form-split signed taken octets ∙ ap (λ (b : Bool). from_form b octets) is

@@ -1,10 +1,12 @@
 -- What is handed over behind the choice of the phase comes to few bits.
-use Rattle.std.proofs.Common.{ℕ, zero, suc, ◌≡◌, ◌+◌, ◌-◌, ◌*◌, ◌≤◌, ◌<◌, ◌∙◌, refl, List, [], ◌++◌, length, drop, ap, sym, subst, arith, inl, inr, Option, Some, None, length-append, length-drop, min, ◌/◌, ◌%◌}
+use Rattle.std.proofs.Common.{◌⊎◌, ℕ, ◌≡◌, ◌+◌, ◌-◌, ◌*◌, ◌≤◌, ◌<◌, ◌∙◌, refl, List, [], ◌++◌, length, drop, ap, sym, subst, arith, inl, inr, Option, Some, None, length-append, length-drop, min, ◌/◌, ◌%◌}
 use Rattle.std.proofs.lemmas.List.{length-map}
 use Rattle.std.proofs.lemmas.Bool.{cases_lt}
 use Rattle.tm_base.specs.Handed.{Handed, items_of}
 use Rattle.tm_base.proofs.HandedItems.{items_of-append}
 use Rattle.tm_config.specs.Configuration.{Configuration}
+use Rattle.tm_config.specs.declared.values.Sought.TheVariants.{Given, Find}
+use Rattle.tm_config.proofs.Choices.{given_or_find, never_both}
 use Rattle.tm_conv.specs.declared.rates.Rate.{Rate}
 use Rattle.tm_conv.specs.declared.rates.Rate.TheVariants.{R12, R23, R34, R56, R78}
 use Rattle.tm_conv.specs.Path.{steps_size}
@@ -15,7 +17,6 @@ use Rattle.tm_viterbi.specs.Due.{first_place}
 use Rattle.tm_viterbi.specs.Starts.{first_start}
 use Rattle.tm_phase.specs.declared.choosing.Chosen.{Chosen}
 use Rattle.tm_phase.specs.Phase.{period_size}
-use Rattle.tm_inner.specs.Symbols.{rate_of}
 use Rattle.tm_inner.specs.Inner.{settings_of, soft_value, soft_octets, BlocksAt, AreInnerBlocks}
 use Rattle.tm_inner.specs.Phase.{IsChosenBy, IsSettled, needed_at, skipped_at, phase_octets, skip_of, in_turn}
 use Rattle.tm_inner.specs.Receiving.{FirstAt, AreInnerFirst}
@@ -50,15 +51,15 @@ needed-few (Some rate) c = omega (arith, steps-few rate (c.keep + c.ahead), peri
 -- ---- the blocks of octets with the phase found
 
 -- before the choice there are few octets
-unsettled-few : (c : Configuration) (given : List ℕ) → (IsSettled c given → ⊥) → length (phase_octets c given) < needed_at (rate_of c.inner) c
-unsettled-few c given unsettled = elim (cases_lt (length (phase_octets c given)) (needed_at (rate_of c.inner) c)) as (λ _. length (phase_octets c given) < needed_at (rate_of c.inner) c) [
+unsettled-few : (c : Configuration) (given : List ℕ) → (IsSettled c given → ⊥) → length (phase_octets c given) < needed_at c.inner c
+unsettled-few c given unsettled = elim (cases_lt (length (phase_octets c given)) (needed_at c.inner c)) as (λ _. length (phase_octets c given) < needed_at c.inner c) [
   | inl less ↦ less
   | inr many ↦ absurd (unsettled (inr many))
 ]
 
-length-phase : (c : Configuration) (octets : List ℕ) → length (phase_octets c octets) ≡ length octets - skipped_at (rate_of c.inner) c
+length-phase : (c : Configuration) (octets : List ℕ) → length (phase_octets c octets) ≡ length octets - skipped_at c.inner c
 length-phase c octets =
-    length-map (drop (skipped_at (rate_of c.inner) c) octets) (soft_value c) ∙ length-drop (skipped_at (rate_of c.inner) c) octets
+    length-map (drop (skipped_at c.inner c) octets) (soft_value c) ∙ length-drop (skipped_at c.inner c) octets
 
 -- what the first blocks of octets keep is no more than the soft octets that are decoded
 first-bits : (rate : Option Rate) (c : Configuration) (phase : ℕ) (octets : List ℕ) (blocks : List WindowBlock) → FirstAt rate c phase octets blocks
@@ -85,8 +86,8 @@ record GoOn (chosen other : Option Chosen) (items more all : List WindowBlock) :
 same-skip : (c : Configuration) (soft soft_now : List ℕ) (chosen other : Option Chosen) (items all : List WindowBlock) (more : List (Handed WindowBlock))
     → IsChosenBy c soft chosen → IsChosenBy c soft_now other → in_turn chosen items ++ more ≡ in_turn other all → skip_of chosen ≡ skip_of other
 same-skip c soft soft_now None None items all more is now same = refl
-same-skip c soft soft_now None (Some b) items all more is now same = absurd (now.0 is)
-same-skip c soft soft_now (Some a) None items all more is now same = absurd (is.0 now)
+same-skip c soft soft_now None (Some b) items all more is now same = absurd (never_both c.phase is now.0)
+same-skip c soft soft_now (Some a) None items all more is now same = absurd (never_both c.phase now is.0)
 same-skip c soft soft_now (Some a) (Some b) items all more is now same = cc
 
 go-on : (c : Configuration) (soft soft_now : List ℕ) (chosen other : Option Chosen) (items all : List WindowBlock) (done more : List (Handed WindowBlock))
@@ -99,13 +100,13 @@ go-on c soft soft_now chosen other items all done more is now are whole =
 
 -- the blocks of octets, behind those that are due
 pub handed-more-few : (c : Configuration) (given octets : List ℕ) (done more : List (Handed WindowBlock)) → AreHandedDue c given done → AreHandedDue c (given ++ octets) (done ++ more)
-    → length (kept_bits (items_of more)) ≤ needed_at (rate_of c.inner) c + c.keep + c.ahead + length octets
+    → length (kept_bits (items_of more)) ≤ needed_at c.inner c + c.keep + c.ahead + length octets
 handed-more-few c given octets done more (inl before) (inl now) = omega (arith, ap (λ l. length (kept_bits (items_of l))) (ap (λ l. l ++ more) (sym before.1) ∙ now.1))
 handed-more-few c given octets done more (inr before) (inl now) = absurd (now.0 (settled-stays c given octets before.0))
 handed-more-few c given octets done more (inl before) (inr now) =
     let h = now.1 in
     let items : items_of more ≡ h.items = ap (λ l. items_of (l ++ more)) (sym before.1) ∙ ap items_of h.are ∙ items_of-in_turn h.chosen h.items in
-    let first = first-bits (rate_of c.inner) c (skip_of h.chosen) (given ++ octets) h.items (first-of-due c (skip_of h.chosen) (given ++ octets) h.items h.are_items) in
+    let first = first-bits c.inner c (skip_of h.chosen) (given ++ octets) h.items (first-of-due c (skip_of h.chosen) (given ++ octets) h.items h.are_items) in
     omega (arith, ap (λ l. length (kept_bits l)) items, first, length-append given octets, length-phase c given, unsettled-few c given before.0)
 handed-more-few c given octets done more (inr before) (inr now) =
     let g = before.1 in
@@ -118,10 +119,10 @@ handed-more-few c given octets done more (inr before) (inr now) =
 
 -- the blocks of the end
 pub handed-last-few : (c : Configuration) (given : List ℕ) (done last : List (Handed WindowBlock)) (left : ℕ) → AreHandedDue c given done → AreHanded c given (done ++ last) left
-    → length (kept_bits (items_of last)) ≤ needed_at (rate_of c.inner) c + c.keep + c.ahead
+    → length (kept_bits (items_of last)) ≤ needed_at c.inner c + c.keep + c.ahead
 handed-last-few c given done last left (inl before) h =
     let items : items_of last ≡ h.items = ap (λ l. items_of (l ++ last)) (sym before.1) ∙ ap items_of h.are ∙ items_of-in_turn h.chosen h.items in
-    let whole = whole-bits (rate_of c.inner) c (skip_of h.chosen) given h.items left h.are_items in
+    let whole = whole-bits c.inner c (skip_of h.chosen) given h.items left h.are_items in
     omega (arith, ap (λ l. length (kept_bits l)) items, whole, length-phase c given, unsettled-few c given before.0)
 handed-last-few c given done last left (inr before) h =
     let g = before.1 in
@@ -133,12 +134,12 @@ handed-last-few c given done last left (inr before) h =
 
 -- no octets have nothing that is due
 pub handed-due-none : (c : Configuration) → 1 ≤ c.keep → AreHandedDue c [] []
-handed-due-none c some = by_phase c.phase refl
+handed-due-none c some = by_phase (given_or_find c.phase)
   where
-    by_phase : (n : ℕ) → n ≡ c.phase → AreHandedDue c [] []
-    by_phase zero is = inr (inl (sym is), record { chosen = None; choice = sym is; items = []; are_items = due-none c; are = refl })
-    by_phase (suc n) is = inl (unsettled, refl)
+    by_phase : (c.phase ≡ Given) ⊎ (c.phase ≡ Find) → AreHandedDue c [] []
+    by_phase (inl given) = inr (inl given, record { chosen = None; choice = given; items = []; are_items = due-none c; are = refl })
+    by_phase (inr find) = inl (unsettled, refl)
       where
         unsettled : IsSettled c [] → ⊥
-        unsettled (inl given) = omega (arith, given, is)
-        unsettled (inr many) = omega (arith, many, length-phase c [], needed-some (rate_of c.inner) c some)
+        unsettled (inl given) = never_both c.phase given find
+        unsettled (inr many) = omega (arith, many, length-phase c [], needed-some c.inner c some)

@@ -1,21 +1,22 @@
 -- What is handed over for received octets.
-use Rattle.std.proofs.Common.{◌≡◌, ◌⊎◌, inl, inr, ℕ, ◌+◌, ◌-◌, ◌<◌, ◌≤◌, ◌^◌, min, length-append, length-drop, List, [], ◌∷◌, ◌++◌, length, map, drop, refl, sym, ap, ◌∙◌, subst, arith, Option, Some, None}
-use Rattle.std.proofs.lemmas.List.{length-map}
+use Rattle.std.proofs.Common.{None, ◌≡◌, ◌⊎◌, inl, inr, ℕ, ◌+◌, ◌-◌, ◌<◌, ◌≤◌, ◌^◌, min, length-append, length-drop, List, [], ◌++◌, length, map, drop, refl, sym, ap, ◌∙◌, subst, arith, Option, Some, None}
+use Rattle.std.proofs.lemmas.List.{append-nil, length-map}
 use Rattle.tm_base.specs.Handed.{Handed, Item, items_of}
 use Rattle.tm_config.specs.Configuration.{Configuration}
+use Rattle.tm_config.specs.declared.values.Sought.TheVariants.{Given, Find}
+use Rattle.tm_config.proofs.Choices.{never_both}
 use Rattle.tm_conv.specs.declared.rates.Rate.{Rate}
 use Rattle.tm_conv.proofs.Sizes.{steps_size_ge}
 use Rattle.tm_viterbi.specs.WindowBlock.{WindowBlock}
-use Rattle.tm_viterbi.specs.Decoding.{Decoding}
+use Rattle.tm_inner.specs.declared.inner_decoder.InnerDecoder.{InnerDecoder}
 use Rattle.tm_viterbi.specs.Due.{AreFirst}
 use Rattle.tm_phase.specs.declared.choosing.Chosen.{Chosen}
-use Rattle.tm_inner.specs.Symbols.{rate_of}
-use Rattle.tm_inner.specs.Inner.{settings_of, soft_value, soft_octets, AreInnerBlocks, inner_bits}
+use Rattle.tm_inner.specs.Inner.{settings_of, soft_value, soft_octets, AreInnerBlocks, AreInnerDue, inner_bits}
 use Rattle.tm_inner.specs.Phase.{IsChosen, IsChosenSoFar, IsChosenBy, IsChosenSoFar, IsSettledBy, IsSoFarBy, needed_at, skipped_at, phase_octets, skip_of, in_turn}
-use Rattle.tm_inner.specs.Receiving.{IsDecoderOf, DecodesFor, FirstFor, FirstAt, Hands, HandsFront, InnerReceiving, StandsFor, Phasing, Goes, PhasesFor, IsFrontBy, IsFirstBy, soft_form}
+use Rattle.tm_inner.specs.Receiving.{AreInnerFirst, HasClosedAll, IsDecoderOf, DecodesFor, FirstFor, FirstAt, Hands, HandsFront, InnerReceiving, StandsFor, Phasing, Goes, PhasesFor, IsFrontBy, IsFirstBy, soft_form}
 use Rattle.tm_inner.specs.Handing.{AreHanded, AreHandedDue, AreHandedFirst, AreHandedFront}
 use Rattle.tm_inner.proofs.GivenPieces.{due-of, decodes-behind, few-soft, phase_octets-more, soft-behind}
-use Rattle.tm_inner.proofs.PhasePieces.{further, items_of-in_turn, so-far}
+use Rattle.tm_inner.proofs.PhasePieces.{NoneWaits, further, items_of-in_turn, none-goes, so-far}
 
 -- the phase needs an octet or more
 pub needed-some : (rate : Option Rate) (c : Configuration) → 1 ≤ c.keep → 1 ≤ needed_at rate c
@@ -23,7 +24,7 @@ needed-some None c some = omega arith
 needed-some (Some rate) c some = omega (arith, steps_size_ge rate 0 (c.keep + c.ahead))
 
 -- before any octets
-pub phases-none : (p : Phasing) → p.chosen ≡ None → p.held ≡ [] → DecodesFor p.decoder [] [] → 1 ≤ p.config.keep → (p.config.phase ≡ 0) ⊎ (p.config.phase ≡ 0 → ⊥) → PhasesFor p [] []
+pub phases-none : (p : Phasing) → p.chosen ≡ None → p.held ≡ [] → DecodesFor p.decoder [] [] → 1 ≤ p.config.keep → (p.config.phase ≡ Given) ⊎ (p.config.phase ≡ Find) → PhasesFor p [] []
 phases-none p none held fresh some (inl given) = inr (
   record {
     choice = subst (IsChosenBy p.config []) (sym none) given;
@@ -39,8 +40,8 @@ phases-none p none held fresh some (inr find) = inl (
 )
   where
     unsettled : IsSettledBy p.config [] → ⊥
-    unsettled (inl given) = find given
-    unsettled (inr many) = omega (arith, many, needed-some (rate_of p.config.inner) p.config some)
+    unsettled (inl given) = never_both p.config.phase given find
+    unsettled (inr many) = omega (arith, many, needed-some p.config.inner p.config some)
 
 pub phases-so-far : (p : Phasing) (soft : List ℕ) (done : List (Handed WindowBlock)) → PhasesFor p soft done → IsSoFarBy p.config soft p.chosen
 phases-so-far p soft done (inl w) = subst (IsSoFarBy p.config soft) (sym w.0.none) (λ settled. absurd (w.1 settled))
@@ -61,7 +62,7 @@ handed-front c given handed h = record {
   chosen = h.chosen;
   choice = h.choice;
   items = h.blocks;
-  are_items = inl (first-behind (rate_of c.inner) c (skip_of h.chosen) given h.blocks h.first);
+  are_items = inl (first-behind c.inner c (skip_of h.chosen) given h.blocks h.first);
   are = h.are;
 }
 
@@ -72,7 +73,7 @@ handed-first c given handed h = (
     chosen = h.1.chosen;
     choice = h.1.choice;
     items = h.1.blocks;
-    are_items = first-behind (rate_of c.inner) c (skip_of h.1.chosen) given h.1.blocks h.1.first;
+    are_items = first-behind c.inner c (skip_of h.1.chosen) given h.1.blocks h.1.first;
     are = h.1.are;
   },
 )
@@ -80,21 +81,48 @@ handed-first c given handed h = (
 pub front-first : (c : Configuration) (given : List ℕ) (handed : List (Handed WindowBlock)) → AreHandedFirst c given handed → AreHandedFront c given handed
 front-first c given handed h = record { chosen = h.1.chosen; choice = h.1.choice; items = h.1.items; are_items = inl h.1.are_items; are = h.1.are }
 
-pub handed-due : (p : Phasing) (given : List ℕ) (done : List (Handed WindowBlock)) → IsDecoderOf p.config p.decoder → PhasesFor p (phase_octets p.config given) done → AreHandedDue p.config given done
-handed-due p given done of (inl w) = inl (w.1, w.0.nothing)
-handed-due p given done of (inr g) = inr (
+pub handed-due : (p : Phasing) (given : List ℕ) (done : List (Handed WindowBlock)) → IsDecoderOf p.config p.decoder
+    → ((soft : List ℕ) (done : List (Handed WindowBlock)) → Goes p soft done → HasClosedAll p.decoder)
+    → PhasesFor p (phase_octets p.config given) done → AreHandedDue p.config given done
+handed-due p given done of closed (inl w) = inl (w.1, w.0.nothing)
+handed-due p given done of closed (inr g) = inr (
   g.1,
   record {
     chosen = p.chosen;
     choice = g.0.choice;
     items = g.0.blocks;
-    are_items = due-of p.config p.decoder (skip_of p.chosen) given g.0.blocks of (decodes-behind p.config p.decoder (skip_of p.chosen) given g.0.blocks of g.0.decodes);
+    are_items = due-of p.config p.decoder (skip_of p.chosen) given g.0.blocks of (closed (phase_octets p.config given) done g.0)
+        (decodes-behind p.config p.decoder (skip_of p.chosen) given g.0.blocks of g.0.decodes);
     are = g.0.are;
   },
 )
 
+-- what is due where a decoder holds octets
+pub due-further : (p : Phasing) (given : List ℕ) (done : List (Handed WindowBlock)) (count : ℕ) → IsDecoderOf p.config p.decoder → NoneWaits p
+    → ((c : Configuration) (phase : ℕ) (given : List ℕ) (done : List WindowBlock) → IsDecoderOf c p.decoder → DecodesFor p.decoder (soft_octets c phase given) done
+    → (more : List WindowBlock) × (length more ≡ count) × AreInnerDue c phase given (done ++ more))
+    → PhasesFor p (phase_octets p.config given) done
+    → (more : List WindowBlock) × (length more ≡ count) × AreHandedDue p.config given (done ++ map Item more)
+due-further p given done count of none counted (inl w) = absurd (none (w.0.find, w.0.none))
+due-further p given done count of none counted (inr g) =
+    let phase = skip_of p.chosen in
+    let h = counted p.config phase given g.0.blocks of (decodes-behind p.config p.decoder phase given g.0.blocks of g.0.decodes) in (
+      h.0,
+      h.1,
+      inr (
+        g.1,
+        record { chosen = p.chosen; choice = g.0.choice; items = g.0.blocks ++ h.0; are_items = h.2; are = further p.chosen done g.0.blocks h.0 g.0.are },
+      ),
+    )
+
+-- while the phase is to be chosen nothing is due
+pub due-waiting : (p : Phasing) (given : List ℕ) (done : List (Handed WindowBlock)) → p.config.phase ≡ Find → p.chosen ≡ None
+    → PhasesFor p (phase_octets p.config given) done → (more : List WindowBlock) × (length more ≡ 0) × AreHandedDue p.config given (done ++ map Item more)
+due-waiting p given done find none (inl w) = ([], refl, inl (w.1, append-nil done ∙ w.0.nothing))
+due-waiting p given done find none (inr g) = absurd (none-goes p (phase_octets p.config given) done find none g.0)
+
 -- the last blocks, by which all is handed over
-abbrev pub AreLast : Option Decoding → List WindowBlock → ℕ → Type 0
+abbrev pub AreLast : Option InnerDecoder → List WindowBlock → ℕ → Type 0
 AreLast decoder last left = (c : Configuration) (phase : ℕ) (given : List ℕ) (done : List WindowBlock) → IsDecoderOf c decoder
     → DecodesFor decoder (soft_octets c phase given) done → AreInnerBlocks c phase given (done ++ last) left
 
@@ -111,30 +139,31 @@ handed-last p given done last left of are g = (
   refl,
 )
 
--- the taker fails at the last block
-pub handed-last_front : (p : Phasing) (given : List ℕ) (done : List (Handed WindowBlock)) (last : WindowBlock) → IsDecoderOf p.config p.decoder
+-- the taker fails at one of the last blocks
+pub handed-last_front : (p : Phasing) (given : List ℕ) (done : List (Handed WindowBlock)) (tried : List WindowBlock) → IsDecoderOf p.config p.decoder
     → ((c : Configuration) (phase : ℕ) (given : List ℕ) (done : List WindowBlock) → IsDecoderOf c p.decoder
-    → DecodesFor p.decoder (soft_octets c phase given) done → (left : ℕ) × AreInnerBlocks c phase given (done ++ last ∷ []) left)
-    → Goes p (phase_octets p.config given) done → AreHandedFront p.config given (done ++ Item last ∷ [])
-handed-last_front p given done last of are g = record {
+    → DecodesFor p.decoder (soft_octets c phase given) done → AreInnerFirst c phase given (done ++ tried) ⊎ ((left : ℕ) × AreInnerBlocks c phase given (done ++ tried) left))
+    → Goes p (phase_octets p.config given) done → AreHandedFront p.config given (done ++ map Item tried)
+handed-last_front p given done tried of are g = record {
   chosen = p.chosen;
   choice = g.choice;
-  items = g.blocks ++ last ∷ [];
-  are_items = inr (are p.config (skip_of p.chosen) given g.blocks of (decodes-behind p.config p.decoder (skip_of p.chosen) given g.blocks of g.decodes));
-  are = further p.chosen done g.blocks (last ∷ []) g.are;
+  items = g.blocks ++ tried;
+  are_items = are p.config (skip_of p.chosen) given g.blocks of (decodes-behind p.config p.decoder (skip_of p.chosen) given g.blocks of g.decodes);
+  are = further p.chosen done g.blocks tried g.are;
 }
 
 -- ---- an inner receiver that is given more
 
 pub stands-further : {T : Type 0} (took : T → Handed WindowBlock → T → Type 0) (before now : InnerReceiving) (taker taker_now : T) (octets : List ℕ) (skipped : ℕ)
     → before.phased.config ≡ before.config → now.config ≡ before.config → now.phased.config ≡ before.phased.config → IsDecoderOf now.phased.config now.phased.decoder
-    → skipped ≡ min (skipped_at (rate_of before.config.inner) before.config - before.count) (length octets) → now.count ≡ min (before.count + length octets) (2 ^ 64 - 1)
+    → ((soft : List ℕ) (done : List (Handed WindowBlock)) → Goes now.phased soft done → HasClosedAll now.phased.decoder)
+    → skipped ≡ min (skipped_at before.config.inner before.config - before.count) (length octets) → now.count ≡ min (before.count + length octets) (2 ^ 64 - 1)
     → (h : Hands took PhasesFor before.phased now.phased taker taker_now (soft_form before.config (drop skipped octets)))
     → (given : List ℕ) (done : List (Handed WindowBlock)) → length given + length octets < 2 ^ 60 → StandsFor before given done
     → StandsFor now (given ++ octets) (done ++ h.more) × AreHandedDue before.config (given ++ octets) (done ++ h.more)
-stands-further took before now taker taker_now octets skipped inside config phased of skip counted h given done few stood =
+stands-further took before now taker taker_now octets skipped inside config phased of closed skip counted h given done few stood =
     let c = before.config in
-    let all = phase_octets-more c given octets skipped (skip ∙ ap (λ (n : ℕ). min (skipped_at (rate_of c.inner) c - n) (length octets)) (sym stood.count)) in
+    let all = phase_octets-more c given octets skipped (skip ∙ ap (λ (n : ℕ). min (skipped_at c.inner c - n) (length octets)) (sym stood.count)) in
     let size : length (soft_form c (drop skipped octets)) ≤ length octets = omega (arith, length-map (drop skipped octets) (soft_value c), length-drop skipped octets) in
     let phases : PhasesFor now.phased (phase_octets c (given ++ octets)) (done ++ h.more) = subst (λ (l : List ℕ). PhasesFor now.phased l (done ++ h.more)) (sym all)
     (h.stands (phase_octets c given) done (omega (arith, few, few-soft c given, size)) stood.phases) in
@@ -146,28 +175,28 @@ stands-further took before now taker taker_now octets skipped inside config phas
         phases = subst (λ (k : Configuration). PhasesFor now.phased (phase_octets k (given ++ octets)) (done ++ h.more)) (sym config) phases;
       },
       subst (λ (k : Configuration). AreHandedDue k (given ++ octets) (done ++ h.more)) same
-          (handed-due now.phased (given ++ octets) (done ++ h.more) of (subst (λ (k : Configuration). PhasesFor now.phased (phase_octets k (given ++ octets)) (done ++ h.more)) (sym same) phases)),
+          (handed-due now.phased (given ++ octets) (done ++ h.more) of closed (subst (λ (k : Configuration). PhasesFor now.phased (phase_octets k (given ++ octets)) (done ++ h.more)) (sym same) phases)),
     )
 
 pub front-further : {T : Type 0} (took broke : T → Handed WindowBlock → T → Type 0) (before : InnerReceiving) (taker taker_now : T) (octets : List ℕ) (skipped : ℕ)
-    → skipped ≡ min (skipped_at (rate_of before.config.inner) before.config - before.count) (length octets)
+    → skipped ≡ min (skipped_at before.config.inner before.config - before.count) (length octets)
     → (h : HandsFront took broke PhasesFor (IsFirstBy before.config) before.phased taker taker_now (soft_form before.config (drop skipped octets)))
     → (given : List ℕ) (done : List (Handed WindowBlock)) → length given + length octets < 2 ^ 60 → StandsFor before given done
     → AreHandedFirst before.config (given ++ octets) (done ++ h.tried)
 front-further took broke before taker taker_now octets skipped skip h given done few stood =
     let c = before.config in
-    let all = phase_octets-more c given octets skipped (skip ∙ ap (λ (n : ℕ). min (skipped_at (rate_of c.inner) c - n) (length octets)) (sym stood.count)) in
+    let all = phase_octets-more c given octets skipped (skip ∙ ap (λ (n : ℕ). min (skipped_at c.inner c - n) (length octets)) (sym stood.count)) in
     let size : length (soft_form c (drop skipped octets)) ≤ length octets = omega (arith, length-map (drop skipped octets) (soft_value c), length-drop skipped octets) in
     handed-first c (given ++ octets) (done ++ h.tried) (subst (λ (l : List ℕ). IsFirstBy c l (done ++ h.tried)) (sym all)
     (h.first (phase_octets c given) done (omega (arith, few, few-soft c given, size)) stood.phases))
 
 pub chosen-further : (before : InnerReceiving) (chosen : Option Chosen) (octets piece : List ℕ) (skipped : ℕ) → before.phased.config ≡ before.config → piece ≡ drop skipped octets
-    → skipped ≡ min (skipped_at (rate_of before.config.inner) before.config - before.count) (length octets)
+    → skipped ≡ min (skipped_at before.config.inner before.config - before.count) (length octets)
     → ((soft : List ℕ) (done : List (Handed WindowBlock)) → PhasesFor before.phased soft done → IsSoFarBy before.phased.config (soft ++ soft_form before.phased.config piece) chosen)
     → (given : List ℕ) (done : List (Handed WindowBlock)) → StandsFor before given done → IsChosenSoFar before.config (given ++ octets) chosen
 chosen-further before chosen octets piece skipped inside is skip so_far given done stood =
     let c = before.config in
-    let all = phase_octets-more c given octets skipped (skip ∙ ap (λ (n : ℕ). min (skipped_at (rate_of c.inner) c - n) (length octets)) (sym stood.count)) in
+    let all = phase_octets-more c given octets skipped (skip ∙ ap (λ (n : ℕ). min (skipped_at c.inner c - n) (length octets)) (sym stood.count)) in
     let there = subst (λ (k : Configuration). IsSoFarBy k (phase_octets c given ++ soft_form k piece) chosen) inside (so_far (phase_octets c given) done stood.phases) in
     subst (λ (l : List ℕ). IsSoFarBy c l chosen) (ap (λ (l : List ℕ). phase_octets c given ++ soft_form c l) is ∙ sym all) there
 

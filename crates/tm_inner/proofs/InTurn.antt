@@ -1,11 +1,12 @@
 -- What is handed over for received octets, the phase first and then items, is one list, which there is, and it goes on as octets come.
-use Rattle.std.proofs.Common.{◌≡◌, ◌⊎◌, inl, inr, ℕ, zero, suc, ◌+◌, ◌-◌, Bool, List, ◌++◌, length, drop, map, refl, sym, ap, ◌∙◌, subst, min, Option, Some, None}
+use Rattle.std.proofs.Common.{◌≡◌, inl, inr, ℕ, ◌+◌, ◌-◌, Bool, List, ◌++◌, length, drop, map, refl, sym, ap, ◌∙◌, subst, min, Option, Some, None}
 use Rattle.tm_base.specs.Handed.{Handed, Item}
 use Rattle.tm_config.specs.Configuration.{Configuration}
+use Rattle.tm_config.proofs.Choices.{given_or_find, never_both}
 use Rattle.tm_conv.specs.declared.rates.Rate.{Rate}
 use Rattle.tm_phase.specs.declared.choosing.Chosen.{Chosen}
 use Rattle.tm_phase.specs.Phase.{IsPhase}
-use Rattle.tm_inner.specs.Symbols.{rate_of, is_inverted}
+use Rattle.tm_inner.specs.Symbols.{is_inverted}
 use Rattle.tm_inner.specs.Phase.{PhaseAt, IsChosen, IsChosenBy, IsChosenSoFar, IsSettled, IsSettledBy, phase_octets, skip_of, skipped_at, in_turn, InTurn, InTurnSettled, InTurnSoFar}
 use Rattle.tm_inner.specs.Receiving.{soft_form}
 use Rattle.tm_inner.proofs.GivenPieces.{phase_octets-more}
@@ -32,32 +33,28 @@ one-phase one None c soft a b p q = same a.skip b.skip a.cost b.cost (p.0 ∙ sy
     same s t k l skip cost = ap (λ (n : ℕ). record { skip = n; cost = k }) skip ∙ ap (λ (n : ℕ). record { skip = t; cost = n }) cost
 one-phase one (Some rate) c soft a b p q = one rate (is_inverted rate c.invert) (c.keep + c.ahead) soft a b p q
 
-is-given : (n : ℕ) → (n ≡ 0) ⊎ (n ≡ 0 → ⊥)
-is-given zero = inl refl
-is-given (suc n) = inr (λ is. absurd cc)
-
 has-choice : HasPhase → (c : Configuration) (octets : List ℕ) → (chosen : Option Chosen) × IsChosen c octets chosen
-has-choice has c octets = elim (is-given c.phase) as (λ _. (chosen : Option Chosen) × IsChosen c octets chosen) [
+has-choice has c octets = elim (given_or_find c.phase) as (λ _. (chosen : Option Chosen) × IsChosen c octets chosen) [
   | inl given ↦ (None, given)
-  | inr find ↦ (let p = has-phase has (rate_of c.inner) c (phase_octets c octets) in (Some p.0, (find, p.1)))
+  | inr find ↦ (let p = has-phase has c.inner c (phase_octets c octets) in (Some p.0, (find, p.1)))
 ]
 
 pub one-choice : OnePhase → (c : Configuration) (octets : List ℕ) (a b : Option Chosen) → IsChosen c octets a → IsChosen c octets b → a ≡ b
 one-choice one c octets None None p q = refl
-one-choice one c octets None (Some b) p q = absurd (q.0 p)
-one-choice one c octets (Some a) None p q = absurd (p.0 q)
-one-choice one c octets (Some a) (Some b) p q = ap (λ (x : Chosen). Some x) (one-phase one (rate_of c.inner) c (phase_octets c octets) a b p.1 q.1)
+one-choice one c octets None (Some b) p q = absurd (never_both c.phase p q.0)
+one-choice one c octets (Some a) None p q = absurd (never_both c.phase q p.0)
+one-choice one c octets (Some a) (Some b) p q = ap (λ (x : Chosen). Some x) (one-phase one c.inner c (phase_octets c octets) a b p.1 q.1)
 
 -- whatever octets come, the choice stays once it is settled
 pub choice-stays : PhaseStays → (c : Configuration) (octets more : List ℕ) (chosen : Option Chosen) → IsSettled c octets → IsChosen c octets chosen → IsChosen c (octets ++ more) chosen
 choice-stays stays c octets more chosen settled is =
-    let skipped = min (skipped_at (rate_of c.inner) c - length octets) (length more) in
+    let skipped = min (skipped_at c.inner c - length octets) (length more) in
     subst (λ (l : List ℕ). IsChosenBy c l chosen) (sym (phase_octets-more c octets more skipped refl))
     (choice-more stays c (phase_octets c octets) (soft_form c (drop skipped more)) chosen settled is)
 
 pub settled-stays : (c : Configuration) (octets more : List ℕ) → IsSettled c octets → IsSettled c (octets ++ more)
 settled-stays c octets more settled =
-    let skipped = min (skipped_at (rate_of c.inner) c - length octets) (length more) in
+    let skipped = min (skipped_at c.inner c - length octets) (length more) in
     subst (λ (l : List ℕ). IsSettledBy c l) (sym (phase_octets-more c octets more skipped refl))
     (settled-more c (phase_octets c octets) (soft_form c (drop skipped more)) settled)
 

@@ -1,23 +1,26 @@
 -- The bits that octets come to, and those of octets that were sent and not disturbed.
 use Rattle.std.proofs.Common.{◌≡◌, ℕ, zero, suc, ◌+◌, ◌-◌, ◌%◌, ◌<◌, ◌≤◌, ◌==◌, cond, Bool, true, false, List, [], ◌∷◌, length, drop, map, refl, sym, ap, ◌∙◌, subst, arith, Option, Some, None, ◌⊎◌, inl, inr}
-use Rattle.std.proofs.lemmas.Bool.Decides.{nat_tests, eqb_tells}
 use Rattle.std.proofs.lemmas.List.{length-map}
 use Rattle.std.proofs.lemmas.List.Elements.{All-cons, All-nil}
 use Rattle.tm_base.specs.Bits.{bits_of, octets_of, bit_number}
 use Rattle.tm_base.proofs.Packing.{bits_of-octets_of, length-bits_of}
-use Rattle.tm_config.specs.Configuration.{Configuration}
+use Rattle.tm_config.specs.Configuration.{Configuration, is_signed}
+use Rattle.tm_config.specs.declared.values.SoftForm.{SoftForm}
+use Rattle.tm_config.specs.declared.values.SoftForm.TheVariants.{Unsigned, Signed}
 use Rattle.tm_config.specs.Accepted.{IsAccepted}
 use Rattle.tm_conv.specs.declared.rates.Rate.{Rate}
 use Rattle.tm_conv.specs.declared.rates.Rate.TheVariants.{R12}
 use Rattle.tm_conv.specs.Path.{AreBits}
 use Rattle.tm_conv.specs.Cost.{sure}
 use Rattle.tm_conv.specs.Encoding.{bit_numbers, sent_for, level, levels}
+use Rattle.tm_viterbi.specs.declared.block.Start.{Start}
+use Rattle.tm_viterbi.specs.declared.block.Start.TheVariants.{Zero, Any}
 use Rattle.tm_viterbi.specs.Settings.{Settings}
 use Rattle.tm_viterbi.specs.WindowBlock.{WindowBlock}
 use Rattle.tm_viterbi.specs.Blocks.{AreBlocksOf}
 use Rattle.tm_viterbi.specs.Clean.{IsFixed, AreClean, sure_symbols}
 use Rattle.tm_inner.specs.Inner.{IsStartKnown, settings_of, soft_value, soft_octets, BlocksAt, AreInnerBlocks, bits_at, inner_bits, Inner}
-use Rattle.tm_inner.specs.Symbols.{rate_of, is_inverted, low_level, symbols_by, symbols_of_octets}
+use Rattle.tm_inner.specs.Symbols.{is_inverted, low_level, symbols_by, symbols_of_octets}
 
 -- ---- one list of bits
 
@@ -32,7 +35,7 @@ same-blocks one (Some rate) c phase octets blocks others left rest p q = (one (s
 
 pub only_bits : OneBlocks → (c : Configuration) (phase : ℕ) (octets : List ℕ) (bits others : List Bool) → Inner c phase octets bits → Inner c phase octets others → bits ≡ others
 only_bits one c phase octets bits others p q =
-    p.are_bits ∙ ap (bits_at (rate_of c.inner) c octets) (same-blocks one (rate_of c.inner) c phase octets p.blocks q.blocks p.left q.left p.are_blocks q.are_blocks) ∙ sym q.are_bits
+    p.are_bits ∙ ap (bits_at c.inner c octets) (same-blocks one c.inner c phase octets p.blocks q.blocks p.left q.left p.are_blocks q.are_blocks) ∙ sym q.are_bits
 
 -- ---- some list of bits
 
@@ -47,7 +50,7 @@ blocks-at exists (Some rate) c phase octets some = exists (settings_of c rate) (
 
 pub has_blocks : HasBlocks → (c : Configuration) (phase : ℕ) (octets : List ℕ) → IsAccepted c
     → (blocks : List WindowBlock) × (left : ℕ) × AreInnerBlocks c phase octets blocks left
-has_blocks exists c phase octets ok = blocks-at exists (rate_of c.inner) c phase octets (let keep = ok.some_keep in omega arith)
+has_blocks exists c phase octets ok = blocks-at exists c.inner c phase octets (let keep = ok.some_keep in omega arith)
 
 pub has_bits : HasBlocks → (c : Configuration) (phase : ℕ) (octets : List ℕ) → IsAccepted c → (bits : List Bool) × Inner c phase octets bits
 has_bits exists c phase octets ok =
@@ -58,13 +61,15 @@ has_bits exists c phase octets ok =
 
 -- the soft form undone
 value-sent : (c : Configuration) (symbol : ℕ) → soft_value c (level (low_level c.soft) symbol) ≡ cond (symbol == 0) 0 255
-value-sent c symbol = go (c.soft == 0) (symbol == 0)
+value-sent c symbol = go c.soft (symbol == 0)
   where
-    go : (u8 zero_symbol : Bool) → (let octet = cond zero_symbol (cond u8 0x00 0x80) (255 - cond u8 0x00 0x80) in cond u8 octet ((octet + 128) % 256)) ≡ cond zero_symbol 0 255
-    go true true = refl
-    go true false = refl
-    go false true = refl
-    go false false = refl
+    go : (form : SoftForm) (zero_symbol : Bool)
+        → (let octet = cond zero_symbol (low_level form) (255 - low_level form) in cond (is_signed form) ((octet + 128) % 256) octet)
+        ≡ cond zero_symbol 0 255
+    go Unsigned true = refl
+    go Unsigned false = refl
+    go Signed true = refl
+    go Signed false = refl
 
 values-sent : (c : Configuration) (symbols : List ℕ) → map (soft_value c) (levels (low_level c.soft) symbols) ≡ sure symbols
 values-sent c [] = refl
@@ -87,23 +92,26 @@ numbers-bits [] = refl
 numbers-bits (true ∷ bits) = ap (λ l. true ∷ l) (numbers-bits bits)
 numbers-bits (false ∷ bits) = ap (λ l. false ∷ l) (numbers-bits bits)
 
--- the rates stand under different numbers
-pub half-rate : (c : Configuration) (rate : Rate) → rate_of c.inner ≡ Some rate → c.inner ≡ 12 → rate ≡ R12
-half-rate c rate is half = let same : rate_of 12 ≡ Some rate = ap rate_of (sym half) ∙ is in cc
+pub half-rate : (c : Configuration) (rate : Rate) → c.inner ≡ Some rate → c.inner ≡ Some R12 → rate ≡ R12
+half-rate c rate is half = cc
 
-no-rate : (c : Configuration) (rate : Rate) → rate_of c.inner ≡ Some rate → c.inner ≡ 0 → ⊥
-no-rate c rate is none = let same : rate_of 0 ≡ Some rate = ap rate_of (sym none) ∙ is in absurd (cc)
+no-rate : (c : Configuration) (rate : Rate) → c.inner ≡ Some rate → c.inner ≡ None → ⊥
+no-rate c rate is none = cc
+
+zero_or_any : (start : Start) → (start ≡ Zero) ⊎ (start ≡ Any)
+zero_or_any Zero = inl refl
+zero_or_any Any = inr refl
 
 pub some-steps : (octets : List ℕ) → (bit_numbers (bits_of octets) ≡ []) ⊎ (6 ≤ length (bit_numbers (bits_of octets)))
 some-steps [] = inl refl
 some-steps (octet ∷ octets) = inr (omega (arith, length-map (bits_of (octet ∷ octets)) bit_number, length-bits_of (octet ∷ octets)))
 
-fixed : (c : Configuration) (rate : Rate) (octets : List ℕ) → rate_of c.inner ≡ Some rate → IsStartKnown c → IsFixed (settings_of c rate) 0 (bit_numbers (bits_of octets))
+fixed : (c : Configuration) (rate : Rate) (octets : List ℕ) → c.inner ≡ Some rate → IsStartKnown c → IsFixed (settings_of c rate) 0 (bit_numbers (bits_of octets))
 fixed c rate octets is (inl none) = absurd (no-rate c rate is none)
-fixed c rate octets is (inr (inl zero_start)) = inl (let test : (c.start == 0) ≡ true = grind (arith, nat_tests) in rw test refl, refl)
-fixed c rate octets is (inr (inr half)) = elim (eqb_tells c.start 0) [
-  | inl same ↦ inl (rw same.0 refl, refl)
-  | inr other ↦ inr (rw other.0 refl, half-rate c rate is half, omega arith, some-steps octets)
+fixed c rate octets is (inr (inl zero_start)) = inl (zero_start, refl)
+fixed c rate octets is (inr (inr half)) = elim (zero_or_any c.start) [
+  | inl zero_start ↦ inl (zero_start, refl)
+  | inr any ↦ inr (any, half-rate c rate is half, omega arith, some-steps octets)
 ]
 
 -- blocks keep what was sent
@@ -117,7 +125,7 @@ pub soft-sent : (c : Configuration) (rate : Rate) (bits : List Bool) → c.skip 
 soft-sent c rate bits none =
     ap (map (soft_value c)) (drop-none c.skip (symbols_by (Some rate) c bits) none) ∙ values-sent c (sent_for rate (is_inverted rate c.invert) bits)
 
-bits-sent : CleanBlocks → (c : Configuration) (rate : Option Rate) (octets : List ℕ) (blocks : List WindowBlock) (left : ℕ) → rate_of c.inner ≡ rate
+bits-sent : CleanBlocks → (c : Configuration) (rate : Option Rate) (octets : List ℕ) (blocks : List WindowBlock) (left : ℕ) → c.inner ≡ rate
     → IsAccepted c → c.skip ≡ 0 → IsStartKnown c → BlocksAt rate c 0 (symbols_by rate c (bits_of octets)) blocks left
     → bits_at rate c (symbols_by rate c (bits_of octets)) blocks ≡ bits_of octets
 bits-sent clean c None octets blocks left is ok none known are =
@@ -130,4 +138,4 @@ bits-sent clean c (Some rate) octets blocks left is ok none known are =
 
 pub bits-clean : CleanBlocks → (c : Configuration) (octets : List ℕ) (bits : List Bool) → IsAccepted c → c.skip ≡ 0 → IsStartKnown c
     → Inner c 0 (symbols_of_octets c octets) bits → bits ≡ bits_of octets
-bits-clean clean c octets bits ok none known it = it.are_bits ∙ bits-sent clean c (rate_of c.inner) octets it.blocks it.left refl ok none known it.are_blocks
+bits-clean clean c octets bits ok none known it = it.are_bits ∙ bits-sent clean c c.inner octets it.blocks it.left refl ok none known it.are_blocks

@@ -6,6 +6,7 @@ pub mod DueBits
 pub mod ReceivedBits
 pub mod FewBits
 mod Metrics
+pub mod DueBlocks
 pub mod GivenPieces
 pub mod PhasePieces
 pub mod HandedPieces

@@ -14,7 +14,6 @@ use Rattle.tm_viterbi.specs.Blocks.{AreBlocks}
 use Rattle.tm_viterbi.specs.Starts.{first_start}
 use Rattle.tm_viterbi.specs.WindowBlock.{WindowBlock}
 use Rattle.tm_inner.specs.Inner.{settings_of, soft_value, soft_octets, BlocksAt, AreInnerBlocks}
-use Rattle.tm_inner.specs.Symbols.{rate_of}
 
 -- a symbol costs at most 255
 cost-small : (symbols octets : List ℕ) → AreOctets octets → cost symbols octets ≤ 255 * length octets
@@ -73,4 +72,4 @@ pub small-metrics : (c : Configuration) (phase : ℕ) (octets : List ℕ) (block
     → All (λ (b : WindowBlock). (b.steps ≤ c.keep + c.ahead) × (b.metric ≤ 510 * b.steps) × (b.metric ≤ 35512320)) blocks
 small-metrics c phase octets blocks left ok each are =
     All-weaker (IsSmall (c.keep + c.ahead)) (λ (b : WindowBlock). (b.steps ≤ c.keep + c.ahead) × (b.metric ≤ 510 * b.steps) × (b.metric ≤ 35512320))
-    (λ b small. (small.0, small.1, omega (arith, small.0, small.1, ok.keep, ok.ahead))) blocks (small-at (rate_of c.inner) c phase octets blocks left each are)
+    (λ b small. (small.0, small.1, omega (arith, small.0, small.1, ok.keep, ok.ahead))) blocks (small-at c.inner c phase octets blocks left each are)

@@ -1,5 +1,5 @@
 -- Octets that wait for the choice of the phase, the choice, and octets behind it.
-use Rattle.std.proofs.Common.{◌≡◌, ◌≢◌, inl, inr, ℕ, ◌+◌, ◌<◌, ◌≤◌, ◌^◌, Bool, List, [], ◌∷◌, ◌++◌, length, drop, map, refl, sym, ap, ◌∙◌, subst, arith, length-append, length-drop, append_assoc, Option, Some, None}
+use Rattle.std.proofs.Common.{◌≡◌, inl, inr, ℕ, ◌+◌, ◌<◌, ◌≤◌, ◌^◌, Bool, List, [], ◌∷◌, ◌++◌, length, drop, map, refl, sym, ap, ◌∙◌, subst, arith, length-append, length-drop, append_assoc, Option, Some, None}
 use Rattle.std.proofs.lemmas.List.{append-nil, map-append, drop-append-le}
 use Rattle.tm_base.specs.Handed.{Handed, Phase, Item, on_handed, items_of}
 use Rattle.tm_base.specs.Takers.{HandedOver, HandedPart}
@@ -8,12 +8,14 @@ use Rattle.tm_base.proofs.HandedItems.{HandedOver-items, HandedPart-items, items
 use Rattle.tm_config.specs.Configuration.{Configuration}
 use Rattle.tm_conv.specs.declared.rates.Rate.{Rate}
 use Rattle.tm_viterbi.specs.WindowBlock.{WindowBlock}
-use Rattle.tm_viterbi.specs.Decoding.{Decoding}
+use Rattle.tm_inner.specs.declared.inner_decoder.InnerDecoder.{InnerDecoder}
 use Rattle.tm_viterbi.specs.Settings.{Settings}
 use Rattle.tm_viterbi.specs.Due.{AreFirst, first_place}
 use Rattle.tm_phase.specs.declared.choosing.Chosen.{Chosen}
 use Rattle.tm_phase.specs.Phase.{IsPhase, octets_needed}
-use Rattle.tm_inner.specs.Symbols.{rate_of, is_inverted}
+use Rattle.tm_config.specs.declared.values.Sought.TheVariants.{Find}
+use Rattle.tm_config.proofs.Choices.{never_both}
+use Rattle.tm_inner.specs.Symbols.{is_inverted}
 use Rattle.tm_inner.specs.Phase.{PhaseAt, IsChosenBy, IsSettledBy, IsSoFarBy, needed_at, skip_of, in_turn}
 use Rattle.tm_inner.specs.Inner.{settings_of}
 use Rattle.tm_inner.specs.Receiving.{IsDecoderOf, DecodesFor, FindsFirst, FirstFor, Hands, HandsFront, Phasing, Waits, Goes, PhasesFor, IsFrontBy, IsFirstBy}
@@ -39,8 +41,8 @@ settled-more c soft more (inr many) = inr (omega (arith, many, length-append sof
 
 pub choice-more : PhaseStays → (c : Configuration) (soft more : List ℕ) (chosen : Option Chosen) → IsSettledBy c soft → IsChosenBy c soft chosen → IsChosenBy c (soft ++ more) chosen
 choice-more stays c soft more None settled is = is
-choice-more stays c soft more (Some chosen) (inl given) is = absurd (is.0 given)
-choice-more stays c soft more (Some chosen) (inr many) is = (is.0, phase-more stays (rate_of c.inner) c soft more chosen many is.1)
+choice-more stays c soft more (Some chosen) (inl given) is = absurd (never_both c.phase given is.0)
+choice-more stays c soft more (Some chosen) (inr many) is = (is.0, phase-more stays c.inner c soft more chosen many is.1)
 
 phase-within : PhaseWithin → (rate : Option Rate) (c : Configuration) (soft : List ℕ) (chosen : Chosen) → PhaseAt rate c soft chosen → chosen.skip ≤ length soft
 phase-within within None c soft chosen is = omega (arith, is.0)
@@ -48,7 +50,7 @@ phase-within within (Some rate) c soft chosen is = within rate (is_inverted rate
 
 skip-within : PhaseWithin → (c : Configuration) (soft : List ℕ) (chosen : Option Chosen) → IsChosenBy c soft chosen → skip_of chosen ≤ length soft
 skip-within within c soft None is = omega arith
-skip-within within c soft (Some chosen) is = phase-within within (rate_of c.inner) c soft chosen is.1
+skip-within within c soft (Some chosen) is = phase-within within c.inner c soft chosen is.1
 
 pub so-far : (c : Configuration) (soft : List ℕ) (chosen : Option Chosen) → IsSettledBy c soft → IsChosenBy c soft chosen → IsSoFarBy c soft chosen
 so-far c soft None settled is = λ _. is
@@ -81,18 +83,18 @@ first-more : StayClosed → (rate : Option Rate) (c : Configuration) (soft more 
 first-more closed None c soft more blocks is = is
 first-more closed (Some rate) c soft more blocks is = closed (settings_of c rate) soft more blocks is
 
-first-by : (c : Configuration) (decoder : Option Decoding) (soft : List ℕ) (blocks : List WindowBlock) → IsDecoderOf c decoder → FindsFirst decoder soft blocks → FirstFor (rate_of c.inner) c soft blocks
+first-by : (c : Configuration) (decoder : Option InnerDecoder) (soft : List ℕ) (blocks : List WindowBlock) → IsDecoderOf c decoder → FindsFirst decoder soft blocks → FirstFor c.inner c soft blocks
 first-by c None soft blocks of is = subst (λ (r : Option Rate). FirstFor r c soft blocks) (sym of) is
 first-by c (Some d) soft blocks of is = subst (λ (r : Option Rate). FirstFor r c soft blocks) (sym of.1) (subst (λ (s : Settings). AreFirst s soft blocks) of.2 is)
 
 -- ---- nothing waits
 
 abbrev pub NoneWaits : Phasing → Type 0
-NoneWaits p = (p.config.phase ≢ 0) × (p.chosen ≡ None) → ⊥
+NoneWaits p = (p.config.phase ≡ Find) × (p.chosen ≡ None) → ⊥
 
 -- what goes does not wait
-pub none-goes : (p : Phasing) (soft : List ℕ) (done : List (Handed WindowBlock)) → p.config.phase ≢ 0 → p.chosen ≡ None → Goes p soft done → ⊥
-none-goes p soft done find none g = find (subst (λ (o : Option Chosen). IsChosenBy p.config soft o) none g.choice)
+pub none-goes : (p : Phasing) (soft : List ℕ) (done : List (Handed WindowBlock)) → p.config.phase ≡ Find → p.chosen ≡ None → Goes p soft done → ⊥
+none-goes p soft done find none g = never_both p.config.phase (subst (λ (o : Option Chosen). IsChosenBy p.config soft o) none g.choice) find
 
 -- ---- the choice
 
@@ -105,8 +107,8 @@ ChoosesFront took_phase broke_phase took broke p taker taker_now = (tried : List
     × ((soft : List ℕ) (done : List (Handed WindowBlock)) → length soft < 2 ^ 60 → Waits p soft done → IsFrontBy p.config soft (done ++ tried))
 
 -- the phase is chosen by the octets that wait, and the decoder is given those behind it
-pub chooses : {T : Type 0} (took_phase : T → ℕ → ℕ → T → Type 0) (took : T → WindowBlock → T → Type 0) (p : Phasing) (decoder : Option Decoding) (chosen : Chosen)
-    (taker middle taker_now : T) (rest : List ℕ) → p.config.phase ≢ 0 → PhaseAt (rate_of p.config.inner) p.config p.held chosen → rest ≡ drop chosen.skip p.held
+pub chooses : {T : Type 0} (took_phase : T → ℕ → ℕ → T → Type 0) (took : T → WindowBlock → T → Type 0) (p : Phasing) (decoder : Option InnerDecoder) (chosen : Chosen)
+    (taker middle taker_now : T) (rest : List ℕ) → p.config.phase ≡ Find → PhaseAt p.config.inner p.config p.held chosen → rest ≡ drop chosen.skip p.held
     → took_phase taker chosen.skip chosen.cost middle → Hands took DecodesFor p.decoder decoder middle taker_now rest
     → Chooses took_phase took p (record p { decoder = decoder; chosen = Some chosen }) taker taker_now
 chooses took_phase took p decoder chosen taker middle taker_now rest find is behind taken h = (
@@ -114,7 +116,7 @@ chooses took_phase took p decoder chosen taker middle taker_now rest find is beh
   (middle, taken, HandedOver-items took_phase took middle taker_now h.more h.handed),
   λ soft done few w.
       let same : rest ≡ drop chosen.skip soft = behind ∙ ap (drop chosen.skip) w.held in record {
-        choice = (find, subst (λ (l : List ℕ). PhaseAt (rate_of p.config.inner) p.config l chosen) w.held is);
+        choice = (find, subst (λ (l : List ℕ). PhaseAt p.config.inner p.config l chosen) w.held is);
         blocks = h.more;
         decodes = subst (λ (l : List ℕ). DecodesFor decoder l h.more) same (h.stands [] [] (omega (arith, few, ap length same, length-drop chosen.skip soft)) w.fresh);
         are = ap (λ l. l ++ (Phase chosen.skip chosen.cost ∷ map Item h.more)) w.nothing;
@@ -123,23 +125,23 @@ chooses took_phase took p decoder chosen taker middle taker_now rest find is beh
 
 -- the taker fails at the phase
 pub chooses-none : {T : Type 0} (took_phase broke_phase : T → ℕ → ℕ → T → Type 0) (took broke : T → WindowBlock → T → Type 0) (p : Phasing) (chosen : Chosen) (taker taker_now : T)
-    → p.config.phase ≢ 0 → PhaseAt (rate_of p.config.inner) p.config p.held chosen → broke_phase taker chosen.skip chosen.cost taker_now
+    → p.config.phase ≡ Find → PhaseAt p.config.inner p.config p.held chosen → broke_phase taker chosen.skip chosen.cost taker_now
     → ChoosesFront took_phase broke_phase took broke p taker taker_now
 chooses-none took_phase broke_phase took broke p chosen taker taker_now find is failed = (
   Phase chosen.skip chosen.cost ∷ [],
   HandedPart-first (on_handed took_phase took) (on_handed broke_phase broke) taker taker_now (Phase chosen.skip chosen.cost) [] failed,
   λ soft done few w. record {
     chosen = Some chosen;
-    choice = (find, subst (λ (l : List ℕ). PhaseAt (rate_of p.config.inner) p.config l chosen) w.held is);
+    choice = (find, subst (λ (l : List ℕ). PhaseAt p.config.inner p.config l chosen) w.held is);
     blocks = [];
-    first = first-none (rate_of p.config.inner) p.config (drop chosen.skip soft);
+    first = first-none p.config.inner p.config (drop chosen.skip soft);
     are = ap (λ l. l ++ (Phase chosen.skip chosen.cost ∷ [])) w.nothing;
   },
 )
 
 -- it fails at a block behind the phase
 pub chooses-front : {T : Type 0} (took_phase broke_phase : T → ℕ → ℕ → T → Type 0) (took broke : T → WindowBlock → T → Type 0) (p : Phasing) (chosen : Chosen)
-    (taker middle taker_now : T) (rest : List ℕ) → p.config.phase ≢ 0 → PhaseAt (rate_of p.config.inner) p.config p.held chosen → rest ≡ drop chosen.skip p.held
+    (taker middle taker_now : T) (rest : List ℕ) → p.config.phase ≡ Find → PhaseAt p.config.inner p.config p.held chosen → rest ≡ drop chosen.skip p.held
     → IsDecoderOf p.config p.decoder → took_phase taker chosen.skip chosen.cost middle
     → HandsFront took broke DecodesFor (FindsFirst p.decoder) p.decoder middle taker_now rest → ChoosesFront took_phase broke_phase took broke p taker taker_now
 chooses-front took_phase broke_phase took broke p chosen taker middle taker_now rest find is behind of taken h = (
@@ -149,7 +151,7 @@ chooses-front took_phase broke_phase took broke p chosen taker middle taker_now 
   λ soft done few w.
       let same : rest ≡ drop chosen.skip soft = behind ∙ ap (drop chosen.skip) w.held in record {
         chosen = Some chosen;
-        choice = (find, subst (λ (l : List ℕ). PhaseAt (rate_of p.config.inner) p.config l chosen) w.held is);
+        choice = (find, subst (λ (l : List ℕ). PhaseAt p.config.inner p.config l chosen) w.held is);
         blocks = h.tried;
         first = first-by p.config p.decoder (drop chosen.skip soft) h.tried of
             (subst (λ (l : List ℕ). FindsFirst p.decoder l h.tried) same (h.first [] [] (omega (arith, few, ap length same, length-drop chosen.skip soft)) w.fresh));
@@ -160,7 +162,7 @@ chooses-front took_phase broke_phase took broke p chosen taker middle taker_now 
 -- ---- behind the choice
 
 module _ (stays : PhaseStays) (within : PhaseWithin) where
-  pub goes-more : {T : Type 0} (took : T → WindowBlock → T → Type 0) (p : Phasing) (decoder : Option Decoding) (taker taker_now : T) (form : List ℕ)
+  pub goes-more : {T : Type 0} (took : T → WindowBlock → T → Type 0) (p : Phasing) (decoder : Option InnerDecoder) (taker taker_now : T) (form : List ℕ)
       → (h : Hands took DecodesFor p.decoder decoder taker taker_now form) (soft : List ℕ) (done : List (Handed WindowBlock)) → length soft + length form < 2 ^ 60
       → IsSettledBy p.config soft → Goes p soft done → Goes (record p { decoder = decoder }) (soft ++ form) (done ++ map Item h.more)
   goes-more took p decoder taker taker_now form h soft done few settled g =
@@ -171,6 +173,26 @@ module _ (stays : PhaseStays) (within : PhaseWithin) where
             (h.stands (drop k soft) g.blocks (omega (arith, few, length-drop k soft)) g.decodes);
         are = further p.chosen done g.blocks h.more g.are;
       }
+
+  -- octets that the decoder holds
+  goes-gathered : (p : Phasing) (decoder : Option InnerDecoder) (form soft : List ℕ) (done : List (Handed WindowBlock))
+      → ((soft : List ℕ) (done : List WindowBlock) → DecodesFor p.decoder soft done → DecodesFor decoder (soft ++ form) done)
+      → IsSettledBy p.config soft → Goes p soft done → Goes (record p { decoder = decoder }) (soft ++ form) done
+  goes-gathered p decoder form soft done gathered settled g =
+      let k = skip_of p.chosen in record {
+        choice = choice-more stays p.config soft form p.chosen settled g.choice;
+        blocks = g.blocks;
+        decodes = subst (λ (l : List ℕ). DecodesFor decoder l g.blocks)
+            (sym (drop-append-le k soft form (skip-within within p.config soft p.chosen g.choice))) (gathered (drop k soft) g.blocks g.decodes);
+        are = g.are;
+      }
+
+  pub phases-gathered : (p : Phasing) (decoder : Option InnerDecoder) (form soft : List ℕ) (done : List (Handed WindowBlock))
+      → ((soft : List ℕ) (done : List WindowBlock) → DecodesFor p.decoder soft done → DecodesFor decoder (soft ++ form) done)
+      → NoneWaits p → PhasesFor p soft done → PhasesFor (record p { decoder = decoder }) (soft ++ form) done
+  phases-gathered p decoder form soft done gathered none (inl w) = absurd (none (w.0.find, w.0.none))
+  phases-gathered p decoder form soft done gathered none (inr g) =
+      inr (goes-gathered p decoder form soft done gathered g.1 g.0, settled-more p.config soft form g.1)
 
   pub goes-front : {T : Type 0} (took broke : T → WindowBlock → T → Type 0) (p : Phasing) (taker taker_now : T) (form : List ℕ) → IsDecoderOf p.config p.decoder
       → (h : HandsFront took broke DecodesFor (FindsFirst p.decoder) p.decoder taker taker_now form) (soft : List ℕ) (done : List (Handed WindowBlock)) → length soft + length form < 2 ^ 60
@@ -197,15 +219,15 @@ module _ (stays : PhaseStays) (within : PhaseWithin) where
           chosen = h.chosen;
           choice = choice-more stays c soft more h.chosen settled h.choice;
           blocks = h.blocks;
-          first = subst (λ (l : List ℕ). FirstFor (rate_of c.inner) c l h.blocks) (sym (drop-append-le k soft more (skip-within within c soft h.chosen h.choice)))
-              (first-more closed (rate_of c.inner) c (drop k soft) more h.blocks h.first);
+          first = subst (λ (l : List ℕ). FirstFor c.inner c l h.blocks) (sym (drop-append-le k soft more (skip-within within c soft h.chosen h.choice)))
+              (first-more closed c.inner c (drop k soft) more h.blocks h.first);
           are = h.are;
         },
       )
 
   -- ---- octets where nothing waits
 
-  pub hands-going : {T : Type 0} (took_phase : T → ℕ → ℕ → T → Type 0) (took : T → WindowBlock → T → Type 0) (p : Phasing) (decoder : Option Decoding) (taker taker_now : T) (form : List ℕ)
+  pub hands-going : {T : Type 0} (took_phase : T → ℕ → ℕ → T → Type 0) (took : T → WindowBlock → T → Type 0) (p : Phasing) (decoder : Option InnerDecoder) (taker taker_now : T) (form : List ℕ)
       → NoneWaits p → Hands took DecodesFor p.decoder decoder taker taker_now form → Hands (on_handed took_phase took) PhasesFor p (record p { decoder = decoder }) taker taker_now form
   hands-going took_phase took p decoder taker taker_now form none h = record {
     more = map Item h.more;
@@ -238,18 +260,18 @@ waits-more : (p : Phasing) (form soft : List ℕ) (done : List (Handed WindowBlo
 waits-more p form soft done w = record { find = w.find; none = w.none; held = ap (λ l. l ++ form) w.held; fresh = w.fresh; nothing = w.nothing }
 
 -- they are not enough
-waiting-unsettled : (p : Phasing) (form soft : List ℕ) → p.config.phase ≢ 0 → length (p.held ++ form) < needed_at (rate_of p.config.inner) p.config → p.held ≡ soft → IsSettledBy p.config (soft ++ form) → ⊥
-waiting-unsettled p form soft find few is (inl given) = find given
+waiting-unsettled : (p : Phasing) (form soft : List ℕ) → p.config.phase ≡ Find → length (p.held ++ form) < needed_at p.config.inner p.config → p.held ≡ soft → IsSettledBy p.config (soft ++ form) → ⊥
+waiting-unsettled p form soft find few is (inl given) = never_both p.config.phase given find
 waiting-unsettled p form soft find few is (inr many) = omega (arith, many, few, ap (λ (l : List ℕ). length (l ++ form)) is)
 
-pub so-far-waiting : (p : Phasing) (form soft : List ℕ) (done : List (Handed WindowBlock)) → p.config.phase ≢ 0 → p.chosen ≡ None → length (p.held ++ form) < needed_at (rate_of p.config.inner) p.config
+pub so-far-waiting : (p : Phasing) (form soft : List ℕ) (done : List (Handed WindowBlock)) → p.config.phase ≡ Find → p.chosen ≡ None → length (p.held ++ form) < needed_at p.config.inner p.config
     → PhasesFor p soft done → IsSoFarBy p.config (soft ++ form) p.chosen
 so-far-waiting p form soft done find none few (inl w) =
     subst (IsSoFarBy p.config (soft ++ form)) (sym none) (λ settled. absurd (waiting-unsettled p form soft find few w.0.held settled))
 so-far-waiting p form soft done find none few (inr g) = absurd (none-goes p soft done find none g.0)
 
 pub hands-waiting : {T : Type 0} (took_phase : T → ℕ → ℕ → T → Type 0) (took : T → WindowBlock → T → Type 0) (p : Phasing) (taker : T) (form : List ℕ)
-    → p.config.phase ≢ 0 → p.chosen ≡ None → length (p.held ++ form) < needed_at (rate_of p.config.inner) p.config
+    → p.config.phase ≡ Find → p.chosen ≡ None → length (p.held ++ form) < needed_at p.config.inner p.config
     → Hands (on_handed took_phase took) PhasesFor p (holding p (p.held ++ form)) taker taker form
 hands-waiting took_phase took p taker form find none few = record {
   more = [];
@@ -265,8 +287,8 @@ hands-waiting took_phase took p taker form find none few = record {
 
 module _ (stays : PhaseStays) (within : PhaseWithin) where
   -- the octets that wait are enough: the phase is chosen, and the decoder is given the rest
-  pub hands-choosing : {T : Type 0} (took_phase : T → ℕ → ℕ → T → Type 0) (took : T → WindowBlock → T → Type 0) (p now : Phasing) (decoder : Option Decoding)
-      (taker middle taker_now : T) (form rest : List ℕ) → p.config.phase ≢ 0 → p.chosen ≡ None → needed_at (rate_of p.config.inner) p.config ≤ length (p.held ++ form)
+  pub hands-choosing : {T : Type 0} (took_phase : T → ℕ → ℕ → T → Type 0) (took : T → WindowBlock → T → Type 0) (p now : Phasing) (decoder : Option InnerDecoder)
+      (taker middle taker_now : T) (form rest : List ℕ) → p.config.phase ≡ Find → p.chosen ≡ None → needed_at p.config.inner p.config ≤ length (p.held ++ form)
       → now.config ≡ p.config → Chooses took_phase took (holding p (p.held ++ form)) now taker middle → Hands took DecodesFor now.decoder decoder middle taker_now rest
       → Hands (on_handed took_phase took) PhasesFor p (record now { decoder = decoder }) taker taker_now (form ++ rest)
   hands-choosing took_phase took p now decoder taker middle taker_now form rest find none many config h k = record {
@@ -292,7 +314,7 @@ module _ (stays : PhaseStays) (within : PhaseWithin) where
 
   -- the taker fails at the choice
   pub front-choosing : StayClosed → {T : Type 0} (took_phase broke_phase : T → ℕ → ℕ → T → Type 0) (took broke : T → WindowBlock → T → Type 0) (p : Phasing) (taker taker_now : T) (form rest : List ℕ)
-      → p.config.phase ≢ 0 → p.chosen ≡ None → needed_at (rate_of p.config.inner) p.config ≤ length (p.held ++ form)
+      → p.config.phase ≡ Find → p.chosen ≡ None → needed_at p.config.inner p.config ≤ length (p.held ++ form)
       → ChoosesFront took_phase broke_phase took broke (holding p (p.held ++ form)) taker taker_now
       → HandsFront (on_handed took_phase took) (on_handed broke_phase broke) PhasesFor (IsFirstBy p.config) p taker taker_now (form ++ rest)
   front-choosing closed took_phase broke_phase took broke p taker taker_now form rest find none many h = record {
@@ -310,7 +332,7 @@ module _ (stays : PhaseStays) (within : PhaseWithin) where
 
   -- it fails at a block of the rest
   pub front-behind : {T : Type 0} (took_phase broke_phase : T → ℕ → ℕ → T → Type 0) (took broke : T → WindowBlock → T → Type 0) (p now : Phasing)
-      (taker middle taker_now : T) (form rest : List ℕ) → p.config.phase ≢ 0 → p.chosen ≡ None → needed_at (rate_of p.config.inner) p.config ≤ length (p.held ++ form)
+      (taker middle taker_now : T) (form rest : List ℕ) → p.config.phase ≡ Find → p.chosen ≡ None → needed_at p.config.inner p.config ≤ length (p.held ++ form)
       → now.config ≡ p.config → IsDecoderOf now.config now.decoder → Chooses took_phase took (holding p (p.held ++ form)) now taker middle
       → HandsFront took broke DecodesFor (FindsFirst now.decoder) now.decoder middle taker_now rest
       → HandsFront (on_handed took_phase took) (on_handed broke_phase broke) PhasesFor (IsFirstBy p.config) p taker taker_now (form ++ rest)
@@ -340,8 +362,8 @@ module _ (stays : PhaseStays) where
   so-far-going p form soft done none (inr g) =
       so-far p.config (soft ++ form) p.chosen (settled-more p.config soft form g.1) (choice-more stays p.config soft form p.chosen g.1 g.0.choice)
 
-  pub so-far-choosing : (p : Phasing) (chosen : Option Chosen) (form rest soft : List ℕ) (done : List (Handed WindowBlock)) → p.config.phase ≢ 0 → p.chosen ≡ None
-      → needed_at (rate_of p.config.inner) p.config ≤ length (p.held ++ form) → IsChosenBy p.config (p.held ++ form) chosen → PhasesFor p soft done
+  pub so-far-choosing : (p : Phasing) (chosen : Option Chosen) (form rest soft : List ℕ) (done : List (Handed WindowBlock)) → p.config.phase ≡ Find → p.chosen ≡ None
+      → needed_at p.config.inner p.config ≤ length (p.held ++ form) → IsChosenBy p.config (p.held ++ form) chosen → PhasesFor p soft done
       → IsSoFarBy p.config (soft ++ (form ++ rest)) chosen
   so-far-choosing p chosen form rest soft done find none many is (inl w) =
       let settled : IsSettledBy p.config (soft ++ form) = inr (omega (arith, many, ap (λ (l : List ℕ). length (l ++ form)) w.0.held)) in

@@ -17,7 +17,6 @@ use Rattle.tm_viterbi.specs.Clean.{kept_bits}
 use Rattle.tm_viterbi.specs.Starts.{first_start}
 use Rattle.tm_viterbi.proofs.CleanBlocks.{steps-mono}
 use Rattle.tm_inner.proofs.DueBits.{drop-split}
-use Rattle.tm_inner.specs.Symbols.{rate_of}
 use Rattle.tm_inner.specs.Inner.{settings_of, soft_value, soft_octets, BlocksAt, bits_at, AreInnerBlocks, inner_bits}
 
 -- ---- the whole steps of symbols
@@ -107,7 +106,7 @@ kept-count rate invert keep ahead starts t n octets (b ∷ blocks) whole are =
 pub length-soft : (c : Configuration) (phase : ℕ) (given : List ℕ) → length (soft_octets c phase given) ≡ length given - c.skip - phase
 length-soft c phase given = length-map (drop phase (drop c.skip given)) (soft_value c) ∙ omega (arith, length-drop phase (drop c.skip given), length-drop c.skip given)
 
-pub bits-coded : (c : Configuration) (rate : Rate) (phase n m : ℕ) (given : List ℕ) (blocks : List WindowBlock) (left : ℕ) → rate_of c.inner ≡ Some rate → length given ≡ n
+pub bits-coded : (c : Configuration) (rate : Rate) (phase n m : ℕ) (given : List ℕ) (blocks : List WindowBlock) (left : ℕ) → c.inner ≡ Some rate → length given ≡ n
     → AreWhole rate (n - c.skip - phase) m → AreInnerBlocks c phase given blocks left → m ≡ length (inner_bits c given blocks)
 bits-coded c rate phase n m given blocks left is long whole are =
     subst (λ (r : Option Rate). BlocksAt r c phase given blocks left → m ≡ length (bits_at r c given blocks)) (sym is) counted are
@@ -121,14 +120,14 @@ bits-coded c rate phase n m given blocks left is long whole are =
         let kept = kept-count rate s.invert s.keep s.ahead (first_start s.start) 0 of.count (soft_octets c phase given) blocks of.steps.whole of.are in
         same ∙ sym kept ∙ sym (length-map (kept_bits blocks) (λ bit. bit == 1))
 
-pub bits-plain : (c : Configuration) (n m : ℕ) (given : List ℕ) (blocks : List WindowBlock) → rate_of c.inner ≡ None → length given ≡ n
+pub bits-plain : (c : Configuration) (n m : ℕ) (given : List ℕ) (blocks : List WindowBlock) → c.inner ≡ None → length given ≡ n
     → m ≡ 8 * n - c.skip → m ≡ length (inner_bits c given blocks)
 bits-plain c n m given blocks none long is =
     subst (λ (r : Option Rate). m ≡ length (bits_at r c given blocks)) (sym none)
     (omega (arith, is, long, length-drop c.skip (bits_of given), length-bits_of given))
 
 -- the bits of a longer list, with no inner code
-pub bits-further : (c : Configuration) (given octets : List ℕ) (n : ℕ) → rate_of c.inner ≡ None → n ≡ c.skip - 8 * length given
+pub bits-further : (c : Configuration) (given octets : List ℕ) (n : ℕ) → c.inner ≡ None → n ≡ c.skip - 8 * length given
     → inner_bits c (given ++ octets) [] ≡ inner_bits c given [] ++ drop n (bits_of octets)
 bits-further c given octets n none is =
     let same : c.skip - length (bits_of given) ≡ n = omega (arith, is, length-bits_of given) in

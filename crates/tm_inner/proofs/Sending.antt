@@ -7,7 +7,7 @@ use Rattle.tm_base.proofs.Pieces.{fed-none, fed-more, fed-front, fed-front_of_lo
 use Rattle.tm_config.specs.Configuration.{Configuration}
 use Rattle.tm_conv.specs.declared.rates.Rate.{Rate}
 use Rattle.tm_conv.specs.Encoding.{Encoding}
-use Rattle.tm_inner.specs.Symbols.{rate_of, symbols_by, symbols_of_octets}
+use Rattle.tm_inner.specs.Symbols.{symbols_by, symbols_of_octets}
 use Rattle.tm_inner.specs.Sending.{InnerSending, IsEncoderOf, KeepsFor, StandsFor, Sends, SendsFront}
 use Rattle.tm_inner.proofs.Symbols.{octets-due, symbols-go_on}
 
@@ -45,13 +45,13 @@ pub fed-octets : (c : Configuration) (encoder : Option Encoding) (taken taken_no
     → Wrote taken taken_now piece → Fed KeepsFor (symbols_of_octets c) encoder encoder taken taken_now piece
 fed-octets c None taken taken_now piece is small of wrote = record {
   stands = λ given stood. tt;
-  written = λ given stood. subst (Wrote taken taken_now) (sym (by_rate (rate_of c.inner) c given piece of small)) wrote;
+  written = λ given stood. subst (Wrote taken taken_now) (sym (by_rate c.inner c given piece of small)) wrote;
 }
 fed-octets c (Some encoder) taken taken_now piece is small of wrote = absurd cc
 
 pub fed-octets_front : (c : Configuration) (encoder : Option Encoding) (taken taken_now : Option (List ℕ)) (piece : List ℕ) → encoder ≡ None → AreOctets piece → IsEncoderOf c encoder
     → WroteFront taken taken_now piece → FedFront KeepsFor (symbols_of_octets c) encoder taken taken_now piece
 fed-octets_front c None taken taken_now piece is small of wrote = record {
-  front = λ given stood. subst (WroteFront taken taken_now) (sym (by_rate (rate_of c.inner) c given piece of small)) wrote;
+  front = λ given stood. subst (WroteFront taken taken_now) (sym (by_rate c.inner c given piece of small)) wrote;
 }
 fed-octets_front c (Some encoder) taken taken_now piece is small of wrote = absurd cc

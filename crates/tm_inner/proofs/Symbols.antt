@@ -10,7 +10,7 @@ use Rattle.tm_conv.specs.declared.rates.Rate.{Rate}
 use Rattle.tm_conv.specs.Path.{path, register_after}
 use Rattle.tm_conv.specs.Encoding.{bit_numbers, level, levels}
 use Rattle.tm_conv.proofs.Paths.{path-append}
-use Rattle.tm_inner.specs.Symbols.{rate_of, symbols_by, symbols_of_octets}
+use Rattle.tm_inner.specs.Symbols.{symbols_by, symbols_of_octets}
 use Rattle.tm_inner.specs.Sending.{encoded}
 
 -- where a longer list's due is that of its front and then `rest`, `rest` is what is due beyond
@@ -51,7 +51,7 @@ goes_on-by None c given piece = on (λ octets. octets_of (bits_of octets)) given
 goes_on-by (Some rate) c given piece = encoded-goes_on rate _ _ given piece
 
 pub symbols-go_on : (c : Configuration) → GoesOn (symbols_of_octets c)
-symbols-go_on c = goes_on-by (rate_of c.inner) c
+symbols-go_on c = goes_on-by c.inner c
 
 -- with no inner code octets are sent as they are
 pub octets-due : (given piece : List ℕ) → AreOctets piece → further (λ octets. octets_of (bits_of octets)) given piece ≡ piece
@@ -62,4 +62,4 @@ none-by None c = refl
 none-by (Some rate) c = refl
 
 pub symbols-none : (c : Configuration) → symbols_of_octets c [] ≡ []
-symbols-none c = none-by (rate_of c.inner) c
+symbols-none c = none-by c.inner c

@@ -1,41 +1,22 @@
 -- Worked values of the received bits, computed.
 use Rattle.std.proofs.Common.{◌≡◌, true, false, [], ◌∷◌, Some, None, refl}
 use Rattle.tm_base.specs.Bits.{low_bits}
-use Rattle.tm_config.specs.Configuration.{Configuration}
+use Rattle.tm_config.specs.Configuration.{Configuration, configuration_of, default_raw}
+use Rattle.tm_config.specs.declared.values.SoftForm.TheVariants.{Unsigned, Signed}
 use Rattle.tm_conv.specs.declared.rates.Rate.TheVariants.{R12, R23}
 use Rattle.tm_viterbi.specs.declared.block.Start.TheVariants.{Zero, Any}
 use Rattle.tm_inner.specs.Inner.{settings_of, soft_octets, bits_at, Inner}
 
 -- one octet is skipped, and soft octets are signed
 abbrev signed : Configuration
-signed = record {
-  code = 0;
-  depth = 1;
-  frame_length = 1;
-  inner = 12;
-  invert = None;
-  randomize = 0;
-  basis = 0;
-  tolerance = 0;
-  repair = 0;
-  soft = 1;
-  start = 1;
-  skip = 1;
-  workers = 1;
-  limit = 1;
-  fly = 0;
-  keep = 64;
-  ahead = 8;
-  phase = 0;
-  polarity = 0;
-}
+signed = record (configuration_of default_raw) { soft = Signed; start = Any; skip = 1; keep = 64; ahead = 8 }
 
 -- -128 is the surest 0, and 127 the surest 1
 row_signed : soft_octets signed 0 (0x11 ∷ 0x80 ∷ 0x7F ∷ 0x00 ∷ 0xFF ∷ []) ≡ 0 ∷ 255 ∷ 128 ∷ 127 ∷ []
 row_signed = refl
 
 -- the phase is dropped behind the skipped octet; unsigned octets stay as they are
-row_phase : soft_octets (record signed { soft = 0 }) 2 (1 ∷ 2 ∷ 3 ∷ 0x80 ∷ []) ≡ 0x80 ∷ []
+row_phase : soft_octets (record signed { soft = Unsigned }) 2 (1 ∷ 2 ∷ 3 ∷ 0x80 ∷ []) ≡ 0x80 ∷ []
 row_phase = refl
 
 row_short : soft_octets signed 1 (1 ∷ []) ≡ []
@@ -45,7 +26,7 @@ row_short = refl
 row_settings : settings_of signed R12 ≡ record { rate = R12; invert = true; start = Any; keep = 64; ahead = 8 }
 row_settings = refl
 
-row_upright : settings_of (record signed { inner = 23; start = 0 }) R23 ≡ record { rate = R23; invert = false; start = Zero; keep = 64; ahead = 8 }
+row_upright : settings_of (record signed { inner = Some R23; start = Zero }) R23 ≡ record { rate = R23; invert = false; start = Zero; keep = 64; ahead = 8 }
 row_upright = refl
 
 -- of a block the first bits are kept
@@ -53,6 +34,6 @@ row_kept : bits_at (Some R12) signed [] (record { start = 0; steps = 3; kept = 2
 row_kept = refl
 
 -- with no inner code bits are skipped, not octets
-row_bits : Inner (record signed { inner = 0; skip = 3 }) 0 (0xA5 ∷ []) (false ∷ false ∷ true ∷ false ∷ true ∷ [])
+row_bits : Inner (record signed { inner = None; skip = 3 }) 0 (0xA5 ∷ []) (false ∷ false ∷ true ∷ false ∷ true ∷ [])
 unfolding low_bits
 row_bits = record { blocks = []; left = 0; are_blocks = (refl, refl); are_bits = refl }

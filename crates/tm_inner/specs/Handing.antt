@@ -1,4 +1,5 @@
--- What is handed over for received octets: the symbol phase, where it is to be found, and then blocks.
+-- What is handed over for received octets: the symbol phase, where it is to be found, and then
+-- blocks.
 use Rattle.std.specs.Prelude.{◌⊎◌, ℕ, List}
 use Rattle.tm_base.specs.Handed.{Handed}
 use Rattle.tm_config.specs.Configuration.{Configuration}
@@ -21,4 +22,5 @@ AreHandedFirst c octets = InTurnSettled (λ phase. AreInnerFirst c phase octets)
 
 -- the first of all, or all
 abbrev pub AreHandedFront : Configuration → List ℕ → List (Handed WindowBlock) → Type 0
-AreHandedFront c octets = InTurn (λ phase blocks. AreInnerFirst c phase octets blocks ⊎ ((left : ℕ) × AreInnerBlocks c phase octets blocks left)) c octets
+AreHandedFront c octets = InTurn (λ phase blocks. AreInnerFirst c phase octets blocks ⊎
+    ((left : ℕ) × AreInnerBlocks c phase octets blocks left)) c octets

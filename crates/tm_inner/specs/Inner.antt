@@ -1,51 +1,64 @@
--- The bits that are received: those that the inner code is decoded to (CCSDS 131.0-B, Convolutional Coding).
+-- The bits that are received: those that the inner code is decoded to (CCSDS 131.0-B, Convolutional
+-- Coding).
 use Rattle.std.specs.Prelude.{◌≡◌, ◌⊎◌, ℕ, ◌+◌, ◌%◌, ◌==◌, Bool, if◌then◌else◌, List, [], drop, map, Option, Some, None}
 use Rattle.tm_base.specs.Bits.{bits_of}
-use Rattle.tm_config.specs.Configuration.{Configuration}
+use Rattle.tm_config.specs.Configuration.{Configuration, is_signed}
 use Rattle.tm_conv.specs.declared.rates.Rate.{Rate}
-use Rattle.tm_viterbi.specs.declared.block.Start.TheVariants.{Zero, Any}
+use Rattle.tm_conv.specs.declared.rates.Rate.TheVariants.{R12}
+use Rattle.tm_viterbi.specs.declared.block.Start.TheVariants.{Zero}
 use Rattle.tm_viterbi.specs.Settings.{Settings}
 use Rattle.tm_viterbi.specs.WindowBlock.{WindowBlock}
 use Rattle.tm_viterbi.specs.Blocks.{AreBlocksOf}
 use Rattle.tm_viterbi.specs.Due.{AreDue}
 use Rattle.tm_viterbi.specs.Clean.{kept_bits}
-use Rattle.tm_inner.specs.Symbols.{rate_of, is_inverted}
+use Rattle.tm_inner.specs.Symbols.{is_inverted}
 
 -- how soft octets of this rate are decoded
 abbrev pub settings_of : Configuration → Rate → Settings
-settings_of c rate = record { rate = rate; invert = is_inverted rate c.invert; start = if c.start == 0 then Zero else Any; keep = c.keep; ahead = c.ahead }
+settings_of c rate = record {
+  rate = rate;
+  invert = is_inverted rate c.invert;
+  start = c.start;
+  keep = c.keep;
+  ahead = c.ahead;
+}
 
--- a soft octet as one of which 0 is the surest 0 and 255 the surest 1; in the form i8 these are -128 and 127, in two's complement
+-- a soft octet as one of which 0 is the surest 0 and 255 the surest 1; in the form i8 these are
+-- -128 and 127, in two's complement
 abbrev pub soft_value : Configuration → ℕ → ℕ
-soft_value c octet = if c.soft == 0 then octet else (octet + 128) % 256
+soft_value c octet = if is_signed c.soft then (octet + 128) % 256 else octet
 
 -- the soft octets that are decoded: those behind the skipped ones, and behind `phase` more of them
 abbrev pub soft_octets : Configuration → ℕ → List ℕ → List ℕ
 soft_octets c phase octets = map (soft_value c) (drop phase (drop c.skip octets))
 
--- the blocks of received octets, and how many octets are left over; none of either where there is no inner code
+-- the blocks of received octets, and how many octets are left over; none of either where there is
+-- no inner code
 abbrev pub BlocksAt : Option Rate → Configuration → ℕ → List ℕ → List WindowBlock → ℕ → Type 0
 BlocksAt None c phase octets blocks left = (blocks ≡ []) × (left ≡ 0)
-BlocksAt (Some rate) c phase octets blocks left = AreBlocksOf (settings_of c rate) (soft_octets c phase octets) blocks left
+BlocksAt (Some rate) c phase octets blocks left =
+    AreBlocksOf (settings_of c rate) (soft_octets c phase octets) blocks left
 
 abbrev pub AreInnerBlocks : Configuration → ℕ → List ℕ → List WindowBlock → ℕ → Type 0
-AreInnerBlocks c = BlocksAt (rate_of c.inner) c
+AreInnerBlocks c = BlocksAt c.inner c
 
 -- the blocks that are due once octets were received, whatever octets come: all blocks but the last
 abbrev pub DueAt : Option Rate → Configuration → ℕ → List ℕ → List WindowBlock → Type 0
 DueAt None c phase octets blocks = blocks ≡ []
-DueAt (Some rate) c phase octets blocks = AreDue (settings_of c rate) (soft_octets c phase octets) blocks
+DueAt (Some rate) c phase octets blocks =
+    AreDue (settings_of c rate) (soft_octets c phase octets) blocks
 
 abbrev pub AreInnerDue : Configuration → ℕ → List ℕ → List WindowBlock → Type 0
-AreInnerDue c = DueAt (rate_of c.inner) c
+AreInnerDue c = DueAt c.inner c
 
--- the bits of received octets with these blocks: those that the blocks keep, or with no inner code all behind the skipped ones
+-- the bits of received octets with these blocks: those that the blocks keep, or with no inner code
+-- all behind the skipped ones
 abbrev pub bits_at : Option Rate → Configuration → List ℕ → List WindowBlock → List Bool
 bits_at None c octets blocks = drop c.skip (bits_of octets)
 bits_at (Some rate) c octets blocks = map (λ bit. bit == 1) (kept_bits blocks)
 
 abbrev pub inner_bits : Configuration → List ℕ → List WindowBlock → List Bool
-inner_bits c = bits_at (rate_of c.inner) c
+inner_bits c = bits_at c.inner c
 
 -- these are the bits that are received with these octets
 pub record Inner (c : Configuration) (phase : ℕ) (octets : List ℕ) (bits : List Bool) : Type 0 where
@@ -54,7 +67,7 @@ pub record Inner (c : Configuration) (phase : ℕ) (octets : List ℕ) (bits : L
   pub are_blocks : AreInnerBlocks c phase octets blocks left
   pub are_bits : bits ≡ inner_bits c octets blocks
 
--- It is known where the first path starts: there is no inner code, or it starts from register 0, or the rate is 1/2, at which undisturbed
--- symbols tell.
+-- It is known where the first path starts: there is no inner code, or it starts from register 0, or
+-- the rate is 1/2, at which undisturbed symbols tell.
 abbrev pub IsStartKnown : Configuration → Type 0
-IsStartKnown c = (c.inner ≡ 0) ⊎ (c.start ≡ 0) ⊎ (c.inner ≡ 12)
+IsStartKnown c = (c.inner ≡ None) ⊎ (c.start ≡ Zero) ⊎ (c.inner ≡ Some R12)

@@ -1,11 +1,12 @@
 -- The symbol phase of received octets (CCSDS 131.0-B, Convolutional Coding).
-use Rattle.std.specs.Prelude.{◌≡◌, ◌≢◌, ◌⊎◌, ℕ, ◌+◌, ◌≤◌, List, [], ◌∷◌, length, map, drop, Option, Some, None}
+use Rattle.std.specs.Prelude.{◌≡◌, ◌⊎◌, ℕ, ◌+◌, ◌≤◌, List, [], ◌∷◌, length, map, drop, Option, Some, None}
 use Rattle.tm_base.specs.Handed.{Handed, Phase, Item}
 use Rattle.tm_config.specs.Configuration.{Configuration}
+use Rattle.tm_config.specs.declared.values.Sought.TheVariants.{Given, Find}
 use Rattle.tm_conv.specs.declared.rates.Rate.{Rate}
 use Rattle.tm_phase.specs.declared.choosing.Chosen.{Chosen}
 use Rattle.tm_phase.specs.Phase.{IsPhase, octets_needed}
-use Rattle.tm_inner.specs.Symbols.{rate_of, is_inverted}
+use Rattle.tm_inner.specs.Symbols.{is_inverted}
 use Rattle.tm_inner.specs.Inner.{soft_value}
 
 -- how many octets are skipped; with no inner code bits are, and no octet
@@ -15,30 +16,32 @@ skipped_at (Some rate) c = c.skip
 
 -- the soft octets by which the phase is chosen: all behind the skipped ones
 abbrev pub phase_octets : Configuration → List ℕ → List ℕ
-phase_octets c octets = map (soft_value c) (drop (skipped_at (rate_of c.inner) c) octets)
+phase_octets c octets = map (soft_value c) (drop (skipped_at c.inner c) octets)
 
 -- their phase, found in the steps of a window, or with no inner code phase 0 at no cost
 abbrev pub PhaseAt : Option Rate → Configuration → List ℕ → Chosen → Type 0
 PhaseAt None c soft chosen = (chosen.skip ≡ 0) × (chosen.cost ≡ 0)
-PhaseAt (Some rate) c soft chosen = IsPhase rate (is_inverted rate c.invert) (c.keep + c.ahead) soft chosen
+PhaseAt (Some rate) c soft chosen = IsPhase rate (is_inverted rate c.invert)
+    (c.keep + c.ahead) soft chosen
 
 -- what is chosen by soft octets: nothing where the phase is given
 abbrev pub IsChosenBy : Configuration → List ℕ → Option Chosen → Type 0
-IsChosenBy c soft None = c.phase ≡ 0
-IsChosenBy c soft (Some chosen) = (c.phase ≢ 0) × PhaseAt (rate_of c.inner) c soft chosen
+IsChosenBy c soft None = c.phase ≡ Given
+IsChosenBy c soft (Some chosen) = (c.phase ≡ Find) × PhaseAt c.inner c soft chosen
 
--- with how many of them it is chosen, whatever octets come: once the whole window is compared, or with no inner code at the first
+-- with how many of them it is chosen, whatever octets come: once the whole window is compared, or
+-- with no inner code at the first
 abbrev pub needed_at : Option Rate → Configuration → ℕ
 needed_at None c = 1
 needed_at (Some rate) c = octets_needed rate (c.keep + c.ahead)
 
 -- it is chosen, or given
 abbrev pub IsSettledBy : Configuration → List ℕ → Type 0
-IsSettledBy c soft = (c.phase ≡ 0) ⊎ (needed_at (rate_of c.inner) c ≤ length soft)
+IsSettledBy c soft = (c.phase ≡ Given) ⊎ (needed_at c.inner c ≤ length soft)
 
 -- what is chosen by them whatever octets come: nothing before the choice
 abbrev pub IsSoFarBy : Configuration → List ℕ → Option Chosen → Type 0
-IsSoFarBy c soft None = IsSettledBy c soft → c.phase ≡ 0
+IsSoFarBy c soft None = IsSettledBy c soft → c.phase ≡ Given
 IsSoFarBy c soft (Some chosen) = IsSettledBy c soft × IsChosenBy c soft (Some chosen)
 
 -- the same of received octets
@@ -61,7 +64,8 @@ abbrev pub in_turn : {I : Type 0} → Option Chosen → List I → List (Handed 
 in_turn None items = map Item items
 in_turn (Some chosen) items = Phase chosen.skip chosen.cost ∷ map Item items
 
--- what is handed over for received octets: their phase, where it is to be found, and then items, which hang on the phase
+-- what is handed over for received octets: their phase, where it is to be found, and then items,
+-- which hang on the phase
 pub record InTurn {I : Type 0} (AreItems : ℕ → List I → Type 0) (c : Configuration) (octets : List ℕ) (handed : List (Handed I)) : Type 0 where
   pub chosen : Option Chosen
   pub choice : IsChosen c octets chosen
@@ -70,8 +74,11 @@ pub record InTurn {I : Type 0} (AreItems : ℕ → List I → Type 0) (c : Confi
   pub are : handed ≡ in_turn chosen items
 
 -- the same of what is due whatever octets come: nothing before the phase is settled
-abbrev pub InTurnSettled : {I : Type 0} → (ℕ → List I → Type 0) → Configuration → List ℕ → List (Handed I) → Type 0
+abbrev pub InTurnSettled : {I : Type 0} → (ℕ → List I → Type 0) → Configuration → List ℕ
+    → List (Handed I) → Type 0
 InTurnSettled AreItems c octets handed = IsSettled c octets × InTurn AreItems c octets handed
 
-abbrev pub InTurnSoFar : {I : Type 0} → (ℕ → List I → Type 0) → Configuration → List ℕ → List (Handed I) → Type 0
-InTurnSoFar AreItems c octets handed = ((IsSettled c octets → ⊥) × (handed ≡ [])) ⊎ InTurnSettled AreItems c octets handed
+abbrev pub InTurnSoFar : {I : Type 0} → (ℕ → List I → Type 0) → Configuration → List ℕ
+    → List (Handed I) → Type 0
+InTurnSoFar AreItems c octets handed = ((IsSettled c octets → ⊥)
+    × (handed ≡ [])) ⊎ InTurnSettled AreItems c octets handed

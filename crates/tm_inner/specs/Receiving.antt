@@ -1,41 +1,46 @@
--- What an inner receiver keeps, and for which octets, given so far, and which blocks, handed over so far, it stands.
-use Rattle.std.specs.Prelude.{◌≡◌, ◌≢◌, ◌⊎◌, ℕ, ◌+◌, ◌^◌, ◌<◌, ◌%◌, Bool, if◌then◌else◌, List, [], ◌++◌, length, map, drop, Option, Some, None}
+-- What an inner receiver keeps, and for which octets, given so far, and which blocks, handed over
+-- so far, it stands.
+use Rattle.std.specs.Prelude.{◌≡◌, ◌⊎◌, ℕ, ◌+◌, ◌^◌, ◌<◌, ◌%◌, Bool, if◌then◌else◌, List, [], ◌++◌, length, map, drop, Option, Some, None}
 use Rattle.tm_base.specs.Handed.{Handed}
 use Rattle.tm_base.specs.Takers.{HandedOver, HandedPart}
 use Rattle.tm_config.specs.Configuration.{Configuration}
+use Rattle.tm_config.specs.declared.values.Sought.TheVariants.{Find}
 use Rattle.tm_conv.specs.declared.rates.Rate.{Rate}
 use Rattle.tm_viterbi.specs.WindowBlock.{WindowBlock}
-use Rattle.tm_viterbi.specs.Due.{AreDue, AreFirst}
-use Rattle.tm_viterbi.specs.Decoding.{Decoding, StandsFor as DecoderStandsFor}
+use Rattle.tm_viterbi.specs.Due.{AreFirst}
+use Rattle.tm_inner.specs.declared.inner_decoder.InnerDecoder.{InnerDecoder}
 use Rattle.tm_phase.specs.declared.choosing.Chosen.{Chosen}
-use Rattle.tm_inner.specs.Symbols.{rate_of}
 use Rattle.tm_inner.specs.Inner.{settings_of, soft_value, soft_octets}
+use Rattle.tm_inner.specs.InnerDecoding.{HasClosed, settings_in, has_stopped_in, StandsIn}
 use Rattle.tm_inner.specs.Phase.{IsChosenBy, IsSettledBy, phase_octets, skip_of, in_turn}
 
--- the decoder is that of the configuration's inner code, and there is none where it has no inner code
-abbrev pub IsDecoderOf : Configuration → Option Decoding → Type 0
-IsDecoderOf c None = rate_of c.inner ≡ None
-IsDecoderOf c (Some decoder) = (rate : Rate) × (rate_of c.inner ≡ Some rate) × (decoder.settings ≡ settings_of c rate)
+-- the decoder is that of the configuration's inner code, and there is none where it has no inner
+-- code
+abbrev pub IsDecoderOf : Configuration → Option InnerDecoder → Type 0
+IsDecoderOf c None = c.inner ≡ None
+IsDecoderOf c (Some decoder) = (rate : Rate) × (c.inner ≡ Some rate)
+    × (settings_in decoder ≡ settings_of c rate)
 
 -- the decoder, where there is one, has stopped or not
-abbrev pub HasStopped : Bool → Option Decoding → Type 0
+abbrev pub HasStopped : Bool → Option InnerDecoder → Type 0
 HasStopped stopped None = Unit {0}
-HasStopped stopped (Some decoder) = decoder.has_stopped ≡ stopped
+HasStopped stopped (Some decoder) = has_stopped_in decoder ≡ stopped
 
--- a decoder that was given these soft octets, has handed over these blocks, and has none due
-pub record Decodes (decoder : Decoding) (soft : List ℕ) (done : List WindowBlock) : Type 0 where
-  pub stands : DecoderStandsFor decoder soft done
-  pub due : AreDue decoder.settings soft done
+-- what a decoder holds, where there is one, closes no window
+abbrev pub HasClosedAll : Option InnerDecoder → Type 0
+HasClosedAll None = Unit {0}
+HasClosedAll (Some decoder) = HasClosed decoder
 
--- the same of a decoder that there may be; with no inner code there are no blocks
-abbrev pub DecodesFor : Option Decoding → List ℕ → List WindowBlock → Type 0
+-- a decoder that was given these soft octets, and has handed over these blocks; with no inner code
+-- there are no blocks
+abbrev pub DecodesFor : Option InnerDecoder → List ℕ → List WindowBlock → Type 0
 DecodesFor None soft done = done ≡ []
-DecodesFor (Some decoder) soft done = Decodes decoder soft done
+DecodesFor (Some decoder) soft done = StandsIn decoder soft done
 
 -- the blocks of the first windows that a decoder finds in soft octets
-abbrev pub FindsFirst : Option Decoding → List ℕ → List WindowBlock → Type 0
+abbrev pub FindsFirst : Option InnerDecoder → List ℕ → List WindowBlock → Type 0
 FindsFirst None soft blocks = blocks ≡ []
-FindsFirst (Some decoder) soft blocks = AreFirst decoder.settings soft blocks
+FindsFirst (Some decoder) soft blocks = AreFirst (settings_in decoder) soft blocks
 
 -- what contracts see of the octets that wait, and of the room for them
 pub record HeldOctets : Type 0 where
@@ -46,7 +51,7 @@ pub record HeldOctets : Type 0 where
 pub record Phasing : Type 0 where
   pub config : Configuration
   -- that of the inner code; None where there is no inner code
-  pub decoder : Option Decoding
+  pub decoder : Option InnerDecoder
   -- the soft octets that wait for the choice, and how many there is room for
   pub held : List ℕ
   pub room : ℕ
@@ -55,22 +60,25 @@ pub record Phasing : Type 0 where
 
 -- before the choice all soft octets wait, and nothing was handed over
 pub record Waits (p : Phasing) (soft : List ℕ) (done : List (Handed WindowBlock)) : Type 0 where
-  pub find : p.config.phase ≢ 0
+  pub find : p.config.phase ≡ Find
   pub none : p.chosen ≡ None
   pub held : p.held ≡ soft
   pub fresh : DecodesFor p.decoder [] []
   pub nothing : done ≡ []
 
--- behind the choice, or where the phase is given, the decoder was given the soft octets behind the phase
+-- behind the choice, or where the phase is given, the decoder was given the soft octets behind the
+-- phase
 pub record Goes (p : Phasing) (soft : List ℕ) (done : List (Handed WindowBlock)) : Type 0 where
   pub choice : IsChosenBy p.config soft p.chosen
   pub blocks : List WindowBlock
   pub decodes : DecodesFor p.decoder (drop (skip_of p.chosen) soft) blocks
   pub are : done ≡ in_turn p.chosen blocks
 
--- a decoder that was given these soft octets and no others, behind the choice of the phase once it is settled
+-- a decoder that was given these soft octets and no others, behind the choice of the phase once it
+-- is settled
 abbrev pub PhasesFor : Phasing → List ℕ → List (Handed WindowBlock) → Type 0
-PhasesFor p soft done = (Waits p soft done × (IsSettledBy p.config soft → ⊥)) ⊎ (Goes p soft done × IsSettledBy p.config soft)
+PhasesFor p soft done = (Waits p soft done × (IsSettledBy p.config soft → ⊥)) ⊎
+    (Goes p soft done × IsSettledBy p.config soft)
 
 -- the blocks of the first windows of soft octets; none where there is no inner code
 abbrev pub FirstFor : Option Rate → Configuration → List ℕ → List WindowBlock → Type 0
@@ -82,7 +90,7 @@ pub record IsFrontBy (c : Configuration) (soft : List ℕ) (handed : List (Hande
   pub chosen : Option Chosen
   pub choice : IsChosenBy c soft chosen
   pub blocks : List WindowBlock
-  pub first : FirstFor (rate_of c.inner) c (drop (skip_of chosen) soft) blocks
+  pub first : FirstFor c.inner c (drop (skip_of chosen) soft) blocks
   pub are : handed ≡ in_turn chosen blocks
 
 -- the same once the phase is settled
@@ -98,7 +106,8 @@ pub record InnerReceiving : Type 0 where
   -- an earlier call answered Taker, or `finish` was called
   pub has_stopped : Bool
 
--- an inner receiver that was given these octets and no others, fewer than 2^60, and has handed over this
+-- an inner receiver that was given these octets and no others, fewer than 2^60, and has handed over
+-- this
 pub record StandsFor (r : InnerReceiving) (given : List ℕ) (done : List (Handed WindowBlock)) : Type 0 where
   pub count : length given ≡ r.count
   pub few : length given < 2 ^ 60
@@ -110,9 +119,10 @@ abbrev pub FirstAt : Option Rate → Configuration → ℕ → List ℕ → List
 FirstAt rate c phase octets = FirstFor rate c (soft_octets c phase octets)
 
 abbrev pub AreInnerFirst : Configuration → ℕ → List ℕ → List WindowBlock → Type 0
-AreInnerFirst c = FirstAt (rate_of c.inner) c
+AreInnerFirst c = FirstAt c.inner c
 
--- octets of which 0 is the surest 0 and 255 the surest 1; in the signed form these are -128 and 127, in two's complement
+-- octets of which 0 is the surest 0 and 255 the surest 1; in the signed form these are -128 and
+-- 127, in two's complement
 abbrev pub from_form : Bool → List ℕ → List ℕ
 from_form is_signed octets = map (λ octet. if is_signed then (octet + 128) % 256 else octet) octets
 
@@ -121,17 +131,21 @@ abbrev pub soft_form : Configuration → List ℕ → List ℕ
 soft_form c octets = map (soft_value c) octets
 
 -- given the octets, fewer than 2^60 with those before, a value goes on and hands over more
-pub record Hands {T I S : Type 0} (took : T → I → T → Type 0) (Stands : S → List ℕ → List I → Type 0) (before now : S)
+pub record Hands {T I S : Type 0} (took : T → I → T → Type 0)
+    (Stands : S → List ℕ → List I → Type 0) (before now : S)
     (taker taker_now : T) (octets : List ℕ) : Type 0 where
   pub more : List I
   pub handed : HandedOver took taker more taker_now
-  pub stands : (given : List ℕ) (done : List I) → length given + length octets < 2 ^ 60 → Stands before given done
+  pub stands : (given : List ℕ) (done : List I) → length given + length octets < 2 ^ 60
+      → Stands before given done
       → Stands now (given ++ octets) (done ++ more)
 
 -- given the octets, a value hands over a part of the first of it, at which the taker fails
-pub record HandsFront {T I S : Type 0} (took broke : T → I → T → Type 0) (Stands : S → List ℕ → List I → Type 0)
+pub record HandsFront {T I S : Type 0} (took broke : T → I → T → Type 0)
+    (Stands : S → List ℕ → List I → Type 0)
     (First : List ℕ → List I → Type 0) (before : S) (taker taker_now : T) (octets : List ℕ) : Type 0 where
   pub tried : List I
   pub handed : HandedPart took broke taker tried taker_now
-  pub first : (given : List ℕ) (done : List I) → length given + length octets < 2 ^ 60 → Stands before given done
+  pub first : (given : List ℕ) (done : List I) → length given + length octets < 2 ^ 60
+      → Stands before given done
       → First (given ++ octets) (done ++ tried)

@@ -5,7 +5,7 @@ use Rattle.tm_base.specs.Pieces.{Fed, FedFront}
 use Rattle.tm_config.specs.Configuration.{Configuration}
 use Rattle.tm_conv.specs.declared.rates.Rate.{Rate}
 use Rattle.tm_conv.specs.Encoding.{Encoding, StandsFor as EncoderStandsFor, levels, sent_for}
-use Rattle.tm_inner.specs.Symbols.{rate_of, is_inverted, symbols_of_octets}
+use Rattle.tm_inner.specs.Symbols.{is_inverted, symbols_of_octets}
 
 -- what contracts see of an inner sender
 pub record InnerSending : Type 0 where
@@ -13,10 +13,12 @@ pub record InnerSending : Type 0 where
   pub encoder : Option Encoding
   pub has_failed : Bool
 
--- the encoder is that of the configuration's inner code, and there is none where it has no inner code
+-- the encoder is that of the configuration's inner code, and there is none where it has no inner
+-- code
 abbrev pub IsEncoderOf : Configuration → Option Encoding → Type 0
-IsEncoderOf c None = rate_of c.inner ≡ None
-IsEncoderOf c (Some encoder) = (rate_of c.inner ≡ Some encoder.rate) × (encoder.invert ≡ is_inverted encoder.rate c.invert)
+IsEncoderOf c None = c.inner ≡ None
+IsEncoderOf c (Some encoder) = (c.inner ≡ Some encoder.rate)
+    × (encoder.invert ≡ is_inverted encoder.rate c.invert)
 
 -- an encoder that was given the bits of these octets
 abbrev pub EncodesFor : Encoding → List ℕ → Type 0
@@ -26,7 +28,8 @@ EncodesFor encoder octets = EncoderStandsFor encoder (bits_of octets)
 abbrev pub encoded : Rate → Bool → ℕ → List ℕ → List ℕ
 encoded rate invert low octets = levels low (sent_for rate invert (bits_of octets))
 
--- register and pattern are those behind the bits of these octets; with no inner code nothing is kept
+-- register and pattern are those behind the bits of these octets; with no inner code nothing is
+-- kept
 abbrev pub KeepsFor : Option Encoding → List ℕ → Type 0
 KeepsFor None octets = Unit {0}
 KeepsFor (Some encoder) octets = EncodesFor encoder octets
@@ -42,4 +45,5 @@ pub record Sends (before now : InnerSending) (taken taken_now : Option (List ℕ
 
 -- given these octets, a sender wrote a front of what is due for them
 abbrev pub SendsFront : InnerSending → Option (List ℕ) → Option (List ℕ) → List ℕ → Type 0
-SendsFront before taken taken_now octets = FedFront StandsFor (symbols_of_octets before.config) before taken taken_now octets
+SendsFront before taken taken_now octets =
+    FedFront StandsFor (symbols_of_octets before.config) before taken taken_now octets

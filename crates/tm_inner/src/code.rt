@@ -1,31 +1,26 @@
 // The inner code of a configuration.
 ghost use Rattle.std.specs.Prelude.{◌≡◌, []};
-ghost use Rattle.tm_inner.specs.Symbols.{rate_of, is_inverted, low_level};
+ghost use Rattle.tm_config.specs.Configuration.{is_signed};
+ghost use Rattle.tm_inner.specs.Symbols.{is_inverted, low_level};
 ghost use Rattle.tm_inner.specs.Sending.{IsEncoderOf, KeepsFor};
 
-use tm_config::Config;
+use tm_config::{Config, SoftForm};
 use tm_conv::{Encoder, Rate};
 
 /// The rate of the inner code of a configuration, or None where there is none.
 pub fn rate_of(config: &Config) -> Option<Rate>
-    ensures { result ≡ rate_of config.now.inner }
+    ensures { result ≡ config.now.inner }
 {
-    match config.inner() {
-        12 => Some(Rate::R12),
-        23 => Some(Rate::R23),
-        34 => Some(Rate::R34),
-        56 => Some(Rate::R56),
-        78 => Some(Rate::R78),
-        _ => None,
-    }
+    config.values().inner
 }
 
-/// Whether each second sum of the convolutional code is sent inverted: as it was chosen, 1 for yes, and where nothing was at rate 1/2 alone.
-pub fn is_inverted(rate: Rate, chosen: Option<u64>) -> bool
+/// Whether each second sum of the convolutional code is sent inverted: as it was chosen, and where nothing was at rate
+/// 1/2 alone.
+pub fn is_inverted(rate: Rate, chosen: Option<bool>) -> bool
     ensures { result ≡ is_inverted rate chosen }
 {
     match chosen {
-        Some(invert) => invert == 1,
+        Some(invert) => invert,
         None => rate == Rate::R12,
     }
 }
@@ -36,7 +31,7 @@ pub fn encoder_of(config: &Config) -> Option<Encoder>
     ensures stands { KeepsFor result [] }
 {
     match rate_of(config) {
-        Some(rate) => Some(Encoder::new(rate, is_inverted(rate, config.invert()))),
+        Some(rate) => Some(Encoder::new(rate, is_inverted(rate, config.values().invert))),
         None => None,
     }
 }
@@ -45,5 +40,18 @@ pub fn encoder_of(config: &Config) -> Option<Encoder>
 pub fn low_level(config: &Config) -> u8
     ensures { result ≡ low_level config.now.soft }
 {
-    if config.soft() == 0 { 0x00 } else { 0x80 }
+    match config.values().soft {
+        SoftForm::Unsigned => 0x00,
+        SoftForm::Signed => 0x80,
+    }
+}
+
+// Whether soft octets are signed.
+pub fn is_signed(config: &Config) -> bool
+    ensures { result ≡ is_signed config.now.soft }
+{
+    match config.values().soft {
+        SoftForm::Unsigned => false,
+        SoftForm::Signed => true,
+    }
 }

@@ -1,95 +1,169 @@
 // The decoder of a configuration's inner code, and soft octets of either form given to it.
-ghost use Rattle.std.specs.Prelude.{◌≡◌, ◌≤◌, ◌++◌, ◌∷◌, ℕ, List, [], true, false, IfOk, OnOk, OnErr, length, take};
+ghost use Rattle.std.specs.Prelude.{◌≡◌, ◌<◌, ◌≤◌, ◌++◌, ◌⊎◌, ℕ, Bool, List, [], true, false, IfOk, OnOk, OnErr, length, take};
 ghost use Rattle.tm_base.specs.Outside.{HasCause};
-ghost use Rattle.tm_base.specs.Takers.{HandedOver};
+ghost use Rattle.tm_base.specs.Takers.{HandedOver, HandedPart};
 ghost use Rattle.tm_config.specs.Configuration.{Configuration};
 ghost use Rattle.tm_viterbi.specs.Due.{AreFirst};
 ghost use Rattle.tm_viterbi.specs.WindowBlock.{WindowBlock};
-ghost use Rattle.tm_inner.specs.Inner.{AreInnerBlocks, soft_octets};
-ghost use Rattle.tm_inner.specs.Receiving.{IsDecoderOf, HasStopped, Decodes, DecodesFor, FindsFirst, Hands, HandsFront, from_form};
+ghost use Rattle.tm_inner.specs.Inner.{AreInnerBlocks, AreInnerDue, soft_octets};
+ghost use Rattle.tm_inner.specs.InnerDecoding.{HasClosed, HasWorkers, settings_in, has_stopped_in, StandsIn};
+ghost use Rattle.tm_inner.specs.Receiving.{AreInnerFirst, HasClosedAll, IsDecoderOf, HasStopped, DecodesFor, FindsFirst, Hands, HandsFront, from_form};
 
 use crate::code::{is_inverted, rate_of};
+use crate::inner_decoder::InnerDecoder;
+use crate::workers::{Feeding, count_closed, gather};
 use std::alloc::Global;
 use tm_base::{Failed, NoMemory};
 use tm_config::Config;
-use tm_viterbi::{BlockTaker, Decoder, Start, closed_windows_law, due_law};
+use tm_viterbi::{BlockTaker, Decoder, closed_windows_law};
+use tm_windows::ParallelDecoder;
 
 // How many signed octets are turned to unsigned ones at a time.
 const PIECE: usize = 256;
 
-// The decoder of the inner code, which was given nothing yet, or None where there is none.
-pub fn decoder_of(alloc: Global, config: &Config) -> Result<Option<Decoder>, NoMemory>
+// The decoder of the inner code with so many workers, which was given nothing yet, or None where there is none.
+pub fn decoder_of(
+    alloc: Global,
+    config: &Config,
+    workers: u8,
+) -> Result<Option<InnerDecoder>, NoMemory>
+    requires { (0 < workers) × (workers ≤ 64) }
     ensures of { IfOk result (IsDecoderOf config.now) }
     ensures fresh { IfOk result (HasStopped false) }
     ensures stands { IfOk result (λ d. DecodesFor d [] []) }
+    ensures workers { IfOk result (HasWorkers workers config.now.keep config.now.ahead) }
 {
-    due_law();
     let Some(rate) = rate_of(config) else {
         return Ok(None);
     };
-    let start = if config.start() == 0 {
-        Start::Zero
-    } else {
-        Start::Any
-    };
     let keep = config.keep() as u32;
     let ahead = config.ahead() as u32;
-    match Decoder::open(
-        alloc,
-        rate,
-        is_inverted(rate, config.invert()),
-        start,
-        keep,
-        ahead,
-    ) {
-        Ok(decoder) => Ok(Some(decoder)),
+    let invert = is_inverted(rate, config.values().invert);
+    let start = config.values().start;
+    if workers == 1 {
+        return match Decoder::open(alloc, rate, invert, start, keep, ahead) {
+            Ok(decoder) => Ok(Some(InnerDecoder::One(decoder))),
+            Err(_) => Err(NoMemory),
+        };
+    }
+    match ParallelDecoder::open(alloc, rate, invert, start, keep, ahead, workers) {
+        Ok(decoder) => Ok(Some(InnerDecoder::Many(decoder))),
         Err(_) => Err(NoMemory),
     }
 }
 
 // Gives a decoder, where there is one, the next octets, which are signed or not.
-pub fn decode<B: BlockTaker>(
-    decoder: &mut Option<Decoder>,
+pub fn decode<F: Feeding<B>, B: BlockTaker>(
+    by: &F,
+    decoder: &mut Option<InnerDecoder>,
     is_signed: bool,
     octets: &[u8],
     blocks: &mut B,
 ) -> Result<(), Failed>
-    requires { HasStopped false decoder.old }
+    requires ready { F.is_ready by.now }
+    requires fresh { HasStopped false decoder.old }
     ensures of { (c : Configuration) → IsDecoderOf c decoder.old → IsDecoderOf c decoder.new }
     ensures fresh { OnOk result (HasStopped false decoder.new) }
     ensures stopped { OnErr result (HasStopped true decoder.new) }
-    ensures handed { OnOk result (Hands B.took DecodesFor decoder.old decoder.new blocks.old blocks.new (from_form is_signed octets.now)) }
-    ensures front { OnErr result (HandsFront B.took B.broke DecodesFor (FindsFirst decoder.old) decoder.old blocks.old blocks.new (from_form is_signed octets.now)) }
+    ensures closed { OnOk result (HasClosedAll decoder.new) }
+    ensures handed { OnOk result (Hands B.took DecodesFor decoder.old decoder.new blocks.old blocks.new
+        (from_form is_signed octets.now)) }
+    ensures front { OnErr result (HandsFront B.took B.broke DecodesFor
+        (FindsFirst decoder.old) decoder.old blocks.old blocks.new (from_form is_signed octets.now)) }
     ensures cause { HasCause (B.faults blocks.old) (B.faults blocks.new) (B.is_last blocks.new) result }
 {
     match decoder {
         Some(decoder) => {
             if is_signed {
-                feed_signed(decoder, octets, blocks)
+                feed_signed(by, decoder, octets, blocks)
             } else {
-                feed(decoder, octets, blocks)
+                feed(by, decoder, octets, blocks)
             }
         }
         None => Ok(()),
     }
 }
 
+// Lets a decoder with several workers take the next octets, signed or not, as long as it can hold them, and decodes
+// none. Answers how many it took.
+pub fn gather_octets(decoder: &mut Option<InnerDecoder>, is_signed: bool, octets: &[u8]) -> usize
+    ensures of { (c : Configuration) → IsDecoderOf c decoder.old → IsDecoderOf c decoder.new }
+    ensures stopped { (stopped : Bool) → HasStopped stopped decoder.old → HasStopped stopped decoder.new }
+    ensures most { result ≤ length octets.now }
+    ensures gathered { (soft : List ℕ) (done : List WindowBlock) → DecodesFor decoder.old soft done
+        → DecodesFor decoder.new (soft ++ from_form is_signed (take result octets.now)) done }
+{
+    match decoder {
+        Some(decoder) => {
+            if is_signed {
+                gather_signed(decoder, octets)
+            } else if gather(decoder, octets) {
+                octets.len()
+            } else {
+                0
+            }
+        }
+        None => 0,
+    }
+}
+
+// The same of signed octets.
+fn gather_signed(decoder: &mut InnerDecoder, octets: &[u8]) -> usize
+    ensures settings { settings_in decoder.new ≡ settings_in decoder.old }
+    ensures stopped { has_stopped_in decoder.new ≡ has_stopped_in decoder.old }
+    ensures most { result ≤ length octets.now }
+    ensures gathered { (soft : List ℕ) (done : List WindowBlock) → StandsIn decoder.old soft done
+        → StandsIn decoder.new (soft ++ from_form true (take result octets.now)) done }
+{
+    let mut room = [0; PIECE];
+    let mut done = 0;
+    while done < octets.len() {
+        let end = done + PIECE.min(octets.len() - done);
+        let piece = &mut room[..end - done];
+        piece.copy_from_slice(&octets[done..end]);
+        turn(piece);
+        if !gather(decoder, piece) {
+            return done;
+        }
+        done = end;
+    }
+    done
+}
+
+// How many blocks are due and were not handed over yet.
+pub fn count_due(decoder: &Option<InnerDecoder>) -> usize
+    ensures { (c : Configuration) (phase : ℕ) (given : List ℕ) (done : List WindowBlock) → IsDecoderOf c decoder.now
+        → DecodesFor decoder.now (soft_octets c phase given) done
+        → (more : List WindowBlock) × (length more ≡ result) × AreInnerDue c phase given (done ++ more) }
+{
+    match decoder {
+        Some(decoder) => count_closed(decoder),
+        None => 0,
+    }
+}
+
 // Ends a decoder, where there is one, and answers how many octets are left over behind the last whole step.
-pub fn end<B: BlockTaker>(decoder: &mut Option<Decoder>, blocks: &mut B) -> Result<u8, Failed>
-    requires { HasStopped false decoder.old }
+pub fn end<F: Feeding<B>, B: BlockTaker>(
+    by: &F,
+    decoder: &mut Option<InnerDecoder>,
+    blocks: &mut B,
+) -> Result<u8, Failed>
+    requires ready { F.is_ready by.now }
+    requires fresh { HasStopped false decoder.old }
     ensures of { (c : Configuration) → IsDecoderOf c decoder.old → IsDecoderOf c decoder.new }
     ensures stopped { HasStopped true decoder.new }
     ensures handed { IfOk result (λ left. (last : List WindowBlock) × HandedOver B.took blocks.old last blocks.new
         × ((c : Configuration) (phase : ℕ) (given : List ℕ) (done : List WindowBlock) → IsDecoderOf c decoder.old
         → DecodesFor decoder.old (soft_octets c phase given) done → AreInnerBlocks c phase given (done ++ last) left)) }
-    ensures front { OnErr result ((last : WindowBlock) × B.broke blocks.old last blocks.new
+    ensures front { OnErr result ((tried : List WindowBlock) × HandedPart B.took B.broke blocks.old tried blocks.new
         × ((c : Configuration) (phase : ℕ) (given : List ℕ) (done : List WindowBlock) → IsDecoderOf c decoder.old
-        → DecodesFor decoder.old (soft_octets c phase given) done → (left : ℕ) × AreInnerBlocks c phase given (done ++ last ∷ []) left)) }
+        → DecodesFor decoder.old (soft_octets c phase given) done → AreInnerFirst c phase given (done ++ tried)
+        ⊎ ((left : ℕ) × AreInnerBlocks c phase given (done ++ tried) left))) }
     ensures left { IfOk result (λ left. left ≤ 1) }
     ensures cause { HasCause (B.faults blocks.old) (B.faults blocks.new) (B.is_last blocks.new) result }
 {
     match decoder {
-        Some(decoder) => match decoder.finish(blocks) {
+        Some(decoder) => match by.finish(decoder, blocks) {
             Ok(left) => Ok(left),
             Err(_) => Err(Failed),
         },
@@ -98,33 +172,69 @@ pub fn end<B: BlockTaker>(decoder: &mut Option<Decoder>, blocks: &mut B) -> Resu
 }
 
 // Gives a decoder the next soft octets.
-fn feed<B: BlockTaker>(decoder: &mut Decoder, soft: &[u8], blocks: &mut B) -> Result<(), Failed>
-    requires { decoder.old.has_stopped ≡ false }
-    ensures settings { decoder.new.settings ≡ decoder.old.settings }
-    ensures fresh { OnOk result (decoder.new.has_stopped ≡ false) }
-    ensures stopped { OnErr result (decoder.new.has_stopped ≡ true) }
-    ensures handed { OnOk result (Hands B.took Decodes decoder.old decoder.new blocks.old blocks.new soft.now) }
-    ensures front { OnErr result (HandsFront B.took B.broke Decodes (AreFirst decoder.old.settings) decoder.old blocks.old blocks.new soft.now) }
+fn feed<F: Feeding<B>, B: BlockTaker>(
+    by: &F,
+    decoder: &mut InnerDecoder,
+    soft: &[u8],
+    blocks: &mut B,
+) -> Result<(), Failed>
+    requires ready { F.is_ready by.now }
+    requires fresh { has_stopped_in decoder.old ≡ false }
+    ensures settings { settings_in decoder.new ≡ settings_in decoder.old }
+    ensures fresh { OnOk result (has_stopped_in decoder.new ≡ false) }
+    ensures stopped { OnErr result (has_stopped_in decoder.new ≡ true) }
+    ensures closed { OnOk result (HasClosed decoder.new) }
+    ensures handed { OnOk result (Hands B.took StandsIn decoder.old decoder.new blocks.old blocks.new soft.now) }
+    ensures front { OnErr result (HandsFront B.took B.broke StandsIn
+        (AreFirst (settings_in decoder.old)) decoder.old blocks.old blocks.new soft.now) }
     ensures cause { HasCause (B.faults blocks.old) (B.faults blocks.new) (B.is_last blocks.new) result }
 {
-    match decoder.feed(soft, blocks) {
+    match by.feed(decoder, soft, blocks) {
+        Ok(()) => Ok(()),
+        Err(_) => Err(Failed),
+    }
+}
+
+// The same, but the windows that are closed may wait for the next call.
+fn give<F: Feeding<B>, B: BlockTaker>(
+    by: &F,
+    decoder: &mut InnerDecoder,
+    soft: &[u8],
+    blocks: &mut B,
+) -> Result<(), Failed>
+    requires ready { F.is_ready by.now }
+    requires fresh { has_stopped_in decoder.old ≡ false }
+    ensures settings { settings_in decoder.new ≡ settings_in decoder.old }
+    ensures fresh { OnOk result (has_stopped_in decoder.new ≡ false) }
+    ensures stopped { OnErr result (has_stopped_in decoder.new ≡ true) }
+    ensures handed { OnOk result (Hands B.took StandsIn decoder.old decoder.new blocks.old blocks.new soft.now) }
+    ensures front { OnErr result (HandsFront B.took B.broke StandsIn
+        (AreFirst (settings_in decoder.old)) decoder.old blocks.old blocks.new soft.now) }
+    ensures cause { HasCause (B.faults blocks.old) (B.faults blocks.new) (B.is_last blocks.new) result }
+{
+    match by.give(decoder, soft, blocks) {
         Ok(()) => Ok(()),
         Err(_) => Err(Failed),
     }
 }
 
 // Gives a decoder the next signed octets.
-fn feed_signed<B: BlockTaker>(
-    decoder: &mut Decoder,
+fn feed_signed<F: Feeding<B>, B: BlockTaker>(
+    by: &F,
+    decoder: &mut InnerDecoder,
     octets: &[u8],
     blocks: &mut B,
 ) -> Result<(), Failed>
-    requires { decoder.old.has_stopped ≡ false }
-    ensures settings { decoder.new.settings ≡ decoder.old.settings }
-    ensures fresh { OnOk result (decoder.new.has_stopped ≡ false) }
-    ensures stopped { OnErr result (decoder.new.has_stopped ≡ true) }
-    ensures handed { OnOk result (Hands B.took Decodes decoder.old decoder.new blocks.old blocks.new (from_form true octets.now)) }
-    ensures front { OnErr result (HandsFront B.took B.broke Decodes (AreFirst decoder.old.settings) decoder.old blocks.old blocks.new (from_form true octets.now)) }
+    requires ready { F.is_ready by.now }
+    requires fresh { has_stopped_in decoder.old ≡ false }
+    ensures settings { settings_in decoder.new ≡ settings_in decoder.old }
+    ensures fresh { OnOk result (has_stopped_in decoder.new ≡ false) }
+    ensures stopped { OnErr result (has_stopped_in decoder.new ≡ true) }
+    ensures closed { OnOk result (HasClosed decoder.new) }
+    ensures handed { OnOk result (Hands B.took StandsIn decoder.old decoder.new blocks.old blocks.new
+        (from_form true octets.now)) }
+    ensures front { OnErr result (HandsFront B.took B.broke StandsIn
+        (AreFirst (settings_in decoder.old)) decoder.old blocks.old blocks.new (from_form true octets.now)) }
     ensures cause { HasCause (B.faults blocks.old) (B.faults blocks.new) (B.is_last blocks.new) result }
 {
     closed_windows_law();
@@ -135,13 +245,13 @@ fn feed_signed<B: BlockTaker>(
         let piece = &mut room[..end - done];
         piece.copy_from_slice(&octets[done..end]);
         turn(piece);
-        match feed(decoder, piece, blocks) {
+        match give(by, decoder, piece, blocks) {
             Ok(()) => {}
             Err(Failed) => return Err(Failed),
         }
         done = end;
     }
-    Ok(())
+    feed(by, decoder, &[], blocks)
 }
 
 // Turns signed octets to unsigned ones.

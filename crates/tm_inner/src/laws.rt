@@ -12,15 +12,16 @@ use tm_viterbi::{clean_blocks_law, closed_windows_law, due_law, one_list_law};
 
 /// Received octets come to one list of bits. It does nothing.
 pub fn inner_law()
-    ensures exists { (c : Configuration) (phase : ℕ) (octets : List ℕ) → IsAccepted c → (bits : List Bool) × Inner c phase octets bits }
+    ensures exists { (c : Configuration) (phase : ℕ) (octets : List ℕ) → IsAccepted c
+        → (bits : List Bool) × Inner c phase octets bits }
     ensures one { (c : Configuration) (phase : ℕ) (octets : List ℕ) (bits others : List Bool)
         → Inner c phase octets bits → Inner c phase octets others → bits ≡ others }
 {
     one_list_law();
 }
 
-/// Octets that were sent and not disturbed come to the bits that were sent, where none is skipped and it is known where the first
-/// path starts. It does nothing.
+/// Octets that were sent and not disturbed come to the bits that were sent, where none is skipped and it is known where
+/// the first path starts. It does nothing.
 pub fn clean_inner_law()
     ensures { (c : Configuration) (octets : List ℕ) (bits : List Bool) → IsAccepted c → c.skip ≡ 0 → IsStartKnown c
         → Inner c 0 (symbols_of_octets c octets) bits → bits ≡ bits_of octets }
@@ -38,10 +39,12 @@ pub fn due_bits_law()
     due_law();
 }
 
-/// A block has at most keep+ahead steps, and costs at most 510 for each of them, since a step sends two symbols at most: no metric is
-/// above 35,512,320. It does nothing.
+/// A block has at most keep+ahead steps, and costs at most 510 for each of them, since a step sends two symbols at
+/// most: no metric is above 35,512,320. It does nothing.
 pub fn metric_law()
-    ensures { (c : Configuration) (phase : ℕ) (octets : List ℕ) (blocks : List WindowBlock) (left : ℕ) → IsAccepted c → AreOctets octets
+    ensures { (c : Configuration) (phase : ℕ) (octets : List ℕ) (blocks : List WindowBlock) (left : ℕ) → IsAccepted c
+        → AreOctets octets
         → AreInnerBlocks c phase octets blocks left
-        → All (λ block. (block.steps ≤ c.keep + c.ahead) × (block.metric ≤ 510 * block.steps) × (block.metric ≤ 35512320)) blocks }
+        → All (λ block. (block.steps ≤ c.keep + c.ahead) × (block.metric ≤ 510 * block.steps)
+        × (block.metric ≤ 35512320)) blocks }
 {}

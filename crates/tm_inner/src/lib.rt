@@ -1,17 +1,19 @@
-//! The inner stages: from the octets of marked codeblocks to the symbols that are sent, by the inner code of a configuration
-//! (CCSDS 131.0-B, Convolutional Coding), and from soft symbols that are received to blocks of bits, behind their phase where it
-//! is to be found.
+//! The inner stages: from the octets of marked codeblocks to the symbols that are sent, by the inner code of a
+//! configuration (CCSDS 131.0-B, Convolutional Coding), and from soft symbols that are received to blocks of bits,
+//! behind their phase where it is to be found.
 #![tactic(auto)]
 
 mod code;
 mod counting;
 mod feeding;
 mod held;
+mod inner_decoder;
 mod laws;
 mod phased;
 mod receiver;
 mod sender;
 mod whole;
+mod workers;
 
 pub use code::{is_inverted, rate_of};
 pub use laws::{clean_inner_law, due_bits_law, inner_law, metric_law};

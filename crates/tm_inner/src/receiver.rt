@@ -1,23 +1,25 @@
 // The receiver's first stage.
-ghost use Rattle.std.specs.Prelude.{◌≡◌, ◌≢◌, ◌↔◌, ◌++◌, ℕ, ◌+◌, ◌-◌, ◌*◌, ◌^◌, ◌<◌, ◌≤◌, IsTrue, List, [], true, false, IfOk, OnOk, IsErrOf, Err, None, length, drop, min};
+ghost use Rattle.std.specs.Prelude.{◌≡◌, ◌≢◌, ◌↔◌, ◌++◌, ℕ, ◌+◌, ◌-◌, ◌*◌, ◌^◌, ◌<◌, ◌≤◌, IsTrue, List, [], true, false, IfOk, OnOk, IsErrOf, Err, None, length, drop, map, min, take};
 ghost use Rattle.std.specs.Option.{is_some};
 ghost use Rattle.tm_base.specs.Bits.{bits_of};
-ghost use Rattle.tm_base.specs.Handed.{Handed, items_of, on_handed};
+ghost use Rattle.tm_base.specs.Handed.{Handed, Item, items_of, on_handed};
 ghost use Rattle.tm_base.specs.Outside.{Rose};
 ghost use Rattle.tm_base.specs.Takers.{HandedOver, HandedPart};
 ghost use Rattle.tm_viterbi.specs.WindowBlock.{WindowBlock};
 ghost use Rattle.tm_inner.specs.Inner.{inner_bits};
 ghost use Rattle.tm_inner.specs.Phase.{IsChosen, IsChosenSoFar, phase_octets, skipped_at};
-ghost use Rattle.tm_inner.specs.Symbols.{rate_of};
+ghost use Rattle.tm_inner.specs.InnerDecoding.{HasWorkers};
 ghost use Rattle.tm_inner.specs.Receiving.{StandsFor};
 ghost use Rattle.tm_inner.specs.Handing.{AreHanded, AreHandedDue, AreHandedFirst, AreHandedFront};
 
-use crate::code::rate_of;
+use crate::code::{is_signed, rate_of};
 use crate::counting::count_bits;
 use crate::feeding::turn;
 use crate::phased::Phased;
+use crate::workers::{Alone, Feeding, WithWorkers};
 use std::alloc::Global;
 use std::marker::Model;
+use std::thread::Threads;
 use tm_base::{Failed, NoMemory};
 use tm_config::Config;
 use tm_phase::Chosen;
@@ -32,9 +34,10 @@ pub struct InnerEnd {
     pub leftover: u8,
 }
 
-/// Turns octets that are received into the blocks of the inner code, piece by piece (CCSDS 131.0-B, Convolutional Coding): it
-/// drops the octets that are to be skipped, undoes the soft form, finds the symbol phase where it isn't given, and decodes. With
-/// no inner code the octets hold the bits themselves, and no block comes. It takes all its memory at `open`.
+/// Turns octets that are received into the blocks of the inner code, piece by piece (CCSDS 131.0-B, Convolutional
+/// Coding): it drops the octets that are to be skipped, undoes the soft form, finds the symbol phase where it isn't
+/// given, and decodes. With no inner code the octets hold the bits themselves, and no block comes. It takes all its
+/// memory at `open`.
 #[derive(Drop)]
 pub struct InnerReceiver {
     config: Config,
@@ -56,13 +59,25 @@ impl Model for InnerReceiver {
 }
 
 impl InnerReceiver {
-    /// The inner receiver of a configuration, which was given nothing yet. It fails only where there isn't enough memory.
+    /// The inner receiver of a configuration, which was given nothing yet, with one worker. It fails only where there
+    /// isn't enough memory.
     pub fn open(alloc: Global, config: &Config) -> Result<InnerReceiver, NoMemory>
         ensures config { IfOk result (λ r. r.config ≡ config.now) }
         ensures fresh { IfOk result (λ r. r.has_stopped ≡ false) }
         ensures stands { IfOk result (λ r. StandsFor r [] []) }
     {
-        let phased = Phased::open(alloc, config)?;
+        InnerReceiver::open_for(alloc, config, 1)
+    }
+
+    /// The same with 1 to 64 workers, by which windows are decoded side by side where the calls are given threads.
+    pub fn open_for(alloc: Global, config: &Config, workers: u8) -> Result<InnerReceiver, NoMemory>
+        requires workers { (0 < workers) × (workers ≤ 64) }
+        ensures config { IfOk result (λ r. r.config ≡ config.now) }
+        ensures fresh { IfOk result (λ r. r.has_stopped ≡ false) }
+        ensures stands { IfOk result (λ r. StandsFor r [] []) }
+        ensures workers { IfOk result (λ r. HasWorkers workers config.now.keep config.now.ahead r.phased.decoder) }
+    {
+        let phased = Phased::open(alloc, config, workers)?;
         Ok(InnerReceiver {
             config: *config,
             phased,
@@ -71,12 +86,13 @@ impl InnerReceiver {
         })
     }
 
-    /// Takes the next octets, and hands over what is due with them: the blocks of the windows that are closed, all blocks of the
-    /// octets so far but the last. Where the symbol phase is to be found nothing is due until it is chosen: once all steps of a
-    /// window can be compared, or with no inner code at the first octet. Then it is handed over, once, before any block.
+    /// Takes the next octets, and hands over what is due with them: the blocks of the windows that are closed, all
+    /// blocks of the octets so far but the last. Where the symbol phase is to be found nothing is due until it is
+    /// chosen: once all steps of a window can be compared, or with no inner code at the first octet. Then it is handed
+    /// over, once, before any block.
     ///
-    /// `Taker` comes where `blocks` fails; a front of what is due was then handed over. `Stopped` comes where an earlier call
-    /// answered `Taker` or `finish` was called; nothing is handed over then.
+    /// `Taker` comes where `blocks` fails; a front of what is due was then handed over. `Stopped` comes where an
+    /// earlier call answered `Taker` or `finish` was called; nothing is handed over then.
     ///
     /// The octets given in all are to be below 2^60.
     pub fn feed<B: BlockTaker>(&mut self, octets: &[u8], blocks: &mut B) -> Result<(), FeedError>
@@ -84,16 +100,92 @@ impl InnerReceiver {
         ensures unchanged { IsErrOf result FeedError.Stopped → (self.new ≡ self.old) × (blocks.new ≡ blocks.old) }
         ensures stops { IsTrue self.new.has_stopped ↔ OnOk result ⊥ }
         ensures config { self.new.config ≡ self.old.config }
-        ensures chosen { (given : List ℕ) (done : List (Handed WindowBlock)) → StandsFor self.old given done → self.old.has_stopped ≡ false
+        ensures chosen { (given : List ℕ) (done : List (Handed WindowBlock)) → StandsFor self.old given done
+            → self.old.has_stopped ≡ false
             → IsChosenSoFar self.old.config (given ++ octets.now) self.new.phased.chosen }
-        ensures handed { OnOk result ((more : List (Handed WindowBlock)) × HandedOver (on_handed B.took_phase B.took) blocks.old more blocks.new
-            × ((given : List ℕ) (done : List (Handed WindowBlock)) → length given + length octets.now < 2 ^ 60 → StandsFor self.old given done
-            → StandsFor self.new (given ++ octets.now) (done ++ more) × AreHandedDue self.old.config (given ++ octets.now) (done ++ more))) }
-        ensures front { IsErrOf result FeedError.Taker → (tried : List (Handed WindowBlock)) × HandedPart (on_handed B.took_phase B.took) (on_handed B.broke_phase B.broke) blocks.old tried blocks.new
-            × ((given : List ℕ) (done : List (Handed WindowBlock)) → length given + length octets.now < 2 ^ 60 → StandsFor self.old given done
+        ensures handed { OnOk result ((more : List (Handed WindowBlock))
+            × HandedOver (on_handed B.took_phase B.took) blocks.old more blocks.new
+            × ((given : List ℕ) (done : List (Handed WindowBlock)) → length given + length octets.now < 2 ^ 60
+            → StandsFor self.old given done
+            → StandsFor self.new (given ++ octets.now) (done ++ more)
+            × AreHandedDue self.old.config (given ++ octets.now) (done ++ more))) }
+        ensures front { IsErrOf result FeedError.Taker
+            → (tried : List (Handed WindowBlock))
+            × HandedPart (on_handed B.took_phase B.took) (on_handed B.broke_phase B.broke) blocks.old tried blocks.new
+            × ((given : List ℕ) (done : List (Handed WindowBlock)) → length given + length octets.now < 2 ^ 60
+            → StandsFor self.old given done
             → AreHandedFirst self.old.config (given ++ octets.now) (done ++ tried)) }
         ensures later { B.faults blocks.old ≤ B.faults blocks.new }
-        ensures rose { IsErrOf result FeedError.Taker → Rose (B.faults blocks.old) (B.faults blocks.new) (B.is_last blocks.new) }
+        ensures rose { IsErrOf result FeedError.Taker
+            → Rose (B.faults blocks.old) (B.faults blocks.new) (B.is_last blocks.new) }
+        ensures same { result ≢ Err FeedError.Taker → B.faults blocks.new ≡ B.faults blocks.old }
+    {
+        self.feed_by(&Alone, octets, blocks)
+    }
+
+    /// Does what `feed` does, and has the workers decode the windows side by side that are closed by these octets.
+    pub fn feed_with<R: Threads + Sync, B: BlockTaker>(
+        &mut self,
+        rt: &R,
+        octets: &[u8],
+        blocks: &mut B,
+    ) -> Result<(), FeedError>
+        ensures stopped { IsErrOf result FeedError.Stopped ↔ IsTrue self.old.has_stopped }
+        ensures unchanged { IsErrOf result FeedError.Stopped → (self.new ≡ self.old) × (blocks.new ≡ blocks.old) }
+        ensures stops { IsTrue self.new.has_stopped ↔ OnOk result ⊥ }
+        ensures config { self.new.config ≡ self.old.config }
+        ensures chosen { (given : List ℕ) (done : List (Handed WindowBlock)) → StandsFor self.old given done
+            → self.old.has_stopped ≡ false
+            → IsChosenSoFar self.old.config (given ++ octets.now) self.new.phased.chosen }
+        ensures handed { OnOk result ((more : List (Handed WindowBlock))
+            × HandedOver (on_handed B.took_phase B.took) blocks.old more blocks.new
+            × ((given : List ℕ) (done : List (Handed WindowBlock)) → length given + length octets.now < 2 ^ 60
+            → StandsFor self.old given done
+            → StandsFor self.new (given ++ octets.now) (done ++ more)
+            × AreHandedDue self.old.config (given ++ octets.now) (done ++ more))) }
+        ensures front { IsErrOf result FeedError.Taker
+            → (tried : List (Handed WindowBlock))
+            × HandedPart (on_handed B.took_phase B.took) (on_handed B.broke_phase B.broke) blocks.old tried blocks.new
+            × ((given : List ℕ) (done : List (Handed WindowBlock)) → length given + length octets.now < 2 ^ 60
+            → StandsFor self.old given done
+            → AreHandedFirst self.old.config (given ++ octets.now) (done ++ tried)) }
+        ensures later { B.faults blocks.old ≤ B.faults blocks.new }
+        ensures rose { IsErrOf result FeedError.Taker
+            → Rose (B.faults blocks.old) (B.faults blocks.new) (B.is_last blocks.new) }
+        ensures same { result ≢ Err FeedError.Taker → B.faults blocks.new ≡ B.faults blocks.old }
+    {
+        self.feed_by(&WithWorkers { rt }, octets, blocks)
+    }
+
+    fn feed_by<F: Feeding<B>, B: BlockTaker>(
+        &mut self,
+        by: &F,
+        octets: &[u8],
+        blocks: &mut B,
+    ) -> Result<(), FeedError>
+        requires ready { F.is_ready by.now }
+        ensures stopped { IsErrOf result FeedError.Stopped ↔ IsTrue self.old.has_stopped }
+        ensures unchanged { IsErrOf result FeedError.Stopped → (self.new ≡ self.old) × (blocks.new ≡ blocks.old) }
+        ensures stops { IsTrue self.new.has_stopped ↔ OnOk result ⊥ }
+        ensures config { self.new.config ≡ self.old.config }
+        ensures chosen { (given : List ℕ) (done : List (Handed WindowBlock)) → StandsFor self.old given done
+            → self.old.has_stopped ≡ false
+            → IsChosenSoFar self.old.config (given ++ octets.now) self.new.phased.chosen }
+        ensures handed { OnOk result ((more : List (Handed WindowBlock))
+            × HandedOver (on_handed B.took_phase B.took) blocks.old more blocks.new
+            × ((given : List ℕ) (done : List (Handed WindowBlock)) → length given + length octets.now < 2 ^ 60
+            → StandsFor self.old given done
+            → StandsFor self.new (given ++ octets.now) (done ++ more)
+            × AreHandedDue self.old.config (given ++ octets.now) (done ++ more))) }
+        ensures front { IsErrOf result FeedError.Taker
+            → (tried : List (Handed WindowBlock))
+            × HandedPart (on_handed B.took_phase B.took) (on_handed B.broke_phase B.broke) blocks.old tried blocks.new
+            × ((given : List ℕ) (done : List (Handed WindowBlock)) → length given + length octets.now < 2 ^ 60
+            → StandsFor self.old given done
+            → AreHandedFirst self.old.config (given ++ octets.now) (done ++ tried)) }
+        ensures later { B.faults blocks.old ≤ B.faults blocks.new }
+        ensures rose { IsErrOf result FeedError.Taker
+            → Rose (B.faults blocks.old) (B.faults blocks.new) (B.is_last blocks.new) }
         ensures same { result ≢ Err FeedError.Taker → B.faults blocks.new ≡ B.faults blocks.old }
     {
         if self.has_stopped {
@@ -101,7 +193,7 @@ impl InnerReceiver {
         }
         let skipped = self.octets_to_skip(octets.len());
         self.count = self.count.saturating_add(octets.len() as u64);
-        match self.phased.feed(&octets[skipped..], blocks) {
+        match self.phased.feed(by, &octets[skipped..], blocks) {
             Ok(()) => Ok(()),
             Err(Failed) => {
                 self.has_stopped = true;
@@ -110,33 +202,136 @@ impl InnerReceiver {
         }
     }
 
-    /// Hands over what is left: the symbol phase, where it is to be found and was not chosen yet, and the last blocks. Answers
-    /// how many bits were received and how many octets are left over. It is called once, at the end of the octets.
+    /// Takes of the next octets the first ones, as many as it can hold, and decodes none: the blocks that are due with
+    /// them are handed over by the next call that is not of this kind. Answers how many octets it took. With one worker
+    /// or no inner code, while octets are to be skipped or the symbol phase is to be chosen, where an earlier call
+    /// answered `Taker`, and after `finish` these are none.
     ///
-    /// `Taker` comes where `blocks` fails; a front of all was then handed over. `Stopped` comes where an earlier call answered
-    /// `Taker` or `finish` was called; nothing is handed over then.
+    /// The octets given in all are to be below 2^60.
+    pub fn gather(&mut self, octets: &[u8]) -> usize
+        ensures config { self.new.config ≡ self.old.config }
+        ensures stopped { self.new.has_stopped ≡ self.old.has_stopped }
+        ensures chosen { self.new.phased.chosen ≡ self.old.phased.chosen }
+        ensures most { result ≤ length octets.now }
+        ensures gathered { (given : List ℕ) (done : List (Handed WindowBlock)) → length given + result < 2 ^ 60
+            → StandsFor self.old given done → StandsFor self.new (given ++ take result octets.now) done }
+    {
+        if self.has_stopped || self.octets_to_skip(octets.len()) > 0 {
+            return 0;
+        }
+        let taken = self.phased.gather(octets);
+        self.count = self.count.saturating_add(taken as u64);
+        taken
+    }
+
+    /// How many blocks are due and were not handed over yet, as octets were gathered.
+    pub fn count_due(&self) -> usize
+        ensures { (given : List ℕ) (done : List (Handed WindowBlock)) → StandsFor self.now given done
+            → (more : List WindowBlock) × (length more ≡ result)
+            × AreHandedDue self.now.config given (done ++ map Item more) }
+    {
+        self.phased.count_due()
+    }
+
+    /// Hands over what is left: the symbol phase, where it is to be found and was not chosen yet, and the last blocks.
+    /// Answers how many bits were received and how many octets are left over. It is called once, at the end of the
+    /// octets.
+    ///
+    /// `Taker` comes where `blocks` fails; a front of all was then handed over. `Stopped` comes where an earlier call
+    /// answered `Taker` or `finish` was called; nothing is handed over then.
     pub fn finish<B: BlockTaker>(&mut self, blocks: &mut B) -> Result<InnerEnd, FeedError>
         ensures stopped { IsErrOf result FeedError.Stopped ↔ IsTrue self.old.has_stopped }
         ensures unchanged { IsErrOf result FeedError.Stopped → (self.new ≡ self.old) × (blocks.new ≡ blocks.old) }
         ensures stops { self.new.has_stopped ≡ true }
         ensures config { self.new.config ≡ self.old.config }
-        ensures chosen { (given : List ℕ) (done : List (Handed WindowBlock)) → StandsFor self.old given done → self.old.has_stopped ≡ false
+        ensures chosen { (given : List ℕ) (done : List (Handed WindowBlock)) → StandsFor self.old given done
+            → self.old.has_stopped ≡ false
             → IsChosen self.old.config given self.new.phased.chosen }
-        ensures handed { IfOk result (λ end. (last : List (Handed WindowBlock)) × HandedOver (on_handed B.took_phase B.took) blocks.old last blocks.new
+        ensures handed { IfOk result (λ end. (last : List (Handed WindowBlock))
+            × HandedOver (on_handed B.took_phase B.took) blocks.old last blocks.new
             × ((given : List ℕ) (done : List (Handed WindowBlock)) → StandsFor self.old given done
-            → AreHanded self.old.config given (done ++ last) end.leftover × (end.bits ≡ length (inner_bits self.old.config given (items_of (done ++ last)))))) }
-        ensures front { IsErrOf result FeedError.Taker → (tried : List (Handed WindowBlock)) × HandedPart (on_handed B.took_phase B.took) (on_handed B.broke_phase B.broke) blocks.old tried blocks.new
-            × ((given : List ℕ) (done : List (Handed WindowBlock)) → StandsFor self.old given done → AreHandedFront self.old.config given (done ++ tried)) }
+            → AreHanded self.old.config given (done ++ last) end.leftover
+            × (end.bits ≡ length (inner_bits self.old.config given (items_of (done ++ last)))))) }
+        ensures front { IsErrOf result FeedError.Taker
+            → (tried : List (Handed WindowBlock))
+            × HandedPart (on_handed B.took_phase B.took) (on_handed B.broke_phase B.broke) blocks.old tried blocks.new
+            × ((given : List ℕ) (done : List (Handed WindowBlock)) → StandsFor self.old given done
+            → AreHandedFront self.old.config given (done ++ tried)) }
         ensures left { IfOk result (λ end. end.leftover ≤ 1) }
         ensures later { B.faults blocks.old ≤ B.faults blocks.new }
-        ensures rose { IsErrOf result FeedError.Taker → Rose (B.faults blocks.old) (B.faults blocks.new) (B.is_last blocks.new) }
+        ensures rose { IsErrOf result FeedError.Taker
+            → Rose (B.faults blocks.old) (B.faults blocks.new) (B.is_last blocks.new) }
+        ensures same { result ≢ Err FeedError.Taker → B.faults blocks.new ≡ B.faults blocks.old }
+    {
+        self.finish_by(&Alone, blocks)
+    }
+
+    /// Does what `finish` does, and has the workers decode windows side by side.
+    pub fn finish_with<R: Threads + Sync, B: BlockTaker>(
+        &mut self,
+        rt: &R,
+        blocks: &mut B,
+    ) -> Result<InnerEnd, FeedError>
+        ensures stopped { IsErrOf result FeedError.Stopped ↔ IsTrue self.old.has_stopped }
+        ensures unchanged { IsErrOf result FeedError.Stopped → (self.new ≡ self.old) × (blocks.new ≡ blocks.old) }
+        ensures stops { self.new.has_stopped ≡ true }
+        ensures config { self.new.config ≡ self.old.config }
+        ensures chosen { (given : List ℕ) (done : List (Handed WindowBlock)) → StandsFor self.old given done
+            → self.old.has_stopped ≡ false
+            → IsChosen self.old.config given self.new.phased.chosen }
+        ensures handed { IfOk result (λ end. (last : List (Handed WindowBlock))
+            × HandedOver (on_handed B.took_phase B.took) blocks.old last blocks.new
+            × ((given : List ℕ) (done : List (Handed WindowBlock)) → StandsFor self.old given done
+            → AreHanded self.old.config given (done ++ last) end.leftover
+            × (end.bits ≡ length (inner_bits self.old.config given (items_of (done ++ last)))))) }
+        ensures front { IsErrOf result FeedError.Taker
+            → (tried : List (Handed WindowBlock))
+            × HandedPart (on_handed B.took_phase B.took) (on_handed B.broke_phase B.broke) blocks.old tried blocks.new
+            × ((given : List ℕ) (done : List (Handed WindowBlock)) → StandsFor self.old given done
+            → AreHandedFront self.old.config given (done ++ tried)) }
+        ensures left { IfOk result (λ end. end.leftover ≤ 1) }
+        ensures later { B.faults blocks.old ≤ B.faults blocks.new }
+        ensures rose { IsErrOf result FeedError.Taker
+            → Rose (B.faults blocks.old) (B.faults blocks.new) (B.is_last blocks.new) }
+        ensures same { result ≢ Err FeedError.Taker → B.faults blocks.new ≡ B.faults blocks.old }
+    {
+        self.finish_by(&WithWorkers { rt }, blocks)
+    }
+
+    fn finish_by<F: Feeding<B>, B: BlockTaker>(
+        &mut self,
+        by: &F,
+        blocks: &mut B,
+    ) -> Result<InnerEnd, FeedError>
+        requires ready { F.is_ready by.now }
+        ensures stopped { IsErrOf result FeedError.Stopped ↔ IsTrue self.old.has_stopped }
+        ensures unchanged { IsErrOf result FeedError.Stopped → (self.new ≡ self.old) × (blocks.new ≡ blocks.old) }
+        ensures stops { self.new.has_stopped ≡ true }
+        ensures config { self.new.config ≡ self.old.config }
+        ensures chosen { (given : List ℕ) (done : List (Handed WindowBlock)) → StandsFor self.old given done
+            → self.old.has_stopped ≡ false
+            → IsChosen self.old.config given self.new.phased.chosen }
+        ensures handed { IfOk result (λ end. (last : List (Handed WindowBlock))
+            × HandedOver (on_handed B.took_phase B.took) blocks.old last blocks.new
+            × ((given : List ℕ) (done : List (Handed WindowBlock)) → StandsFor self.old given done
+            → AreHanded self.old.config given (done ++ last) end.leftover
+            × (end.bits ≡ length (inner_bits self.old.config given (items_of (done ++ last)))))) }
+        ensures front { IsErrOf result FeedError.Taker
+            → (tried : List (Handed WindowBlock))
+            × HandedPart (on_handed B.took_phase B.took) (on_handed B.broke_phase B.broke) blocks.old tried blocks.new
+            × ((given : List ℕ) (done : List (Handed WindowBlock)) → StandsFor self.old given done
+            → AreHandedFront self.old.config given (done ++ tried)) }
+        ensures left { IfOk result (λ end. end.leftover ≤ 1) }
+        ensures later { B.faults blocks.old ≤ B.faults blocks.new }
+        ensures rose { IsErrOf result FeedError.Taker
+            → Rose (B.faults blocks.old) (B.faults blocks.new) (B.is_last blocks.new) }
         ensures same { result ≢ Err FeedError.Taker → B.faults blocks.new ≡ B.faults blocks.old }
     {
         if self.has_stopped {
             return Err(FeedError::Stopped);
         }
         self.has_stopped = true;
-        match self.phased.end(blocks) {
+        match self.phased.end(by, blocks) {
             Ok(leftover) => Ok(InnerEnd {
                 bits: count_bits(&self.config, self.phased.skip(), self.count),
                 leftover,
@@ -148,39 +343,44 @@ impl InnerReceiver {
     /// The symbol phase that was chosen: None before the choice, and where the phase is given.
     pub fn chosen(&self) -> Option<Chosen>
         ensures value { result ≡ self.now.phased.chosen }
-        ensures so_far { (given : List ℕ) (done : List (Handed WindowBlock)) → StandsFor self.now given done → IsChosenSoFar self.now.config given result }
+        ensures so_far { (given : List ℕ) (done : List (Handed WindowBlock)) → StandsFor self.now given done
+            → IsChosenSoFar self.now.config given result }
     {
         self.phased.chosen()
     }
 
     /// Whether the configuration has an inner code. Where it has none, no block comes, and the octets hold the bits.
     pub fn has_inner_code(&self) -> bool
-        ensures { result ≡ is_some (rate_of self.now.config.inner) }
+        ensures { result ≡ is_some self.now.config.inner }
     {
         rate_of(&self.config).is_some()
     }
 
-    /// With no inner code, how many bits of the next octets are still to be skipped, 0 to 15. The bits behind them are received.
+    /// With no inner code, how many bits of the next octets are still to be skipped, 0 to 15. The bits behind them are
+    /// received.
     pub fn bits_to_skip(&self) -> u64
         ensures value { result ≡ self.now.config.skip - 8 * self.now.count }
-        ensures bits { (given octets : List ℕ) (done : List (Handed WindowBlock)) → StandsFor self.now given done → rate_of self.now.config.inner ≡ None
-            → inner_bits self.now.config (given ++ octets) [] ≡ inner_bits self.now.config given [] ++ drop result (bits_of octets) }
+        ensures bits { (given octets : List ℕ) (done : List (Handed WindowBlock)) → StandsFor self.now given done
+            → self.now.config.inner ≡ None
+            → inner_bits self.now.config (given ++ octets) []
+            ≡ inner_bits self.now.config given [] ++ drop result (bits_of octets) }
     {
         self.config
             .skip()
             .saturating_sub(self.count.saturating_mul(8))
     }
 
-    /// Turns the next octets, before they are fed, to soft octets of which 0 is the surest 0 and 255 the surest 1. Answers how many at the
-    /// front are still to be skipped. The symbol phase, where it is to be found, is found in those behind them.
+    /// Turns the next octets, before they are fed, to soft octets of which 0 is the surest 0 and 255 the surest 1.
+    /// Answers how many at the front are still to be skipped. The symbol phase, where it is to be found, is found in
+    /// those behind them.
     pub fn turn_soft(&self, octets: &mut [u8]) -> usize
         ensures size { length octets.new ≡ length octets.old }
         ensures skipped { result ≤ length octets.old }
         ensures soft { (given : List ℕ) (done : List (Handed WindowBlock)) → StandsFor self.now given done
-            → phase_octets self.now.config (given ++ octets.old) ≡ phase_octets self.now.config given ++ drop result octets.new }
+            → phase_octets self.now.config (given ++ octets.old)
+            ≡ phase_octets self.now.config given ++ drop result octets.new }
     {
-        let is_signed = self.config.soft() != 0;
-        if is_signed {
+        if is_signed(&self.config) {
             turn(octets);
         }
         self.octets_to_skip(octets.len())
@@ -188,7 +388,7 @@ impl InnerReceiver {
 
     // How many of the next octets, so many, are still to be skipped; with no inner code none, as bits are.
     fn octets_to_skip(&self, count: usize) -> usize
-        ensures { result ≡ min (skipped_at (rate_of self.now.config.inner) self.now.config - self.now.count) count }
+        ensures { result ≡ min (skipped_at self.now.config.inner self.now.config - self.now.count) count }
     {
         if self.has_inner_code() {
             let left = self.config.skip().saturating_sub(self.count);

@@ -69,9 +69,9 @@ impl InnerSender {
         self.has_failed
     }
 
-    /// Writes what is due for the next octets, most significant bit first: with an inner code an octet for each symbol, 00 and
-    /// FF, or 80 and 7F (hex) in the signed form, and else the octets (CCSDS 131.0-B, Convolutional Coding). The code's
-    /// register and puncture pattern run on from push to push.
+    /// Writes what is due for the next octets, most significant bit first: with an inner code an octet for each symbol,
+    /// 00 and FF, or 80 and 7F (hex) in the signed form, and else the octets (CCSDS 131.0-B, Convolutional Coding). The
+    /// code's register and puncture pattern run on from push to push.
     ///
     /// `Sink` comes where `out` fails, or takes nothing of what is left; a front of what is due was then written.
     /// `Stopped` comes where an earlier push answered `Sink`; nothing is written then.
@@ -81,7 +81,8 @@ impl InnerSender {
         ensures failed { IsTrue self.new.has_failed ↔ OnOk result ⊥ }
         ensures config { self.new.config ≡ self.old.config }
         ensures sent { OnOk result (Sends self.old self.new (O.taken out.old) (O.taken out.new) octets.now) }
-        ensures front { IsErrOf result SendError.Sink → SendsFront self.old (O.taken out.old) (O.taken out.new) octets.now }
+        ensures front { IsErrOf result SendError.Sink
+            → SendsFront self.old (O.taken out.old) (O.taken out.new) octets.now }
         ensures later { O.faults out.old ≤ O.faults out.new }
         ensures rose { IsErrOf result SendError.Sink → Rose (O.faults out.old) (O.faults out.new) (O.is_last out.new) }
         ensures same { result ≢ Err SendError.Sink → O.faults out.new ≡ O.faults out.old }

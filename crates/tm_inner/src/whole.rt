@@ -12,24 +12,30 @@ use std::alloc::Global;
 use tm_config::Config;
 use tm_viterbi::{AllError, BlockTaker};
 
-/// Hands over the symbol phase of received octets, fewer than 2^60, where it is to be found, and their blocks. Answers how many
-/// bits were received and how many octets are left over. With no inner code no block comes.
+/// Hands over the symbol phase of received octets, fewer than 2^60, where it is to be found, and their blocks. Answers
+/// how many bits were received and how many octets are left over. With no inner code no block comes.
 ///
-/// `Memory` comes only where there isn't enough of it. `Taker` comes where `blocks` fails; a front of all was then handed over.
+/// `Memory` comes only where there isn't enough of it. `Taker` comes where `blocks` fails; a front of all was then
+/// handed over.
 pub fn inner_all<B: BlockTaker>(
     alloc: Global,
     config: &Config,
     octets: &[u8],
     blocks: &mut B,
 ) -> Result<InnerEnd, AllError>
-    ensures handed { IfOk result (λ end. (all : List (Handed WindowBlock)) × HandedOver (on_handed B.took_phase B.took) blocks.old all blocks.new
-        × (length octets.now < 2 ^ 60 → AreHanded config.now octets.now all end.leftover × (end.bits ≡ length (inner_bits config.now octets.now (items_of all))))) }
-    ensures front { IsErrOf result AllError.Taker → (tried : List (Handed WindowBlock)) × HandedPart (on_handed B.took_phase B.took) (on_handed B.broke_phase B.broke) blocks.old tried blocks.new
+    ensures handed { IfOk result (λ end. (all : List (Handed WindowBlock))
+        × HandedOver (on_handed B.took_phase B.took) blocks.old all blocks.new
+        × (length octets.now < 2 ^ 60 → AreHanded config.now octets.now all end.leftover
+        × (end.bits ≡ length (inner_bits config.now octets.now (items_of all))))) }
+    ensures front { IsErrOf result AllError.Taker
+        → (tried : List (Handed WindowBlock)) × HandedPart (on_handed B.took_phase B.took)
+        (on_handed B.broke_phase B.broke) blocks.old tried blocks.new
         × (length octets.now < 2 ^ 60 → AreHandedFront config.now octets.now tried) }
     ensures left { IfOk result (λ end. end.leftover ≤ 1) }
     ensures unchanged { IsErrOf result AllError.Memory → blocks.new ≡ blocks.old }
     ensures later { B.faults blocks.old ≤ B.faults blocks.new }
-    ensures rose { IsErrOf result AllError.Taker → Rose (B.faults blocks.old) (B.faults blocks.new) (B.is_last blocks.new) }
+    ensures rose { IsErrOf result AllError.Taker
+        → Rose (B.faults blocks.old) (B.faults blocks.new) (B.is_last blocks.new) }
     ensures same { result ≢ Err AllError.Taker → B.faults blocks.new ≡ B.faults blocks.old }
 {
     let Ok(mut receiver) = InnerReceiver::open(alloc, config) else {

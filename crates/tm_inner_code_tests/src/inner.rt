@@ -6,6 +6,7 @@ ghost use Rattle.std.specs.Prelude.{◌≤◌};
 use std::alloc::{AllocError, Global};
 use std::process::Abort;
 use std::test::Fail;
+use std::thread::Threads;
 use takers::{Collector, Kept};
 use tm_config::{Config, Raw};
 use tm_inner::{InnerEnd, InnerReceiver, inner_all};
@@ -43,8 +44,8 @@ struct Wanted<'a> {
 }
 
 // What comes of the octets, with the phase given.
-fn check(
-    rt: &impl Abort,
+fn check<R: Abort + Threads + Sync>(
+    rt: &R,
     alloc: Global,
     raw: Raw,
     octets: &[u8],
@@ -54,9 +55,10 @@ fn check(
     check_found(rt, alloc, raw, octets, None, blocks, end)
 }
 
-// The same with this phase: at once and in pieces of one, of two and of 300 octets.
-fn check_found(
-    rt: &impl Abort,
+// The same with this phase: at once and in pieces of one, of two and of 300 octets, by one worker and by three, with
+// and without threads.
+fn check_found<R: Abort + Threads + Sync>(
+    rt: &R,
     alloc: Global,
     raw: Raw,
     octets: &[u8],
@@ -76,7 +78,38 @@ fn check_found(
     assert_eq!(rt; all.kept(), blocks);
     check_pieces(rt, alloc, &config, octets, 1, &wanted)?;
     check_pieces(rt, alloc, &config, octets, 2, &wanted)?;
-    check_pieces(rt, alloc, &config, octets, 300, &wanted)
+    check_pieces(rt, alloc, &config, octets, 300, &wanted)?;
+    check_workers(rt, alloc, &config, octets, &wanted)
+}
+
+// The same octets by three workers, and by receivers of which only one is given threads.
+fn check_workers<R: Abort + Threads + Sync>(
+    rt: &R,
+    alloc: Global,
+    config: &Config,
+    octets: &[u8],
+    wanted: &Wanted<'_>,
+) -> Result<(), Fail> {
+    let mut taker = Collector::new(alloc, 9);
+    let mut receiver = InnerReceiver::open_for(alloc, config, 3)?;
+    receiver.feed_with(rt, octets, &mut taker)?;
+    assert_eq!(rt; receiver.finish_with(rt, &mut taker)?, wanted.end);
+    assert_eq!(rt; taker.phase(), wanted.phase);
+    assert_eq!(rt; taker.kept(), wanted.blocks);
+    assert_eq!(rt;
+        receiver.feed_with(rt, octets, &mut taker),
+        Err(FeedError::Stopped)
+    );
+    assert_eq!(rt;
+        receiver.finish_with(rt, &mut taker),
+        Err(FeedError::Stopped)
+    );
+    let mut others = Collector::new(alloc, 9);
+    let mut alone = InnerReceiver::open_for(alloc, config, 3)?;
+    alone.feed(octets, &mut others)?;
+    assert_eq!(rt; alone.finish(&mut others)?, wanted.end);
+    assert_eq!(rt; others.kept(), wanted.blocks);
+    Ok(())
 }
 
 fn check_pieces(
@@ -325,5 +358,35 @@ fn phase_without_an_inner_code(rt: HostRuntime) -> Result<(), Fail> {
     let mut other = InnerReceiver::open(alloc, &config)?;
     assert_eq!(rt; other.feed(&[0x55], &mut failing), Err(FeedError::Taker));
     assert_eq!(rt; other.feed(&[], &mut failing), Err(FeedError::Stopped));
+    Ok(())
+}
+
+// Octets that close three windows wait, signed or not, where there are two workers.
+#[test]
+fn octets_that_wait(rt: HostRuntime) -> Result<(), Fail> {
+    let alloc = rt.alloc();
+    let octets = repeated(alloc, (127, 127), 3 * 1024 + 64 + 1)?;
+    for soft in [0, 1] {
+        let raw = Raw {
+            soft,
+            keep: 1024,
+            ahead: 64,
+            ..Raw::default()
+        };
+        let config = Config::check(&raw)?;
+        let mut taker = Collector::new(alloc, 9);
+        let mut receiver = InnerReceiver::open_for(alloc, &config, 2)?;
+        assert_eq!(rt; receiver.gather(&octets), octets.len());
+        assert_eq!(rt; receiver.count_due(), 3);
+        receiver.feed_with(&rt, &[], &mut taker)?;
+        assert_eq!(rt; taker.kept().len(), 3);
+        assert_eq!(rt; receiver.count_due(), 0);
+        let end = receiver.finish_with(&rt, &mut taker)?;
+        assert_eq!(rt; end.bits, 3 * 1024 + 64 + 1);
+        assert_eq!(rt; taker.kept().len(), 4);
+        assert_eq!(rt; receiver.gather(&octets), 0);
+        let mut one = InnerReceiver::open(alloc, &config)?;
+        assert_eq!(rt; one.gather(&octets), 0);
+    }
     Ok(())
 }

@@ -1,5 +1,5 @@
-//! Worked values and tests of the inner code's crates, through their public calls: the convolutional code, the soft decoder, the
-//! symbol phase, certificates and the inner stages. Beside its tests it has no code of its own.
+//! Worked values and tests of the inner code's crates, through their public calls: the convolutional code, the soft
+//! decoder, the symbol phase, certificates and the inner stages. Beside its tests it has no code of its own.
 #![tactic(auto)]
 
 #[cfg(test)]

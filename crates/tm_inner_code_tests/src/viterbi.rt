@@ -117,8 +117,8 @@ fn next_cut(cuts: Cuts) -> (usize, Cuts) {
     }
 }
 
-// Feeds a new decoder the octets in pieces, no more of them than octets, and finishes it: the blocks, and the octets left over.
-// A finished decoder is stopped.
+// Feeds a new decoder the octets in pieces, no more of them than octets, and finishes it: the blocks, and the octets
+// left over. A finished decoder is stopped.
 fn decoded(
     rt: &impl Abort,
     alloc: Global,

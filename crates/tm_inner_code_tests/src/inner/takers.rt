@@ -16,7 +16,8 @@ pub(super) struct Kept {
     pub(super) end_state: u8,
 }
 
-// It takes a phase before any block and the first blocks, and fails from then on. With no room it takes no phase either.
+// It takes a phase before any block and the first blocks, and fails from then on. With no room it takes no phase
+// either.
 #[derive(Drop)]
 pub(super) struct Collector {
     kept: Vec<Kept>,

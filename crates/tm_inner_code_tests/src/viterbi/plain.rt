@@ -1,4 +1,5 @@
-// Best paths by the standard's words alone: all candidates listed, and, for longer windows, whole paths compared at each register.
+// Best paths by the standard's words alone: all candidates listed, and, for longer windows, whole paths compared at
+// each register.
 use tm_conv::Rate;
 
 // Which sums a step sends, by the rows of the standard's table.
@@ -66,8 +67,8 @@ fn next(register: u32, bit: u32) -> u32 {
     (register >> 1) | (bit << 5)
 }
 
-// A path: its cost, and the number whose binary digits are its bits, the last first, and then those of its first register.
-// It has up to 186 steps.
+// A path: its cost, and the number whose binary digits are its bits, the last first, and then those of its first
+// register. It has up to 186 steps.
 #[derive(Clone, Copy, Debug, PartialEq, Eq)]
 pub(super) struct Path {
     pub(super) cost: u64,

@@ -1,7 +1,7 @@
-use Rattle.std.proofs.Common.{◌≡◌, ◌≢◌, ◌∙◌, ℕ, List, Some, drop, take, length, ◌-◌, refl, sym, ap, subst}
+use Rattle.std.proofs.Common.{◌≡◌, ◌∙◌, ℕ, List, Some, drop, take, length, ◌-◌, refl, sym, ap, subst}
 use Rattle.std.proofs.lemmas.List.{take_rest}
 use Rattle.std.proofs.lemmas.Result.{on_ok_weaker, on_err_weaker}
-use Rattle.tm_inner.specs.Symbols.{rate_of}
+use Rattle.tm_config.specs.declared.values.Sought.TheVariants.{Find}
 use Rattle.tm_inner.specs.Phase.{PhaseAt}
 use Rattle.tm_inner.specs.Receiving.{DecodesFor, FindsFirst, Hands, HandsFront, Phasing}
 use Rattle.tm_inner.proofs.GivenPieces.{plain-form}
@@ -16,8 +16,8 @@ returns-in-Err-clause-front g c =
     let before : Phasing = record { config = s.config; decoder = s.decoder; held = s.held.octets; room = s.held.room; chosen = s.chosen } in
     subst (λ (p : Phasing). ChoosesFront t.took_phase t.broke_phase t.took t.broke p c.args.blocks.now c.phase.new.self) c.self.view_is
     (chooses-none t.took_phase t.broke_phase t.took t.broke before chosen c.args.blocks.now c.phase.new.self
-    (subst (λ (p : Phasing). p.config.phase ≢ 0) (sym c.self.view_is) c.requires.find)
-    (subst (λ (l : List ℕ). PhaseAt (rate_of s.config.inner) s.config l chosen) c.as_slice.ensures c.phase_of-chosen.ensures.phase) c.in-Err.ensures.err)
+    (subst (λ (p : Phasing). p.config.phase ≡ Find) (sym c.self.view_is) c.requires.find)
+    (subst (λ (l : List ℕ). PhaseAt s.config.inner s.config l chosen) c.as_slice.ensures c.phase_of-chosen.ensures.phase) c.in-Err.ensures.err)
 
 pub invariant_of-self-2 : goal.invariant_of-self-2
 invariant_of-self-2 g c = (c.decode.ensures.of c.self.inside.config c.self.invariant.0, c.self.invariant.1)
@@ -40,8 +40,8 @@ returns-clause-handed g c =
     on_ok_weaker c.decode.result
     (λ h. subst (λ (p : Phasing). Chooses t.took_phase t.took p (record before { decoder = c.decode.new.decoder; chosen = Some chosen }) c.args.blocks.now c.decode.new.blocks) c.self.view_is
     (chooses t.took_phase t.took before c.decode.new.decoder chosen c.args.blocks.now c.phase.new.self c.decode.new.blocks (drop chosen.skip s.held.octets)
-    (subst (λ (p : Phasing). p.config.phase ≢ 0) (sym c.self.view_is) c.requires.find)
-    (subst (λ (l : List ℕ). PhaseAt (rate_of s.config.inner) s.config l chosen) c.as_slice.ensures c.phase_of-chosen.ensures.phase) refl c.in-Ok.ensures.ok
+    (subst (λ (p : Phasing). p.config.phase ≡ Find) (sym c.self.view_is) c.requires.find)
+    (subst (λ (l : List ℕ). PhaseAt s.config.inner s.config l chosen) c.as_slice.ensures c.phase_of-chosen.ensures.phase) refl c.in-Ok.ensures.ok
     (subst (Hands t.took DecodesFor s.decoder c.decode.new.decoder c.phase.new.self c.decode.new.blocks) rest h))) c.decode.ensures.handed
 
 pub returns-clause-front : goal.returns-clause-front
@@ -55,6 +55,6 @@ returns-clause-front g c =
     on_err_weaker c.decode.result
     (λ h. subst (λ (p : Phasing). ChoosesFront t.took_phase t.broke_phase t.took t.broke p c.args.blocks.now c.decode.new.blocks) c.self.view_is
     (chooses-front t.took_phase t.broke_phase t.took t.broke before chosen c.args.blocks.now c.phase.new.self c.decode.new.blocks (drop chosen.skip s.held.octets)
-    (subst (λ (p : Phasing). p.config.phase ≢ 0) (sym c.self.view_is) c.requires.find)
-    (subst (λ (l : List ℕ). PhaseAt (rate_of s.config.inner) s.config l chosen) c.as_slice.ensures c.phase_of-chosen.ensures.phase) refl c.self.invariant.0 c.in-Ok.ensures.ok
+    (subst (λ (p : Phasing). p.config.phase ≡ Find) (sym c.self.view_is) c.requires.find)
+    (subst (λ (l : List ℕ). PhaseAt s.config.inner s.config l chosen) c.as_slice.ensures c.phase_of-chosen.ensures.phase) refl c.self.invariant.0 c.in-Ok.ensures.ok
     (subst (HandsFront t.took t.broke DecodesFor (FindsFirst s.decoder) s.decoder c.phase.new.self c.decode.new.blocks) rest h))) c.decode.ensures.front

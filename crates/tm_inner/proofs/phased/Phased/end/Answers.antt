@@ -1,8 +1,8 @@
-use Rattle.std.proofs.Common.{◌≡◌, ◌++◌, ◌∷◌, ◌∙◌, [], List, map, sym, ap, subst, arith, append_assoc}
+use Rattle.std.proofs.Common.{◌≡◌, ◌++◌, ◌∙◌, List, map, sym, ap, subst, arith, append_assoc}
 use Rattle.std.proofs.lemmas.Result.{IfOk-weaker, on_err_weaker}
 use Rattle.tm_base.specs.Handed.{Handed, Item, on_handed}
-use Rattle.tm_base.proofs.Handing.{HandedOver-append, HandedPart-first, HandedPart-after}
-use Rattle.tm_base.proofs.HandedItems.{HandedOver-items}
+use Rattle.tm_base.proofs.Handing.{HandedOver-append, HandedPart-after}
+use Rattle.tm_base.proofs.HandedItems.{HandedOver-items, HandedPart-items}
 use Rattle.tm_config.specs.Configuration.{Configuration}
 use Rattle.tm_viterbi.specs.WindowBlock.{WindowBlock}
 use Rattle.tm_inner.specs.Phase.{IsChosenBy, phase_octets}
@@ -61,13 +61,13 @@ returns-clause-front g c =
     let config : s.config ≡ old.config = ap (λ (p : Phasing). p.config) c.self.view_is ∙ c.settle.ensures.config in
     let m = c.in-Ok.ensures.handed in
     on_err_weaker c.end.result (λ h. (
-      m.0 ++ Item h.0 ∷ [],
-      HandedPart-after (on_handed took_phase took) (on_handed broke_phase broke) c.args.blocks.now c.settle.new.blocks c.end.new.blocks m.0 (Item h.0 ∷ []) m.1
-          (HandedPart-first (on_handed took_phase took) (on_handed broke_phase broke) c.settle.new.blocks c.end.new.blocks (Item h.0) [] h.1),
+      m.0 ++ map Item h.0,
+      HandedPart-after (on_handed took_phase took) (on_handed broke_phase broke) c.args.blocks.now c.settle.new.blocks c.end.new.blocks m.0 (map Item h.0) m.1
+          (HandedPart-items took_phase broke_phase took broke c.settle.new.blocks c.end.new.blocks h.0 h.1),
       λ given done few stood.
           let goes = subst (λ (k : Configuration). Goes before (phase_octets k given) (done ++ m.0)) (sym config)
           (subst (λ (p : Phasing). Goes p (phase_octets old.config given) (done ++ m.0)) (sym c.self.view_is)
           (m.2 (phase_octets old.config given) done (omega (arith, few, few-soft old.config given)) stood)) in
-          subst (λ (k : Configuration). AreHandedFront k given (done ++ (m.0 ++ Item h.0 ∷ []))) config
-          (subst (AreHandedFront s.config given) (append_assoc done m.0 (Item h.0 ∷ [])) (handed-last_front before given (done ++ m.0) h.0 c.self.invariant.0 h.2 goes)),
+          subst (λ (k : Configuration). AreHandedFront k given (done ++ (m.0 ++ map Item h.0))) config
+          (subst (AreHandedFront s.config given) (append_assoc done m.0 (map Item h.0)) (handed-last_front before given (done ++ m.0) h.0 c.self.invariant.0 h.2 goes)),
     )) c.end.ensures.front

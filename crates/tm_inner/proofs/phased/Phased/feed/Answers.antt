@@ -1,12 +1,13 @@
-use Rattle.std.proofs.Common.{◌≡◌, ◌≢◌, ◌++◌, ◌==◌, ◌∙◌, ◌<◌, ◌≤◌, ◌-◌, min, not, ℕ, List, None, false, length, take, drop, sym, ap, subst, arith, inl, inr, IsTrue}
+use Rattle.std.proofs.Common.{◌≡◌, ◌++◌, ◌∙◌, ◌<◌, ◌≤◌, ◌-◌, min, ℕ, Bool, List, None, false, length, take, drop, sym, ap, subst, arith, inl, inr, IsTrue}
 use Rattle.std.proofs.lemmas.Bool.{cases_lt}
 use Rattle.std.proofs.lemmas.List.{take_rest}
 use Rattle.std.proofs.lemmas.Result.{on_ok_weaker, on_err_weaker}
 use Rattle.tm_base.specs.Handed.{on_handed}
-use Rattle.tm_config.specs.Configuration.{Configuration}
+use Rattle.tm_config.specs.Configuration.{Configuration, is_signed}
+use Rattle.tm_config.specs.declared.values.Sought.TheVariants.{Find}
 use Rattle.tm_inner.specs.Phase.{IsSoFarBy, IsChosenBy}
 use Rattle.tm_inner.specs.Receiving.{DecodesFor, FindsFirst, Hands, HandsFront, HeldOctets, Phasing, PhasesFor, IsFirstBy, from_form, soft_form}
-use Rattle.tm_inner.proofs.GivenPieces.{soft-formed, same-held, taken-all, form-parts}
+use Rattle.tm_inner.proofs.GivenPieces.{same-held, taken-all, form-parts}
 use Rattle.tm_inner.proofs.PhasePieces.{NoneWaits, Chooses, ChoosesFront, hands-going, front-going, hands-waiting, hands-choosing, front-choosing, front-behind, so-far-going, so-far-waiting, so-far-choosing}
 use Rattle.tm_inner.proofs.phased.Phased.feed.Goals as goal
 
@@ -20,8 +21,8 @@ returns-then-not-waits-clause-handed g c =
     let took = g.B.BlockTaker.took in
     let before : Phasing = record { config = s.config; decoder = s.decoder; held = s.held.octets; room = s.held.room; chosen = s.chosen } in
     let none : NoneWaits c.args.self.now = λ w. let both : IsTrue false = c.if-not-waits.ensures.1 w in absurd cc in
-    let form : soft_form s.config octets ≡ from_form (not (c.soft-is_signed.result == 0)) octets =
-    soft-formed s.config octets ∙ ap (λ (n : ℕ). from_form (not (n == 0)) octets) (sym c.soft-is_signed.ensures.value) in
+    let form : soft_form s.config octets ≡ from_form (c.is_signed-signed.result) octets =
+    ap (λ (b : Bool). from_form b octets) (sym c.is_signed-signed.ensures) in
     on_ok_weaker c.decode.result
     (λ h. subst (λ (p : Phasing). Hands (on_handed g.B.BlockTaker.took_phase took) PhasesFor p (record before { decoder = c.decode.new.decoder }) c.args.blocks.now c.decode.new.blocks (soft_form p.config octets)) c.self.view_is
     (hands-going c.whole_window_law.ensures.front c.phase_law.ensures.within g.B.BlockTaker.took_phase took before c.decode.new.decoder c.args.blocks.now c.decode.new.blocks
@@ -36,8 +37,8 @@ returns-then-not-waits-clause-front g c =
     let broke = g.B.BlockTaker.broke in
     let before : Phasing = record { config = s.config; decoder = s.decoder; held = s.held.octets; room = s.held.room; chosen = s.chosen } in
     let none : NoneWaits c.args.self.now = λ w. let both : IsTrue false = c.if-not-waits.ensures.1 w in absurd cc in
-    let form : soft_form s.config octets ≡ from_form (not (c.soft-is_signed.result == 0)) octets =
-    soft-formed s.config octets ∙ ap (λ (n : ℕ). from_form (not (n == 0)) octets) (sym c.soft-is_signed.ensures.value) in
+    let form : soft_form s.config octets ≡ from_form (c.is_signed-signed.result) octets =
+    ap (λ (b : Bool). from_form b octets) (sym c.is_signed-signed.ensures) in
     on_err_weaker c.decode.result
     (λ h. subst (λ (p : Phasing). HandsFront (on_handed g.B.BlockTaker.took_phase took) (on_handed g.B.BlockTaker.broke_phase broke) PhasesFor (IsFirstBy p.config) p c.args.blocks.now c.decode.new.blocks (soft_form p.config octets)) c.self.view_is
     (front-going c.whole_window_law.ensures.front c.phase_law.ensures.within g.B.BlockTaker.took_phase g.B.BlockTaker.broke_phase took broke before c.args.blocks.now c.decode.new.blocks
@@ -61,16 +62,16 @@ record Waiting (p : Phasing) (now : HeldOctets) (form : List ℕ) : Type 0 where
   held : now ≡ record { octets = p.held ++ form; room = p.room }
   few : length (p.held ++ form) < p.room
 
-waiting : (p : Phasing) (now : HeldOctets) (soft taken : ℕ) (octets : List ℕ) → soft ≡ p.config.soft → now.octets ≡ p.held ++ from_form (not (soft == 0)) (take taken octets) → now.room ≡ p.room
+waiting : (p : Phasing) (now : HeldOctets) (signed : Bool) (taken : ℕ) (octets : List ℕ) → signed ≡ is_signed p.config.soft → now.octets ≡ p.held ++ from_form signed (take taken octets) → now.room ≡ p.room
     → taken ≡ min (length octets) (p.room - length p.held) → (now.room ≤ length now.octets → ⊥) → Waiting p now (soft_form p.config octets)
-waiting p now soft taken octets is are room most left =
+waiting p now signed taken octets is are room most left =
     let less : length now.octets < p.room = elim (cases_lt (length now.octets) p.room) as (λ _. length now.octets < p.room) [
       | inl less ↦ less
       | inr full ↦ absurd (left (omega (arith, full, room)))
     ] in
-    let all = taken-all (not (soft == 0)) p.held octets now.octets taken p.room most are less in
-    let form : from_form (not (soft == 0)) (take taken octets) ≡ soft_form p.config octets =
-    ap (from_form (not (soft == 0))) all ∙ ap (λ (n : ℕ). from_form (not (n == 0)) octets) is ∙ sym (soft-formed p.config octets) in
+    let all = taken-all signed p.held octets now.octets taken p.room most are less in
+    let form : from_form signed (take taken octets) ≡ soft_form p.config octets =
+    ap (from_form signed) all ∙ ap (λ (b : Bool). from_form b octets) is in
     let held : now.octets ≡ p.held ++ soft_form p.config octets = are ∙ ap (λ (l : List ℕ). p.held ++ l) form in record {
       held = same-held now (p.held ++ soft_form p.config octets) p.room held room;
       few = omega (arith, less, ap length held);
@@ -81,9 +82,9 @@ returns-then-not-is_full-clause-chosen g c = λ soft done stood.
     let s = c.self.inside in
     let octets = c.args.octets.now in
     let before : Phasing = record { config = s.config; decoder = s.decoder; held = s.held.octets; room = s.held.room; chosen = s.chosen } in
-    let asks = subst (λ (p : Phasing). (p.config.phase ≢ 0) × (p.chosen ≡ None)) (sym c.self.view_is) (c.waits.ensures.0 c.if-not-waits.false) in
+    let asks = subst (λ (p : Phasing). (p.config.phase ≡ Find) × (p.chosen ≡ None)) (sym c.self.view_is) (c.waits.ensures.0 c.if-not-waits.false) in
     let left : c.fill-taken.new.self.room ≤ length c.fill-taken.new.self.octets → ⊥ = λ full. let both : IsTrue false = c.if-not-is_full.ensures.1 full in absurd cc in
-    let w = waiting before c.fill-taken.new.self c.soft-is_signed.result c.fill-taken.result octets c.soft-is_signed.ensures.value c.fill-taken.ensures.octets c.fill-taken.ensures.room c.fill-taken.ensures.most left in
+    let w = waiting before c.fill-taken.new.self c.is_signed-signed.result c.fill-taken.result octets c.is_signed-signed.ensures c.fill-taken.ensures.octets c.fill-taken.ensures.room c.fill-taken.ensures.most left in
     subst (λ (p : Phasing). PhasesFor p soft done → IsSoFarBy p.config (soft ++ soft_form p.config octets) s.chosen) c.self.view_is
     (so-far-waiting before (soft_form s.config octets) soft done asks.0 asks.1 (omega (arith, w.few, c.self.invariant.1 asks.0))) stood
 
@@ -95,9 +96,9 @@ returns-then-not-is_full-clause-handed g c =
     let took = g.B.BlockTaker.took in
     let took_phase = g.B.BlockTaker.took_phase in
     let before : Phasing = record { config = s.config; decoder = s.decoder; held = s.held.octets; room = s.held.room; chosen = s.chosen } in
-    let asks = subst (λ (p : Phasing). (p.config.phase ≢ 0) × (p.chosen ≡ None)) (sym c.self.view_is) (c.waits.ensures.0 c.if-not-waits.false) in
+    let asks = subst (λ (p : Phasing). (p.config.phase ≡ Find) × (p.chosen ≡ None)) (sym c.self.view_is) (c.waits.ensures.0 c.if-not-waits.false) in
     let left : c.fill-taken.new.self.room ≤ length c.fill-taken.new.self.octets → ⊥ = λ full. let both : IsTrue false = c.if-not-is_full.ensures.1 full in absurd cc in
-    let w = waiting before c.fill-taken.new.self c.soft-is_signed.result c.fill-taken.result octets c.soft-is_signed.ensures.value c.fill-taken.ensures.octets c.fill-taken.ensures.room c.fill-taken.ensures.most left in
+    let w = waiting before c.fill-taken.new.self c.is_signed-signed.result c.fill-taken.result octets c.is_signed-signed.ensures c.fill-taken.ensures.octets c.fill-taken.ensures.room c.fill-taken.ensures.most left in
     subst (λ (p : Phasing). Hands (on_handed took_phase took) PhasesFor p (record before { held = c.fill-taken.new.self.octets; room = c.fill-taken.new.self.room }) start start (soft_form p.config octets)) c.self.view_is
     (subst (λ (h : HeldOctets). Hands (on_handed took_phase took) PhasesFor before (record before { held = h.octets; room = h.room }) start start (soft_form s.config octets)) (sym w.held)
     (hands-waiting took_phase took before start (soft_form s.config octets) asks.0 asks.1 (omega (arith, w.few, c.self.invariant.1 asks.0))))
@@ -109,14 +110,14 @@ record Filled (p : Phasing) (now : HeldOctets) (c : Configuration) (form rest oc
   many : needed ≤ length (p.held ++ form)
   parts : form ++ rest ≡ soft_form c octets
 
-filled : (p : Phasing) (now : HeldOctets) (soft taken needed : ℕ) (octets : List ℕ) → soft ≡ p.config.soft → now.octets ≡ p.held ++ from_form (not (soft == 0)) (take taken octets) → now.room ≡ p.room
+filled : (p : Phasing) (now : HeldOctets) (signed : Bool) (taken needed : ℕ) (octets : List ℕ) → signed ≡ is_signed p.config.soft → now.octets ≡ p.held ++ from_form signed (take taken octets) → now.room ≡ p.room
     → now.room ≤ length now.octets → p.room ≡ needed
-    → Filled p now p.config (from_form (not (soft == 0)) (take taken octets)) (from_form (not (soft == 0)) (drop taken octets)) octets needed
-filled p now soft taken needed octets is are room full enough =
-    let form = from_form (not (soft == 0)) (take taken octets) in record {
+    → Filled p now p.config (from_form signed (take taken octets)) (from_form signed (drop taken octets)) octets needed
+filled p now signed taken needed octets is are room full enough =
+    let form = from_form signed (take taken octets) in record {
       held = same-held now (p.held ++ form) p.room are room;
       many = omega (arith, full, room, enough, ap length are);
-      parts = form-parts p.config soft taken octets is;
+      parts = form-parts p.config signed taken octets is;
     }
 
 pub returns-in-Err-clause-of : goal.returns-in-Err-clause-of
@@ -127,12 +128,12 @@ returns-in-Err-clause-chosen g c = λ soft done stood.
     let s = c.self.inside in
     let octets = c.args.octets.now in
     let held = c.fill-taken.new.self in
-    let is_signed = not (c.soft-is_signed.result == 0) in
+    let is_signed = c.is_signed-signed.result in
     let form = from_form is_signed (take c.fill-taken.result octets) in
     let rest = from_form is_signed (drop c.fill-taken.result octets) in
     let before : Phasing = record { config = s.config; decoder = s.decoder; held = s.held.octets; room = s.held.room; chosen = s.chosen } in
-    let asks = subst (λ (p : Phasing). (p.config.phase ≢ 0) × (p.chosen ≡ None)) (sym c.self.view_is) (c.waits.ensures.0 c.if-not-waits.false) in
-    let f = filled before held c.soft-is_signed.result c.fill-taken.result _ octets c.soft-is_signed.ensures.value c.fill-taken.ensures.octets c.fill-taken.ensures.room (c.is_full.ensures.0 c.if-not-is_full.false) (c.self.invariant.1 asks.0) in
+    let asks = subst (λ (p : Phasing). (p.config.phase ≡ Find) × (p.chosen ≡ None)) (sym c.self.view_is) (c.waits.ensures.0 c.if-not-waits.false) in
+    let f = filled before held c.is_signed-signed.result c.fill-taken.result _ octets c.is_signed-signed.ensures c.fill-taken.ensures.octets c.fill-taken.ensures.room (c.is_full.ensures.0 c.if-not-is_full.false) (c.self.invariant.1 asks.0) in
     let is = subst (λ (l : List ℕ). IsChosenBy s.config l c.choose.new.self.chosen) c.fill-taken.ensures.octets c.choose.ensures.chosen in
     subst (λ (p : Phasing). PhasesFor p soft done → IsSoFarBy p.config (soft ++ soft_form p.config octets) c.choose.new.self.chosen) c.self.view_is
     (λ stands. subst (λ (l : List ℕ). IsSoFarBy s.config (soft ++ l) c.choose.new.self.chosen) f.parts
@@ -145,12 +146,12 @@ returns-in-Err-clause-front g c =
     let octets = c.args.octets.now in
     let start = c.args.blocks.now in
     let held = c.fill-taken.new.self in
-    let is_signed = not (c.soft-is_signed.result == 0) in
+    let is_signed = c.is_signed-signed.result in
     let form = from_form is_signed (take c.fill-taken.result octets) in
     let rest = from_form is_signed (drop c.fill-taken.result octets) in
     let before : Phasing = record { config = s.config; decoder = s.decoder; held = s.held.octets; room = s.held.room; chosen = s.chosen } in
-    let asks = subst (λ (p : Phasing). (p.config.phase ≢ 0) × (p.chosen ≡ None)) (sym c.self.view_is) (c.waits.ensures.0 c.if-not-waits.false) in
-    let f = filled before held c.soft-is_signed.result c.fill-taken.result _ octets c.soft-is_signed.ensures.value c.fill-taken.ensures.octets c.fill-taken.ensures.room (c.is_full.ensures.0 c.if-not-is_full.false) (c.self.invariant.1 asks.0) in
+    let asks = subst (λ (p : Phasing). (p.config.phase ≡ Find) × (p.chosen ≡ None)) (sym c.self.view_is) (c.waits.ensures.0 c.if-not-waits.false) in
+    let f = filled before held c.is_signed-signed.result c.fill-taken.result _ octets c.is_signed-signed.ensures c.fill-taken.ensures.octets c.fill-taken.ensures.room (c.is_full.ensures.0 c.if-not-is_full.false) (c.self.invariant.1 asks.0) in
     let chose = subst (λ (h : HeldOctets). ChoosesFront t.took_phase t.broke_phase t.took t.broke (record before { held = h.octets; room = h.room }) start c.choose.new.blocks) f.held c.in-Err.ensures.front in
     subst (λ (p : Phasing). HandsFront (on_handed t.took_phase t.took) (on_handed t.broke_phase t.broke) PhasesFor (IsFirstBy p.config) p start c.choose.new.blocks (soft_form p.config octets)) c.self.view_is
     (subst (HandsFront (on_handed t.took_phase t.took) (on_handed t.broke_phase t.broke) PhasesFor (IsFirstBy s.config) before start c.choose.new.blocks) f.parts
@@ -168,13 +169,13 @@ returns-clause-chosen g c = λ soft done stood.
     let s = c.self.inside in
     let octets = c.args.octets.now in
     let held = c.fill-taken.new.self in
-    let is_signed = not (c.soft-is_signed.result == 0) in
+    let is_signed = c.is_signed-signed.result in
     let form = from_form is_signed (take c.fill-taken.result octets) in
     let rest = from_form is_signed (drop c.fill-taken.result octets) in
     let chosen = c.self-2.inside.chosen in
     let before : Phasing = record { config = s.config; decoder = s.decoder; held = s.held.octets; room = s.held.room; chosen = s.chosen } in
-    let asks = subst (λ (p : Phasing). (p.config.phase ≢ 0) × (p.chosen ≡ None)) (sym c.self.view_is) (c.waits.ensures.0 c.if-not-waits.false) in
-    let f = filled before held c.soft-is_signed.result c.fill-taken.result _ octets c.soft-is_signed.ensures.value c.fill-taken.ensures.octets c.fill-taken.ensures.room (c.is_full.ensures.0 c.if-not-is_full.false) (c.self.invariant.1 asks.0) in
+    let asks = subst (λ (p : Phasing). (p.config.phase ≡ Find) × (p.chosen ≡ None)) (sym c.self.view_is) (c.waits.ensures.0 c.if-not-waits.false) in
+    let f = filled before held c.is_signed-signed.result c.fill-taken.result _ octets c.is_signed-signed.ensures c.fill-taken.ensures.octets c.fill-taken.ensures.room (c.is_full.ensures.0 c.if-not-is_full.false) (c.self.invariant.1 asks.0) in
     let is = subst (λ (l : List ℕ). IsChosenBy s.config l chosen) c.fill-taken.ensures.octets
     (subst (λ (p : Phasing). IsChosenBy s.config held.octets p.chosen) (sym c.self-2.view_is) c.choose.ensures.chosen) in
     subst (λ (p : Phasing). PhasesFor p soft done → IsSoFarBy p.config (soft ++ soft_form p.config octets) chosen) c.self.view_is
@@ -192,13 +193,13 @@ returns-clause-handed g c =
     let last = c.decode-2.new.blocks in
     let held = c.fill-taken.new.self in
     let taken = c.fill-taken.result in
-    let is_signed = not (c.soft-is_signed.result == 0) in
+    let is_signed = c.is_signed-signed.result in
     let form = from_form is_signed (take taken octets) in
     let rest = from_form is_signed (drop taken octets) in
     let before : Phasing = record { config = s.config; decoder = s.decoder; held = s.held.octets; room = s.held.room; chosen = s.chosen } in
     let after : Phasing = record { config = s'.config; decoder = s'.decoder; held = s'.held.octets; room = s'.held.room; chosen = s'.chosen } in
-    let asks = subst (λ (p : Phasing). (p.config.phase ≢ 0) × (p.chosen ≡ None)) (sym c.self.view_is) (c.waits.ensures.0 c.if-not-waits.false) in
-    let f = filled before held c.soft-is_signed.result taken _ octets c.soft-is_signed.ensures.value c.fill-taken.ensures.octets c.fill-taken.ensures.room (c.is_full.ensures.0 c.if-not-is_full.false) (c.self.invariant.1 asks.0) in
+    let asks = subst (λ (p : Phasing). (p.config.phase ≡ Find) × (p.chosen ≡ None)) (sym c.self.view_is) (c.waits.ensures.0 c.if-not-waits.false) in
+    let f = filled before held c.is_signed-signed.result taken _ octets c.is_signed-signed.ensures c.fill-taken.ensures.octets c.fill-taken.ensures.room (c.is_full.ensures.0 c.if-not-is_full.false) (c.self.invariant.1 asks.0) in
     let config : s'.config ≡ s.config = ap (λ (p : Phasing). p.config) c.self-2.view_is ∙ c.choose.ensures.config in
     let chose = subst (λ (h : HeldOctets). Chooses t.took_phase t.took (record before { held = h.octets; room = h.room }) after start middle) f.held
     (subst (λ (p : Phasing). Chooses t.took_phase t.took (record before { held = held.octets; room = held.room }) p start middle) (sym c.self-2.view_is) c.in-Ok.ensures.handed) in
@@ -219,13 +220,13 @@ returns-clause-front g c =
     let last = c.decode-2.new.blocks in
     let held = c.fill-taken.new.self in
     let taken = c.fill-taken.result in
-    let is_signed = not (c.soft-is_signed.result == 0) in
+    let is_signed = c.is_signed-signed.result in
     let form = from_form is_signed (take taken octets) in
     let rest = from_form is_signed (drop taken octets) in
     let before : Phasing = record { config = s.config; decoder = s.decoder; held = s.held.octets; room = s.held.room; chosen = s.chosen } in
     let after : Phasing = record { config = s'.config; decoder = s'.decoder; held = s'.held.octets; room = s'.held.room; chosen = s'.chosen } in
-    let asks = subst (λ (p : Phasing). (p.config.phase ≢ 0) × (p.chosen ≡ None)) (sym c.self.view_is) (c.waits.ensures.0 c.if-not-waits.false) in
-    let f = filled before held c.soft-is_signed.result taken _ octets c.soft-is_signed.ensures.value c.fill-taken.ensures.octets c.fill-taken.ensures.room (c.is_full.ensures.0 c.if-not-is_full.false) (c.self.invariant.1 asks.0) in
+    let asks = subst (λ (p : Phasing). (p.config.phase ≡ Find) × (p.chosen ≡ None)) (sym c.self.view_is) (c.waits.ensures.0 c.if-not-waits.false) in
+    let f = filled before held c.is_signed-signed.result taken _ octets c.is_signed-signed.ensures c.fill-taken.ensures.octets c.fill-taken.ensures.room (c.is_full.ensures.0 c.if-not-is_full.false) (c.self.invariant.1 asks.0) in
     let config : s'.config ≡ s.config = ap (λ (p : Phasing). p.config) c.self-2.view_is ∙ c.choose.ensures.config in
     let chose = subst (λ (h : HeldOctets). Chooses t.took_phase t.took (record before { held = h.octets; room = h.room }) after start middle) f.held
     (subst (λ (p : Phasing). Chooses t.took_phase t.took (record before { held = held.octets; room = held.room }) p start middle) (sym c.self-2.view_is) c.in-Ok.ensures.handed) in

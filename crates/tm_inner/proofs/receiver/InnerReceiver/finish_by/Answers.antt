@@ -11,8 +11,8 @@ use Rattle.tm_inner.specs.Phase.{IsChosen, phase_octets}
 use Rattle.tm_inner.specs.Receiving.{InnerReceiving, StandsFor, PhasesFor}
 use Rattle.tm_inner.specs.Handing.{AreHanded, AreHandedFront}
 use Rattle.tm_inner.proofs.HandedPieces.{chosen-last, all-handed}
-use Rattle.tm_inner.proofs.receiver.InnerReceiver.finish.Goals as goal
-use Rattle.tm_inner.proofs.receiver.InnerReceiver.finish.Goals.{in-Ok, in-Err}
+use Rattle.tm_inner.proofs.receiver.InnerReceiver.finish_by.Goals as goal
+use Rattle.tm_inner.proofs.receiver.InnerReceiver.finish_by.Goals.{in-Ok, in-Err}
 
 pub returns-clause-chosen : goal.returns-clause-chosen
 returns-clause-chosen g c = λ given done stood _.

@@ -2,17 +2,16 @@ use Rattle.std.proofs.Common.{◌≡◌, ◌++◌, ◌-◌, ℕ, List, length, t
 use Rattle.std.proofs.lemmas.List.{take_rest}
 use Rattle.tm_base.specs.Handed.{on_handed}
 use Rattle.tm_config.specs.Configuration.{Configuration}
-use Rattle.tm_inner.specs.Symbols.{rate_of}
 use Rattle.tm_inner.specs.Phase.{IsChosenSoFar, skipped_at}
 use Rattle.tm_inner.specs.Handing.{AreHandedDue, AreHandedFirst}
 use Rattle.tm_inner.specs.Receiving.{InnerReceiving, StandsFor, Hands, HandsFront, PhasesFor, IsFirstBy, soft_form}
 use Rattle.tm_inner.proofs.HandedPieces.{chosen-further, stands-further, front-further}
-use Rattle.tm_inner.proofs.receiver.InnerReceiver.feed.Goals as goal
+use Rattle.tm_inner.proofs.receiver.InnerReceiver.feed_by.Goals as goal
 
 -- how many octets a receiver of this view skips
-skips : (before view : InnerReceiving) (skipped n : ℕ) → before ≡ view → skipped ≡ min (skipped_at (rate_of view.config.inner) view.config - view.count) n
-    → skipped ≡ min (skipped_at (rate_of before.config.inner) before.config - before.count) n
-skips before view skipped n same = subst (λ (r : InnerReceiving). skipped ≡ min (skipped_at (rate_of r.config.inner) r.config - r.count) n) (sym same)
+skips : (before view : InnerReceiving) (skipped n : ℕ) → before ≡ view → skipped ≡ min (skipped_at view.config.inner view.config - view.count) n
+    → skipped ≡ min (skipped_at before.config.inner before.config - before.count) n
+skips before view skipped n same = subst (λ (r : InnerReceiving). skipped ≡ min (skipped_at r.config.inner r.config - r.count) n) (sym same)
 
 pub returns-in-Ok-clause-chosen : goal.returns-in-Ok-clause-chosen
 returns-in-Ok-clause-chosen g c = λ given done stood _.
@@ -40,7 +39,7 @@ returns-in-Ok-clause-handed g c =
       p.more,
       p.handed,
       λ given done few stood.
-          let further = stands-further (on_handed t.took_phase t.took) before now start last octets n c.self.invariant.0 refl c.feed.ensures.config c.feed.ensures.of
+          let further = stands-further (on_handed t.took_phase t.took) before now start last octets n c.self.invariant.0 refl c.feed.ensures.config c.feed.ensures.of c.in-Ok.ensures.closed
           skip (omega (arith, c.saturating_add-self-inside.ensures)) p given done few (subst (λ (r : InnerReceiving). StandsFor r given done) (sym c.self.view_is) stood) in (
             further.0,
             subst (λ (r : InnerReceiving). AreHandedDue r.config (given ++ octets) (done ++ p.more)) c.self.view_is further.1,

@@ -1,0 +1,39 @@
+-- What contracts see of the decoder of the inner code, with one worker or with several.
+use Rattle.std.specs.Prelude.{◌≡◌, ℕ, Bool, List, Option, Some, None}
+use Rattle.tm_viterbi.specs.Settings.{Settings}
+use Rattle.tm_viterbi.specs.WindowBlock.{WindowBlock}
+use Rattle.tm_viterbi.specs.Decoding.{StandsFor as StandsForOne}
+use Rattle.tm_windows.specs.Gathered.{IsOpen}
+use Rattle.tm_windows.specs.Sharing.{workers_for, windows_for}
+use Rattle.tm_windows.specs.ParallelDecoding.{StandsFor as StandsForMany}
+use Rattle.tm_inner.specs.declared.inner_decoder.InnerDecoder.{InnerDecoder}
+use Rattle.tm_inner.specs.declared.inner_decoder.InnerDecoder.TheVariants.{One, Many}
+
+-- how it decodes
+abbrev pub settings_in : InnerDecoder → Settings
+settings_in (One decoder) = decoder.settings
+settings_in (Many decoder) = decoder.settings
+
+-- an earlier call answered Taker, or `finish` was called
+abbrev pub has_stopped_in : InnerDecoder → Bool
+has_stopped_in (One decoder) = decoder.has_stopped
+has_stopped_in (Many decoder) = decoder.has_stopped
+
+-- it has as many workers and windows at a time as so many workers are to have
+abbrev pub HasWorkers : ℕ → ℕ → ℕ → Option InnerDecoder → Type 0
+HasWorkers workers keep ahead None = Unit {0}
+HasWorkers workers keep ahead (Some (One decoder)) = workers ≡ 1
+HasWorkers workers keep ahead (Some (Many decoder)) =
+    (decoder.gathering.workers.workers ≡ workers_for workers keep ahead)
+    × (decoder.gathering.workers.most ≡ windows_for (workers_for workers keep ahead) keep)
+
+-- the octets that it holds close no window
+abbrev pub HasClosed : InnerDecoder → Type 0
+HasClosed (One decoder) = Unit {0}
+HasClosed (Many decoder) = IsOpen decoder.gathering
+
+-- it was given these octets and no others, and has handed over these blocks, the first of those
+-- that are due
+abbrev pub StandsIn : InnerDecoder → List ℕ → List WindowBlock → Type 0
+StandsIn (One decoder) given done = StandsForOne decoder given done
+StandsIn (Many decoder) given done = StandsForMany decoder given done
