@@ -5,7 +5,7 @@ use Rattle.tm_sync.specs.declared.found.Found.{Found}
 use Rattle.tm_sync.specs.Places.{places}
 use Rattle.tm_sync.proofs.Steps.{places_from-nil}
 use Rattle.tm_config.specs.Configuration.{Configuration}
-use Rattle.tm_channel.specs.ReceivedCodeblock.{rules_of}
+use Rattle.tm_codeblock.specs.ReceivedCodeblock.{rules_of}
 use Rattle.tm_channel.specs.Items.{ItemValue, AreItemsOf, AreFirstItemsOf, AreItems}
 use Rattle.tm_channel.specs.Due.{in_batches, due}
 use Rattle.tm_channel.specs.Receiving.{beyond}

@@ -1,12 +1,12 @@
 -- The items of frames that were sent with no gap and not disturbed.
-use Rattle.std.proofs.Common.{◌≡◌, ◌+◌, ◌*◌, ◌==◌, ℕ, Bool, true, false, cond, List, [], ◌∷◌, ◌++◌, length, map, refl, sym, ap, ◌∙◌, subst, arith, append_assoc}
+use Rattle.std.proofs.Common.{◌≡◌, ◌+◌, ◌*◌, ℕ, Bool, true, false, cond, List, [], ◌∷◌, ◌++◌, length, map, refl, sym, ap, ◌∙◌, subst, arith, append_assoc}
 use Rattle.std.specs.Prelude.{replicate}
 use Rattle.std.specs.List.{AllByRecursion, range_with_len}
 use Rattle.std.proofs.lemmas.List.FromFn.{length-map-range_with_len}
 use Rattle.tm_base.specs.Bits.{bits_of}
 use Rattle.tm_base.specs.Marker.{marker}
 use Rattle.tm_base.proofs.Packing.{bits_of-append, length-bits_of}
-use Rattle.tm_config.specs.Configuration.{Configuration, codeblock_length}
+use Rattle.tm_config.specs.Configuration.{Configuration, codeblock_length, is_uncoded}
 use Rattle.tm_config.specs.Accepted.{IsAccepted}
 use Rattle.tm_rs_code.proofs.Nearest.{distance-self}
 use Rattle.tm_rs_solve.specs.declared.answers.Answer.{Answer}
@@ -17,8 +17,8 @@ use Rattle.tm_sync.specs.Places.{places}
 use Rattle.tm_sync.specs.Marked.{Entry, joined, IsMarked, clean_entries, clean_places}
 use Rattle.tm_sync.proofs.MarkedStreams.{places-marked}
 use Rattle.tm_sync.proofs.CleanStreams.{clean-marked, places-clean}
-use Rattle.tm_channel.specs.Cadu.{codeblock_of, sent_codeblock, cadu}
-use Rattle.tm_channel.specs.ReceivedCodeblock.{rules_of, received_column, received_columns}
+use Rattle.tm_codeblock.specs.Cadu.{codeblock_of, sent_codeblock, cadu}
+use Rattle.tm_codeblock.specs.ReceivedCodeblock.{rules_of, received_column, received_columns}
 use Rattle.tm_channel.specs.Items.{ItemValue, AreItems}
 use Rattle.tm_channel.specs.SentStream.{IsFrame, SentUnit, entries_of, IsSent, unit_places, sent_columns, AreRepaired, AreWithin, IsNear, IsAsSent, AreAsSent, sent_bits, clean_answers, clean_items}
 use Rattle.tm_channel.proofs.SentCodeblocks.{length-sent_codeblock, received-as_sent}
@@ -96,7 +96,7 @@ columns-near bound (column ∷ columns) = (let none = distance-self column in om
 
 clean-answers : (c : Configuration) (frame : List ℕ) → replicate (length (sent_columns c frame)) (Fixed 0) ≡ clean_answers c
 unfolding received_columns
-clean-answers c frame = go (c.code == 0)
+clean-answers c frame = go (is_uncoded c.code)
   where
     go : (none : Bool) → replicate (length (cond none [] (map (received_column c (codeblock_of c frame)) (range_with_len 0 c.depth)))) (Fixed 0) ≡ cond none [] (replicate c.depth (Fixed 0))
     go true = refl

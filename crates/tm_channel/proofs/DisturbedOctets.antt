@@ -11,28 +11,21 @@ use Rattle.tm_rs_code.proofs.Systematic.{systematic_only}
 use Rattle.tm_sync.specs.Bits.{complement, marker_bits}
 use Rattle.tm_sync.specs.Places.{match_of, wrong_bits}
 use Rattle.tm_sync.specs.Marked.{Entry, joined, HasNoMarker, IsMarked}
-use Rattle.tm_channel.specs.Cadu.{coded_octets, codeblock_of}
-use Rattle.tm_channel.specs.ReceivedCodeblock.{rules_of, codeblock_in, received_columns}
+use Rattle.tm_codeblock.specs.Cadu.{coded_octets, codeblock_of}
+use Rattle.tm_codeblock.specs.ReceivedCodeblock.{rules_of, codeblock_in, received_columns}
 use Rattle.tm_channel.specs.SentStream.{AreNear, AreWithin, IsFrame, IsNear, IsSent, entries_of, sent_columns, unit_places}
 use Rattle.tm_channel.specs.Disturbed.{link, octets, frame, units, last}
 
 pub accepted : IsAccepted link
 accepted = record {
-  code = inr (inl refl);
   some_depth = omega arith;
   depth = omega arith;
   no_depth = λ none. refl;
   whole = refl;
   some_data = omega arith;
   data_fits = omega arith;
-  inner = inl refl;
-  invert = λ x some. absurd cc;
-  randomize = omega arith;
-  basis = omega arith;
   tolerance = omega arith;
   repair = omega arith;
-  soft = omega arith;
-  start = omega arith;
   skip = omega arith;
   some_workers = omega arith;
   workers = omega arith;
@@ -42,8 +35,6 @@ accepted = record {
   some_keep = omega arith;
   keep = omega arith;
   ahead = omega arith;
-  phase = omega arith;
-  polarity = omega arith;
 }
 
 pub phase-given : IsChosen link octets None
@@ -122,7 +113,7 @@ column-wrong within = let h = subst (AreWithin 0 ((0 ∷ 0 ∷ 1 ∷ replicate 1
 near : (codeblock : List ℕ) → AreWithin 8 (received_columns link codeblock) (replicate 17 0 ∷ []) → IsNear link frame codeblock
 near codeblock within = record {
   columns = subst (AreWithin 8 (received_columns link codeblock)) (sym columns-sent) within;
-  uncoded = λ none. absurd (omega (arith, none));
+  uncoded = λ none. absurd cc;
 }
 
 pub places-are : unit_places link units ≡ record { place = 0; distance = 1; bridged = false; inverted = false }

@@ -9,7 +9,7 @@ use Rattle.tm_sync.specs.declared.found.Found.{Found}
 use Rattle.tm_sync.specs.Places.{places}
 use Rattle.tm_sync.proofs.Longer.{places-end, places-goes_on}
 use Rattle.tm_viterbi.specs.WindowBlock.{WindowBlock}
-use Rattle.tm_channel.specs.ReceivedCodeblock.{rules_of, codeblock_in, codeblock_at}
+use Rattle.tm_codeblock.specs.ReceivedCodeblock.{rules_of, codeblock_in, codeblock_at}
 use Rattle.tm_channel.specs.Items.{ItemValue, IsItem, AreItemsOf, AreItems}
 use Rattle.tm_channel.specs.Due.{in_batches}
 use Rattle.tm_channel.specs.Receive.{Receive, ReceiveDue}

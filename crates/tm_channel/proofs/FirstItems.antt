@@ -9,13 +9,12 @@ use Rattle.tm_conv.specs.declared.rates.Rate.{Rate}
 use Rattle.tm_viterbi.specs.WindowBlock.{WindowBlock}
 use Rattle.tm_viterbi.specs.Blocks.{AreBlocksOf}
 use Rattle.tm_viterbi.specs.Clean.{kept_bits}
-use Rattle.tm_inner.specs.Symbols.{rate_of}
 use Rattle.tm_inner.specs.Inner.{BlocksAt, bits_at, settings_of, soft_octets, Inner, inner_bits}
 use Rattle.tm_inner.specs.Receiving.{FirstAt}
 use Rattle.tm_inner.proofs.DueBits.{StayClosed, StandFirst, drop-split, kept-append, soft-more}
 use Rattle.tm_sync.specs.declared.found.Found.{Found}
 use Rattle.tm_sync.specs.Places.{places}
-use Rattle.tm_channel.specs.ReceivedCodeblock.{rules_of}
+use Rattle.tm_codeblock.specs.ReceivedCodeblock.{rules_of}
 use Rattle.tm_channel.specs.Items.{ItemValue, AreItemsOf, AreFirstItemsOf, AreItems}
 use Rattle.tm_channel.specs.Receive.{Receive, ReceiveFirst, ReceiveFront}
 use Rattle.tm_channel.proofs.DueItems.{first-items}
@@ -43,7 +42,7 @@ pub first-stand : StayClosed → StandFirst → (c : Configuration) (phase : ℕ
     → ReceiveFirst c phase octets first → Receive c phase (octets ++ more) items → (rest : List ItemValue) × (items ≡ first ++ rest)
 first-stand stay stand c phase octets more first items ok front all =
     let bits = inner_bits c octets front.blocks in
-    let split = bits-first stay stand (rate_of c.inner) c phase octets more front.blocks all.inner.blocks all.inner.left front.are_first all.inner.are_blocks in
+    let split = bits-first stay stand c.inner c phase octets more front.blocks all.inner.blocks all.inner.left front.are_first all.inner.are_blocks in
     first-items c bits split.0 (length first) first items ok (first-take c bits (places (rules_of c) bits) first front.are_items)
     (subst (λ (l : List Bool). AreItems c l items) (all.inner.are_bits ∙ split.1) all.are_items)
 

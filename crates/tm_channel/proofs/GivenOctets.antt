@@ -1,22 +1,21 @@
 -- A receiver that is given octets: the phase and the blocks of its first stage, the bits of these, and the items that are due of them.
-use Rattle.std.proofs.Common.{◌≡◌, ◌==◌, ◌<◌, ◌≤◌, ◌+◌, ◌-◌, ◌*◌, ◌/◌, ◌%◌, ◌^◌, ℕ, zero, suc, min, inl, inr, get_or, Bool, true, false, List, [], ◌∷◌, ◌++◌, length, take, drop, map, refl, sym, ap, ◌∙◌, subst, arith, append_assoc, length-append, length-drop, Option, Some, None}
+use Rattle.std.proofs.Common.{◌≡◌, ◌==◌, ◌<◌, ◌≤◌, ◌+◌, ◌-◌, ◌*◌, ◌^◌, ℕ, inl, inr, Bool, true, false, List, [], ◌∷◌, ◌++◌, length, take, drop, map, refl, sym, ap, ◌∙◌, subst, arith, append_assoc, length-append, length-drop, Option, Some, None}
 use Rattle.std.specs.Option.{is_some}
-use Rattle.std.proofs.lemmas.List.{append-nil, drop-append-le, drop-map, drop_all, length-map, take_rest}
-use Rattle.std.proofs.lemmas.Bool.{cases_lt}
+use Rattle.std.proofs.lemmas.List.{append-nil, drop_all, length-map}
 use Rattle.std.proofs.Math.Seq.{take-add}
-use Rattle.tm_base.specs.Bits.{bits_of, bits_of_octet}
+use Rattle.tm_base.specs.Bits.{bits_of}
 use Rattle.tm_base.specs.Handed.{Handed, Phase, Item, on_handed, items_of}
 use Rattle.tm_base.specs.Takers.{HandedOver, HandedPart}
-use Rattle.tm_base.proofs.Packing.{length-bits_of, length-low_bits, bits_of-append, bits_of-drop}
+use Rattle.tm_base.proofs.Packing.{length-bits_of, bits_of-append}
 use Rattle.tm_base.proofs.Handing.{HandedOver-append, HandedPart-after}
 use Rattle.tm_base.proofs.HandedItems.{HandedOver-items, HandedPart-items, items_of-append}
 use Rattle.tm_config.specs.Configuration.{Configuration}
+use Rattle.tm_config.proofs.Choices.{never_both}
 use Rattle.tm_conv.specs.declared.rates.Rate.{Rate}
 use Rattle.tm_viterbi.specs.WindowBlock.{WindowBlock}
 use Rattle.tm_viterbi.specs.Due.{AreFirst}
 use Rattle.tm_viterbi.specs.Clean.{kept_bits}
 use Rattle.tm_phase.specs.declared.choosing.Chosen.{Chosen}
-use Rattle.tm_inner.specs.Symbols.{rate_of}
 use Rattle.tm_inner.specs.Inner.{BlocksAt, bits_at, settings_of, soft_value, soft_octets, AreInnerBlocks, AreInnerDue, Inner, inner_bits}
 use Rattle.tm_inner.specs.Phase.{IsChosenBy, IsChosen, IsSettled, needed_at, skipped_at, phase_octets, skip_of, in_turn, IsChosenSoFar}
 use Rattle.tm_inner.specs.Handing.{AreHanded, AreHandedDue}
@@ -31,7 +30,7 @@ use Rattle.tm_inner.proofs.HandedBits.{handed-due-none, handed-last-few, handed-
 use Rattle.tm_sync.specs.declared.found.Found.{Found}
 use Rattle.tm_sync.specs.Places.{places}
 use Rattle.tm_sync.proofs.Longer.{places-end, places-goes_on}
-use Rattle.tm_channel.specs.ReceivedCodeblock.{rules_of}
+use Rattle.tm_codeblock.specs.ReceivedCodeblock.{rules_of}
 use Rattle.tm_channel.specs.Items.{ItemValue, AreItemsOf, AreFirstItemsOf, AreItems}
 use Rattle.tm_channel.specs.Due.{due}
 use Rattle.tm_channel.specs.Handing.{phase_from, phase_of, AreReceived, AreReceivedDue, AreReceivedFirst, AreReceivedFront}
@@ -103,14 +102,16 @@ grows-kept inner now room kept octets more handed none fresh fits stands given d
     let c = inner.config in
     let there = stands given done few stood in
     let most = handed-more-few c given octets done more due there.1 in
-    let same : kept.bits ≡ kept_bits (items_of more) = kept-alone room kept more handed none (omega (arith, most, needed-few (rate_of c.inner) c, fits)) in
+    let same : kept.bits ≡ kept_bits (items_of more) = kept-alone room kept more handed none
+    (omega (arith, most, needed-few c.inner c, fits)) in
     record {
       more = more;
       stands = there.0;
       due = there.1;
       is_phase = kept-phase room kept more handed ∙ ap (λ (o : Option Chosen). phase_from o more) fresh;
       bits = ap (inner_bits c (given ++ octets)) (items_of-append done more)
-          ∙ further-at (rate_of c.inner) c given octets (items_of done) (items_of more) kept.bits (c.skip - 8 * inner.count) (omega (arith, stood.count)) same;
+          ∙ further-at c.inner c given octets (items_of done) (items_of more) kept.bits (c.skip - 8 * inner.count)
+          (omega (arith, stood.count)) same;
     }
 
 last-at : (rate : Option Rate) (c : Configuration) (phase : ℕ) (given : List ℕ) (blocks last : List WindowBlock) (left : ℕ) → BlocksAt rate c phase given (blocks ++ last) left
@@ -129,7 +130,8 @@ bits-last : (c : Configuration) (given : List ℕ) (done last : List (Handed Win
     → inner_bits c given (items_of (done ++ last)) ≡ inner_bits c given (items_of done) ++ all_bits (items_of last)
 bits-last c given done last left h =
     let blocks : h.items ≡ items_of done ++ items_of last = sym (turn-items h.chosen h.items (done ++ last) h.are) ∙ items_of-append done last in
-    ap (inner_bits c given) (items_of-append done last) ∙ last-at (rate_of c.inner) c (skip_of h.chosen) given (items_of done) (items_of last) left
+    ap (inner_bits c given) (items_of-append done last)
+    ∙ last-at c.inner c (skip_of h.chosen) given (items_of done) (items_of last) left
     (subst (λ (l : List WindowBlock). AreInnerBlocks c (skip_of h.chosen) given l left) blocks h.are_items)
 
 -- the first stage ended, and its phase and its bits were kept
@@ -142,7 +144,8 @@ ends-kept inner room kept count last left handed none fresh fits stands given do
     let c = inner.config in
     let there = stands given done stood in
     let most = handed-last-few c given done last left due there.0 in
-    let same : kept.bits ≡ kept_bits (items_of last) = kept-alone room kept last handed none (omega (arith, most, needed-few (rate_of c.inner) c, fits)) in
+    let same : kept.bits ≡ kept_bits (items_of last) = kept-alone room kept last handed none
+    (omega (arith, most, needed-few c.inner c, fits)) in
     record {
       last = last;
       left = left;
@@ -159,46 +162,6 @@ pub piece-joined : (done count : ℕ) (octets : List ℕ) → take done octets +
 piece-joined done count octets =
     let same : (done + count) - done ≡ count = omega arith in
     ap (λ (n : ℕ). take done octets ++ take n (drop done octets)) same ∙ sym (take-add done count octets)
-
--- bits behind the first ones
-drop-twice : {A : Type 0} (a b : ℕ) (xs : List A) → drop b (drop a xs) ≡ drop (a + b) xs
-drop-twice zero b xs = (let same : b ≡ 0 + b = omega arith in ap (λ n. drop n xs) same)
-drop-twice (suc a) b [] = drop_all b [] (omega arith) ∙ sym (drop_all (suc a + b) [] (omega arith))
-drop-twice (suc a) b (x ∷ xs) = (let same : suc (a + b) ≡ suc a + b = omega arith in drop-twice a b xs ∙ ap (λ n. drop n (x ∷ xs)) same)
-
-pub bits-behind : (skip skipped odd : ℕ) (octets : List ℕ) → skipped ≡ min (skip / 8) (length octets) → odd ≡ skip % 8 → drop odd (bits_of (drop skipped octets)) ≡ drop skip (bits_of octets)
-bits-behind skip skipped odd octets is rest =
-    ap (drop odd) (bits_of-drop skipped octets) ∙ drop-twice (8 * skipped) odd (bits_of octets) ∙ elim (cases_lt (length octets) (skip / 8)) as (λ _. drop (8 * skipped + odd) (bits_of octets) ≡ drop skip (bits_of octets)) [
-      | inl less ↦ drop_all (8 * skipped + odd) (bits_of octets) (omega (arith, is, less, length-bits_of octets)) ∙ sym (drop_all skip (bits_of octets) (omega (arith, less, length-bits_of octets)))
-      | inr least ↦ (let same : 8 * skipped + odd ≡ skip = omega (arith, is, rest, least) in ap (λ n. drop n (bits_of octets)) same)
-    ]
-
--- the bits of the first octet, and those of the rest
-pub bits-first_octet : (odd : ℕ) (octets : List ℕ) (x : ℕ) → odd ≤ 8 → 0 < length octets → drop odd (bits_of_octet (get_or octets 0 x)) ++ bits_of (drop 1 octets) ≡ drop odd (bits_of octets)
-bits-first_octet odd [] x few some = absurd (omega arith)
-bits-first_octet odd (octet ∷ octets) x few some = sym (drop-append-le odd (bits_of_octet octet) (bits_of octets) (omega (arith, few, length-low_bits 8 octet)))
-
--- the bits of the first octet that is not skipped as a whole, and those behind it
-pub behind-all : (skip skipped : ℕ) (octets rest bits back : List ℕ) → skipped ≡ min (skip / 8) (length octets) → skipped < length octets → rest ≡ drop skipped octets
-    → map (λ bit. bit == 1) bits ≡ bits_of_octet (get_or rest 0 0) → back ≡ drop 1 rest
-    → map (λ bit. bit == 1) (take (8 - skip % 8) (drop (skip % 8) bits)) ++ bits_of back ≡ drop skip (bits_of octets)
-behind-all skip skipped octets rest bits back is some rest_is same back_is =
-    let odd = skip % 8 in
-    let eight : 8 ≡ length bits = sym (sym (length-map bits (λ bit. bit == 1)) ∙ ap length same ∙ length-low_bits 8 (get_or rest 0 0)) in
-    let front_is : take (8 - odd) (drop odd bits) ≡ drop odd bits = ap (λ n. take (n - odd) (drop odd bits)) eight ∙ take_rest bits odd in
-    let long : 0 < length rest = omega (arith, some, ap length rest_is, length-drop skipped octets) in
-    ap (λ l. map (λ bit. bit == 1) l ++ bits_of back) front_is
-    ∙ ap (λ l. map (λ bit. bit == 1) (drop (skip % 8) bits) ++ bits_of l) back_is
-    ∙ ap (λ l. l ++ bits_of (drop 1 rest)) (sym (drop-map (λ (bit : ℕ). bit == 1) (skip % 8) bits) ∙ ap (drop (skip % 8)) same)
-    ∙ bits-first_octet (skip % 8) rest 0 (omega arith) long
-    ∙ ap (λ l. drop (skip % 8) (bits_of l)) rest_is ∙ bits-behind skip skipped (skip % 8) octets is refl
-
--- all octets are skipped
-pub behind-none : (skip skipped : ℕ) (octets : List ℕ) → skipped ≡ min (skip / 8) (length octets) → length octets ≤ skipped → [] ≡ drop skip (bits_of octets)
-behind-none skip skipped octets is none =
-    sym (drop_all (skip % 8) (bits_of (drop skipped octets)) (omega (arith, none, length-bits_of (drop skipped octets), length-drop skipped octets))) ∙ bits-behind skip skipped (skip % 8) octets is refl
-
--- ---- items that are due
 
 -- those that were due, and those that further bits make due
 due-further : (c : Configuration) (bits piece : List Bool) (done items : List ItemValue) → AreItemsOf c bits (due (rules_of c) bits) done → AreFurther c bits piece items
@@ -226,8 +189,8 @@ first-beyond c bits rest items are =
 once : (c : Configuration) (soft soft_now : List ℕ) (chosen other : Option Chosen) (blocks all : List WindowBlock) (more : List (Handed WindowBlock))
     → IsChosenBy c soft chosen → IsChosenBy c soft_now other → in_turn chosen blocks ++ more ≡ in_turn other all → phase_of more ≡ None
 once c soft soft_now None None blocks all more is now same = sym (phase_of-behind blocks more) ∙ ap phase_of same ∙ phase_of-in_turn None all
-once c soft soft_now None (Some b) blocks all more is now same = absurd (now.0 is)
-once c soft soft_now (Some a) None blocks all more is now same = absurd (is.0 now)
+once c soft soft_now None (Some b) blocks all more is now same = absurd (never_both c.phase is now.0)
+once c soft soft_now (Some a) None blocks all more is now same = absurd (never_both c.phase now is.0)
 once c soft soft_now (Some a) (Some b) blocks all more is now same =
     sym (phase_of-behind blocks more) ∙ ap (λ l. phase_of (drop 1 l)) same ∙ phase_of-in_turn None all
 
@@ -255,7 +218,7 @@ unsettled-at None c (octet ∷ octets) unsettled = absurd (unsettled (omega (ari
 unsettled-at (Some rate) c given unsettled = refl
 
 unsettled-none : (c : Configuration) (given : List ℕ) → (IsSettled c given → ⊥) → inner_bits c given [] ≡ []
-unsettled-none c given unsettled = unsettled-at (rate_of c.inner) c given (λ many. unsettled (inr many))
+unsettled-none c given unsettled = unsettled-at c.inner c given (λ many. unsettled (inr many))
 
 nil-items : (c : Configuration) (bits : List Bool) (items : List ItemValue) → AreItemsOf c bits [] items → items ≡ []
 nil-items c bits [] are = refl
@@ -311,7 +274,12 @@ few-nil (Some rate) c given = omega arith
 
 due-few : (c : Configuration) (given : List ℕ) (handed : List (Handed WindowBlock)) → AreHandedDue c given handed → length (inner_bits c given (items_of handed)) ≤ 8 * length given
 due-few c given handed (inl w) =
-    omega (arith, few-nil (rate_of c.inner) c given, ap (λ (l : List (Handed WindowBlock)). length (inner_bits c given (items_of l))) w.1)
+    omega (
+      arith,
+      few-nil c.inner c given,
+      ap
+          (λ (l : List (Handed WindowBlock)). length (inner_bits c given (items_of l))) w.1,
+    )
 due-few c given handed (inr g) =
     let h = g.1 in
     omega (
@@ -497,7 +465,7 @@ pub first-stays : PhaseStays → StayClosed → (c : Configuration) → Stay (Ar
 first-stays stays closed c octets more handed h =
     let t = h.1 in
     let r = t.are_items in
-    let first = stays-at closed (rate_of c.inner) c (skip_of t.chosen) octets more r.blocks r.are_first in (
+    let first = stays-at closed c.inner c (skip_of t.chosen) octets more r.blocks r.are_first in (
       settled-stays c octets more h.0,
       record {
         chosen = t.chosen;
@@ -670,7 +638,7 @@ bits-nil (Some rate) c = refl
 pub stands-fresh : (s : Stages) → 1 ≤ s.inner.config.keep → InnerStandsFor s.inner [] [] → StandsForBits s.bits [] → StagesFor s [] []
 stands-fresh s some inner bits =
     let c = s.inner.config in
-    let none : inner_bits c [] [] ≡ [] = bits-nil (rate_of c.inner) c in
+    let none : inner_bits c [] [] ≡ [] = bits-nil c.inner c in
     record {
       handed = [];
       inner = inner;

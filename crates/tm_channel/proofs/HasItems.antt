@@ -1,6 +1,6 @@
 -- Received octets have items.
 use Rattle.std.proofs.Common.{ℕ, Bool, cond, List, [], ◌∷◌, refl}
-use Rattle.tm_config.specs.Configuration.{Configuration}
+use Rattle.tm_config.specs.Configuration.{Configuration, correctable}
 use Rattle.tm_config.specs.Accepted.{IsAccepted}
 use Rattle.tm_inner.specs.Inner.{Inner}
 use Rattle.tm_rs_code.specs.Nearest.{IsNearest, Nearest}
@@ -11,7 +11,7 @@ use Rattle.tm_rs_solve.specs.declared.answers.Answer.TheVariants.{Fixed, Beyond}
 use Rattle.tm_rs_solve.specs.Answers.{found}
 use Rattle.tm_sync.specs.declared.found.Found.{Found}
 use Rattle.tm_sync.specs.Places.{places}
-use Rattle.tm_channel.specs.ReceivedCodeblock.{rules_of, codeblock_at, received_columns, frame_of}
+use Rattle.tm_codeblock.specs.ReceivedCodeblock.{rules_of, codeblock_at, received_columns, frame_of}
 use Rattle.tm_channel.specs.Items.{ItemValue, AreNearest, are_fixed, IsItem, AreItemsOf}
 use Rattle.tm_channel.specs.Receive.{Receive}
 
@@ -24,8 +24,8 @@ as-answer e bound column BeyondWord is = (Beyond, [], is)
 has-answers : (c : Configuration) (columns : List (List ℕ)) → (answers : List Answer) × (words : List (List ℕ)) × AreNearest c columns answers words
 has-answers c [] = ([], [], tt)
 has-answers c (column ∷ columns) =
-    let nearest = has_nearest c.code c.repair column in
-    let one = as-answer c.code c.repair column nearest.0 nearest.1 in
+    let nearest = has_nearest (correctable c.code) c.repair column in
+    let one = as-answer (correctable c.code) c.repair column nearest.0 nearest.1 in
     let more = has-answers c columns in
     (one.0 ∷ more.0, one.1 ∷ more.1, (one.2, more.2))
 

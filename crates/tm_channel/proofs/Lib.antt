@@ -1,7 +1,5 @@
-pub mod Frames
 pub mod Steps
 pub mod Sending
-pub mod Codeblocks
 pub mod SentCodeblocks
 pub mod Repairs
 pub mod CleanStreams
@@ -15,16 +13,15 @@ pub mod TurnedOctets
 pub mod DueItems
 pub mod FirstItems
 pub mod WorkedItems
-pub mod Gathered
 pub mod HandedItems
 pub mod Handing
 pub mod Streaming
 pub mod Stepping
 pub mod Pieces
+pub mod Between
 pub mod AllBits
 pub mod ReceivedPieces
 pub mod Turns
 pub mod GivenOctets
-pub mod TurnedOver
 pub mod ColumnsRead
 pub mod Repaired

@@ -1,7 +1,7 @@
 -- Bits have one list of items.
 use Rattle.std.proofs.Common.{◌≡◌, ◌≤◌, ◌+◌, ◌*◌, ℕ, zero, suc, Bool, true, false, cond, List, [], ◌∷◌, length, map, take, drop, refl, sym, ap, ◌∙◌, subst, arith, inl, inr, length-drop, length-take-le}
 use Rattle.std.specs.List.{AllByRecursion, range_with_len}
-use Rattle.tm_config.specs.Configuration.{Configuration, word_length, codeblock_length}
+use Rattle.tm_config.specs.Configuration.{Configuration, word_length, codeblock_length, correctable}
 use Rattle.tm_config.specs.Accepted.{IsAccepted}
 use Rattle.tm_rs_code.specs.Nearest.{Nearest}
 use Rattle.tm_rs_code.specs.Nearest.Nearest.{Fixed as FixedWord, Beyond as BeyondWord}
@@ -12,7 +12,7 @@ use Rattle.tm_rs_solve.specs.Answers.{found}
 use Rattle.tm_sync.specs.declared.found.Found.{Found}
 use Rattle.tm_sync.specs.Places.{places}
 use Rattle.tm_sync.proofs.Longer.{places-end}
-use Rattle.tm_channel.specs.ReceivedCodeblock.{rules_of, codeblock_at, received_column, received_columns, frame_of}
+use Rattle.tm_codeblock.specs.ReceivedCodeblock.{rules_of, codeblock_at, received_column, received_columns, frame_of}
 use Rattle.tm_channel.specs.Items.{ItemValue, AreNearest, are_fixed, IsItem, AreItemsOf, AreItems}
 use Rattle.tm_channel.proofs.SentCodeblocks.{coded, columns-coded, columns-uncoded, length-received, length-codeblock_in}
 use Rattle.tm_channel.proofs.Repairs.{found-tells}
@@ -40,7 +40,8 @@ answers-same : (c : Configuration) (columns : List (List ℕ)) (firsts seconds :
     → AreShort columns → AreNearest c columns firsts vs → AreNearest c columns seconds ws → (firsts ≡ seconds) × (are_fixed firsts ≡ true → vs ≡ ws)
 answers-same c [] [] [] [] [] ok short are others = (refl, λ _. refl)
 answers-same c (column ∷ columns) (a ∷ firsts) (b ∷ seconds) (v ∷ vs) (w ∷ ws) ok short are others =
-    let one = found-same a b v w (nearest_only c.code c.repair column (found a v) (found b w) ok.repair short.0 are.0 others.0) in
+    let one = found-same a b v w (nearest_only (correctable c.code) c.repair column (found a v)
+    (found b w) ok.repair short.0 are.0 others.0) in
     let more = answers-same c columns firsts seconds vs ws ok short.1 are.1 others.1 in
     ((λ i. one.0 i ∷ more.0 i), words-same a firsts v w vs ws one.1 more.1)
 answers-same c columns firsts seconds vs ws ok short are others = absurd (assumption)

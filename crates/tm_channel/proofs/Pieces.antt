@@ -1,7 +1,7 @@
 -- A piece of the bits, and then another.
 use Rattle.std.proofs.Common.{◌<◌, ◌^◌, Bool, List, ◌++◌, length, subst, arith, append_assoc, length-append}
 use Rattle.tm_config.specs.Configuration.{Configuration}
-use Rattle.tm_channel.specs.ReceivedCodeblock.{rules_of}
+use Rattle.tm_codeblock.specs.ReceivedCodeblock.{rules_of}
 use Rattle.tm_channel.specs.Items.{ItemValue, AreItemsOf, AreFirstItemsOf}
 use Rattle.tm_channel.specs.Due.{due}
 use Rattle.tm_channel.specs.Receiving.{beyond, AreDue, AreFirstDue, GoesOn}

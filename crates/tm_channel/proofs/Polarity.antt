@@ -1,13 +1,15 @@
 -- The items of bits that were all turned over.
-use Rattle.std.proofs.Common.{◌≡◌, ◌+◌, ◌*◌, ◌==◌, ℕ, Bool, true, List, [], ◌∷◌, take, drop, map, refl, sym, ap, ◌∙◌, subst, arith}
+use Rattle.std.proofs.Common.{◌≡◌, ◌+◌, ◌*◌, ℕ, Bool, true, List, [], ◌∷◌, take, drop, map, refl, sym, ap, ◌∙◌, subst, arith}
 use Rattle.tm_base.specs.Bits.{octets_of}
-use Rattle.tm_config.specs.Configuration.{Configuration, codeblock_length}
+use Rattle.tm_config.specs.Configuration.{Configuration, codeblock_length, is_sought}
+use Rattle.tm_config.specs.declared.values.Sought.{Sought}
+use Rattle.tm_config.specs.declared.values.Sought.TheVariants.{Find}
 use Rattle.tm_config.specs.Accepted.{IsAccepted}
 use Rattle.tm_sync.specs.declared.found.Found.{Found}
 use Rattle.tm_sync.specs.Bits.{flip, complement}
 use Rattle.tm_sync.specs.Places.{places, turned_place}
 use Rattle.tm_sync.proofs.Turned.{take-complement, drop-complement, in_polarity-turned, places-turned}
-use Rattle.tm_channel.specs.ReceivedCodeblock.{rules_of, unmasked, codeblock_in, codeblock_at}
+use Rattle.tm_codeblock.specs.ReceivedCodeblock.{rules_of, unmasked, codeblock_in, codeblock_at}
 use Rattle.tm_channel.specs.Items.{ItemValue, IsItem, AreItemsOf, AreItems, turned_item}
 
 in-turned : (c : Configuration) (inverted : Bool) (bits : List Bool) → codeblock_in c (flip inverted) (complement bits) ≡ codeblock_in c inverted bits
@@ -30,10 +32,11 @@ items-of-turned c bits (f ∷ fs) (item ∷ items) are =
       items-of-turned c bits fs items are.1,
     )
 
-either : (n : ℕ) → n ≡ 1 → (n == 1) ≡ true
-either n one = rw one refl
+either : (sought : Sought) → sought ≡ Find → is_sought sought ≡ true
+either sought find = rw find refl
 
-pub items-turned : (c : Configuration) (bits : List Bool) (items : List ItemValue) → IsAccepted c → c.polarity ≡ 1 → AreItems c bits items
+pub items-turned : (c : Configuration) (bits : List Bool) (items : List ItemValue) → IsAccepted c → c.polarity ≡ Find
+    → AreItems c bits items
     → AreItems c (complement bits) (map turned_item items)
 items-turned c bits items ok find are =
     subst (λ (fs : List Found). AreItemsOf c (complement bits) fs (map turned_item items))

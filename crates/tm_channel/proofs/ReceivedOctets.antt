@@ -8,13 +8,13 @@ use Rattle.tm_config.specs.Configuration.{Configuration, codeblock_length}
 use Rattle.tm_config.specs.Accepted.{IsAccepted}
 use Rattle.tm_inner.specs.Inner.{Inner, IsStartKnown}
 use Rattle.tm_inner.specs.Symbols.{symbols_of_octets}
-use Rattle.tm_channel.specs.Frames.{first_frames, whole_frames, HaveSize}
-use Rattle.tm_channel.specs.Cadu.{cadu}
+use Rattle.tm_codeblock.specs.Frames.{first_frames, whole_frames, HaveSize}
+use Rattle.tm_codeblock.specs.Cadu.{cadu}
+use Rattle.tm_codeblock.proofs.Frames.{splits}
 use Rattle.tm_channel.specs.Sent.{cadus, sent}
 use Rattle.tm_channel.specs.Items.{ItemValue, AreItems, frames_of}
 use Rattle.tm_channel.specs.Receive.{Receive}
 use Rattle.tm_channel.specs.SentStream.{IsFrame, SentUnit, IsSent, unit_places, AreAsSent, AreNear, unit_frames, sent_bits, clean_items}
-use Rattle.tm_channel.proofs.Frames.{splits}
 use Rattle.tm_channel.proofs.Repairs.{items-as_sent, frames-sent}
 use Rattle.tm_channel.proofs.CleanStreams.{items-clean}
 use Rattle.tm_channel.proofs.OnlyItems.{items-only}

@@ -1,12 +1,13 @@
 -- What came of the words of codeblocks.
-use Rattle.std.proofs.Common.{◌≡◌, ℕ, zero, suc, ◌+◌, ◌*◌, ◌<◌, ◌≤◌, ◌==◌, false, if◌then◌else◌, List, [], ◌∷◌, ◌++◌, length, map, take, drop, get_or, set, refl, sym, ap, ◌∙◌, subst, arith, Option, unwrap_or, ◌⊎◌, inl, inr}
-use Rattle.std.proofs.lemmas.Bool.Decides.{nat_tests}
+use Rattle.std.proofs.Common.{◌≢◌, ◌≡◌, ℕ, zero, suc, ◌+◌, ◌*◌, ◌<◌, ◌≤◌, if◌then◌else◌, List, [], ◌∷◌, ◌++◌, length, map, take, drop, get_or, set, refl, sym, ap, ◌∙◌, subst, arith, Option, unwrap_or, ◌⊎◌, inl, inr}
 use Rattle.std.proofs.lemmas.Grind.{common_steps}
 use Rattle.std.proofs.lemmas.Bool.{cases_lt}
 use Rattle.std.proofs.lemmas.List.{take_at, drop_at, drop-take, get_or_default, get_or-set_other, get_or-set_same, length-map, length-take-le}
 use Rattle.std.proofs.lemmas.Slice.{take-put_mid_below}
 use borrow.Rule.Slice.PartMut.{put_mid, post_of}
-use Rattle.tm_config.specs.Configuration.{Configuration, codeblock_length, data_length, word_length}
+use Rattle.tm_config.specs.Configuration.{Configuration, codeblock_length, data_length, word_length, correctable}
+use Rattle.tm_config.proofs.Choices.{uncoded_false}
+use Rattle.tm_config.specs.declared.values.OuterCode.TheVariants.{Uncoded}
 use Rattle.tm_gf256.specs.Poly.{numbers}
 use Rattle.tm_rs_code.specs.Code.{Code}
 use Rattle.tm_rs_code.specs.Nearest.{IsNearest}
@@ -16,26 +17,31 @@ use Rattle.tm_rs_solve.specs.declared.answers.Answer.TheVariants.{Beyond}
 use Rattle.tm_workers.specs.declared.words.Word.{Word}
 use Rattle.tm_workers.specs.Batch.{EachBecomes}
 use Rattle.tm_workers.specs.Words.{Decodes}
+use Rattle.tm_codeblock.specs.ReceivedCodeblock.{received_columns, frame_of}
 use Rattle.tm_channel.specs.ColumnWords.{symbols_of, all_symbols}
 use Rattle.tm_channel.specs.Items.{AreNearest, IsItem, are_fixed}
-use Rattle.tm_channel.specs.ReceivedCodeblock.{received_columns, frame_of}
 use Rattle.tm_channel.specs.Receiving.{AreItemsFor, IsItemAt}
 use Rattle.tm_channel.specs.Storing.{AreDecoded, AreRead, IsDecoded, IsRead, answers_of, codeblock_in_slot, column_count, item_in, kept_in, words_at}
 use Rattle.tm_channel.specs.declared.slot.Slot.{Slot}
 
 -- words that were decoded hold what is nearest to the columns that were read into them
-pub nearest-are : (c : Configuration) (code : Code) (words now : List Word) → code.e ≡ c.code → code.n ≡ word_length c → EachBecomes (Decodes code c.repair) words now
+pub nearest-are : (c : Configuration) (code : Code) (words now : List Word) → code.e ≡ correctable c.code
+    → code.n ≡ word_length c → EachBecomes (Decodes code c.repair) words now
     → AreNearest c (all_symbols c words) (answers_of now) (all_symbols c now)
 nearest-are c code [] [] e n become = tt
 nearest-are c code [] (w' ∷ now) e n become = absurd become
 nearest-are c code (w ∷ words) [] e n become = absurd become
 nearest-are c code (w ∷ words) (w' ∷ now) e n become = (one become.0, nearest-are c code words now e n become.1)
   where
-    one : Decodes code c.repair w w' → IsNearest c.code c.repair (symbols_of c w) (found (unwrap_or w'.answer Beyond) (symbols_of c w'))
+    one : Decodes code c.repair w w'
+        → IsNearest (correctable c.code) c.repair (symbols_of c w)
+        (found (unwrap_or w'.answer Beyond) (symbols_of c w'))
     one d =
         let told : d.answer ≡ unwrap_or w'.answer Beyond = sym (ap (λ (o : Option Answer). unwrap_or o Beyond) d.told) in
-        subst (λ (k : ℕ). IsNearest c.code c.repair (numbers (take k w.symbols)) (found (unwrap_or w'.answer Beyond) (numbers (take k w'.symbols)))) n
-        (subst (λ (a : Answer). IsNearest c.code c.repair (numbers (take code.n w.symbols)) (found a (numbers (take code.n w'.symbols)))) told
+        subst (λ (k : ℕ). IsNearest (correctable c.code) c.repair (numbers (take k w.symbols))
+        (found (unwrap_or w'.answer Beyond) (numbers (take k w'.symbols)))) n
+        (subst (λ (a : Answer). IsNearest (correctable c.code) c.repair (numbers (take code.n w.symbols))
+        (found a (numbers (take code.n w'.symbols)))) told
         (subst (λ (k : ℕ). IsNearest k c.repair (numbers (take code.n w.symbols)) (found d.answer (numbers (take code.n w'.symbols)))) e d.nearest))
 
 -- a part of a batch
@@ -56,20 +62,19 @@ becomes-drop R (suc count) (x ∷ xs) (y ∷ ys) each = becomes-drop R count xs 
 pub becomes-part : {W : Type 0} (R : W → W → Type 0) (count index : ℕ) (xs ys : List W) → EachBecomes R xs ys → EachBecomes R (take count (drop (index * count) xs)) (take count (drop (index * count) ys))
 becomes-part R count index xs ys each = becomes-take R count (drop (index * count) xs) (drop (index * count) ys) (becomes-drop R (index * count) xs ys each)
 
-not-zero : (n : ℕ) → 0 < n → (n == 0) ≡ false
-not-zero n lt = grind (arith, nat_tests)
-
 -- the words of all codeblocks, decoded as one batch
-pub all-decoded : (c : Configuration) (code : Code) (repair : ℕ) (slots : List Slot) (words now : List Word) → 0 < c.code → code.e ≡ c.code → code.n ≡ word_length c → repair ≡ c.repair
+pub all-decoded : (c : Configuration) (code : Code) (repair : ℕ) (slots : List Slot) (words now : List Word)
+    → c.code ≢ Uncoded → code.e ≡ correctable c.code → code.n ≡ word_length c → repair ≡ c.repair
     → AreRead c slots words → EachBecomes (Decodes code repair) words now → AreDecoded c slots now
 all-decoded c code repair slots words now coded e n bound read decoded =
     let become : EachBecomes (Decodes code c.repair) words now = subst (λ (r : ℕ). EachBecomes (Decodes code r) words now) bound decoded in λ index slot below.
-    rw (not-zero c.code coded) (
+    rw (uncoded_false c.code coded) (
     subst (λ (columns : List (List ℕ)). AreNearest c columns (answers_of (words_at c.depth now index)) (all_symbols c (words_at c.depth now index))) (read index slot below)
     (nearest-are c code (words_at c.depth words index) (words_at c.depth now index) e n (becomes-part (Decodes code c.repair) c.depth index words now become)))
 
 -- with no outer code there are no words
-pub none-decoded : (c : Configuration) (slots : List Slot) (words : List Word) → c.code ≡ 0 → AreDecoded c slots words
+pub none-decoded : (c : Configuration) (slots : List Slot) (words : List Word) → c.code ≡ Uncoded
+    → AreDecoded c slots words
 unfolding received_columns
 none-decoded c slots words none = λ index slot below. rw none tt
 
@@ -120,7 +125,8 @@ answers-are c words written others long are =
     take_at written others (column_count c) (ap length are ∙ length-map words (λ (w : Word). unwrap_or w.answer Beyond) ∙ long) ∙ are
 
 -- with no outer code the frame is the codeblock
-pub plain-frame : (c : Configuration) (octets : List ℕ) (words : List (List ℕ)) → c.code ≡ 0 → c.frame_length ≡ c.depth * data_length c
+pub plain-frame : (c : Configuration) (octets : List ℕ) (words : List (List ℕ)) → c.code ≡ Uncoded
+    → c.frame_length ≡ c.depth * data_length c
     → take c.frame_length octets ≡ frame_of c (take (codeblock_length c) octets) words
 unfolding frame_of
 plain-frame c octets words none whole = rw none (ap (λ n. take n octets) (whole ∙ ap (λ n. c.depth * n) (no-more (data_length c))))

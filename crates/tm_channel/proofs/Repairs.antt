@@ -2,7 +2,7 @@
 use Rattle.std.proofs.Common.{◌≡◌, ◌≤◌, ◌+◌, ◌*◌, ℕ, Bool, true, false, cond, List, [], ◌∷◌, ◌++◌, length, take, drop, refl, sym, ap, ◌∙◌, subst, arith, Option, Some, None, append_assoc, length-append}
 use Rattle.std.specs.List.{AllByRecursion}
 use Rattle.std.proofs.lemmas.List.{take_at, drop_at}
-use Rattle.tm_config.specs.Configuration.{Configuration, codeblock_length}
+use Rattle.tm_config.specs.Configuration.{Configuration, codeblock_length, correctable}
 use Rattle.tm_config.specs.Accepted.{IsAccepted}
 use Rattle.tm_rs_code.specs.Code.{distance}
 use Rattle.tm_rs_code.specs.Nearest.{IsCodewordOf, IsNearest, Nearest}
@@ -16,7 +16,7 @@ use Rattle.tm_sync.specs.declared.found.Before.{Before}
 use Rattle.tm_sync.specs.Places.{before_next}
 use Rattle.tm_sync.specs.Marked.{Entry, joined, place_of, places_of, AreEntries}
 use Rattle.tm_sync.proofs.MarkedStreams.{place_of-place, places-marked}
-use Rattle.tm_channel.specs.ReceivedCodeblock.{rules_of, codeblock_in, codeblock_at, received_columns, frame_of}
+use Rattle.tm_codeblock.specs.ReceivedCodeblock.{rules_of, codeblock_in, codeblock_at, received_columns, frame_of}
 use Rattle.tm_channel.specs.Items.{ItemValue, AreNearest, are_fixed, IsItem, AreItemsOf, AreItems, frames_of}
 use Rattle.tm_channel.specs.SentStream.{IsFrame, SentUnit, entries_of, IsSent, unit_places, sent_columns, unit_codeblock, AreRepaired, AreWithin, IsAsSent, AreAsSent, AreNear, unit_frames}
 use Rattle.tm_channel.proofs.SentCodeblocks.{AreCodewords, are_codewords, frame-restored, length-codeblock_in}
@@ -42,11 +42,14 @@ found-tells (Fixed e) word sent d same = (ap (λ n. Fixed (distance_in n)) same,
 found-tells Beyond word sent d same = absurd (let no : false ≡ true = ap is_found same in cc)
 
 -- what is said of a column near to what was sent
-word-is : (c : Configuration) (column sent word : List ℕ) (answer : Answer) → IsAccepted c → length column ≤ 255 → IsCodewordOf c.code (length column) sent
-    → distance sent column ≤ c.repair → IsNearest c.code c.repair column (found answer word) → (answer ≡ Fixed (distance sent column)) × (word ≡ sent)
+word-is : (c : Configuration) (column sent word : List ℕ) (answer : Answer) → IsAccepted c → length column ≤ 255
+    → IsCodewordOf (correctable c.code) (length column) sent
+    → distance sent column ≤ c.repair → IsNearest (correctable c.code) c.repair column (found answer word)
+    → (answer ≡ Fixed (distance sent column)) × (word ≡ sent)
 word-is c column sent word answer ok short code within nearest =
     found-tells answer word sent (distance sent column)
-    (nearest_only c.code c.repair column (found answer word) (FixedWord sent (distance sent column)) ok.repair short nearest (code, refl, within))
+    (nearest_only (correctable c.code) c.repair column (found answer word)
+    (FixedWord sent (distance sent column)) ok.repair short nearest (code, refl, within))
 
 repaired : (c : Configuration) (columns others : List (List ℕ)) (answers : List Answer) (words : List (List ℕ)) → IsAccepted c
     → AreCodewords c columns others → AreNearest c columns answers words → AreRepaired c.repair columns others answers

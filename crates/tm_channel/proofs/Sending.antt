@@ -9,12 +9,12 @@ use Rattle.tm_config.specs.Configuration.{Configuration}
 use Rattle.tm_inner.specs.Symbols.{symbols_of_octets}
 use Rattle.tm_inner.specs.Sending.{StandsFor as InnerStandsFor}
 use Rattle.tm_inner.proofs.Symbols.{symbols-go_on, symbols-none}
-use Rattle.tm_channel.specs.Frames.{Splits, first_frames, whole_frames, behind_frames}
-use Rattle.tm_channel.specs.Cadu.{cadu}
+use Rattle.tm_codeblock.specs.Frames.{Splits, first_frames, whole_frames, behind_frames}
+use Rattle.tm_codeblock.specs.Cadu.{cadu}
+use Rattle.tm_codeblock.proofs.Frames.{splits, splits-more, frames-are, behind-is, whole_frames-more, whole_frames-none}
 use Rattle.tm_channel.specs.Sent.{cadus, sent}
 use Rattle.tm_channel.specs.Sending.{Sending, StandsFor, Sends, SendsFront}
 use Rattle.tm_channel.specs.Steps.{SendsFrames, SendsFramesFront}
-use Rattle.tm_channel.proofs.Frames.{splits, splits-more, frames-are, behind-is, whole_frames-more, whole_frames-none}
 
 -- ---- what is sent for a longer list
 

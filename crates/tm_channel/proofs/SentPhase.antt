@@ -1,13 +1,14 @@
 -- The phase of octets that were sent and not disturbed, or turned over.
 use Rattle.std.proofs.Common.{◌≡◌, ℕ, zero, suc, ◌+◌, ◌-◌, ◌%◌, ◌<◌, ◌≤◌, ◌==◌, cond, if◌then◌else◌, Bool, true, false, List, [], ◌∷◌, ◌++◌, length, take, drop, map, Option, Some, None, refl, sym, ap, ◌∙◌, subst, arith, take-append-drop, length-drop, inl, inr}
 use Rattle.std.proofs.lemmas.Bool.{cases_lt}
-use Rattle.std.proofs.lemmas.Bool.Decides.{eqb_tells}
 use Rattle.std.proofs.lemmas.List.{length-take-le, take_at}
 use Rattle.std.proofs.lemmas.List.Elements.{All-cons, All-nil, All-take}
 use Rattle.tm_base.specs.Bits.{AreOctets, bits_of}
 use Rattle.tm_base.specs.Handed.{Handed}
 use Rattle.tm_config.specs.Accepted.{IsAccepted}
-use Rattle.tm_config.specs.Configuration.{Configuration}
+use Rattle.tm_config.specs.Configuration.{Configuration, is_signed, is_sought}
+use Rattle.tm_config.specs.declared.values.SoftForm.{SoftForm}
+use Rattle.tm_config.specs.declared.values.SoftForm.TheVariants.{Unsigned, Signed}
 use Rattle.tm_conv.specs.declared.rates.Rate.{Rate}
 use Rattle.tm_conv.specs.Path.{AreBits, complement, path, register_after, steps_size}
 use Rattle.tm_conv.specs.Cost.{cost, sure}
@@ -24,9 +25,9 @@ use Rattle.tm_phase.specs.declared.choosing.Chosen.{Chosen}
 use Rattle.tm_phase.specs.Phase.{AreCompared, IsCostAt, IsPhase, octets_at, period_size}
 use Rattle.tm_inner.specs.Inner.{Inner, IsStartKnown, soft_value}
 use Rattle.tm_inner.specs.Phase.{IsChosen, PhaseAt, in_turn, phase_octets, skip_of, skipped_at}
-use Rattle.tm_inner.specs.Symbols.{is_inverted, low_level, rate_of, symbols_by}
+use Rattle.tm_inner.specs.Symbols.{is_inverted, low_level, symbols_by}
 use Rattle.tm_inner.proofs.InnerBits.{AreBits-bit_numbers, drop-none, soft-sent}
-use Rattle.tm_channel.specs.Frames.{whole_frames}
+use Rattle.tm_codeblock.specs.Frames.{whole_frames}
 use Rattle.tm_channel.specs.Sent.{cadus, sent, sent_phase}
 use Rattle.tm_channel.specs.Items.{ItemValue}
 use Rattle.tm_channel.specs.Handing.{AreReceived}
@@ -115,16 +116,18 @@ AreBits-complement [] = All-nil (λ b. b < 2)
 AreBits-complement (bit ∷ bits) = All-cons (λ b. b < 2) (1 - bit) (complement bits) (omega arith) (AreBits-complement bits)
 
 value-turned : (c : Configuration) (symbol : ℕ) → symbol < 2 → soft_value c (255 - level (low_level c.soft) symbol) ≡ cond (1 - symbol == 0) 0 255
-value-turned c zero small = go (c.soft == 0)
+value-turned c zero small = go c.soft
   where
-    go : (u8 : Bool) → (let octet = 255 - cond u8 0x00 0x80 in cond u8 octet ((octet + 128) % 256)) ≡ 255
-    go true = refl
-    go false = refl
-value-turned c (suc zero) small = go (c.soft == 0)
+    go : (form : SoftForm) → (let octet = 255 - low_level form in cond (is_signed form) ((octet + 128) % 256) octet)
+        ≡ 255
+    go Unsigned = refl
+    go Signed = refl
+value-turned c (suc zero) small = go c.soft
   where
-    go : (u8 : Bool) → (let octet = 255 - (255 - cond u8 0x00 0x80) in cond u8 octet ((octet + 128) % 256)) ≡ 0
-    go true = refl
-    go false = refl
+    go : (form : SoftForm) → (let octet = 255 - (255 - low_level form) in cond (is_signed form)
+        ((octet + 128) % 256) octet) ≡ 0
+    go Unsigned = refl
+    go Signed = refl
 value-turned c (suc (suc n)) small = absurd (omega arith)
 
 values-turned : (c : Configuration) (symbols : List ℕ) → AreDigits symbols → map (soft_value c) (turned_octets (levels (low_level c.soft) symbols)) ≡ sure (complement symbols)
@@ -146,32 +149,31 @@ phase-turned_at best turned (Some rate) c bits chosen none p =
 
 -- ---- the phase that is chosen
 
-chosen-is : (c : Configuration) (octets : List ℕ) (chosen : Option Chosen) → ((it : Chosen) → PhaseAt (rate_of c.inner) c (phase_octets c octets) it → (it.skip ≡ 0) × (it.cost ≡ 0))
+chosen-is : (c : Configuration) (octets : List ℕ) (chosen : Option Chosen)
+    → ((it : Chosen) → PhaseAt c.inner c (phase_octets c octets) it → (it.skip ≡ 0) × (it.cost ≡ 0))
     → IsChosen c octets chosen → chosen ≡ sent_phase c
 chosen-is c octets None each is = rw is refl
 chosen-is c octets (Some chosen) each is =
     let it = each chosen is.1 in
     let same : ◌≡◌ {A = Chosen} chosen (record { skip = 0; cost = 0 }) = (λ i. record { skip = it.0 i; cost = it.1 i }) in
-    elim (eqb_tells c.phase 0) [
-      | inl given ↦ absurd (is.0 given.1)
-      | inr find ↦ rw find.0 (ap (λ (x : Chosen). Some x) same)
-    ]
+    rw is.0 (ap (λ (x : Chosen). Some x) same)
 
 pub phase-sent : HasBest → (c : Configuration) (input : List ℕ) (chosen : Option Chosen) → c.skip ≡ 0 → IsChosen c (sent c input) chosen → chosen ≡ sent_phase c
 phase-sent best c input chosen none =
-    chosen-is c (sent c input) chosen (λ it p. phase-at best (rate_of c.inner) c (bits_of (cadus c input)) it none p)
+    chosen-is c (sent c input) chosen (λ it p. phase-at best c.inner c (bits_of (cadus c input)) it none p)
 
 pub phase-turned : HasBest → Complements → (c : Configuration) (input : List ℕ) (chosen : Option Chosen) → c.skip ≡ 0 → IsChosen c (turned_octets (sent c input)) chosen → chosen ≡ sent_phase c
 phase-turned best turned c input chosen none =
-    chosen-is c (turned_octets (sent c input)) chosen (λ it p. phase-turned_at best turned (rate_of c.inner) c (bits_of (cadus c input)) it none p)
+    chosen-is c (turned_octets (sent c input)) chosen
+    (λ it p. phase-turned_at best turned c.inner c (bits_of (cadus c input)) it none p)
 
 -- ---- what is handed over
 
 -- no octet stands before those that were sent
 pub sent-skip : (c : Configuration) → skip_of (sent_phase c) ≡ 0
-sent-skip c = go (c.phase == 0)
+sent-skip c = go (is_sought c.phase)
   where
-    go : (given : Bool) → skip_of (if given then None else Some (record { skip = 0; cost = 0 })) ≡ 0
+    go : (find : Bool) → skip_of (if find then Some (record { skip = 0; cost = 0 }) else None) ≡ 0
     go true = refl
     go false = refl
 

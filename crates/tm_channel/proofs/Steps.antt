@@ -5,11 +5,11 @@ use Rattle.std.proofs.lemmas.Grind.{flat_map-append}
 use Rattle.tm_config.specs.Configuration.{Configuration}
 use Rattle.tm_inner.specs.Sending.{InnerSending, Sends as InnerSends, SendsFront as InnerSendsFront}
 use Rattle.tm_inner.proofs.Sending.{sends-none, sends-more, sends-front, sends-front_of_longer}
-use Rattle.tm_channel.specs.Frames.{Splits, whole_frames, behind_frames}
-use Rattle.tm_channel.specs.Cadu.{cadu}
+use Rattle.tm_codeblock.specs.Frames.{Splits, whole_frames, behind_frames}
+use Rattle.tm_codeblock.specs.Cadu.{cadu}
+use Rattle.tm_codeblock.proofs.Frames.{splits, splits-more}
 use Rattle.tm_channel.specs.Sending.{Sending}
 use Rattle.tm_channel.specs.Steps.{SendsFrames, SendsFramesFront}
-use Rattle.tm_channel.proofs.Frames.{splits, splits-more}
 
 -- nothing
 pub frames-none : (s : Sending) (taken : Option (List ℕ)) → length s.held < s.config.frame_length → SendsFrames s s taken taken []

@@ -9,10 +9,10 @@ use Rattle.tm_sync.specs.Searching.{Searching, StandsFor, inside_of}
 use Rattle.tm_sync.proofs.Steps.{places_from-nil}
 use Rattle.tm_sync.proofs.Longer.{EndBefore, places-end, places-append}
 use Rattle.tm_config.specs.Configuration.{Configuration}
-use Rattle.tm_channel.specs.ReceivedCodeblock.{rules_of, codeblock_at}
+use Rattle.tm_codeblock.specs.ReceivedCodeblock.{rules_of, codeblock_at}
 use Rattle.tm_channel.specs.Items.{ItemValue, IsItem, AreItemsOf, AreFirstItemsOf}
 use Rattle.tm_channel.specs.Due.{in_batches, due}
-use Rattle.tm_channel.specs.Receiving.{Kept, kept_of, kept_at, beyond, AreItemsFor, AreFurther, Holding, HoldingMore, IsKept}
+use Rattle.tm_channel.specs.Receiving.{Kept, kept_of, kept_at, beyond, AreItemsFor, Holding, HoldingMore, IsHanded}
 
 -- ---- codeblocks stay as the bits go on
 block-same : (c : Configuration) (bits more : List Bool) (f : Found) → f.place + 32 + (rules_of c).block_bits ≤ length bits → kept_at c (bits ++ more) f ≡ kept_at c bits f
@@ -54,23 +54,32 @@ take-map' f zero xs = refl
 take-map' f (suc count) [] = refl
 take-map' f (suc count) (x ∷ xs) = ap (λ l. f x ∷ l) (take-map' f count xs)
 
+-- the codeblocks that wait stay as the bits go on
+kept-longer : (c : Configuration) (stands : List Bool → List Found → Type 0) (part : List Bool) (kept : List Kept)
+    (handed : ℕ) (bits more : List Bool)
+    → Holding c stands part kept handed bits
+    → kept ≡ map (kept_at c (bits ++ more)) (drop handed (places (rules_of c) bits))
+kept-longer c stands part kept handed bits more h =
+    h.waiting ∙ sym (kept-same c bits more (drop handed (places (rules_of c) bits))
+    (drop-all (λ (f : Found). f.place + 32 + (rules_of c).block_bits ≤ length bits) handed (places (rules_of c) bits)
+    (places-end (rules_of c) bits)))
+
 -- ---- one bit on
 -- no codeblock is whole with this bit
-pub stands-none : (c : Configuration) (stands stands' : List Bool → List Found → Type 0) (part part' : List Bool) (kept : List Kept) (bits more longer : List Bool)
-    → Holding c stands part kept bits → places (rules_of c) (bits ++ more) ≡ places (rules_of c) bits → stands' (bits ++ more) (places (rules_of c) bits)
-    → bits ++ more ≡ longer ++ part' → Holding c stands' part' kept (bits ++ more)
-stands-none c stands stands' part part' kept bits more longer h same now parts = record {
+pub stands-none : (c : Configuration) (stands stands' : List Bool → List Found
+    → Type 0) (part part' : List Bool) (kept : List Kept)
+    (handed : ℕ) (bits more longer : List Bool)
+    → Holding c stands part kept handed bits → places (rules_of c) (bits ++ more) ≡ places (rules_of c) bits
+    → stands' (bits ++ more) (places (rules_of c) bits)
+    → bits ++ more ≡ longer ++ part' → Holding c stands' part' kept handed (bits ++ more)
+stands-none c stands stands' part part' kept handed bits more longer h same now parts = record {
   search = subst (λ (fs : List Found). stands' (bits ++ more) fs) (sym same) now;
-  waiting = h.waiting ∙ sym (kept-same c bits more (drop (in_batches (length (places (rules_of c) bits))) (places (rules_of c) bits))
-      (drop-all (λ (f : Found). f.place + 32 + (rules_of c).block_bits ≤ length bits) (in_batches (length (places (rules_of c) bits))) (places (rules_of c) bits) (places-end (rules_of c) bits)))
-      ∙ ap (λ (fs : List Found). map (kept_at c (bits ++ more)) (drop (in_batches (length fs)) fs)) (sym same);
+  within = subst (λ (fs : List Found). handed ≤ length fs) (sym same) h.within;
+  waiting = kept-longer c stands part kept handed bits more h
+      ∙ ap (λ (fs : List Found). map (kept_at c (bits ++ more)) (drop handed fs)) (sym same);
   front = longer;
   parts = parts;
 }
-
-pub due-none : (c : Configuration) (bits more : List Bool) → places (rules_of c) (bits ++ more) ≡ places (rules_of c) bits → beyond (due (rules_of c) bits) (due (rules_of c) (bits ++ more)) ≡ []
-due-none c bits more same =
-    ap (λ (fs : List Found). beyond (due (rules_of c) bits) (take (in_batches (length fs)) fs)) same ∙ drop-length (due (rules_of c) bits)
 
 -- a codeblock is whole with the last of these bits
 pub record Whole (c : Configuration) (bits more : List Bool) (part : List Bool) (f : Found) : Type 0 where
@@ -80,127 +89,144 @@ pub record Whole (c : Configuration) (bits more : List Bool) (part : List Bool) 
   pub parts : bits ++ more ≡ front ++ part
   pub size : length part ≡ (rules_of c).block_bits
 
--- the codeblocks that wait, with the new one
-pub all-kept : (c : Configuration) (stands : List Bool → List Found → Type 0) (old part : List Bool) (kept : List Kept) (bits more : List Bool) (f : Found)
-    → Holding c stands old kept bits → Whole c bits more part f
-    → kept ++ kept_of c f part ∷ [] ≡ map (kept_at c (bits ++ more)) (drop (in_batches (length (places (rules_of c) bits))) (places (rules_of c) bits) ++ f ∷ [])
-all-kept c stands old part kept bits more f h w =
-    let waiting : List Found = drop (in_batches (length (places (rules_of c) bits))) (places (rules_of c) bits) in
-    let was : kept ≡ map (kept_at c (bits ++ more)) waiting = h.waiting ∙ sym (kept-same c bits more waiting
-    (drop-all (λ (f : Found). f.place + 32 + (rules_of c).block_bits ≤ length bits) (in_batches (length (places (rules_of c) bits))) (places (rules_of c) bits) (places-end (rules_of c) bits))) in
+-- it is kept
+pub stands-kept : (c : Configuration) (stands stands' : List Bool → List Found → Type 0) (old part now : List Bool)
+    (kept kept' : List Kept) (handed : ℕ) (bits more : List Bool) (f : Found)
+    → Holding c stands old kept handed bits → Whole c bits more part f → kept' ≡ kept ++ kept_of c f part ∷ []
+    → now ≡ [] → stands' (bits ++ more) (places (rules_of c) bits ++ f ∷ [])
+    → Holding c stands' now kept' handed (bits ++ more)
+stands-kept c stands stands' old part now kept kept' handed bits more f h w is none told =
+    let fs : List Found = places (rules_of c) bits in
     let one : kept_at c (bits ++ more) f ≡ kept_of c f part = kept-last c (bits ++ more) w.front part f w.parts w.size w.ends in
-    (λ i. was i ++ sym one i ∷ []) ∙ sym (map-append (kept_at c (bits ++ more)) waiting (f ∷ []))
+    let all : drop handed (fs ++ f ∷ []) ≡ drop handed fs ++ f ∷ [] = drop-append-le handed fs (f ∷ []) h.within in
+    let size = length-append fs (f ∷ []) in
+    let below = h.within in
+    record {
+      search = subst (λ (gs : List Found). stands' (bits ++ more) gs) (sym w.longer) told;
+      within = subst (λ (gs : List Found). handed ≤ length gs) (sym w.longer) (omega (arith, size, below));
+      waiting = is ∙ (λ i. kept-longer c stands old kept handed bits more h i ++ sym one i ∷ [])
+          ∙ sym (map-append (kept_at c (bits ++ more)) (drop handed fs) (f ∷ []))
+          ∙ ap (map (kept_at c (bits ++ more))) (sym all)
+          ∙ ap (λ (gs : List Found). map (kept_at c (bits ++ more)) (drop handed gs)) (sym w.longer);
+      front = bits ++ more;
+      parts = sym (append-nil (bits ++ more)) ∙ ap (λ l. (bits ++ more) ++ l) (sym none);
+    }
 
--- how many wait
-pub waiting-count : (c : Configuration) (stands : List Bool → List Found → Type 0) (part : List Bool) (kept : List Kept) (bits : List Bool)
-    → Holding c stands part kept bits → length kept ≡ length (places (rules_of c) bits) - in_batches (length (places (rules_of c) bits))
-waiting-count c stands part kept bits h =
-    let waiting : List Found = drop (in_batches (length (places (rules_of c) bits))) (places (rules_of c) bits) in
-    ap length h.waiting ∙ length-map waiting (kept_at c bits) ∙ length-drop (in_batches (length (places (rules_of c) bits))) (places (rules_of c) bits)
-
--- the batch is not full
-not_full : (n : ℕ) → n - in_batches n + 1 < 32 → in_batches (n + 1) ≡ in_batches n
-not_full n few = omega arith
-
-full : (n : ℕ) → n - in_batches n + 1 ≡ 32 → in_batches (n + 1) ≡ n + 1
-full n all = omega arith
-
-batches-le : (n : ℕ) → in_batches n ≤ n
-batches-le n = omega arith
-
--- what waits and what is due of one place more
-push-few : (fs : List Found) (f : Found) → length fs - in_batches (length fs) + 1 < 32
-    → (drop (in_batches (length (fs ++ f ∷ []))) (fs ++ f ∷ []) ≡ drop (in_batches (length fs)) fs ++ f ∷ [])
-    × (take (in_batches (length (fs ++ f ∷ []))) (fs ++ f ∷ []) ≡ take (in_batches (length fs)) fs)
-push-few fs f few =
-    let same : in_batches (length (fs ++ f ∷ [])) ≡ in_batches (length fs) = ap in_batches (length-append fs (f ∷ [])) ∙ not_full (length fs) few in (
-      ap (λ n. drop n (fs ++ f ∷ [])) same ∙ drop-append-le (in_batches (length fs)) fs (f ∷ []) (batches-le (length fs)),
-      ap (λ n. take n (fs ++ f ∷ [])) same ∙ take-append-le (in_batches (length fs)) fs (f ∷ []) (batches-le (length fs)),
-    )
-
-push-full : (fs : List Found) (f : Found) → length fs - in_batches (length fs) + 1 ≡ 32
-    → (drop (in_batches (length (fs ++ f ∷ []))) (fs ++ f ∷ []) ≡ []) × (take (in_batches (length (fs ++ f ∷ []))) (fs ++ f ∷ []) ≡ fs ++ f ∷ [])
-push-full fs f all =
-    let same : in_batches (length (fs ++ f ∷ [])) ≡ length (fs ++ f ∷ []) =
-    ap in_batches (length-append fs (f ∷ [])) ∙ full (length fs) all ∙ sym (length-append fs (f ∷ [])) in
-    (ap (λ n. drop n (fs ++ f ∷ [])) same ∙ drop-length (fs ++ f ∷ []), ap (λ n. take n (fs ++ f ∷ [])) same ∙ take-length (fs ++ f ∷ []))
-
--- what stands behind the due places of `fs`
-behind-due : (fs : List Found) (f : Found) → drop (length (take (in_batches (length fs)) fs)) (fs ++ f ∷ []) ≡ drop (in_batches (length fs)) fs ++ f ∷ []
-behind-due fs f =
-    ap (λ n. drop n (fs ++ f ∷ [])) (length-take-le (in_batches (length fs)) fs (batches-le (length fs)))
-    ∙ drop-append-le (in_batches (length fs)) fs (f ∷ []) (batches-le (length fs))
-
--- one more codeblock than waited
-one-more : (kept : List Kept) (k : Kept) → length (kept ++ k ∷ []) ≡ length kept + 1
-one-more kept k = length-append kept (k ∷ [])
-
-pub stands-kept : (c : Configuration) (stands stands' : List Bool → List Found → Type 0) (old part now : List Bool) (kept kept' : List Kept) (bits more : List Bool) (f : Found) (items : List ItemValue)
-    → Holding c stands old kept bits → Whole c bits more part f → IsKept c (kept ++ kept_of c f part ∷ []) kept' items
-    → now ≡ [] → stands' (bits ++ more) (places (rules_of c) bits ++ f ∷ []) → Holding c stands' now kept' (bits ++ more)
-stands-kept c stands stands' old part now kept kept' bits more f items h w is none told = record {
-  search = subst (λ (fs : List Found). stands' (bits ++ more) fs) (sym w.longer) told;
-  waiting = go is;
-  front = bits ++ more;
-  parts = sym (append-nil (bits ++ more)) ∙ ap (λ l. (bits ++ more) ++ l) (sym none);
-}
-  where
-    fs : List Found
-    fs = places (rules_of c) bits
-
-    go : IsKept c (kept ++ kept_of c f part ∷ []) kept' items
-        → kept' ≡ map (kept_at c (bits ++ more)) (drop (in_batches (length (places (rules_of c) (bits ++ more)))) (places (rules_of c) (bits ++ more)))
-    go (inl (few, same, rest)) =
-        same ∙ all-kept c stands old part kept bits more f h w
-        ∙ ap (map (kept_at c (bits ++ more))) (sym (push-few (places (rules_of c) bits) f (omega (arith, one-more kept (kept_of c f part), waiting-count c stands old kept bits h))).0)
-        ∙ ap (λ (fs : List Found). map (kept_at c (bits ++ more)) (drop (in_batches (length fs)) fs)) (sym w.longer)
-    go (inr (many, same, rest)) =
-        same
-        ∙ ap (map (kept_at c (bits ++ more))) (sym (push-full (places (rules_of c) bits) f (omega (arith, one-more kept (kept_of c f part), waiting-count c stands old kept bits h))).0)
-        ∙ ap (λ (fs : List Found). map (kept_at c (bits ++ more)) (drop (in_batches (length fs)) fs)) (sym w.longer)
-
--- what is due with a batch that this codeblock fills
-due-full : (c : Configuration) (stands : List Bool → List Found → Type 0) (old part : List Bool) (kept : List Kept) (bits more : List Bool) (f : Found)
-    → Holding c stands old kept bits → Whole c bits more part f → length kept ≡ 31
-    → beyond (due (rules_of c) bits) (due (rules_of c) (bits ++ more)) ≡ drop (in_batches (length (places (rules_of c) bits))) (places (rules_of c) bits) ++ f ∷ []
-due-full c stands old part kept bits more f h w many =
-    ap (λ (fs : List Found). beyond (due (rules_of c) bits) (take (in_batches (length fs)) fs)) w.longer
-    ∙ ap (beyond (due (rules_of c) bits)) (push-full (places (rules_of c) bits) f (omega (arith, waiting-count c stands old kept bits h))).1
-    ∙ behind-due (places (rules_of c) bits) f
-
-pub items-kept : (c : Configuration) (stands : List Bool → List Found → Type 0) (old part : List Bool) (kept kept' : List Kept) (bits more : List Bool) (f : Found) (items : List ItemValue)
-    → Holding c stands old kept bits → Whole c bits more part f → IsKept c (kept ++ kept_of c f part ∷ []) kept' items
-    → AreItemsOf c (bits ++ more) (beyond (due (rules_of c) bits) (due (rules_of c) (bits ++ more))) items
-items-kept c stands old part kept kept' bits more f items h w (inl (few, same, none)) =
-    let nothing : beyond (due (rules_of c) bits) (due (rules_of c) (bits ++ more)) ≡ [] =
-    ap (λ (fs : List Found). beyond (due (rules_of c) bits) (take (in_batches (length fs)) fs)) w.longer
-    ∙ ap (beyond (due (rules_of c) bits)) (push-few (places (rules_of c) bits) f (omega (arith, one-more kept (kept_of c f part), waiting-count c stands old kept bits h))).1
-    ∙ drop-length (due (rules_of c) bits) in
-    subst (λ (fs : List Found). AreItemsOf c (bits ++ more) fs items) (sym nothing) (subst (λ (is : List ItemValue). AreItemsOf c (bits ++ more) [] is) (sym none) tt)
-items-kept c stands old part kept kept' bits more f items h w (inr (many, same, are)) =
-    let waiting : List Found = drop (in_batches (length (places (rules_of c) bits))) (places (rules_of c) bits) in
-    subst (λ (fs : List Found). AreItemsOf c (bits ++ more) fs items) (sym (due-full c stands old part kept bits more f h w (omega (arith, one-more kept (kept_of c f part)))))
-    (items-of c (bits ++ more) (waiting ++ f ∷ []) items
-    (subst (λ (ks : List Kept). AreItemsFor c ks items) (all-kept c stands old part kept bits more f h w) are))
-
-pub items-broke : (c : Configuration) (stands : List Bool → List Found → Type 0) (old part : List Bool) (kept : List Kept) (bits more : List Bool) (f : Found) (count : ℕ) (items : List ItemValue)
-    → Holding c stands old kept bits → Whole c bits more part f → length kept ≡ 31
-    → AreItemsFor c (take count (kept ++ kept_of c f part ∷ [])) items
-    → AreItemsOf c (bits ++ more) (take count (beyond (due (rules_of c) bits) (due (rules_of c) (bits ++ more)))) items
-items-broke c stands old part kept bits more f count items h w many are =
-    let waiting : List Found = drop (in_batches (length (places (rules_of c) bits))) (places (rules_of c) bits) in
-    subst (λ (fs : List Found). AreItemsOf c (bits ++ more) (take count fs) items) (sym (due-full c stands old part kept bits more f h w many))
-    (items-of c (bits ++ more) (take count (waiting ++ f ∷ [])) items
-    (subst (λ (ks : List Kept). AreItemsFor c ks items)
-    (ap (take count) (all-kept c stands old part kept bits more f h w) ∙ take-map' (kept_at c (bits ++ more)) count (waiting ++ f ∷ [])) are))
-
--- ---- items of a front of the places
-pub first-of : (c : Configuration) (bits : List Bool) (count : ℕ) (fs : List Found) (items : List ItemValue) → AreItemsOf c bits (take count fs) items → AreFirstItemsOf c bits fs items
+-- items of a front of the places are first ones
+pub first-of : (c : Configuration) (bits : List Bool) (count : ℕ) (fs : List Found) (items : List ItemValue)
+    → AreItemsOf c bits (take count fs) items → AreFirstItemsOf c bits fs items
 first-of c bits count fs [] are = tt
 first-of c bits zero fs (item ∷ items) are = absurd are
 first-of c bits (suc count) [] (item ∷ items) are = absurd are
 first-of c bits (suc count) (f ∷ fs) (item ∷ items) are = (are.0, first-of c bits count fs items are.1)
 
+-- ---- a batch that is full, or not
+batches-le : (n : ℕ) → in_batches n ≤ n
+batches-le n = omega arith
+
+not_full : (m n : ℕ) → in_batches m ≤ n → n - in_batches m < 32 → in_batches n ≡ in_batches m
+not_full m n least few = omega arith
+
+full : (m n : ℕ) → in_batches m ≤ n → n - in_batches m ≡ 32 → in_batches n ≡ n
+full m n least all = omega arith
+
+-- how many codeblocks wait
+waiting-count : (c : Configuration) (stands : List Bool → List Found → Type 0) (part : List Bool) (kept : List Kept)
+    (handed : ℕ) (bits : List Bool)
+    → Holding c stands part kept handed bits → length kept ≡ length (places (rules_of c) bits) - handed
+waiting-count c stands part kept handed bits h =
+    ap length h.waiting ∙ length-map (drop handed (places (rules_of c) bits)) (kept_at c bits)
+    ∙ length-drop handed (places (rules_of c) bits)
+
+-- what stands behind the places of a front that are due
+behind-due : (c : Configuration) (bits : List Bool) (fs : List Found)
+    → beyond (due (rules_of c) bits) fs ≡ drop (in_batches (length (places (rules_of c) bits))) fs
+behind-due c bits fs =
+    let n = length (places (rules_of c) bits) in
+    ap (λ k. drop k fs) (length-take-le (in_batches n) (places (rules_of c) bits) (batches-le n))
+
+-- where the batch is not full nothing more is due
+due-none : (c : Configuration) (bits all : List Bool)
+    → in_batches (length (places (rules_of c) all)) ≡ in_batches (length (places (rules_of c) bits))
+    → beyond (due (rules_of c) bits) (due (rules_of c) all) ≡ []
+due-none c bits all same =
+    let n = length (places (rules_of c) all) in
+    let long : length (take (in_batches n) (places (rules_of c) all)) ≡ in_batches n =
+    length-take-le (in_batches n) (places (rules_of c) all) (batches-le n) in
+    behind-due c bits (due (rules_of c) all)
+    ∙ ap (λ k. drop k (due (rules_of c) all)) (sym same ∙ sym long)
+    ∙ drop-length (due (rules_of c) all)
+
+-- where it is full all places are due
+due-all : (c : Configuration) (bits all : List Bool)
+    → in_batches (length (places (rules_of c) all)) ≡ length (places (rules_of c) all)
+    → beyond (due (rules_of c) bits) (due (rules_of c) all)
+    ≡ drop (in_batches (length (places (rules_of c) bits))) (places (rules_of c) all)
+due-all c bits all whole =
+    behind-due c bits (due (rules_of c) all)
+    ∙ ap (drop (in_batches (length (places (rules_of c) bits))))
+    (ap (λ k. take k (places (rules_of c) all)) whole ∙ take-length (places (rules_of c) all))
+
+-- what was due of `bits` was handed over, then `all` bits were taken, and the batch was handed over where it is full
+pub turn-stands : (c : Configuration) (stands : List Bool → List Found
+    → Type 0) (part : List Bool) (kept kept' : List Kept)
+    (bits all : List Bool) (items : List ItemValue)
+    → Holding c stands part kept (in_batches (length (places (rules_of c) bits))) all → IsHanded c kept kept' items
+    → Holding c stands part kept' (in_batches (length (places (rules_of c) all))) all
+turn-stands c stands part kept kept' bits all items h (inl (few, same, none)) =
+    let count = waiting-count c stands part kept (in_batches (length (places (rules_of c) bits))) all h in
+    let still = not_full (length (places (rules_of c) bits)) (length (places (rules_of c) all)) h.within
+    (subst (λ n. n < 32) count few) in
+    subst (λ (l : List Kept). Holding c stands part l (in_batches (length (places (rules_of c) all))) all) (sym same)
+    (subst (λ n. Holding c stands part kept n all) (sym still) h)
+turn-stands c stands part kept kept' bits all items h (inr (many, nothing, are)) =
+    let fs : List Found = places (rules_of c) all in
+    let count = waiting-count c stands part kept (in_batches (length (places (rules_of c) bits))) all h in
+    let whole = full (length (places (rules_of c) bits)) (length fs) h.within (sym count ∙ many) in
+    record {
+      search = h.search;
+      within = batches-le (length fs);
+      waiting = nothing ∙ ap (map (kept_at c all)) (sym (ap (λ n. drop n fs) whole ∙ drop-length fs));
+      front = h.front;
+      parts = h.parts;
+    }
+
+pub turn-items : (c : Configuration) (stands : List Bool → List Found
+    → Type 0) (part : List Bool) (kept kept' : List Kept)
+    (bits all : List Bool) (items : List ItemValue)
+    → Holding c stands part kept (in_batches (length (places (rules_of c) bits))) all → IsHanded c kept kept' items
+    → AreItemsOf c all (beyond (due (rules_of c) bits) (due (rules_of c) all)) items
+turn-items c stands part kept kept' bits all items h (inl (few, same, none)) =
+    let count = waiting-count c stands part kept (in_batches (length (places (rules_of c) bits))) all h in
+    let still = not_full (length (places (rules_of c) bits)) (length (places (rules_of c) all)) h.within
+    (subst (λ n. n < 32) count few) in
+    subst (λ (fs : List Found). AreItemsOf c all fs items) (sym (due-none c bits all still))
+    (subst (λ (is : List ItemValue). AreItemsOf c all [] is) (sym none) tt)
+turn-items c stands part kept kept' bits all items h (inr (many, nothing, are)) =
+    let count = waiting-count c stands part kept (in_batches (length (places (rules_of c) bits))) all h in
+    let whole = full (length (places (rules_of c) bits)) (length (places (rules_of c) all)) h.within (sym count
+    ∙ many) in
+    subst (λ (fs : List Found). AreItemsOf c all fs items) (sym (due-all c bits all whole))
+    (items-of c all (drop (in_batches (length (places (rules_of c) bits))) (places (rules_of c) all)) items
+    (subst (λ (ks : List Kept). AreItemsFor c ks items) h.waiting are))
+
+-- the taker failed at an item of a full batch
+pub turn-broke : (c : Configuration) (stands : List Bool → List Found → Type 0) (part : List Bool) (kept : List Kept)
+    (bits all : List Bool) (count : ℕ) (items : List ItemValue)
+    → Holding c stands part kept (in_batches (length (places (rules_of c) bits))) all → length kept ≡ 32
+    → AreItemsFor c (take count kept) items
+    → AreFirstItemsOf c all (beyond (due (rules_of c) bits) (due (rules_of c) all)) items
+turn-broke c stands part kept bits all count items h many are =
+    let wait = waiting-count c stands part kept (in_batches (length (places (rules_of c) bits))) all h in
+    let whole = full (length (places (rules_of c) bits)) (length (places (rules_of c) all)) h.within (sym wait
+    ∙ many) in
+    let waiting : List Found = drop (in_batches (length (places (rules_of c) bits))) (places (rules_of c) all) in
+    subst (λ (fs : List Found). AreFirstItemsOf c all fs items) (sym (due-all c bits all whole))
+    (first-of c all count waiting items (items-of c all (take count waiting) items
+    (subst (λ (ks : List Kept). AreItemsFor c ks items)
+    (ap (take count) h.waiting ∙ take-map' (kept_at c all) count waiting) are)))
+
+-- ---- items of a front of the places
 pub first-longer : (c : Configuration) (bits : List Bool) (fs gs : List Found) (items : List ItemValue) → AreFirstItemsOf c bits fs items → AreFirstItemsOf c bits (fs ++ gs) items
 first-longer c bits fs gs [] are = tt
 first-longer c bits [] gs (item ∷ items) are = absurd are
@@ -314,28 +340,31 @@ first-of-all c bits more rest items are =
     (first-more c (bits ++ more) rest first items (due-end c (bits ++ more) (length (due (rules_of c) bits))) are))
 
 -- ---- the end
-waiting-last : (c : Configuration) (bits : List Bool) → beyond (due (rules_of c) bits) (places (rules_of c) bits) ≡ drop (in_batches (length (places (rules_of c) bits))) (places (rules_of c) bits)
-waiting-last c bits = ap (λ n. drop n (places (rules_of c) bits)) (length-take-le (in_batches (length (places (rules_of c) bits))) (places (rules_of c) bits) (batches-le (length (places (rules_of c) bits))))
-
 pub items-last : (c : Configuration) (stands : List Bool → List Found → Type 0) (part : List Bool) (kept : List Kept) (bits : List Bool) (items : List ItemValue)
-    → Holding c stands part kept bits → AreItemsFor c kept items → AreItemsOf c bits (beyond (due (rules_of c) bits) (places (rules_of c) bits)) items
+    → Holding c stands part kept (in_batches (length (places (rules_of c) bits))) bits → AreItemsFor c kept items
+    → AreItemsOf c bits (beyond (due (rules_of c) bits) (places (rules_of c) bits)) items
 items-last c stands part kept bits items h are =
     let waiting : List Found = drop (in_batches (length (places (rules_of c) bits))) (places (rules_of c) bits) in
-    subst (λ (fs : List Found). AreItemsOf c bits fs items) (sym (waiting-last c bits))
+    subst (λ (fs : List Found). AreItemsOf c bits fs items) (sym (behind-due c bits (places (rules_of c) bits)))
     (items-of c bits waiting items (subst (λ (ks : List Kept). AreItemsFor c ks items) h.waiting are))
 
 pub first-last : (c : Configuration) (stands : List Bool → List Found → Type 0) (part : List Bool) (kept : List Kept) (bits : List Bool) (count : ℕ) (items : List ItemValue)
-    → Holding c stands part kept bits → AreItemsFor c (take count kept) items → AreFirstItemsOf c bits (beyond (due (rules_of c) bits) (places (rules_of c) bits)) items
+    → Holding c stands part kept (in_batches (length (places (rules_of c) bits))) bits
+    → AreItemsFor c (take count kept) items
+    → AreFirstItemsOf c bits (beyond (due (rules_of c) bits) (places (rules_of c) bits)) items
 first-last c stands part kept bits count items h are =
     let waiting : List Found = drop (in_batches (length (places (rules_of c) bits))) (places (rules_of c) bits) in
-    subst (λ (fs : List Found). AreFirstItemsOf c bits fs items) (sym (waiting-last c bits))
+    subst (λ (fs : List Found). AreFirstItemsOf c bits fs items) (sym (behind-due c bits (places (rules_of c) bits)))
     (first-of c bits count waiting items (items-of c bits (take count waiting) items
     (subst (λ (ks : List Kept). AreItemsFor c ks items) (ap (take count) h.waiting ∙ take-map' (kept_at c bits) count waiting) are)))
 
-pub stands-new : (c : Configuration) (stands : List Bool → List Found → Type 0) (part : List Bool) (kept : List Kept) → stands [] [] → part ≡ [] → kept ≡ [] → Holding c stands part kept []
+pub stands-new : (c : Configuration) (stands : List Bool → List Found → Type 0) (part : List Bool) (kept : List Kept)
+    → stands [] [] → part ≡ [] → kept ≡ []
+    → Holding c stands part kept (in_batches (length (places (rules_of c) []))) []
 stands-new c stands part kept told none nothing =
     let no : places (rules_of c) [] ≡ [] = places_from-nil (rules_of c) 0 0 None in record {
       search = subst (λ (fs : List Found). stands [] fs) (sym no) told;
+      within = batches-le (length (places (rules_of c) []));
       waiting = nothing ∙ ap (λ (fs : List Found). map (kept_at c []) (drop (in_batches (length fs)) fs)) (sym no);
       front = [];
       parts = sym none;
@@ -343,29 +372,35 @@ stands-new c stands part kept told none nothing =
 
 -- ---- a search is asked for the place that is whole
 -- what is held before further bits, whatever the search and the codeblock under way are
-pub before-more : (c : Configuration) (stands : List Bool → List Found → Type 0) (part : List Bool) (kept : List Kept) (bits more : List Bool)
-    → HoldingMore c stands part kept bits more → Holding c (λ l fs. Unit {0}) bits kept bits
-before-more c stands part kept bits more h = record { search = tt; waiting = h.waiting; front = []; parts = refl }
+pub before-more : (c : Configuration) (stands : List Bool → List Found → Type 0) (part : List Bool) (kept : List Kept)
+    (handed : ℕ) (bits more : List Bool)
+    → HoldingMore c stands part kept handed bits more → Holding c (λ l fs. Unit {0}) bits kept handed bits
+before-more c stands part kept handed bits more h = record
+    { search = tt; within = h.within; waiting = h.waiting; front = []; parts = refl }
 
 -- there is none
-pub none-further : (c : Configuration) (s s' : Searching) (part : List Bool) (kept : List Kept) (bits more : List Bool) → s.rules ≡ rules_of c → s' ≡ s
-    → ((l : List Bool) (found : List Found) → StandsFor s l found → places s.rules l ≡ found) → HoldingMore c (StandsFor s) part kept bits more
-    → Holding c (StandsFor s') part kept (bits ++ more) × AreFurther c bits more []
-none-further c s s' part kept bits more rules same told h =
+pub none-further : (c : Configuration) (s s' : Searching) (part : List Bool) (kept : List Kept) (handed : ℕ)
+    (bits more : List Bool)
+    → s.rules ≡ rules_of c → s' ≡ s
+    → ((l : List Bool) (found : List Found) → StandsFor s l found → places s.rules l ≡ found)
+    → HoldingMore c (StandsFor s) part kept handed bits more → Holding c (StandsFor s') part kept handed (bits ++ more)
+none-further c s s' part kept handed bits more rules same told h =
     let places_are : places (rules_of c) (bits ++ more) ≡ places (rules_of c) bits =
-    ap (λ r. places r (bits ++ more)) (sym rules) ∙ told (bits ++ more) (places (rules_of c) bits) h.search in (
-      stands-none c (λ l fs. Unit {0}) (StandsFor s') bits part kept bits more h.front (before-more c (StandsFor s) part kept bits more h) places_are
-          (subst (λ (v : Searching). StandsFor v (bits ++ more) (places (rules_of c) bits)) (sym same) h.search) h.parts,
-      subst (λ (fs : List Found). AreItemsOf c (bits ++ more) fs []) (sym (due-none c bits more places_are)) tt,
-    )
+    ap (λ r. places r (bits ++ more)) (sym rules) ∙ told (bits ++ more) (places (rules_of c) bits) h.search in
+    stands-none c (λ l fs. Unit {0}) (StandsFor s') bits part kept handed bits more h.front
+    (before-more c (StandsFor s) part kept handed bits more h) places_are
+    (subst (λ (v : Searching). StandsFor v (bits ++ more) (places (rules_of c) bits)) (sym same) h.search) h.parts
 
 -- there is one
-pub whole-further : (c : Configuration) (s s' : Searching) (part : List Bool) (kept : List Kept) (f : Found) (bits more : List Bool) → s.rules ≡ rules_of c → length part ≡ unwrap_or (inside_of s) 0
+pub whole-further : (c : Configuration) (s s' : Searching) (part : List Bool) (kept : List Kept) (handed : ℕ)
+    (f : Found)
+    (bits more : List Bool) → s.rules ≡ rules_of c → length part ≡ unwrap_or (inside_of s) 0
     → inside_of s ≡ Some s.rules.block_bits
-    → ((l : List Bool) (found : List Found) → StandsFor s l found → StandsFor s' l (found ++ f ∷ []) × (places s.rules l ≡ found ++ f ∷ []) × (f.place + 32 + s.rules.block_bits ≡ length l))
-    → HoldingMore c (StandsFor s) part kept bits more
+    → ((l : List Bool) (found : List Found) → StandsFor s l found → StandsFor s' l (found ++ f ∷ [])
+    × (places s.rules l ≡ found ++ f ∷ []) × (f.place + 32 + s.rules.block_bits ≡ length l))
+    → HoldingMore c (StandsFor s) part kept handed bits more
     → Whole c bits more part f × StandsFor s' (bits ++ more) (places (rules_of c) bits ++ f ∷ [])
-whole-further c s s' part kept f bits more rules long inside told h =
+whole-further c s s' part kept handed f bits more rules long inside told h =
     let size : s.rules.block_bits ≡ (rules_of c).block_bits = ap (λ r. r.block_bits) rules in
     let t = told (bits ++ more) (places (rules_of c) bits) h.search in (
       record {
@@ -380,30 +415,42 @@ whole-further c s s' part kept f bits more rules long inside told h =
 
 -- ---- further bits are given
 -- to the codeblock under way
-pub more-inside : (c : Configuration) (stands stands' : List Bool → List Found → Type 0) (part part' : List Bool) (kept kept' : List Kept) (bits more : List Bool) → Holding c stands part kept bits
-    → part' ≡ part ++ more → kept' ≡ kept → stands' (bits ++ more) (places (rules_of c) bits) → HoldingMore c stands' part' kept' bits more
-more-inside c stands stands' part part' kept kept' bits more h grows same told = record {
+pub more-inside : (c : Configuration) (stands stands' : List Bool → List Found
+    → Type 0) (part part' : List Bool) (kept kept' : List Kept)
+    (handed : ℕ) (bits more : List Bool) → Holding c stands part kept handed bits
+    → part' ≡ part ++ more → kept' ≡ kept → stands' (bits ++ more) (places (rules_of c) bits)
+    → HoldingMore c stands' part' kept' handed bits more
+more-inside c stands stands' part part' kept kept' handed bits more h grows same told = record {
   search = told;
+  within = h.within;
   waiting = same ∙ h.waiting;
   front = h.front;
   parts = ap (λ l. l ++ more) h.parts ∙ append_assoc h.front part more ∙ ap (λ l. h.front ++ l) (sym grows);
 }
 
 -- where none is under way, and the last bits begin one
-pub more-begun : (c : Configuration) (stands stands' : List Bool → List Found → Type 0) (part part' : List Bool) (kept kept' : List Kept) (bits before more : List Bool) → Holding c stands part kept bits
-    → more ≡ before ++ part' → kept' ≡ kept → stands' (bits ++ more) (places (rules_of c) bits) → HoldingMore c stands' part' kept' bits more
-more-begun c stands stands' part part' kept kept' bits before more h ends same told = record {
+pub more-begun : (c : Configuration) (stands stands' : List Bool → List Found
+    → Type 0) (part part' : List Bool) (kept kept' : List Kept)
+    (handed : ℕ) (bits before more : List Bool) → Holding c stands part kept handed bits
+    → more ≡ before ++ part' → kept' ≡ kept → stands' (bits ++ more) (places (rules_of c) bits)
+    → HoldingMore c stands' part' kept' handed bits more
+more-begun c stands stands' part part' kept kept' handed bits before more h ends same told = record {
   search = told;
+  within = h.within;
   waiting = same ∙ h.waiting;
   front = bits ++ before;
   parts = ap (λ l. bits ++ l) ends ∙ sym (append_assoc bits before part');
 }
 
 -- where none is under way
-pub more-outside : (c : Configuration) (stands stands' : List Bool → List Found → Type 0) (part part' : List Bool) (kept kept' : List Kept) (bits more : List Bool) → Holding c stands part kept bits
-    → length part' ≡ 0 → kept' ≡ kept → stands' (bits ++ more) (places (rules_of c) bits) → HoldingMore c stands' part' kept' bits more
-more-outside c stands stands' part part' kept kept' bits more h none same told = record {
+pub more-outside : (c : Configuration) (stands stands' : List Bool → List Found
+    → Type 0) (part part' : List Bool) (kept kept' : List Kept)
+    (handed : ℕ) (bits more : List Bool) → Holding c stands part kept handed bits
+    → length part' ≡ 0 → kept' ≡ kept → stands' (bits ++ more) (places (rules_of c) bits)
+    → HoldingMore c stands' part' kept' handed bits more
+more-outside c stands stands' part part' kept kept' handed bits more h none same told = record {
   search = told;
+  within = h.within;
   waiting = same ∙ h.waiting;
   front = bits ++ more;
   parts = sym (append-nil (bits ++ more)) ∙ ap (λ l. (bits ++ more) ++ l) (sym (empty part' none));

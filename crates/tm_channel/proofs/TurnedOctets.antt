@@ -3,7 +3,10 @@ use Rattle.std.proofs.Common.{◌≡◌, ◌<◌, ◌≤◌, ◌+◌, ◌-◌, �
 use Rattle.std.proofs.lemmas.List.{length-map, map-append}
 use Rattle.tm_base.specs.Bits.{AreOctets, bits_of, bits_of_octet, low_bits, number_of}
 use Rattle.tm_base.proofs.Packing.{AreOctets-rest, length-low_bits, low_bits-number_of}
-use Rattle.tm_config.specs.Configuration.{Configuration}
+use Rattle.tm_config.specs.Configuration.{Configuration, is_signed}
+use Rattle.tm_config.specs.declared.values.SoftForm.{SoftForm}
+use Rattle.tm_config.specs.declared.values.SoftForm.TheVariants.{Unsigned, Signed}
+use Rattle.tm_config.specs.declared.values.Sought.TheVariants.{Find}
 use Rattle.tm_config.specs.Accepted.{IsAccepted}
 use Rattle.tm_conv.specs.declared.rates.Rate.{Rate}
 use Rattle.tm_conv.specs.declared.rates.Rate.TheVariants.{R12}
@@ -12,7 +15,7 @@ use Rattle.tm_conv.specs.Cost.{sure}
 use Rattle.tm_conv.specs.Encoding.{bit_numbers, sent_for, level, levels}
 use Rattle.tm_gf256.proofs.Below.{all_below, same_below}
 use Rattle.tm_inner.specs.Inner.{settings_of, soft_value, soft_octets, BlocksAt, bits_at}
-use Rattle.tm_inner.specs.Symbols.{rate_of, is_inverted, low_level, symbols_by}
+use Rattle.tm_inner.specs.Symbols.{is_inverted, low_level, symbols_by}
 use Rattle.tm_inner.proofs.InnerBits.{drop-none, AreBits-bit_numbers, half-rate, some-steps}
 use Rattle.tm_sync.specs.Bits.{flip, complement}
 use Rattle.tm_sync.proofs.Turned.{drop-complement, complement-twice}
@@ -21,7 +24,7 @@ use Rattle.tm_viterbi.specs.Settings.{Settings}
 use Rattle.tm_viterbi.specs.WindowBlock.{WindowBlock}
 use Rattle.tm_viterbi.specs.Blocks.{AreBlocksOf}
 use Rattle.tm_viterbi.specs.Clean.{AreClean, sure_symbols, turned_octets}
-use Rattle.tm_channel.specs.Frames.{whole_frames}
+use Rattle.tm_codeblock.specs.Frames.{whole_frames}
 use Rattle.tm_channel.specs.Sent.{cadus, sent}
 use Rattle.tm_channel.specs.Items.{ItemValue, AreItems, turned_item}
 use Rattle.tm_channel.specs.Receive.{Receive}
@@ -57,10 +60,11 @@ inner-turned c None phase octets blocks left none small are =
     (are, sym (drop-complement c.skip (bits_of octets)) ∙ ap (drop c.skip) (sym (bits-turned octets small)))
 inner-turned c (Some rate) phase octets blocks left none small are = absurd (cc)
 
-pub received-turned : (c : Configuration) (phase : ℕ) (octets : List ℕ) (items : List ItemValue) → IsAccepted c → c.inner ≡ 0 → c.polarity ≡ 1 → AreOctets octets
+pub received-turned : (c : Configuration) (phase : ℕ) (octets : List ℕ) (items : List ItemValue) → IsAccepted c
+    → c.inner ≡ None → c.polarity ≡ Find → AreOctets octets
     → Receive c phase octets items → Receive c phase (turned_octets octets) (map turned_item items)
 received-turned c phase octets items ok none find small r =
-    let both = inner-turned c (rate_of c.inner) phase octets r.inner.blocks r.inner.left (ap rate_of none) small r.inner.are_blocks in
+    let both = inner-turned c c.inner phase octets r.inner.blocks r.inner.left none small r.inner.are_blocks in
     record {
       bits = complement r.bits;
       inner = record { blocks = r.inner.blocks; left = r.inner.left; are_blocks = both.0; are_bits = ap complement r.inner.are_bits ∙ both.1 };
@@ -76,13 +80,16 @@ TurnedBlocks = (s : Settings) (register : ℕ) (bits : List ℕ) (blocks : List 
     → AreBlocksOf s (turned_octets (sure_symbols s register bits)) blocks left → AreClean (complement_numbers bits) blocks left
 
 value-turned : (c : Configuration) (symbol : ℕ) → soft_value c (255 - level (low_level c.soft) symbol) ≡ 255 - cond (symbol == 0) 0 255
-value-turned c symbol = go (c.soft == 0) (symbol == 0)
+value-turned c symbol = go c.soft (symbol == 0)
   where
-    go : (u8 zero_symbol : Bool) → (let octet = 255 - cond zero_symbol (cond u8 0x00 0x80) (255 - cond u8 0x00 0x80) in cond u8 octet ((octet + 128) % 256)) ≡ 255 - cond zero_symbol 0 255
-    go true true = refl
-    go true false = refl
-    go false true = refl
-    go false false = refl
+    go : (form : SoftForm) (zero_symbol : Bool)
+        → (let octet = 255 - cond zero_symbol (low_level form) (255 - low_level form) in cond (is_signed form)
+        ((octet + 128) % 256) octet)
+        ≡ 255 - cond zero_symbol 0 255
+    go Unsigned true = refl
+    go Unsigned false = refl
+    go Signed true = refl
+    go Signed false = refl
 
 values-turned : (c : Configuration) (symbols : List ℕ) → map (soft_value c) (turned_octets (levels (low_level c.soft) symbols)) ≡ turned_octets (sure symbols)
 values-turned c [] = refl
@@ -93,16 +100,19 @@ numbers-turned [] = refl
 numbers-turned (true ∷ bits) = ap (λ l. false ∷ l) (numbers-turned bits)
 numbers-turned (false ∷ bits) = ap (λ l. true ∷ l) (numbers-turned bits)
 
-half-turned : TurnedBlocks → (c : Configuration) (rate : Option Rate) (octets : List ℕ) (blocks : List WindowBlock) (left : ℕ) → rate_of c.inner ≡ rate
-    → IsAccepted c → c.inner ≡ 12 → c.start ≡ 1 → c.skip ≡ 0 → BlocksAt rate c 0 (turned_octets (symbols_by rate c (bits_of octets))) blocks left
+half-turned : TurnedBlocks → (c : Configuration) (rate : Option Rate) (octets : List ℕ) (blocks : List WindowBlock)
+    (left : ℕ) → c.inner ≡ rate
+    → IsAccepted c → c.inner ≡ Some R12 → c.start ≡ Any → c.skip ≡ 0
+    → BlocksAt rate c 0 (turned_octets (symbols_by rate c (bits_of octets))) blocks left
     → bits_at rate c (turned_octets (symbols_by rate c (bits_of octets))) blocks ≡ complement (bits_of octets)
-half-turned turned c None octets blocks left is ok half any none are = absurd (let same : rate_of 12 ≡ None = ap rate_of (sym half) ∙ is in cc)
+half-turned turned c None octets blocks left is ok half any none are = absurd cc
 half-turned turned c (Some rate) octets blocks left is ok half any none are =
     let bits = bit_numbers (bits_of octets) in
     let symbols = sent_for rate (is_inverted rate c.invert) (bits_of octets) in
     let same : soft_octets c 0 (turned_octets (symbols_by (Some rate) c (bits_of octets))) ≡ turned_octets (sure_symbols (settings_of c rate) 0 bits) =
     ap (map (soft_value c)) (drop-none c.skip (turned_octets (levels (low_level c.soft) symbols)) none) ∙ values-turned c symbols in
-    let it = turned (settings_of c rate) 0 bits blocks left ok.some_keep (AreBits-bit_numbers (bits_of octets)) (rw any refl) (half-rate c rate is half) (omega arith) (some-steps octets)
+    let it = turned (settings_of c rate) 0 bits blocks left ok.some_keep (AreBits-bit_numbers (bits_of octets)) any
+    (half-rate c rate is half) (omega arith) (some-steps octets)
     (subst (λ (l : List ℕ). AreBlocksOf (settings_of c rate) l blocks left) same are) in
     ap (map (λ bit. bit == 1)) it.kept ∙ numbers-turned (bits_of octets)
 
@@ -117,12 +127,15 @@ all-twice : (items : List ItemValue) → map turned_item (map turned_item items)
 all-twice [] = refl
 all-twice (item ∷ items) = (λ i. twice-turned item i ∷ all-twice items i)
 
-pub received-half_turned : TurnedBlocks → (c : Configuration) (octets : List ℕ) (items : List ItemValue) → IsAccepted c → c.inner ≡ 12 → c.polarity ≡ 1 → c.start ≡ 1 → c.skip ≡ 0 → AreOctets octets
+pub received-half_turned : TurnedBlocks → (c : Configuration) (octets : List ℕ) (items : List ItemValue)
+    → IsAccepted c → c.inner ≡ Some R12 → c.polarity ≡ Find → c.start ≡ Any → c.skip ≡ 0 → AreOctets octets
     → Receive c 0 (turned_octets (sent c octets)) items → items ≡ map turned_item (clean_items c 0 (whole_frames c.frame_length octets))
 received-half_turned turned c octets items ok half find any none small r =
     let frames = whole_frames c.frame_length octets in
     let bits : r.bits ≡ complement (sent_bits c (whole_frames c.frame_length octets)) =
-    r.inner.are_bits ∙ half-turned turned c (rate_of c.inner) (cadus c octets) r.inner.blocks r.inner.left refl ok half any none r.inner.are_blocks ∙ ap complement (bits-sent c octets) in
+    r.inner.are_bits ∙ half-turned turned c c.inner
+    (cadus c octets) r.inner.blocks r.inner.left refl ok half any none r.inner.are_blocks
+    ∙ ap complement (bits-sent c octets) in
     let upright : complement r.bits ≡ sent_bits c (whole_frames c.frame_length octets) = ap complement bits ∙ complement-twice (sent_bits c frames) in
     sym (all-twice items)
     ∙ ap (map turned_item) (items-clean c frames (map turned_item items) ok (are_frames c octets ok small)

@@ -5,7 +5,10 @@ use Rattle.std.proofs.Math.Bool.{xor}
 use Rattle.std.proofs.lemmas.Bool.{cases_eq}
 use Rattle.std.proofs.lemmas.List.Elements.{All-cons, All-nil}
 use Rattle.tm_base.specs.Bits.{AreOctets, bits_of, low_bits}
-use Rattle.tm_config.specs.Configuration.{Configuration}
+use Rattle.tm_config.specs.Configuration.{Configuration, configuration_of, default_raw}
+use Rattle.tm_config.specs.declared.values.OuterCode.TheVariants.{Rs16, Uncoded}
+use Rattle.tm_config.specs.declared.values.Sought.TheVariants.{Find}
+use Rattle.tm_dual.specs.declared.basis.Basis.TheVariants.{Dual, Poly}
 use Rattle.tm_dual.specs.Dual.{dual_element, dual_octet, dual_bits, dual_bit, trace}
 use Rattle.tm_gf256.specs.Field.{times, power, remainder, bit_product}
 use Rattle.tm_gf256.specs.Poly.{value_at}
@@ -17,37 +20,27 @@ use Rattle.tm_rs_code.proofs.Numbers.{AreElements-replicate}
 use Rattle.tm_rs_code.proofs.Register.{value_at-zeros}
 use Rattle.tm_rs_solve.specs.declared.answers.Answer.TheVariants.{Fixed, Beyond}
 use Rattle.tm_sync.specs.Places.{wrong_bits, match_of, place_at, places_from}
-use Rattle.tm_channel.specs.ReceivedCodeblock.{codeblock_in, received_columns, frame_of}
+use Rattle.tm_codeblock.specs.ReceivedCodeblock.{codeblock_in, received_columns, frame_of}
 use Rattle.tm_channel.specs.Items.{AreItems}
 use Rattle.tm_channel.specs.SentStream.{IsSent}
 
 -- no outer code, frames of one octet, no randomizer, and one place bridged in a row
 abbrev bare : Configuration
-bare = record {
-  code = 0;
-  depth = 1;
+bare = record (configuration_of default_raw) {
+  code = Uncoded;
   frame_length = 1;
-  inner = 0;
-  invert = None;
-  randomize = 0;
-  basis = 0;
-  tolerance = 0;
+  inner = None;
+  randomize = false;
   repair = 0;
-  soft = 0;
-  start = 0;
-  skip = 0;
-  workers = 1;
   limit = 1;
   fly = 1;
   keep = 64;
   ahead = 0;
-  phase = 0;
-  polarity = 0;
 }
 
 -- the (255,223) code, with one codeword of 33 symbols, sent as their numbers
 abbrev coded : Configuration
-coded = record bare { code = 16; basis = 1; repair = 1 }
+coded = record bare { code = Rs16; basis = Poly; repair = 1 }
 
 -- two codewords, interleaved
 abbrev interleaved_two : Configuration
@@ -61,13 +54,13 @@ unfolding low_bits wrong_bits match_of place_at places_from codeblock_in receive
 row_bridged = (record { place = refl; words = []; nearest = tt; frame = refl }, (record { place = refl; words = []; nearest = tt; frame = refl }, tt))
 
 -- an inverted marker, where either polarity is taken: the codeblock is complemented
-row_inverted : AreItems (record bare { polarity = 1 }) (bits_of (0xE5 ∷ 0x30 ∷ 0x03 ∷ 0xE2 ∷ 0x84 ∷ []))
+row_inverted : AreItems (record bare { polarity = Find }) (bits_of (0xE5 ∷ 0x30 ∷ 0x03 ∷ 0xE2 ∷ 0x84 ∷ []))
     (record { found = record { place = 0; distance = 0; bridged = false; inverted = true }; answers = []; frame = 0x7B ∷ [] } ∷ [])
 unfolding low_bits wrong_bits match_of place_at places_from codeblock_in received_columns frame_of
 row_inverted = (record { place = refl; words = []; nearest = tt; frame = refl }, tt)
 
 -- the randomizer's first octet is FF
-row_randomized : AreItems (record bare { randomize = 1 }) (bits_of (0x1A ∷ 0xCF ∷ 0xFC ∷ 0x1D ∷ 0x84 ∷ []))
+row_randomized : AreItems (record bare { randomize = true }) (bits_of (0x1A ∷ 0xCF ∷ 0xFC ∷ 0x1D ∷ 0x84 ∷ []))
     (record { found = record { place = 0; distance = 0; bridged = false; inverted = false }; answers = []; frame = 0x7B ∷ [] } ∷ [])
 unfolding low_bits wrong_bits match_of place_at places_from codeblock_in received_columns frame_of sequence_bit xor
 row_randomized = (record { place = refl; words = []; nearest = tt; frame = refl }, tt)
@@ -120,7 +113,7 @@ unfolding frame_of
 row_frame = refl
 
 -- in the dual basis the element 1 is sent as 7B
-row_dual : received_columns (record coded { basis = 0 }) (0x7B ∷ []) ≡ (1 ∷ []) ∷ []
+row_dual : received_columns (record coded { basis = Dual }) (0x7B ∷ []) ≡ (1 ∷ []) ∷ []
 unfolding received_columns dual_element dual_octet dual_bits dual_bit trace times power remainder bit_product
 row_dual = refl
 

@@ -1,4 +1,5 @@
--- What a receiver hands over for received octets: the symbol phase, where it is to be found, and then items.
+-- What a receiver hands over for received octets: the symbol phase, where it is to be found, and
+-- then items.
 use Rattle.std.specs.Prelude.{◌≡◌, ℕ, Bool, List, [], ◌∷◌, length, Option, Some, None}
 use Rattle.tm_base.specs.Handed.{Handed, Phase, Item}
 use Rattle.tm_config.specs.Configuration.{Configuration}
@@ -11,7 +12,8 @@ use Rattle.tm_channel.specs.Receive.{ReceiveDue, ReceiveFirst, ReceiveFront}
 -- the last phase among what was handed over, or else this one
 abbrev pub phase_from : {I : Type 0} → Option Chosen → List (Handed I) → Option Chosen
 phase_from before [] = before
-phase_from before (Phase skip cost ∷ handed) = phase_from (Some (record { skip = skip; cost = cost })) handed
+phase_from before (Phase skip cost ∷ handed) =
+    phase_from (Some (record { skip = skip; cost = cost })) handed
 phase_from before (Item item ∷ handed) = phase_from before handed
 
 -- the phase that was handed over
@@ -20,11 +22,13 @@ phase_of handed = phase_from None handed
 
 -- these are the items of received octets, which come to so many bits
 abbrev pub ReceiveAll : Configuration → ℕ → List ℕ → ℕ → List ItemValue → Type 0
-ReceiveAll c phase octets count items = (bits : List Bool) × Inner c phase octets bits × (count ≡ length bits) × AreItems c bits items
+ReceiveAll c phase octets count items = (bits : List Bool) × Inner c phase octets bits
+    × (count ≡ length bits) × AreItems c bits items
 
 -- all that is handed over, and how many bits were received
 abbrev pub AreReceived : Configuration → List ℕ → List (Handed ItemValue) → ℕ → Type 0
-AreReceived c octets handed count = InTurn (λ phase. ReceiveAll c phase octets count) c octets handed
+AreReceived c octets handed count = InTurn
+    (λ phase. ReceiveAll c phase octets count) c octets handed
 
 -- what is due, whatever octets come: the phase, once it is settled, and the items that are due
 abbrev pub AreReceivedDue : Configuration → List ℕ → List (Handed ItemValue) → Type 0

@@ -1,7 +1,4 @@
-pub mod Frames
-pub mod Cadu
 pub mod Sent
-pub mod ReceivedCodeblock
 pub mod Items
 pub mod Due
 pub mod Receive
@@ -14,3 +11,4 @@ pub mod ColumnWords
 pub mod Storing
 pub mod Sending
 pub mod Steps
+pub mod Workers

@@ -1,5 +1,6 @@
--- What a receiver keeps, and for which octets, given so far, and which items, handed over so far, it stands.
-use Rattle.std.specs.Prelude.{◌≡◌, ◌==◌, ◌+◌, ◌-◌, ◌*◌, ◌^◌, ◌<◌, ◌≤◌, ℕ, Bool, List, ◌++◌, length, take, drop, map, Option, Some, None}
+-- What a receiver keeps, and for which octets, given so far, and which items, handed over so far,
+-- it stands.
+use Rattle.std.specs.Prelude.{◌≡◌, false, ◌==◌, ◌+◌, ◌-◌, ◌*◌, ◌^◌, ◌<◌, ◌≤◌, ℕ, Bool, List, ◌++◌, length, take, drop, map, Option, Some, None}
 use Rattle.tm_base.specs.Bits.{bits_of}
 use Rattle.tm_base.specs.Handed.{Handed, items_of}
 use Rattle.tm_base.specs.Takers.{HandedOver, HandedPart}
@@ -8,15 +9,14 @@ use Rattle.tm_sync.specs.Searching.{Searching}
 use Rattle.tm_viterbi.specs.WindowBlock.{WindowBlock}
 use Rattle.tm_conv.specs.declared.rates.Rate.{Rate}
 use Rattle.tm_phase.specs.declared.choosing.Chosen.{Chosen}
-use Rattle.tm_inner.specs.Symbols.{rate_of}
 use Rattle.tm_inner.specs.Inner.{inner_bits}
-use Rattle.tm_inner.specs.Phase.{IsChosenSoFar, in_turn}
+use Rattle.tm_inner.specs.Phase.{IsChosen, IsChosenSoFar, in_turn}
 use Rattle.tm_inner.specs.Handing.{AreHanded, AreHandedDue}
 use Rattle.tm_inner.specs.Receiving.{InnerReceiving, StandsFor as InnerStandsFor}
-use Rattle.tm_channel.specs.ReceivedCodeblock.{rules_of}
+use Rattle.tm_codeblock.specs.ReceivedCodeblock.{rules_of}
 use Rattle.tm_channel.specs.Items.{ItemValue, AreItemsOf}
 use Rattle.tm_channel.specs.Due.{due}
-use Rattle.tm_channel.specs.Handing.{phase_of, AreReceivedFirst}
+use Rattle.tm_channel.specs.Handing.{phase_of, AreReceived, AreReceivedDue, AreReceivedFirst, AreReceivedFront}
 use Rattle.tm_channel.specs.Receiving.{Batching, Stands, GoesOn, AreDue, AreFirstDue, AreLast, AreFirstLast}
 
 -- what contracts see of a receiver of bits
@@ -28,13 +28,15 @@ pub record BitReceiving : Type 0 where
 abbrev pub StandsForBits : BitReceiving → List Bool → Type 0
 StandsForBits r = Stands r.search r.batch
 
--- what contracts see of both stages of a receiver: the inner code, and the search for codeblocks in its bits
+-- what contracts see of both stages of a receiver: the inner code, and the search for codeblocks in
+-- its bits
 pub record Stages : Type 0 where
   pub inner : InnerReceiving
   pub bits : BitReceiving
 
--- Stages that were given these octets and no others, fewer than 2^60, and have handed over this: the first stage has handed over what is
--- due of the octets, the bits of its blocks were searched, and the phase, where it is chosen, and the items that are due went to the taker.
+-- Stages that were given these octets and no others, fewer than 2^60, and have handed over this:
+-- the first stage has handed over what is due of the octets, the bits of its blocks were searched,
+-- and the phase, where it is chosen, and the items that are due went to the taker.
 pub record StagesFor (s : Stages) (given : List ℕ) (done : List (Handed ItemValue)) : Type 0 where
   pub handed : List (Handed WindowBlock)
   pub inner : InnerStandsFor s.inner given handed
@@ -45,20 +47,71 @@ pub record StagesFor (s : Stages) (given : List ℕ) (done : List (Handed ItemVa
       (due (rules_of s.inner.config) (inner_bits s.inner.config given (items_of handed))) items
   pub are : done ≡ in_turn (phase_of handed) items
 
--- the first of what is handed over of these octets, whatever octets come, and the phase that is chosen of them
+-- the first of what is handed over of these octets, whatever octets come, and the phase that is
+-- chosen of them
 abbrev pub FirstWith : Configuration → Option Chosen → List ℕ → List (Handed ItemValue) → Type 0
 FirstWith c chosen octets handed = AreReceivedFirst c octets handed × IsChosenSoFar c octets chosen
 
 -- what contracts see of a receiver
 pub record OctetReceiving : Type 0 where
   pub config : Configuration
-  -- an earlier call answered Taker, or `finish` was called
+  -- an earlier call answered Taker, or the receiver was finished
   pub has_stopped : Bool
   pub stages : Stages
 
 -- a receiver that was given these octets and no others, fewer than 2^60, and has handed over this
 abbrev pub StandsFor : OctetReceiving → List ℕ → List (Handed ItemValue) → Type 0
 StandsFor r = StagesFor r.stages
+
+-- ---- what a call of a receiver hands over
+
+-- with these octets what is due was handed over, and the receiver stands for them too
+abbrev pub FeedHands : {T : Type 0} → (T → Handed ItemValue → T → Type 0) → OctetReceiving
+    → OctetReceiving → T → T → List ℕ → Type 0
+FeedHands took before now taker taker_now octets = (more : List (Handed ItemValue))
+    × HandedOver took taker more taker_now
+    × ((given : List ℕ) (done : List (Handed ItemValue)) → length given + length octets < 2 ^ 60
+    → StandsFor before given done
+    → StandsFor now (given ++ octets) (done ++ more)
+    × AreReceivedDue before.config (given ++ octets) (done ++ more))
+
+-- the taker failed at something of what is due with these octets
+abbrev pub FeedBreaks : {T : Type 0} → (T → Handed ItemValue → T → Type 0)
+    → (T → Handed ItemValue → T → Type 0) → OctetReceiving → T → T → List ℕ → Type 0
+FeedBreaks took broke before taker taker_now octets = (tried : List (Handed ItemValue))
+    × HandedPart took broke taker tried taker_now
+    × ((given : List ℕ) (done : List (Handed ItemValue)) → length given + length octets < 2 ^ 60
+    → StandsFor before given done
+    → AreReceivedFirst before.config (given ++ octets) (done ++ tried))
+
+-- the phase that is kept now is the one that is chosen of these octets, if one is
+abbrev pub FeedChooses : OctetReceiving → OctetReceiving → List ℕ → Type 0
+FeedChooses before now octets = (given : List ℕ) (done : List (Handed ItemValue))
+    → length given + length octets < 2 ^ 60
+    → StandsFor before given done → before.has_stopped ≡ false
+    → IsChosenSoFar before.config (given ++ octets) now.stages.inner.phased.chosen
+
+-- at the end what is left was handed over, and so many bits were received
+abbrev pub FinishHands : {T : Type 0} → (T → Handed ItemValue → T → Type 0) → OctetReceiving → T → T
+    → ℕ → Type 0
+FinishHands took before taker taker_now count = (last : List (Handed ItemValue))
+    × HandedOver took taker last taker_now
+    × ((given : List ℕ) (done : List (Handed ItemValue)) → StandsFor before given done
+    → AreReceived before.config given (done ++ last) count)
+
+-- the taker failed at something of what is left
+abbrev pub FinishBreaks : {T : Type 0} → (T → Handed ItemValue → T → Type 0)
+    → (T → Handed ItemValue → T → Type 0) → OctetReceiving → T → T → Type 0
+FinishBreaks took broke before taker taker_now = (tried : List (Handed ItemValue))
+    × HandedPart took broke taker tried taker_now
+    × ((given : List ℕ) (done : List (Handed ItemValue)) → StandsFor before given done
+    → AreReceivedFront before.config given (done ++ tried))
+
+-- the phase that is kept at the end is the one of all octets
+abbrev pub FinishChooses : OctetReceiving → OctetReceiving → Type 0
+FinishChooses before now = (given : List ℕ) (done : List (Handed ItemValue))
+    → StandsFor before given done → before.has_stopped ≡ false
+    → IsChosen before.config given now.stages.inner.phased.chosen
 
 -- ---- bits that are received
 
@@ -70,7 +123,8 @@ pub record Received {T : Type 0} (took : T → ItemValue → T → Type 0) (befo
   pub handed : HandedOver took taker items taker_now
   pub due : AreDue before.batch.config (StandsForBits before) bits items
 
--- first items of those that are due with these bits were handed over, until the taker failed at one of them
+-- first items of those that are due with these bits were handed over, until the taker failed at one
+-- of them
 pub record ReceivedPart {T : Type 0} (took broke : T → ItemValue → T → Type 0) (before now : BitReceiving) (taker taker_now : T) (bits : List Bool) : Type 0 where
   pub config : now.batch.config ≡ before.batch.config
   pub tried : List ItemValue
@@ -91,7 +145,8 @@ pub record ReceivedLastPart {T : Type 0} (took broke : T → ItemValue → T →
 
 -- ---- octets that are taken
 
--- what contracts see of the room for the bits that blocks keep, and of the phase that was handed over before them
+-- what contracts see of the room for the bits that blocks keep, and of the phase that was handed
+-- over before them
 pub record Keeping : Type 0 where
   pub bits : List ℕ
   -- how many there is room for
@@ -102,32 +157,43 @@ pub record Keeping : Type 0 where
 pub record Keeps (before : Keeping) (block : WindowBlock) (now : Keeping) : Type 0 where
   pub size : now.size ≡ before.size
   pub phase : now.phase ≡ before.phase
-  pub bits : length before.bits + length (take block.kept block.bits) ≤ before.size → now.bits ≡ before.bits ++ take block.kept block.bits
+  pub bits : length before.bits + length (take block.kept block.bits) ≤ before.size
+      → now.bits ≡ before.bits ++ take block.kept block.bits
 
 -- the phase is kept
 abbrev pub KeepsPhase : Keeping → ℕ → ℕ → Keeping → Type 0
-KeepsPhase before skip cost now = now ≡ record before { phase = Some (record { skip = skip; cost = cost }) }
+KeepsPhase before skip cost now = now ≡ record before {
+  phase = Some
+      (record { skip = skip; cost = cost });
+}
 
--- the bits that come of octets: those that the first stage keeps, or with no inner code all behind those that are still to be skipped
+-- the bits that come of octets: those that the first stage keeps, or with no inner code all behind
+-- those that are still to be skipped
 abbrev pub bits_found : Option Rate → ℕ → List ℕ → List ℕ → List Bool
 bits_found None skip kept octets = drop skip (bits_of octets)
 bits_found (Some rate) skip kept octets = map (λ bit. bit == 1) kept
 
 abbrev pub received_bits : InnerReceiving → List ℕ → List ℕ → List Bool
-received_bits inner kept octets = bits_found (rate_of inner.config.inner) (inner.config.skip - 8 * inner.count) kept octets
+received_bits inner kept octets =
+    bits_found inner.config.inner (inner.config.skip - 8 * inner.count) kept octets
 
--- the first stage goes on from these octets, and from what it has handed over, to further octets, this phase and these bits
+-- the first stage goes on from these octets, and from what it has handed over, to further octets,
+-- this phase and these bits
 pub record Further (inner inner_now : InnerReceiving) (given octets : List ℕ) (done : List (Handed WindowBlock)) (phase : Option Chosen) (piece : List Bool) : Type 0 where
   pub more : List (Handed WindowBlock)
   pub stands : InnerStandsFor inner_now (given ++ octets) (done ++ more)
   pub due : AreHandedDue inner.config (given ++ octets) (done ++ more)
   pub is_phase : phase ≡ phase_of more
-  pub bits : inner_bits inner.config (given ++ octets) (items_of (done ++ more)) ≡ inner_bits inner.config given (items_of done) ++ piece
+  pub bits : inner_bits inner.config (given ++ octets) (items_of (done ++ more))
+      ≡ inner_bits inner.config given (items_of done) ++ piece
 
--- whatever octets the first stage was given, fewer than 2^60 with these, it goes on to these, to this phase and this piece of bits
+-- whatever octets the first stage was given, fewer than 2^60 with these, it goes on to these, to
+-- this phase and this piece of bits
 abbrev pub Grows : InnerReceiving → InnerReceiving → List ℕ → Option Chosen → List Bool → Type 0
-Grows inner inner_now octets phase piece = (given : List ℕ) (done : List (Handed WindowBlock)) → length given + length octets < 2 ^ 60
-    → InnerStandsFor inner given done → AreHandedDue inner.config given done → Further inner inner_now given octets done phase piece
+Grows inner inner_now octets phase piece =
+    (given : List ℕ) (done : List (Handed WindowBlock)) → length given + length octets < 2 ^ 60
+    → InnerStandsFor inner given done → AreHandedDue inner.config given done
+    → Further inner inner_now given octets done phase piece
 
 -- the end of the octets adds this phase and these bits, and so many bits were received
 pub record EndsWith (inner : InnerReceiving) (given : List ℕ) (done : List (Handed WindowBlock)) (phase : Option Chosen) (piece : List Bool) (count : ℕ) : Type 0 where
@@ -135,10 +201,13 @@ pub record EndsWith (inner : InnerReceiving) (given : List ℕ) (done : List (Ha
   pub left : ℕ
   pub are_handed : AreHanded inner.config given (done ++ last) left
   pub is_phase : phase ≡ phase_of last
-  pub bits : inner_bits inner.config given (items_of (done ++ last)) ≡ inner_bits inner.config given (items_of done) ++ piece
+  pub bits : inner_bits inner.config given (items_of (done ++ last))
+      ≡ inner_bits inner.config given (items_of done) ++ piece
   pub counted : count ≡ length (inner_bits inner.config given (items_of (done ++ last)))
 
--- whatever octets the first stage was given, it ends with this phase and these bits, and so many bits were received
+-- whatever octets the first stage was given, it ends with this phase and these bits, and so many
+-- bits were received
 abbrev pub Ends : InnerReceiving → Option Chosen → List Bool → ℕ → Type 0
-Ends inner phase piece count = (given : List ℕ) (done : List (Handed WindowBlock)) → InnerStandsFor inner given done → AreHandedDue inner.config given done
+Ends inner phase piece count = (given : List ℕ) (done : List (Handed WindowBlock))
+    → InnerStandsFor inner given done → AreHandedDue inner.config given done
     → EndsWith inner given done phase piece count

@@ -5,7 +5,7 @@ use Rattle.tm_inner.specs.Inner.{Inner, AreInnerDue, inner_bits}
 use Rattle.tm_inner.specs.Receiving.{AreInnerFirst}
 use Rattle.tm_sync.specs.Places.{places}
 use Rattle.tm_viterbi.specs.WindowBlock.{WindowBlock}
-use Rattle.tm_channel.specs.ReceivedCodeblock.{rules_of}
+use Rattle.tm_codeblock.specs.ReceivedCodeblock.{rules_of}
 use Rattle.tm_channel.specs.Items.{ItemValue, AreItemsOf, AreFirstItemsOf, AreItems}
 use Rattle.tm_channel.specs.Due.{due}
 
@@ -15,18 +15,22 @@ pub record Receive (c : Configuration) (phase : ℕ) (octets : List ℕ) (items 
   pub inner : Inner c phase octets bits
   pub are_items : AreItems c bits items
 
--- These are the items that are due once octets were received: in whole batches, the first of those whose codeblocks lie whole in the bits
--- of all blocks but the last, or with no inner code in the bits.
+-- These are the items that are due once octets were received: in whole batches, the first of those
+-- whose codeblocks lie whole in the bits of all blocks but the last, or with no inner code in the
+-- bits.
 pub record ReceiveDue (c : Configuration) (phase : ℕ) (octets : List ℕ) (items : List ItemValue) : Type 0 where
   pub blocks : List WindowBlock
   pub are_due : AreInnerDue c phase octets blocks
-  pub are_items : AreItemsOf c (inner_bits c octets blocks) (due (rules_of c) (inner_bits c octets blocks)) items
+  pub are_items : AreItemsOf c (inner_bits c octets blocks)
+      (due (rules_of c) (inner_bits c octets blocks)) items
 
--- These are items of the first places in the bits of first blocks of received octets, or with no inner code in the bits.
+-- These are items of the first places in the bits of first blocks of received octets, or with no
+-- inner code in the bits.
 pub record ReceiveFirst (c : Configuration) (phase : ℕ) (octets : List ℕ) (items : List ItemValue) : Type 0 where
   pub blocks : List WindowBlock
   pub are_first : AreInnerFirst c phase octets blocks
-  pub are_items : AreFirstItemsOf c (inner_bits c octets blocks) (places (rules_of c) (inner_bits c octets blocks)) items
+  pub are_items : AreFirstItemsOf c (inner_bits c octets blocks)
+      (places (rules_of c) (inner_bits c octets blocks)) items
 
 -- these are the first of the items of received octets
 pub record ReceiveFront (c : Configuration) (phase : ℕ) (octets : List ℕ) (items : List ItemValue) : Type 0 where

@@ -1,10 +1,11 @@
 -- What a receiver keeps of the bits that it was given, and which items it has handed over of them.
-use Rattle.std.specs.Prelude.{◌≡◌, ℕ, ◌+◌, ◌*◌, ◌<◌, ◌≤◌, ◌^◌, Bool, false, List, [], ◌∷◌, ◌++◌, length, take, drop, map, get_or, unwrap_or, ◌⊎◌}
+use Rattle.std.specs.Prelude.{◌≡◌, ℕ, ◌+◌, ◌-◌, ◌*◌, ◌<◌, ◌≤◌, ◌^◌, Bool, false, List, [], ◌∷◌, ◌++◌, length, take, drop, map, get_or, unwrap_or, ◌⊎◌}
+use Rattle.tm_base.specs.Bits.{bits_of}
 use Rattle.tm_config.specs.Configuration.{Configuration, codeblock_length}
 use Rattle.tm_sync.specs.declared.found.Found.{Found}
 use Rattle.tm_sync.specs.Places.{places}
 use Rattle.tm_sync.specs.Searching.{Searching, StandsFor, inside_of, is_pending}
-use Rattle.tm_channel.specs.ReceivedCodeblock.{rules_of, codeblock_in}
+use Rattle.tm_codeblock.specs.ReceivedCodeblock.{rules_of, codeblock_in}
 use Rattle.tm_channel.specs.Items.{ItemValue, IsItem, AreItemsOf, AreFirstItemsOf}
 use Rattle.tm_channel.specs.Due.{in_batches, due}
 
@@ -16,31 +17,40 @@ beyond front all = drop (length front) all
 
 -- these items are due once `piece` follows the bits, and were not due before
 abbrev pub AreFurther : Configuration → List Bool → List Bool → List ItemValue → Type 0
-AreFurther c bits piece items = AreItemsOf c (bits ++ piece) (beyond (due (rules_of c) bits) (due (rules_of c) (bits ++ piece))) items
+AreFurther c bits piece items = AreItemsOf c (bits ++ piece)
+    (beyond (due (rules_of c) bits) (due (rules_of c) (bits ++ piece))) items
 
 -- the same of the first ones
 abbrev pub AreFirstFurther : Configuration → List Bool → List Bool → List ItemValue → Type 0
-AreFirstFurther c bits piece items = AreFirstItemsOf c (bits ++ piece) (beyond (due (rules_of c) bits) (due (rules_of c) (bits ++ piece))) items
+AreFirstFurther c bits piece items = AreFirstItemsOf c (bits ++ piece)
+    (beyond (due (rules_of c) bits) (due (rules_of c) (bits ++ piece))) items
 
--- whatever bits the receiver stood for, these are the items that are due with the piece and were not due before
+-- whatever bits the receiver stood for, these are the items that are due with the piece and were
+-- not due before
 abbrev pub AreDue : Configuration → (List Bool → Type 0) → List Bool → List ItemValue → Type 0
-AreDue c Stood piece items = (bits : List Bool) → length (bits ++ piece) < 2 ^ 63 → Stood bits → AreFurther c bits piece items
+AreDue c Stood piece items = (bits : List Bool) → length (bits ++ piece) < 2 ^ 63 → Stood bits
+    → AreFurther c bits piece items
 
 -- the same of the first ones
 abbrev pub AreFirstDue : Configuration → (List Bool → Type 0) → List Bool → List ItemValue → Type 0
-AreFirstDue c Stood piece items = (bits : List Bool) → length (bits ++ piece) < 2 ^ 63 → Stood bits → AreFirstFurther c bits piece items
+AreFirstDue c Stood piece items = (bits : List Bool) → length (bits ++ piece) < 2 ^ 63 → Stood bits
+    → AreFirstFurther c bits piece items
 
--- whatever bits the receiver stood for, these are the items that were not due before the end of the bits was known
+-- whatever bits the receiver stood for, these are the items that were not due before the end of the
+-- bits was known
 abbrev pub AreLast : Configuration → (List Bool → Type 0) → List ItemValue → Type 0
-AreLast c Stood items = (bits : List Bool) → Stood bits → AreItemsOf c bits (beyond (due (rules_of c) bits) (places (rules_of c) bits)) items
+AreLast c Stood items = (bits : List Bool) → Stood bits
+    → AreItemsOf c bits (beyond (due (rules_of c) bits) (places (rules_of c) bits)) items
 
 -- the same of the first ones
 abbrev pub AreFirstLast : Configuration → (List Bool → Type 0) → List ItemValue → Type 0
-AreFirstLast c Stood items = (bits : List Bool) → Stood bits → AreFirstItemsOf c bits (beyond (due (rules_of c) bits) (places (rules_of c) bits)) items
+AreFirstLast c Stood items = (bits : List Bool) → Stood bits
+    → AreFirstItemsOf c bits (beyond (due (rules_of c) bits) (places (rules_of c) bits)) items
 
 -- whatever bits the receiver stood for, it stands for these and the piece
 abbrev pub GoesOn : (List Bool → Type 0) → (List Bool → Type 0) → List Bool → Type 0
-GoesOn Stood Stands piece = (bits : List Bool) → length (bits ++ piece) < 2 ^ 63 → Stood bits → Stands (bits ++ piece)
+GoesOn Stood Stands piece = (bits : List Bool) → length (bits ++ piece) < 2 ^ 63 → Stood bits
+    → Stands (bits ++ piece)
 
 -- ---- what is kept
 
@@ -59,57 +69,86 @@ kept_at c bits f = kept_of c f (take (8 * codeblock_length c) (drop (f.place + 3
 
 -- the item of a codeblock that is kept
 abbrev pub IsItemAt : Configuration → List Kept → ℕ → ItemValue → Type 0
-IsItemAt c kept index item = (k : Kept) × (get_or kept index k ≡ k) × IsItem c k.found k.codeblock item
+IsItemAt c kept index item = (k : Kept) × (get_or kept index k ≡ k)
+    × IsItem c k.found k.codeblock item
 
 -- an item for each codeblock that is kept
 abbrev pub AreItemsFor : Configuration → List Kept → List ItemValue → Type 0
 AreItemsFor c [] [] = Unit {0}
-AreItemsFor c (k ∷ kept) (item ∷ items) = IsItem c k.found k.codeblock item × AreItemsFor c kept items
+AreItemsFor c (k ∷ kept) (item ∷ items) =
+    IsItem c k.found k.codeblock item × AreItemsFor c kept items
 AreItemsFor c kept items = ⊥
 
--- One more codeblock is kept, or with it the batch is full and its items were handed over.
-abbrev pub IsKept : Configuration → List Kept → List Kept → List ItemValue → Type 0
-IsKept c all kept items = ((length all < 32) × (kept ≡ all) × (items ≡ [])) ⊎ ((length all ≡ 32) × (kept ≡ []) × AreItemsFor c all items)
+-- A batch that is full was handed over, and none of it is kept; one that is not full stays as it
+-- was.
+abbrev pub IsHanded : Configuration → List Kept → List Kept → List ItemValue → Type 0
+IsHanded c before kept items =
+    ((length before < 32) × (kept ≡ before) × (items ≡ []))
+    ⊎ ((length before ≡ 32) × (kept ≡ []) × AreItemsFor c before items)
 
--- What is kept is what is to be kept of these bits: the search was told all of their places, the codeblocks that are not in a whole
--- batch wait, and the codeblock under way has the last bits.
-pub record Holding (c : Configuration) (stands : List Bool → List Found → Type 0) (part : List Bool) (kept : List Kept) (bits : List Bool) : Type 0 where
+-- What is kept of these bits where the items of the first `handed` places were handed over: the
+-- search was told all of their places, the codeblocks of the other places wait, and the codeblock
+-- under way has the last bits.
+pub record Holding (c : Configuration) (stands : List Bool → List Found
+    → Type 0) (part : List Bool) (kept : List Kept)
+    (handed : ℕ) (bits : List Bool) : Type 0 where
   pub search : stands bits (places (rules_of c) bits)
-  pub waiting : kept ≡ map (kept_at c bits) (drop (in_batches (length (places (rules_of c) bits))) (places (rules_of c) bits))
+  pub within : handed ≤ length (places (rules_of c) bits)
+  pub waiting : kept ≡ map (kept_at c bits) (drop handed (places (rules_of c) bits))
   pub front : List Bool
   pub parts : bits ≡ front ++ part
 
 -- the same, but of `more` bits that the search was given, it was told nothing yet
-pub record HoldingMore (c : Configuration) (stands : List Bool → List Found → Type 0) (part : List Bool) (kept : List Kept) (bits more : List Bool) : Type 0 where
+pub record HoldingMore (c : Configuration) (stands : List Bool → List Found
+    → Type 0) (part : List Bool) (kept : List Kept)
+    (handed : ℕ) (bits more : List Bool) : Type 0 where
   pub search : stands (bits ++ more) (places (rules_of c) bits)
-  pub waiting : kept ≡ map (kept_at c bits) (drop (in_batches (length (places (rules_of c) bits))) (places (rules_of c) bits))
+  pub within : handed ≤ length (places (rules_of c) bits)
+  pub waiting : kept ≡ map (kept_at c bits) (drop handed (places (rules_of c) bits))
   pub front : List Bool
   pub parts : bits ++ more ≡ front ++ part
 
--- what contracts see of a batch of codeblocks: the bits of the one under way, those that are kept, and the items that were written
--- when these were repaired
+-- what contracts see of a batch of codeblocks: the bits of the one under way, those that are kept,
+-- and the items that were written when these were repaired
 pub record Batching : Type 0 where
   pub config : Configuration
   pub part : List Bool
   pub kept : List Kept
   pub items : List ItemValue
 
+-- these bits were given to a search and a batch, and the codeblocks of all places but the first
+-- `handed` ones are kept
+abbrev pub Holds : Searching → Batching → ℕ → List Bool → Type 0
+Holds s b handed bits = Holding b.config (StandsFor s) b.part b.kept handed bits
+
+-- then `more` bits were too, and it is not known yet whether a codeblock is whole with them
+abbrev pub HoldsMore : Searching → Batching → ℕ → List Bool → List Bool → Type 0
+HoldsMore s b handed bits more = HoldingMore b.config (StandsFor s) b.part b.kept handed bits more
+
 -- these bits were given to a search and a batch, which was handed over whenever it was full
 abbrev pub Stands : Searching → Batching → List Bool → Type 0
-Stands s b bits = Holding b.config (StandsFor s) b.part b.kept bits
-
--- then these were too, and it is not known yet whether a codeblock is whole with them
-abbrev pub StandsMore : Searching → Batching → List Bool → List Bool → Type 0
-StandsMore s b bits more = HoldingMore b.config (StandsFor s) b.part b.kept bits more
+Stands s b bits = Holds s b (in_batches (length (places (rules_of b.config) bits))) bits
 
 -- a search and a batch agree, whatever bits were given, and a codeblock may be whole
 pub record Agree (s : Searching) (b : Batching) : Type 0 where
   pub same : s.rules ≡ rules_of b.config
   pub within : unwrap_or (inside_of s) 0 ≤ s.rules.block_bits
   pub long : length b.part ≡ unwrap_or (inside_of s) 0
-  pub few : length b.kept < 32
 
--- they agree, and no codeblock is whole
+-- they agree, and no codeblock is whole that is not kept
+pub record IsFree (s : Searching) (b : Batching) : Type 0 where
+  pub agree : Agree s b
+  pub free : is_pending s ≡ false
+  pub most : length b.kept ≤ 32
+
+-- and the batch is not full
 pub record IsReady (s : Searching) (b : Batching) : Type 0 where
   pub agree : Agree s b
   pub free : is_pending s ≡ false
+  pub few : length b.kept < 32
+
+-- ---- bits that are taken
+
+-- the bits of octets behind the first `from` ones, up to bit `to`
+abbrev pub bits_between : ℕ → ℕ → List ℕ → List Bool
+bits_between from to octets = take (to - from) (drop from (bits_of octets))

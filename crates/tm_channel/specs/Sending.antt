@@ -3,7 +3,7 @@ use Rattle.std.specs.Prelude.{◌≡◌, ℕ, List, Option}
 use Rattle.tm_base.specs.Pieces.{Fed, FedFront}
 use Rattle.tm_config.specs.Configuration.{Configuration}
 use Rattle.tm_inner.specs.Sending.{InnerSending, StandsFor as InnerStandsFor}
-use Rattle.tm_channel.specs.Frames.{behind_frames}
+use Rattle.tm_codeblock.specs.Frames.{behind_frames}
 use Rattle.tm_channel.specs.Sent.{cadus, sent}
 
 -- what contracts see of a sender: its configuration, the front of a frame, and its last stage
@@ -12,7 +12,8 @@ pub record Sending : Type 0 where
   pub held : List ℕ
   pub inner : InnerSending
 
--- it holds what stands behind the last whole frame, and its last stage was given the whole frames' units
+-- it holds what stands behind the last whole frame, and its last stage was given the whole frames'
+-- units
 pub record StandsFor (sender : Sending) (octets : List ℕ) : Type 0 where
   pub held : sender.held ≡ behind_frames sender.config.frame_length octets
   pub inner : InnerStandsFor sender.inner (cadus sender.config octets)
@@ -24,4 +25,5 @@ pub record Sends (before now : Sending) (taken taken_now : Option (List ℕ)) (o
 
 -- given these octets, a sender wrote a front of what is due for them
 abbrev pub SendsFront : Sending → Option (List ℕ) → Option (List ℕ) → List ℕ → Type 0
-SendsFront before taken taken_now octets = FedFront StandsFor (sent before.config) before taken taken_now octets
+SendsFront before taken taken_now octets =
+    FedFront StandsFor (sent before.config) before taken taken_now octets

@@ -1,22 +1,25 @@
--- Bits in which channel access data units were sent, with gaps and disturbance, and the items that they come to.
-use Rattle.std.specs.Prelude.{◌≡◌, ℕ, ◌+◌, ◌*◌, ◌≤◌, ◌==◌, Bool, false, if◌then◌else◌, List, [], ◌∷◌, ◌++◌, length, map, None, replicate}
+-- Bits in which channel access data units were sent, with gaps and disturbance, and the items that
+-- they come to.
+use Rattle.std.specs.Prelude.{◌≡◌, ℕ, ◌+◌, ◌*◌, ◌≤◌, Bool, false, if◌then◌else◌, List, [], ◌∷◌, ◌++◌, length, map, None, replicate}
 use Rattle.std.specs.List.{AllByRecursion}
 use Rattle.tm_base.specs.Bits.{AreOctets, bits_of}
-use Rattle.tm_config.specs.Configuration.{Configuration, codeblock_length}
+use Rattle.tm_config.specs.Configuration.{Configuration, codeblock_length, is_uncoded}
+use Rattle.tm_config.specs.declared.values.OuterCode.TheVariants.{Uncoded}
 use Rattle.tm_rs_code.specs.Code.{distance}
 use Rattle.tm_rs_solve.specs.declared.answers.Answer.{Answer}
 use Rattle.tm_rs_solve.specs.declared.answers.Answer.TheVariants.{Fixed}
 use Rattle.tm_sync.specs.declared.found.Found.{Found}
 use Rattle.tm_sync.specs.Marked.{Entry, IsMarked, places_of}
-use Rattle.tm_channel.specs.Cadu.{codeblock_of, cadu}
-use Rattle.tm_channel.specs.ReceivedCodeblock.{rules_of, codeblock_in, received_columns}
+use Rattle.tm_codeblock.specs.Cadu.{codeblock_of, cadu}
+use Rattle.tm_codeblock.specs.ReceivedCodeblock.{rules_of, codeblock_in, received_columns}
 use Rattle.tm_channel.specs.Items.{ItemValue}
 
 -- a transfer frame of a configuration
 abbrev pub IsFrame : Configuration → List ℕ → Type 0
 IsFrame c frame = (length frame ≡ c.frame_length) × AreOctets frame
 
--- what came of one unit that was sent: a gap, and what was received of its marker and of its codeblock; and its frame
+-- what came of one unit that was sent: a gap, and what was received of its marker and of its
+-- codeblock; and its frame
 pub record SentUnit : Type 0 where
   pub received : Entry
   pub frame : List ℕ
@@ -42,28 +45,34 @@ sent_columns c frame = received_columns c (codeblock_of c frame)
 abbrev pub unit_codeblock : Configuration → Found → SentUnit → List ℕ
 unit_codeblock c f u = codeblock_in c f.inverted u.received.block
 
--- each column that differs from the one that was sent in at most as many symbols as the repair bound answers in how many
+-- each column that differs from the one that was sent in at most as many symbols as the repair
+-- bound answers in how many
 abbrev pub AreRepaired : ℕ → List (List ℕ) → List (List ℕ) → List Answer → Type 0
 AreRepaired bound [] [] [] = Unit {0}
 AreRepaired bound (column ∷ columns) (sent ∷ others) (answer ∷ answers) =
-    (distance sent column ≤ bound → answer ≡ Fixed (distance sent column)) × AreRepaired bound columns others answers
+    (distance sent column ≤ bound → answer ≡ Fixed (distance sent column))
+    × AreRepaired bound columns others answers
 AreRepaired bound columns others answers = ⊥
 
 -- no column differs from the one that was sent in more symbols than the repair bound
 abbrev pub AreWithin : ℕ → List (List ℕ) → List (List ℕ) → Type 0
 AreWithin bound [] [] = Unit {0}
-AreWithin bound (column ∷ columns) (sent ∷ others) = (distance sent column ≤ bound) × AreWithin bound columns others
+AreWithin bound (column ∷ columns) (sent ∷ others) =
+    (distance sent column ≤ bound) × AreWithin bound columns others
 AreWithin bound columns others = ⊥
 
--- what was received of a frame's codeblock is disturbed within the repair bound; with no outer code it is not disturbed
+-- what was received of a frame's codeblock is disturbed within the repair bound; with no outer code
+-- it is not disturbed
 pub record IsNear (c : Configuration) (frame codeblock : List ℕ) : Type 0 where
   pub columns : AreWithin c.repair (received_columns c codeblock) (sent_columns c frame)
-  pub uncoded : c.code ≡ 0 → codeblock ≡ codeblock_of c frame
+  pub uncoded : c.code ≡ Uncoded → codeblock ≡ codeblock_of c frame
 
--- what is said of a unit: it stands at its marker, and each column and the frame come back where they are disturbed within the bound
+-- what is said of a unit: it stands at its marker, and each column and the frame come back where
+-- they are disturbed within the bound
 pub record IsAsSent (c : Configuration) (f : Found) (u : SentUnit) (item : ItemValue) : Type 0 where
   pub place : item.found ≡ f
-  pub answers : AreRepaired c.repair (received_columns c (unit_codeblock c f u)) (sent_columns c u.frame) item.answers
+  pub answers : AreRepaired c.repair (received_columns c (unit_codeblock c f u))
+      (sent_columns c u.frame) item.answers
   pub frame : IsNear c u.frame (unit_codeblock c f u) → item.frame ≡ u.frame
 
 -- the items are those of the units at these places
@@ -92,7 +101,7 @@ sent_bits c (frame ∷ frames) = bits_of (cadu c frame) ++ sent_bits c frames
 
 -- nothing was wrong in any column
 abbrev pub clean_answers : Configuration → List Answer
-clean_answers c = if c.code == 0 then [] else replicate c.depth (Fixed 0)
+clean_answers c = if is_uncoded c.code then [] else replicate c.depth (Fixed 0)
 
 -- the items of these frames, sent behind `at` bits: one behind the other, and nothing wrong
 abbrev pub clean_items : Configuration → ℕ → List (List ℕ) → List ItemValue

@@ -1,12 +1,12 @@
 -- What the store of a batch of codeblocks holds.
-use Rattle.std.specs.Prelude.{◌≡◌, ℕ, ◌*◌, ◌<◌, ◌==◌, if◌then◌else◌, List, [], length, map, take, drop, get_or, unwrap_or}
-use Rattle.tm_config.specs.Configuration.{Configuration, codeblock_length}
+use Rattle.std.specs.Prelude.{◌≡◌, ℕ, ◌*◌, ◌<◌, if◌then◌else◌, List, [], length, map, take, drop, get_or, unwrap_or}
+use Rattle.tm_config.specs.Configuration.{Configuration, codeblock_length, is_uncoded}
 use Rattle.tm_rs_solve.specs.declared.answers.Answer.{Answer}
 use Rattle.tm_rs_solve.specs.declared.answers.Answer.TheVariants.{Beyond}
 use Rattle.tm_workers.specs.declared.words.Word.{Word}
+use Rattle.tm_codeblock.specs.ReceivedCodeblock.{received_columns}
 use Rattle.tm_channel.specs.ColumnWords.{all_symbols}
 use Rattle.tm_channel.specs.Items.{ItemValue, AreNearest, are_fixed}
-use Rattle.tm_channel.specs.ReceivedCodeblock.{received_columns}
 use Rattle.tm_channel.specs.Receiving.{Kept}
 use Rattle.tm_channel.specs.declared.slot.Slot.{Slot}
 
@@ -16,7 +16,7 @@ kept_in size slot = record { found = slot.found; codeblock = take size slot.octe
 
 -- how many columns a codeblock is repaired as: none with no outer code
 abbrev pub column_count : Configuration → ℕ
-column_count c = if c.code == 0 then 0 else c.depth
+column_count c = if is_uncoded c.code then 0 else c.depth
 
 -- the item that is written in a slot
 abbrev pub item_in : Configuration → Slot → ItemValue
@@ -30,7 +30,8 @@ item_in c slot = record {
 abbrev pub answers_of : List Word → List Answer
 answers_of words = map (λ (w : Word). unwrap_or w.answer Beyond) words
 
--- the words of a codeblock, of so many columns, by its number: those of all codeblocks stand one behind the other
+-- the words of a codeblock, of so many columns, by its number: those of all codeblocks stand one
+-- behind the other
 abbrev pub words_at : ℕ → List Word → ℕ → List Word
 words_at count words index = take count (drop (index * count) words)
 
@@ -40,7 +41,8 @@ IsRead c codeblock words = all_symbols c words ≡ received_columns c codeblock
 
 -- these words hold the answers for the columns of a codeblock, and what is nearest to these
 abbrev pub IsDecoded : Configuration → List ℕ → List Word → Type 0
-IsDecoded c codeblock words = AreNearest c (received_columns c codeblock) (answers_of words) (all_symbols c words)
+IsDecoded c codeblock words = AreNearest c (received_columns c codeblock) (answers_of words)
+    (all_symbols c words)
 
 -- the octets of a codeblock in the slot of this number
 abbrev pub codeblock_in_slot : Configuration → List Slot → ℕ → Slot → List ℕ
@@ -48,9 +50,11 @@ codeblock_in_slot c slots index slot = take (codeblock_length c) (get_or slots i
 
 -- the words are the columns of the codeblocks in slots
 abbrev pub AreRead : Configuration → List Slot → List Word → Type 0
-AreRead c slots words = (index : ℕ) (slot : Slot) → index < length slots → IsRead c (codeblock_in_slot c slots index slot) (words_at c.depth words index)
+AreRead c slots words = (index : ℕ) (slot : Slot) → index < length slots
+    → IsRead c (codeblock_in_slot c slots index slot) (words_at c.depth words index)
 
 -- the words hold what came of the columns of the codeblocks in slots
 abbrev pub AreDecoded : Configuration → List Slot → List Word → Type 0
 AreDecoded c slots words =
-    (index : ℕ) (slot : Slot) → index < length slots → IsDecoded c (codeblock_in_slot c slots index slot) (words_at (column_count c) words index)
+    (index : ℕ) (slot : Slot) → index < length slots
+    → IsDecoded c (codeblock_in_slot c slots index slot) (words_at (column_count c) words index)

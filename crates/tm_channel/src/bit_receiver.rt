@@ -1,30 +1,28 @@
 // Bits in, items out.
-ghost use Rattle.std.specs.Prelude.{◌≡◌, ◌<◌, ◌≤◌, ◌⊎◌, ◌+◌, ◌-◌, ◌*◌, ◌/◌, ◌%◌, ◌^◌, ◌==◌, ℕ, Bool, true, false, List, [], ◌∷◌, ◌++◌, length, take, map, OnOk, OnErr, IsSome, IsTrue, None, unwrap_or};
+ghost use Rattle.std.specs.Prelude.{◌≡◌, ◌≢◌, ◌<◌, ◌≤◌, ◌+◌, ◌-◌, ◌*◌, ◌/◌, ◌^◌, ℕ, Bool, List, [], ◌∷◌, ◌++◌, length, take, drop, OnOk, OnErr, IsSome, IsTrue, None, unwrap_or};
 ghost use Rattle.tm_base.specs.Bits.{bits_of, bits_of_octet};
 ghost use Rattle.tm_base.specs.Outside.{HasCause};
 ghost use Rattle.tm_base.specs.Takers.{HandedOver, HandedPart};
 ghost use Rattle.tm_sync.specs.Searching.{StandsFor, inside_of};
-ghost use Rattle.tm_channel.specs.ReceivedCodeblock.{rules_of};
-ghost use Rattle.tm_channel.specs.Items.{ItemValue, AreItemsOf};
-ghost use Rattle.tm_channel.specs.Receiving.{Agree, AreDue, AreFirstDue, AreFirstFurther, AreFirstLast, AreFurther, AreItemsFor, AreLast, GoesOn, IsKept, IsReady, Stands, StandsMore, kept_of};
+ghost use Rattle.tm_codeblock.specs.ReceivedCodeblock.{rules_of};
+ghost use Rattle.tm_channel.specs.Items.{ItemValue};
+ghost use Rattle.tm_channel.specs.Receiving.{Agree, AreFirstLast, AreItemsFor, AreLast, GoesOn, Holds, HoldsMore, IsFree, IsHanded, IsReady, Stands, bits_between};
+ghost use Rattle.tm_channel.specs.OctetReceiving.{Received, ReceivedPart};
 
 use crate::item::ItemTaker;
-use crate::packing::{bits_of_octet, pack};
 use crate::store::{BATCH, Codeblocks};
-use std::thread::Threads;
+use crate::workers::Workers;
 use tm_base::Failed;
-use tm_sync::{Found, Search};
-use tm_workers::Gate;
-
-// How many octets bits are packed to at a time.
-const RUN: usize = 256;
+use tm_codeblock::bits_of_octet;
+use tm_sync::Search;
 
 // Hands over the items of the codeblocks that are kept.
 fn hand_over<T: ItemTaker>(batch: &Codeblocks, taker: &mut T) -> Result<(), Failed>
     requires { AreItemsFor batch.now.config batch.now.kept batch.now.items }
     ensures all { OnOk result ((items : List ItemValue) × AreItemsFor batch.now.config batch.now.kept items
         × HandedOver T.took taker.old items taker.new) }
-    ensures part { OnErr result ((count : ℕ) × (items : List ItemValue) × AreItemsFor batch.now.config (take count batch.now.kept) items
+    ensures part { OnErr result ((count : ℕ) × (items : List ItemValue)
+        × AreItemsFor batch.now.config (take count batch.now.kept) items
         × HandedPart T.took T.broke taker.old items taker.new) }
     ensures cause { HasCause (T.faults taker.old) (T.faults taker.new) (T.is_last taker.new) result }
 {
@@ -38,7 +36,8 @@ fn hand_over<T: ItemTaker>(batch: &Codeblocks, taker: &mut T) -> Result<(), Fail
     Ok(())
 }
 
-/// Searches the markers in a stream of bits, and hands over what comes of the codeblocks behind them, a batch at a time.
+/// Searches the markers in a stream of bits, and keeps the codeblocks behind them until a batch of them is full. The
+/// batch is then repaired and handed over.
 #[derive(Drop)]
 pub struct BitReceiver {
     pub search: Search,
@@ -60,82 +59,97 @@ impl BitReceiver {
         BitReceiver { search, batch }
     }
 
-    /// Hands over the items that were not due before the end of the bits was known.
-    pub fn hand_last<R: Threads + Sync, T: ItemTaker, G: Gate + Sync>(
+    /// Takes the bits of octets behind the first `from` ones, has each batch that is full with them repaired, and hands
+    /// over its items.
+    pub fn receive<P: Workers, T: ItemTaker>(
         &mut self,
-        rt: &R,
+        by: &P,
+        octets: &[u8],
+        from: usize,
         taker: &mut T,
-        gate: &G,
     ) -> Result<(), Failed>
-        requires { IsReady self.old.search self.old.batch }
+        requires workers { P.is_ready by.now }
+        requires from { from ≤ 8 * length octets.now }
+        requires most { 8 * length octets.now < 2 ^ 63 }
+        requires ready { IsReady self.old.search self.old.batch }
         ensures ready { IsReady self.new.search self.new.batch }
         ensures config { self.new.batch.config ≡ self.old.batch.config }
-        ensures all { OnOk result ((items : List ItemValue) × HandedOver T.took taker.old items taker.new
-            × AreLast self.old.batch.config (Stands self.old.search self.old.batch) items) }
-        ensures broke { OnErr result ((items : List ItemValue) × HandedPart T.took T.broke taker.old items taker.new
-            × AreFirstLast self.old.batch.config (Stands self.old.search self.old.batch) items) }
+        ensures handed { OnOk result (Received T.took (record { search = self.old.search; batch = self.old.batch })
+            (record { search = self.new.search; batch = self.new.batch }) taker.old taker.new
+            (drop from (bits_of octets.now))) }
+        ensures part { OnErr result
+            (ReceivedPart T.took T.broke (record { search = self.old.search; batch = self.old.batch })
+            (record { search = self.new.search; batch = self.new.batch }) taker.old taker.new
+            (drop from (bits_of octets.now))) }
         ensures cause { HasCause (T.faults taker.old) (T.faults taker.new) (T.is_last taker.new) result }
     {
-        match self.hand_all(rt, taker, gate) {
-            Ok(()) => Ok(()),
-            Err(Failed) => Err(Failed),
+        let mut at = from;
+        while at < 8 * octets.len() {
+            at = self.take(octets, at);
+            match self.hand_full(by, taker) {
+                Ok(()) => {}
+                Err(Failed) => return Err(Failed),
+            }
         }
+        Ok(())
     }
 
-    // Hands over the items of all codeblocks that are kept, and keeps none.
-    fn hand_all<R: Threads + Sync, T: ItemTaker, G: Gate + Sync>(
-        &mut self,
-        rt: &R,
-        taker: &mut T,
-        gate: &G,
-    ) -> Result<(), Failed>
-        ensures search { self.new.search ≡ self.old.search }
+    // Takes the bits of octets behind the first `from` ones, until the batch is full or the octets end. Answers up to
+    // which of their bits it took them.
+    fn take(&mut self, octets: &[u8], from: usize) -> usize
+        requires from { from < 8 * length octets.now }
+        requires most { 8 * length octets.now < 2 ^ 63 }
+        requires ready { IsReady self.old.search self.old.batch }
+        ensures some { from < result }
+        ensures within { result ≤ 8 * length octets.now }
+        ensures free { IsFree self.new.search self.new.batch }
         ensures config { self.new.batch.config ≡ self.old.batch.config }
-        ensures part { self.new.batch.part ≡ self.old.batch.part }
-        ensures kept { self.new.batch.kept ≡ [] }
-        ensures all { OnOk result ((items : List ItemValue) × AreItemsFor self.old.batch.config self.old.batch.kept items
-            × HandedOver T.took taker.old items taker.new) }
-        ensures broke { OnErr result ((count : ℕ) × (items : List ItemValue) × AreItemsFor self.old.batch.config (take count self.old.batch.kept) items
-            × HandedPart T.took T.broke taker.old items taker.new) }
-        ensures cause { HasCause (T.faults taker.old) (T.faults taker.new) (T.is_last taker.new) result }
+        ensures holds { (handed : ℕ)
+            → GoesOn (Holds self.old.search self.old.batch handed) (Holds self.new.search self.new.batch handed)
+            (bits_between from result octets.now) }
     {
-        self.batch.repair(rt, gate);
-        let result = hand_over(&self.batch, taker);
-        self.batch.clear();
-        result
+        let mut at = from;
+        while at < 8 * octets.len() {
+            at += self.push(octets, at);
+            self.keep_whole();
+            if self.batch.count() == BATCH {
+                return at;
+            }
+        }
+        at
     }
 
-    // Keeps the codeblock that is whole, and hands over the items of a full batch.
-    fn keep<R: Threads + Sync, T: ItemTaker, G: Gate + Sync>(
-        &mut self,
-        rt: &R,
-        found: Found,
-        taker: &mut T,
-        gate: &G,
-    ) -> Result<(), Failed>
-        requires room { length self.old.batch.kept < 32 }
-        requires whole { length self.old.batch.part ≡ (rules_of self.old.batch.config).block_bits }
-        ensures search { self.new.search ≡ self.old.search }
+    // Gives bits of octets behind the first `at` ones to the search, and to the codeblock that they stand in: the
+    // octets that the codeblock under way lacks, a whole octet where none is under way, or one bit. Answers how many
+    // bits.
+    fn push(&mut self, octets: &[u8], at: usize) -> usize
+        requires at { at < 8 * length octets.now }
+        requires most { 8 * length octets.now < 2 ^ 63 }
+        requires ready { IsReady self.old.search self.old.batch }
+        ensures some { 0 < result }
+        ensures within { at + result ≤ 8 * length octets.now }
+        ensures agree { Agree self.new.search self.new.batch }
         ensures config { self.new.batch.config ≡ self.old.batch.config }
-        ensures part { self.new.batch.part ≡ [] }
-        ensures few { length self.new.batch.kept < 32 }
-        ensures all { OnOk result ((items : List ItemValue)
-            × IsKept self.old.batch.config (self.old.batch.kept ++ kept_of self.old.batch.config found self.old.batch.part ∷ []) self.new.batch.kept items
-            × HandedOver T.took taker.old items taker.new) }
-        ensures broke { OnErr result ((count : ℕ) × (items : List ItemValue)
-            × AreItemsFor self.old.batch.config (take count (self.old.batch.kept ++ kept_of self.old.batch.config found self.old.batch.part ∷ [])) items
-            × (length self.old.batch.kept ≡ 31)
-            × HandedPart T.took T.broke taker.old items taker.new) }
-        ensures cause { HasCause (T.faults taker.old) (T.faults taker.new) (T.is_last taker.new) result }
+        ensures kept { self.new.batch.kept ≡ self.old.batch.kept }
+        ensures holds { (handed : ℕ) (bits : List Bool)
+            → length (bits ++ bits_between at (at + result) octets.now) < 2 ^ 63
+            → Holds self.old.search self.old.batch handed bits
+            → HoldsMore self.new.search self.new.batch handed bits (bits_between at (at + result) octets.now) }
     {
-        self.batch.keep(found);
-        if self.batch.count() < BATCH {
-            return Ok(());
+        let first = at / 8;
+        if at % 8 == 0 {
+            let count = self.whole_octets().min(octets.len() - first);
+            if count > 0 {
+                self.push_octets(&octets[first..first + count]);
+                return 8 * count;
+            }
+            if self.is_outside() {
+                self.push_octet(octets[first]);
+                return 8;
+            }
         }
-        match self.hand_all(rt, taker, gate) {
-            Ok(()) => Ok(()),
-            Err(Failed) => Err(Failed),
-        }
+        self.push_bit(bits_of_octet(octets[first])[at % 8] == 1);
+        1
     }
 
     // Gives a bit to the search, and to the codeblock that it stands in.
@@ -143,8 +157,10 @@ impl BitReceiver {
         requires ready { IsReady self.old.search self.old.batch }
         ensures agree { Agree self.new.search self.new.batch }
         ensures config { self.new.batch.config ≡ self.old.batch.config }
-        ensures stands { (bits : List Bool) → length (bits ++ bit ∷ []) < 2 ^ 63 → Stands self.old.search self.old.batch bits
-            → StandsMore self.new.search self.new.batch bits (bit ∷ []) }
+        ensures kept { self.new.batch.kept ≡ self.old.batch.kept }
+        ensures holds { (handed : ℕ) (bits : List Bool) → length (bits ++ bit ∷ []) < 2 ^ 63
+            → Holds self.old.search self.old.batch handed bits
+            → HoldsMore self.new.search self.new.batch handed bits (bit ∷ []) }
     {
         match self.search.inside() {
             Some(_) => self.batch.push_bit(bit),
@@ -157,247 +173,119 @@ impl BitReceiver {
     fn push_octets(&mut self, octets: &[u8])
         requires ready { IsReady self.old.search self.old.batch }
         requires inside { IsSome (inside_of self.old.search) }
-        requires fits { unwrap_or (inside_of self.old.search) 0 + 8 * length octets.now ≤ self.old.search.rules.block_bits }
+        requires fits { unwrap_or (inside_of self.old.search) 0 + 8
+            * length octets.now ≤ self.old.search.rules.block_bits }
         ensures agree { Agree self.new.search self.new.batch }
         ensures config { self.new.batch.config ≡ self.old.batch.config }
-        ensures stands { (bits : List Bool) → length (bits ++ bits_of octets.now) < 2 ^ 63 → Stands self.old.search self.old.batch bits
-            → StandsMore self.new.search self.new.batch bits (bits_of octets.now) }
+        ensures kept { self.new.batch.kept ≡ self.old.batch.kept }
+        ensures holds { (handed : ℕ) (bits : List Bool) → length (bits ++ bits_of octets.now) < 2 ^ 63
+            → Holds self.old.search self.old.batch handed bits
+            → HoldsMore self.new.search self.new.batch handed bits (bits_of octets.now) }
     {
         self.batch.push_octets(octets);
         self.search.push_octets(octets);
     }
 
-    // Gives an octet to the search where no codeblock is under way, and its bits behind a marker to the codeblock that they begin.
+    // Gives an octet to the search where no codeblock is under way, and its bits behind a marker to the codeblock that
+    // they begin.
     fn push_octet(&mut self, octet: u8)
         requires ready { IsReady self.old.search self.old.batch }
         requires outside { inside_of self.old.search ≡ None }
         requires fits { 8 ≤ self.old.search.rules.block_bits }
         ensures agree { Agree self.new.search self.new.batch }
         ensures config { self.new.batch.config ≡ self.old.batch.config }
-        ensures stands { (bits : List Bool) → length (bits ++ bits_of_octet octet) < 2 ^ 63 → Stands self.old.search self.old.batch bits
-            → StandsMore self.new.search self.new.batch bits (bits_of_octet octet) }
+        ensures kept { self.new.batch.kept ≡ self.old.batch.kept }
+        ensures holds { (handed : ℕ) (bits : List Bool) → length (bits ++ bits_of_octet octet) < 2 ^ 63
+            → Holds self.old.search self.old.batch handed bits
+            → HoldsMore self.new.search self.new.batch handed bits (bits_of_octet octet) }
     {
         self.search.push_octet(octet);
         let begun = self.search.inside().unwrap_or(0) as u32;
         self.batch.begin(octet, begun);
     }
 
-    // Keeps the codeblock that is whole with the last bits, if one is, and hands over the items of a batch that it completes.
-    fn keep_whole<R: Threads + Sync, T: ItemTaker, G: Gate + Sync>(
-        &mut self,
-        rt: &R,
-        taker: &mut T,
-        gate: &G,
-    ) -> Result<(), Failed>
+    // Keeps the codeblock that is whole with the last bits, if one is.
+    fn keep_whole(&mut self)
         requires agree { Agree self.old.search self.old.batch }
-        ensures ready { IsReady self.new.search self.new.batch }
+        requires few { length self.old.batch.kept < 32 }
+        ensures free { IsFree self.new.search self.new.batch }
         ensures config { self.new.batch.config ≡ self.old.batch.config }
-        ensures stands { OnOk result ((bits more : List Bool) → StandsMore self.old.search self.old.batch bits more
-            → Stands self.new.search self.new.batch (bits ++ more)) }
-        ensures all { OnOk result ((items : List ItemValue) × HandedOver T.took taker.old items taker.new
-            × ((bits more : List Bool) → StandsMore self.old.search self.old.batch bits more → AreFurther self.old.batch.config bits more items)) }
-        ensures broke { OnErr result ((items : List ItemValue) × HandedPart T.took T.broke taker.old items taker.new
-            × ((bits more : List Bool) → StandsMore self.old.search self.old.batch bits more → AreFirstFurther self.old.batch.config bits more items)) }
-        ensures cause { HasCause (T.faults taker.old) (T.faults taker.new) (T.is_last taker.new) result }
+        ensures holds { (handed : ℕ) (bits more : List Bool) → HoldsMore self.old.search self.old.batch handed bits more
+            → Holds self.new.search self.new.batch handed (bits ++ more) }
     {
         match self.search.next() {
-            None => Ok(()),
-            Some(found) => match self.keep(rt, found, taker, gate) {
-                Ok(()) => Ok(()),
-                Err(Failed) => Err(Failed),
-            },
+            None => {}
+            Some(found) => self.batch.keep(found),
         }
     }
 
-    // Takes a bit, and hands over the items of a batch that it completes.
-    fn take_bit<R: Threads + Sync, T: ItemTaker, G: Gate + Sync>(
-        &mut self,
-        rt: &R,
-        bit: bool,
-        taker: &mut T,
-        gate: &G,
-    ) -> Result<(), Failed>
-        requires ready { IsReady self.old.search self.old.batch }
+    // Hands over the items of a batch that is full, and keeps none of its codeblocks.
+    fn hand_full<P: Workers, T: ItemTaker>(&mut self, by: &P, taker: &mut T) -> Result<(), Failed>
+        requires workers { P.is_ready by.now }
+        requires free { IsFree self.old.search self.old.batch }
         ensures ready { IsReady self.new.search self.new.batch }
+        ensures search { self.new.search ≡ self.old.search }
         ensures config { self.new.batch.config ≡ self.old.batch.config }
-        ensures stands { OnOk result (GoesOn (Stands self.old.search self.old.batch) (Stands self.new.search self.new.batch) (bit ∷ [])) }
-        ensures all { OnOk result ((items : List ItemValue) × HandedOver T.took taker.old items taker.new
-            × AreDue self.old.batch.config (Stands self.old.search self.old.batch) (bit ∷ []) items) }
-        ensures broke { OnErr result ((items : List ItemValue) × HandedPart T.took T.broke taker.old items taker.new
-            × AreFirstDue self.old.batch.config (Stands self.old.search self.old.batch) (bit ∷ []) items) }
+        ensures part { self.new.batch.part ≡ self.old.batch.part }
+        ensures all { OnOk result ((items : List ItemValue)
+            × IsHanded self.old.batch.config self.old.batch.kept self.new.batch.kept items
+            × HandedOver T.took taker.old items taker.new) }
+        ensures broke { OnErr result ((count : ℕ) × (items : List ItemValue)
+            × AreItemsFor self.old.batch.config (take count self.old.batch.kept) items
+            × (length self.old.batch.kept ≡ 32)
+            × HandedPart T.took T.broke taker.old items taker.new) }
         ensures cause { HasCause (T.faults taker.old) (T.faults taker.new) (T.is_last taker.new) result }
     {
-        self.push_bit(bit);
-        self.keep_whole(rt, taker, gate)
+        if self.batch.count() < BATCH {
+            return Ok(());
+        }
+        match self.hand_all(by, taker) {
+            Ok(()) => Ok(()),
+            Err(Failed) => Err(Failed),
+        }
     }
 
-    /// Takes bits, each 0 or 1, and hands over the items that are due with them.
-    pub fn take_bits<R: Threads + Sync, T: ItemTaker, G: Gate + Sync>(
-        &mut self,
-        rt: &R,
-        bits: &[u8],
-        taker: &mut T,
-        gate: &G,
-    ) -> Result<(), Failed>
-        requires ready { IsReady self.old.search self.old.batch }
-        ensures ready { IsReady self.new.search self.new.batch }
+    // Hands over the items of all codeblocks that are kept, and keeps none.
+    fn hand_all<P: Workers, T: ItemTaker>(&mut self, by: &P, taker: &mut T) -> Result<(), Failed>
+        requires workers { P.is_ready by.now }
+        ensures search { self.new.search ≡ self.old.search }
         ensures config { self.new.batch.config ≡ self.old.batch.config }
-        ensures stands { OnOk result (GoesOn (Stands self.old.search self.old.batch) (Stands self.new.search self.new.batch) (map (λ bit. bit == 1) bits.now)) }
-        ensures all { OnOk result ((items : List ItemValue) × HandedOver T.took taker.old items taker.new
-            × AreDue self.old.batch.config (Stands self.old.search self.old.batch) (map (λ bit. bit == 1) bits.now) items) }
-        ensures broke { OnErr result ((items : List ItemValue) × HandedPart T.took T.broke taker.old items taker.new
-            × AreFirstDue self.old.batch.config (Stands self.old.search self.old.batch) (map (λ bit. bit == 1) bits.now) items) }
+        ensures part { self.new.batch.part ≡ self.old.batch.part }
+        ensures kept { self.new.batch.kept ≡ [] }
+        ensures all { OnOk result ((items : List ItemValue)
+            × AreItemsFor self.old.batch.config self.old.batch.kept items
+            × HandedOver T.took taker.old items taker.new) }
+        ensures broke { OnErr result ((count : ℕ) × (items : List ItemValue)
+            × AreItemsFor self.old.batch.config (take count self.old.batch.kept) items
+            × HandedPart T.took T.broke taker.old items taker.new) }
         ensures cause { HasCause (T.faults taker.old) (T.faults taker.new) (T.is_last taker.new) result }
     {
-        for bit in bits {
-            match self.take_bit(rt, *bit == 1, taker, gate) {
-                Ok(()) => {}
-                Err(Failed) => return Err(Failed),
-            }
-        }
-        Ok(())
+        self.batch.repair(by);
+        let result = hand_over(&self.batch, taker);
+        self.batch.clear();
+        result
     }
 
-    /// Takes bits, each 0 or 1, packed to octets, and hands over the items that are due with them.
-    pub fn take_packed<R: Threads + Sync, T: ItemTaker, G: Gate + Sync>(
+    /// Hands over the items that were not due before the end of the bits was known.
+    pub fn hand_last<P: Workers, T: ItemTaker>(
         &mut self,
-        rt: &R,
-        bits: &[u8],
+        by: &P,
         taker: &mut T,
-        gate: &G,
     ) -> Result<(), Failed>
+        requires workers { P.is_ready by.now }
         requires ready { IsReady self.old.search self.old.batch }
         ensures ready { IsReady self.new.search self.new.batch }
         ensures config { self.new.batch.config ≡ self.old.batch.config }
-        ensures stands { OnOk result (GoesOn (Stands self.old.search self.old.batch) (Stands self.new.search self.new.batch) (map (λ bit. bit == 1) bits.now)) }
         ensures all { OnOk result ((items : List ItemValue) × HandedOver T.took taker.old items taker.new
-            × AreDue self.old.batch.config (Stands self.old.search self.old.batch) (map (λ bit. bit == 1) bits.now) items) }
+            × AreLast self.old.batch.config (Stands self.old.search self.old.batch) items) }
         ensures broke { OnErr result ((items : List ItemValue) × HandedPart T.took T.broke taker.old items taker.new
-            × AreFirstDue self.old.batch.config (Stands self.old.search self.old.batch) (map (λ bit. bit == 1) bits.now) items) }
+            × AreFirstLast self.old.batch.config (Stands self.old.search self.old.batch) items) }
         ensures cause { HasCause (T.faults taker.old) (T.faults taker.new) (T.is_last taker.new) result }
     {
-        let mut done = 0;
-        while done < bits.len() {
-            let count = run_length(bits.len() - done);
-            match self.take_run(rt, &bits[done..done + count], taker, gate) {
-                Ok(()) => {}
-                Err(Failed) => return Err(Failed),
-            }
-            done += count;
+        match self.hand_all(by, taker) {
+            Ok(()) => Ok(()),
+            Err(Failed) => Err(Failed),
         }
-        Ok(())
-    }
-
-    // Takes fewer than eight bits, or those of up to `RUN` octets.
-    fn take_run<R: Threads + Sync, T: ItemTaker, G: Gate + Sync>(
-        &mut self,
-        rt: &R,
-        bits: &[u8],
-        taker: &mut T,
-        gate: &G,
-    ) -> Result<(), Failed>
-        requires whole { (length bits.now < 8) ⊎ (length bits.now % 8 ≡ 0) }
-        requires most { length bits.now ≤ 8 * 256 }
-        requires ready { IsReady self.old.search self.old.batch }
-        ensures ready { IsReady self.new.search self.new.batch }
-        ensures config { self.new.batch.config ≡ self.old.batch.config }
-        ensures stands { OnOk result (GoesOn (Stands self.old.search self.old.batch) (Stands self.new.search self.new.batch) (map (λ bit. bit == 1) bits.now)) }
-        ensures all { OnOk result ((items : List ItemValue) × HandedOver T.took taker.old items taker.new
-            × AreDue self.old.batch.config (Stands self.old.search self.old.batch) (map (λ bit. bit == 1) bits.now) items) }
-        ensures broke { OnErr result ((items : List ItemValue) × HandedPart T.took T.broke taker.old items taker.new
-            × AreFirstDue self.old.batch.config (Stands self.old.search self.old.batch) (map (λ bit. bit == 1) bits.now) items) }
-        ensures cause { HasCause (T.faults taker.old) (T.faults taker.new) (T.is_last taker.new) result }
-    {
-        if bits.len() < 8 {
-            return self.take_bits(rt, bits, taker, gate);
-        }
-        let mut octets = [0; RUN];
-        let octets = &mut octets[..bits.len() / 8];
-        pack(bits, octets);
-        self.take_octets(rt, octets, taker, gate)
-    }
-
-    /// Takes the bits of octets, those of the codeblock under way as a whole and others one by one, and hands over the items that
-    /// are due with them.
-    pub fn take_octets<R: Threads + Sync, T: ItemTaker, G: Gate + Sync>(
-        &mut self,
-        rt: &R,
-        octets: &[u8],
-        taker: &mut T,
-        gate: &G,
-    ) -> Result<(), Failed>
-        requires ready { IsReady self.old.search self.old.batch }
-        ensures ready { IsReady self.new.search self.new.batch }
-        ensures config { self.new.batch.config ≡ self.old.batch.config }
-        ensures stands { OnOk result (GoesOn (Stands self.old.search self.old.batch) (Stands self.new.search self.new.batch) (bits_of octets.now)) }
-        ensures all { OnOk result ((items : List ItemValue) × HandedOver T.took taker.old items taker.new
-            × AreDue self.old.batch.config (Stands self.old.search self.old.batch) (bits_of octets.now) items) }
-        ensures broke { OnErr result ((items : List ItemValue) × HandedPart T.took T.broke taker.old items taker.new
-            × AreFirstDue self.old.batch.config (Stands self.old.search self.old.batch) (bits_of octets.now) items) }
-        ensures cause { HasCause (T.faults taker.old) (T.faults taker.new) (T.is_last taker.new) result }
-    {
-        let mut done = 0;
-        while done < octets.len() {
-            let count = self.whole_octets().min(octets.len() - done).max(1);
-            match self.take_piece(rt, &octets[done..done + count], taker, gate) {
-                Ok(()) => {}
-                Err(Failed) => return Err(Failed),
-            }
-            done += count;
-        }
-        Ok(())
-    }
-
-    // Takes one octet, or more that the codeblock under way lacks.
-    fn take_piece<R: Threads + Sync, T: ItemTaker, G: Gate + Sync>(
-        &mut self,
-        rt: &R,
-        octets: &[u8],
-        taker: &mut T,
-        gate: &G,
-    ) -> Result<(), Failed>
-        requires ready { IsReady self.old.search self.old.batch }
-        requires fits { (length octets.now ≡ 1) ⊎ (IsSome (inside_of self.old.search)
-            × (unwrap_or (inside_of self.old.search) 0 + 8 * length octets.now ≤ self.old.search.rules.block_bits)) }
-        ensures ready { IsReady self.new.search self.new.batch }
-        ensures config { self.new.batch.config ≡ self.old.batch.config }
-        ensures stands { OnOk result (GoesOn (Stands self.old.search self.old.batch) (Stands self.new.search self.new.batch) (bits_of octets.now)) }
-        ensures all { OnOk result ((items : List ItemValue) × HandedOver T.took taker.old items taker.new
-            × AreDue self.old.batch.config (Stands self.old.search self.old.batch) (bits_of octets.now) items) }
-        ensures broke { OnErr result ((items : List ItemValue) × HandedPart T.took T.broke taker.old items taker.new
-            × AreFirstDue self.old.batch.config (Stands self.old.search self.old.batch) (bits_of octets.now) items) }
-        ensures cause { HasCause (T.faults taker.old) (T.faults taker.new) (T.is_last taker.new) result }
-    {
-        if self.whole_octets() < octets.len() {
-            return self.take_octet(rt, octets[0], taker, gate);
-        }
-        self.push_octets(octets);
-        self.keep_whole(rt, taker, gate)
-    }
-
-    // Takes an octet: as a whole where no codeblock is under way, and else bit by bit.
-    fn take_octet<R: Threads + Sync, T: ItemTaker, G: Gate + Sync>(
-        &mut self,
-        rt: &R,
-        octet: u8,
-        taker: &mut T,
-        gate: &G,
-    ) -> Result<(), Failed>
-        requires ready { IsReady self.old.search self.old.batch }
-        ensures ready { IsReady self.new.search self.new.batch }
-        ensures config { self.new.batch.config ≡ self.old.batch.config }
-        ensures stands { OnOk result (GoesOn (Stands self.old.search self.old.batch) (Stands self.new.search self.new.batch) (bits_of_octet octet)) }
-        ensures all { OnOk result ((items : List ItemValue) × HandedOver T.took taker.old items taker.new
-            × AreDue self.old.batch.config (Stands self.old.search self.old.batch) (bits_of_octet octet) items) }
-        ensures broke { OnErr result ((items : List ItemValue) × HandedPart T.took T.broke taker.old items taker.new
-            × AreFirstDue self.old.batch.config (Stands self.old.search self.old.batch) (bits_of_octet octet) items) }
-        ensures cause { HasCause (T.faults taker.old) (T.faults taker.new) (T.is_last taker.new) result }
-    {
-        if self.is_outside() {
-            self.push_octet(octet);
-            return self.keep_whole(rt, taker, gate);
-        }
-        self.take_bits(rt, &bits_of_octet(octet), taker, gate)
     }
 
     // Whether no codeblock is under way, and one has eight bits or more.
@@ -416,26 +304,12 @@ impl BitReceiver {
     fn whole_octets(&self) -> usize
         requires ready { IsReady self.now.search self.now.batch }
         ensures under_way { 0 < result → IsSome (inside_of self.now.search) }
-        ensures lacks { IsSome (inside_of self.now.search) → result ≡ (self.now.search.rules.block_bits - unwrap_or (inside_of self.now.search) 0) / 8 }
+        ensures lacks { IsSome (inside_of self.now.search)
+            → result ≡ (self.now.search.rules.block_bits - unwrap_or (inside_of self.now.search) 0) / 8 }
     {
         match self.search.inside() {
             Some(_) => self.batch.lacking() / 8,
             None => 0,
         }
-    }
-}
-
-// How many of the bits that are left are taken at once: as many as are whole octets, up to `RUN` of them, or fewer than eight.
-fn run_length(left: usize) -> usize
-    requires { 0 < left }
-    ensures some { 0 < result }
-    ensures within { result ≤ left }
-    ensures most { result ≤ 8 * 256 }
-    ensures whole { (result < 8) ⊎ (result % 8 ≡ 0) }
-{
-    if left < 8 {
-        left
-    } else {
-        left.min(8 * RUN) / 8 * 8
     }
 }

@@ -1,48 +1,21 @@
-// What a codeblock holds: its columns, as words to be decoded in place, and the frame that they come to.
+// The columns of a codeblock, as words to be decoded in place, and the frame that they come to.
 ghost use Rattle.std.specs.Prelude.{◌≡◌, ◌≢◌, ◌<◌, ◌≤◌, ◌*◌, ℕ, List, length, map, take};
-ghost use Rattle.tm_base.specs.Bits.{bits_of, octets_of};
 ghost use Rattle.tm_config.specs.Configuration.{codeblock_length, data_length, word_length};
 ghost use Rattle.tm_dual.specs.Octet.{element_of, sent_octet};
 ghost use Rattle.tm_gf256.specs.Poly.{numbers};
 ghost use Rattle.tm_interleave.specs.Column.{column};
-ghost use Rattle.tm_sync.specs.Bits.{complement};
+ghost use Rattle.tm_codeblock.specs.ReceivedCodeblock.{frame_of, received_columns};
 ghost use Rattle.tm_channel.specs.ColumnWords.{all_symbols};
-ghost use Rattle.tm_channel.specs.ReceivedCodeblock.{codeblock_in, frame_of, received_columns};
 
-use crate::cadus::basis_of;
-use tm_config::Config;
+use tm_codeblock::basis_of;
+use tm_config::{Config, OuterCode};
 use tm_dual::Basis;
 use tm_interleave::{put_word, take_word};
-use tm_random::mask;
 use tm_workers::Word;
-
-/// Writes the codeblock that was received as these octets: turned over where it was received inverted, and with the
-/// randomizer taken off where it is on.
-pub fn read_codeblock(config: &Config, inverted: bool, received: &[u8], codeblock: &mut [u8])
-    requires { length codeblock.old ≡ length received.now }
-    ensures { codeblock.new ≡ codeblock_in config.now inverted (bits_of received.now) }
-{
-    codeblock.copy_from_slice(received);
-    if inverted {
-        turn_over(codeblock);
-    }
-    if config.randomize() == 1 {
-        mask(codeblock);
-    }
-}
-
-// Turns each bit of octets over.
-fn turn_over(octets: &mut [u8])
-    ensures { octets.new ≡ octets_of (complement (bits_of octets.old)) }
-{
-    for k in 0..octets.len() {
-        octets[k] = 255 - octets[k];
-    }
-}
 
 /// Reads the columns of a codeblock, each into a word.
 pub fn read_columns(config: &Config, codeblock: &[u8], words: &mut [Word])
-    requires coded { 0 < config.now.code }
+    requires coded { config.now.code ≢ OuterCode.Uncoded }
     requires codeblock { length codeblock.now ≡ codeblock_length config.now }
     requires words { length words.old ≡ config.now.depth }
     ensures columns { all_symbols config.now words.new ≡ received_columns config.now codeblock.now }
@@ -71,7 +44,7 @@ fn read_column(basis: Basis, depth: usize, i: usize, size: usize, codeblock: &[u
 
 /// Writes the frame of repaired columns: their data, interleaved.
 pub fn write_frame(config: &Config, words: &[Word], frame: &mut [u8])
-    requires coded { 0 < config.now.code }
+    requires coded { config.now.code ≢ OuterCode.Uncoded }
     requires words { length words.now ≡ config.now.depth }
     requires frame { length frame.old ≡ config.now.frame_length }
     ensures { (codeblock : List ℕ) → frame.new ≡ frame_of config.now codeblock (all_symbols config.now words.now) }

@@ -7,8 +7,8 @@ use std::marker::Model;
 use tm_base::Failed;
 use tm_rs_solve::Answer;
 
-/// What is said of a codeblock that was found (CCSDS 131.0-B, Frame Synchronization and Reed-Solomon Coding). It has at most eight
-/// answers.
+/// What is said of a codeblock that was found (CCSDS 131.0-B, Frame Synchronization and Reed-Solomon Coding). It has at
+/// most eight answers.
 #[derive(Debug, Drop)]
 pub struct Item<'a> {
     /// How many received bits stand before its marker.
@@ -40,7 +40,8 @@ impl<'a> Model for Item<'a> {
     ghost invariant = { λ i. length i.answers.now ≤ 8 };
 }
 
-/// What takes the symbol phase, where it is to be found, and then items, one after another. It counts its faults, and the count never falls.
+/// What takes the symbol phase, where it is to be found, and then items, one after another. It counts its faults, and
+/// the count never falls.
 pub trait ItemTaker {
     /// How often a call has failed.
     ghost faults: { Self → ℕ };
@@ -66,7 +67,8 @@ pub trait ItemTaker {
         ensures err { OnErr result (broke self.old item.now self.new) }
         ensures cause { HasCause (faults self.old) (faults self.new) (is_last self.new) result };
 
-    /// Takes the symbol phase that was chosen: `skip` octets, behind which the best path costs `cost`. `Failed` comes only where the count of faults rose.
+    /// Takes the symbol phase that was chosen: `skip` octets, behind which the best path costs `cost`. `Failed` comes
+    /// only where the count of faults rose.
     fn phase(&mut self, skip: u8, cost: u64) -> Result<(), Failed>
         ensures ok { OnOk result (took_phase self.old skip cost self.new) }
         ensures err { OnErr result (broke_phase self.old skip cost self.new) }

@@ -4,18 +4,21 @@ ghost use Rattle.std.specs.List.{concat};
 ghost use Rattle.tm_base.specs.Bits.{AreOctets, bits_of};
 ghost use Rattle.tm_base.specs.Handed.{Handed};
 ghost use Rattle.tm_config.specs.Accepted.{IsAccepted};
+ghost use Rattle.tm_viterbi.specs.declared.block.Start.TheVariants.{Any};
+ghost use Rattle.tm_conv.specs.declared.rates.Rate.TheVariants.{R12};
+ghost use Rattle.tm_config.specs.declared.values.Sought.TheVariants.{Find};
 ghost use Rattle.tm_config.specs.Configuration.{Configuration};
 ghost use Rattle.tm_phase.specs.declared.choosing.Chosen.{Chosen};
 ghost use Rattle.tm_inner.specs.Inner.{Inner, IsStartKnown};
 ghost use Rattle.tm_viterbi.specs.Clean.{turned_octets};
 ghost use Rattle.tm_inner.specs.Phase.{IsChosen, in_turn};
-ghost use Rattle.tm_channel.specs.Frames.{whole_frames};
+ghost use Rattle.tm_codeblock.specs.Frames.{whole_frames};
+ghost use Rattle.tm_codeblock.specs.ReceivedCodeblock.{received_columns};
 ghost use Rattle.tm_channel.specs.Sent.{sent, sent_phase};
 ghost use Rattle.tm_channel.specs.Items.{ItemValue, frames_of, turned_item};
 ghost use Rattle.tm_channel.specs.Handing.{AreReceived, AreReceivedDue, AreReceivedFirst, AreReceivedFront};
 ghost use Rattle.tm_channel.specs.Receive.{Receive, ReceiveDue, ReceiveFirst, ReceiveFront};
 ghost use Rattle.tm_channel.specs.SentStream.{AreAsSent, AreNear, AreWithin, IsSent, SentUnit, clean_items, sent_columns, unit_frames, unit_places};
-ghost use Rattle.tm_channel.specs.ReceivedCodeblock.{received_columns};
 ghost use Rattle.tm_channel.specs.Disturbed as disturbed;
 
 use tm_conv::{best_path_law, complement_law};
@@ -25,48 +28,62 @@ use tm_viterbi::{closed_windows_law, due_law, turned_blocks_law};
 
 /// Received octets come to one list of items. It does nothing.
 pub fn items_law()
-    ensures exists { (c : Configuration) (phase : ℕ) (octets : List ℕ) → IsAccepted c → (items : List ItemValue) × Receive c phase octets items }
+    ensures exists { (c : Configuration) (phase : ℕ) (octets : List ℕ) → IsAccepted c
+        → (items : List ItemValue) × Receive c phase octets items }
     ensures one { (c : Configuration) (phase : ℕ) (octets : List ℕ) (items others : List ItemValue) → IsAccepted c
         → Receive c phase octets items → Receive c phase octets others → items ≡ others }
 {
     inner_law();
 }
 
-/// The items that are due for octets stand first among the items of these octets with any others behind. It does nothing.
+/// The items that are due for octets stand first among the items of these octets with any others behind. It does
+/// nothing.
 pub fn due_items_law()
     ensures { (c : Configuration) (phase : ℕ) (octets more : List ℕ) (due items : List ItemValue) → IsAccepted c
-        → ReceiveDue c phase octets due → Receive c phase (octets ++ more) items → (rest : List ItemValue) × (items ≡ due ++ rest) }
+        → ReceiveDue c phase octets due → Receive c phase (octets ++ more) items
+        → (rest : List ItemValue) × (items ≡ due ++ rest) }
 {
     due_bits_law();
 }
 
-/// Items that are first ones for octets stand first among the items of these octets with any others behind, and those that are
-/// first ones at the end of octets among the items of these. It does nothing.
+/// Items that are first ones for octets stand first among the items of these octets with any others behind, and those
+/// that are first ones at the end of octets among the items of these. It does nothing.
 pub fn first_items_law()
     ensures feed { (c : Configuration) (phase : ℕ) (octets more : List ℕ) (first items : List ItemValue) → IsAccepted c
-        → ReceiveFirst c phase octets first → Receive c phase (octets ++ more) items → (rest : List ItemValue) × (items ≡ first ++ rest) }
+        → ReceiveFirst c phase octets first → Receive c phase (octets ++ more) items
+        → (rest : List ItemValue) × (items ≡ first ++ rest) }
     ensures finish { (c : Configuration) (phase : ℕ) (octets : List ℕ) (first items : List ItemValue) → IsAccepted c
-        → ReceiveFront c phase octets first → Receive c phase octets items → (rest : List ItemValue) × (items ≡ first ++ rest) }
+        → ReceiveFront c phase octets first → Receive c phase octets items
+        → (rest : List ItemValue) × (items ≡ first ++ rest) }
 {
     closed_windows_law();
     due_law();
     inner_law();
 }
 
-/// What is handed over for received octets, their phase where it is to be found and then items, is one list, which there is. What is
-/// due, and the first of what is handed over, stand first in it, whatever octets come behind. It does nothing.
+/// What is handed over for received octets, their phase where it is to be found and then items, is one list, which
+/// there is. What is due, and the first of what is handed over, stand first in it, whatever octets come behind. It does
+/// nothing.
 pub fn received_law()
-    ensures exists { (c : Configuration) (octets : List ℕ) → IsAccepted c → (handed : List (Handed ItemValue)) × ((bits : ℕ) × AreReceived c octets handed bits) }
-    ensures one { (c : Configuration) (octets : List ℕ) (handed others : List (Handed ItemValue)) (bits count : ℕ) → IsAccepted c
+    ensures exists { (c : Configuration) (octets : List ℕ) → IsAccepted c
+        → (handed : List (Handed ItemValue)) × ((bits : ℕ) × AreReceived c octets handed bits) }
+    ensures one { (c : Configuration) (octets : List ℕ) (handed others : List (Handed ItemValue)) (bits count : ℕ)
+        → IsAccepted c
         → AreReceived c octets handed bits → AreReceived c octets others count → handed ≡ others }
     ensures bits { (c : Configuration) (octets : List ℕ) (handed others : List (Handed ItemValue)) (bits count : ℕ)
         → AreReceived c octets handed bits → AreReceived c octets others count → bits ≡ count }
-    ensures due { (c : Configuration) (octets more : List ℕ) (due all : List (Handed ItemValue)) (bits : ℕ) → IsAccepted c
-        → AreReceivedDue c octets due → AreReceived c (octets ++ more) all bits → (rest : List (Handed ItemValue)) × (all ≡ due ++ rest) }
-    ensures first { (c : Configuration) (octets more : List ℕ) (first all : List (Handed ItemValue)) (bits : ℕ) → IsAccepted c
-        → AreReceivedFirst c octets first → AreReceived c (octets ++ more) all bits → (rest : List (Handed ItemValue)) × (all ≡ first ++ rest) }
-    ensures front { (c : Configuration) (octets : List ℕ) (front all : List (Handed ItemValue)) (bits : ℕ) → IsAccepted c
-        → AreReceivedFront c octets front → AreReceived c octets all bits → (rest : List (Handed ItemValue)) × (all ≡ front ++ rest) }
+    ensures due { (c : Configuration) (octets more : List ℕ) (due all : List (Handed ItemValue)) (bits : ℕ)
+        → IsAccepted c
+        → AreReceivedDue c octets due → AreReceived c (octets ++ more) all bits
+        → (rest : List (Handed ItemValue)) × (all ≡ due ++ rest) }
+    ensures first { (c : Configuration) (octets more : List ℕ) (first all : List (Handed ItemValue)) (bits : ℕ)
+        → IsAccepted c
+        → AreReceivedFirst c octets first → AreReceived c (octets ++ more) all bits
+        → (rest : List (Handed ItemValue)) × (all ≡ first ++ rest) }
+    ensures front { (c : Configuration) (octets : List ℕ) (front all : List (Handed ItemValue)) (bits : ℕ)
+        → IsAccepted c
+        → AreReceivedFront c octets front → AreReceived c octets all bits
+        → (rest : List (Handed ItemValue)) × (all ≡ front ++ rest) }
 {
     items_law();
     due_items_law();
@@ -76,59 +93,74 @@ pub fn received_law()
     whole_window_law();
 }
 
-/// However the units of frames were disturbed, with gaps before and behind them, their items stand exactly at their markers,
-/// with distances, bridges and polarities, and each column that is within the repair bound answers how many of its symbols were
-/// wrong. Where that is so of every column, the frames come out in order. It does nothing.
+/// However the units of frames were disturbed, with gaps before and behind them, their items stand exactly at their
+/// markers, with distances, bridges and polarities, and each column that is within the repair bound answers how many of
+/// its symbols were wrong. Where that is so of every column, the frames come out in order. It does nothing.
 pub fn disturbed_law()
-    ensures items { (c : Configuration) (phase : ℕ) (octets : List ℕ) (bits : List Bool) (units : List SentUnit) (last : List Bool) (items : List ItemValue)
+    ensures items { (c : Configuration) (phase : ℕ) (octets : List ℕ) (bits : List Bool) (units : List SentUnit)
+        (last : List Bool) (items : List ItemValue)
         → IsAccepted c → Inner c phase octets bits → IsSent c bits units last → Receive c phase octets items
         → AreAsSent c (unit_places c units) units items }
-    ensures frames { (c : Configuration) (phase : ℕ) (octets : List ℕ) (bits : List Bool) (units : List SentUnit) (last : List Bool) (items : List ItemValue)
+    ensures frames { (c : Configuration) (phase : ℕ) (octets : List ℕ) (bits : List Bool) (units : List SentUnit)
+        (last : List Bool) (items : List ItemValue)
         → IsAccepted c → Inner c phase octets bits → IsSent c bits units last → Receive c phase octets items
         → AreNear c (unit_places c units) units → frames_of items ≡ unit_frames units }
 {
     inner_law();
 }
 
-/// There are octets of which `disturbed_law` speaks: of an accepted configuration with no inner code and a given phase. In them stands a unit
-/// with a wrong bit in its marker and a wrong symbol, right behind it one whose marker is bridged, and behind a gap an inverted one. No column
-/// is disturbed beyond the repair bound. It does nothing.
+/// There are octets of which `disturbed_law` speaks: of an accepted configuration with no inner code and a given phase.
+/// In them stands a unit with a wrong bit in its marker and a wrong symbol, right behind it one whose marker is
+/// bridged, and behind a gap an inverted one. No column is disturbed beyond the repair bound. It does nothing.
 pub fn disturbed_octets_law()
     ensures accepted { IsAccepted disturbed.link }
     ensures phase { IsChosen disturbed.link disturbed.octets None }
     ensures inner { Inner disturbed.link 0 disturbed.octets (bits_of disturbed.octets) }
     ensures sent { IsSent disturbed.link (bits_of disturbed.octets) disturbed.units disturbed.last }
-    ensures places { unit_places disturbed.link disturbed.units ≡ record { place = 0; distance = 1; bridged = false; inverted = false }
+    ensures places { unit_places disturbed.link disturbed.units
+        ≡ record { place = 0; distance = 1; bridged = false; inverted = false }
         ∷ record { place = 168; distance = 19; bridged = true; inverted = false }
         ∷ record { place = 337; distance = 0; bridged = false; inverted = true } ∷ [] }
-    ensures wrong { AreWithin 0 (received_columns disturbed.link (0 ∷ 0 ∷ 1 ∷ replicate 14 0)) (sent_columns disturbed.link disturbed.frame) → ⊥ }
+    ensures wrong { AreWithin 0 (received_columns disturbed.link (0 ∷ 0 ∷ 1 ∷ replicate 14 0))
+        (sent_columns disturbed.link disturbed.frame) → ⊥ }
     ensures near { AreNear disturbed.link (unit_places disturbed.link disturbed.units) disturbed.units }
 {}
 
-/// The items of what is sent for octets, where none is skipped, nothing was disturbed and it is known where the first path starts:
-/// the whole frames of the octets, in order and with nothing wrong. Their frames joined are these. Where the phase is to be found none
-/// of the octets is skipped, at no cost, and it is handed over before the items. It does nothing.
+/// The items of what is sent for octets, where none is skipped, nothing was disturbed and it is known where the first
+/// path starts: the whole frames of the octets, in order and with nothing wrong. Their frames joined are these. Where
+/// the phase is to be found none of the octets is skipped, at no cost, and it is handed over before the items. It does
+/// nothing.
 pub fn clean_law()
-    ensures items { (c : Configuration) (octets : List ℕ) (items : List ItemValue) → IsAccepted c → c.skip ≡ 0 → IsStartKnown c → AreOctets octets
+    ensures items { (c : Configuration) (octets : List ℕ) (items : List ItemValue) → IsAccepted c → c.skip ≡ 0
+        → IsStartKnown c → AreOctets octets
         → Receive c 0 (sent c octets) items → items ≡ clean_items c 0 (whole_frames c.frame_length octets) }
-    ensures frames { (c : Configuration) (at : ℕ) (frames : List (List ℕ)) → frames_of (clean_items c at frames) ≡ concat frames }
-    ensures phase { (c : Configuration) (octets : List ℕ) (chosen : Option Chosen) → c.skip ≡ 0 → IsChosen c (sent c octets) chosen → chosen ≡ sent_phase c }
-    ensures handed { (c : Configuration) (octets : List ℕ) (handed : List (Handed ItemValue)) (bits : ℕ) → IsAccepted c → c.skip ≡ 0 → IsStartKnown c → AreOctets octets
-        → AreReceived c (sent c octets) handed bits → handed ≡ in_turn (sent_phase c) (clean_items c 0 (whole_frames c.frame_length octets)) }
+    ensures frames { (c : Configuration) (at : ℕ) (frames : List (List ℕ))
+        → frames_of (clean_items c at frames) ≡ concat frames }
+    ensures phase { (c : Configuration) (octets : List ℕ) (chosen : Option Chosen) → c.skip ≡ 0
+        → IsChosen c (sent c octets) chosen → chosen ≡ sent_phase c }
+    ensures handed { (c : Configuration) (octets : List ℕ) (handed : List (Handed ItemValue)) (bits : ℕ) → IsAccepted c
+        → c.skip ≡ 0 → IsStartKnown c → AreOctets octets
+        → AreReceived c (sent c octets) handed bits
+        → handed ≡ in_turn (sent_phase c) (clean_items c 0 (whole_frames c.frame_length octets)) }
 {
     clean_inner_law();
     best_path_law();
 }
 
-/// Where inverted markers match too: with no inner code, the items of octets with each bit turned over are those of the octets,
-/// each in the other polarity. At rate 1/2, where paths start from any register and none is skipped, so are those of the symbols
-/// that are sent for octets, each turned over. Their phase is that of the symbols as they are sent, at any rate. It does nothing.
+/// Where inverted markers match too: with no inner code, the items of octets with each bit turned over are those of the
+/// octets, each in the other polarity. At rate 1/2, where paths start from any register and none is skipped, so are
+/// those of the symbols that are sent for octets, each turned over. Their phase is that of the symbols as they are
+/// sent, at any rate. It does nothing.
 pub fn polarity_law()
-    ensures uncoded { (c : Configuration) (phase : ℕ) (octets : List ℕ) (items : List ItemValue) → IsAccepted c → c.inner ≡ 0 → c.polarity ≡ 1 → AreOctets octets
+    ensures uncoded { (c : Configuration) (phase : ℕ) (octets : List ℕ) (items : List ItemValue) → IsAccepted c
+        → c.inner ≡ None → c.polarity ≡ Find → AreOctets octets
         → Receive c phase octets items → Receive c phase (turned_octets octets) (map turned_item items) }
-    ensures half_rate { (c : Configuration) (octets : List ℕ) (items : List ItemValue) → IsAccepted c → c.inner ≡ 12 → c.polarity ≡ 1 → c.start ≡ 1 → c.skip ≡ 0 → AreOctets octets
-        → Receive c 0 (turned_octets (sent c octets)) items → items ≡ map turned_item (clean_items c 0 (whole_frames c.frame_length octets)) }
-    ensures phase { (c : Configuration) (octets : List ℕ) (chosen : Option Chosen) → c.skip ≡ 0 → IsChosen c (turned_octets (sent c octets)) chosen → chosen ≡ sent_phase c }
+    ensures half_rate { (c : Configuration) (octets : List ℕ) (items : List ItemValue) → IsAccepted c
+        → c.inner ≡ Some R12 → c.polarity ≡ Find → c.start ≡ Any → c.skip ≡ 0 → AreOctets octets
+        → Receive c 0 (turned_octets (sent c octets)) items
+        → items ≡ map turned_item (clean_items c 0 (whole_frames c.frame_length octets)) }
+    ensures phase { (c : Configuration) (octets : List ℕ) (chosen : Option Chosen) → c.skip ≡ 0
+        → IsChosen c (turned_octets (sent c octets)) chosen → chosen ≡ sent_phase c }
 {
     turned_blocks_law();
     best_path_law();

@@ -1,30 +1,36 @@
 // The receiver: octets in, items out.
 ghost use Rattle.std.specs.Prelude.{◌≡◌, ◌≢◌, ◌↔◌, ◌⊎◌, ◌++◌, ℕ, ◌+◌, ◌^◌, ◌<◌, ◌≤◌, true, false, List, [], length, IfOk, OnOk, IsErrOf, Err, IsTrue};
+ghost use Rattle.std.specs.Thread.{IsSync};
 ghost use Rattle.tm_base.specs.Handed.{Handed, on_handed};
 ghost use Rattle.tm_base.specs.Outside.{Rose};
 ghost use Rattle.tm_base.specs.Takers.{HandedOver, HandedPart};
 ghost use Rattle.tm_inner.specs.Phase.{IsChosen, IsChosenSoFar};
+ghost use Rattle.tm_workers.specs.Batch.{EachBecomes};
+ghost use Rattle.tm_workers.specs.Words.{Decodes};
 ghost use Rattle.tm_channel.specs.Items.{ItemValue};
 ghost use Rattle.tm_channel.specs.Handing.{AreReceived, AreReceivedDue, AreReceivedFirst, AreReceivedFront};
-ghost use Rattle.tm_channel.specs.OctetReceiving.{StandsFor};
+ghost use Rattle.tm_channel.specs.OctetReceiving.{FeedBreaks, FeedChooses, FeedHands, FinishBreaks, FinishChooses, FinishHands, StandsFor};
 
 use crate::item::ItemTaker;
 use crate::kept::KeptBits;
-use crate::repair::codeblock_size;
+use crate::packed::take_bits;
 use crate::store::Codeblocks;
 use crate::stream::BitStream;
 use crate::taking::{PIECE, end, hand_phase, take};
+use crate::workers::{Called, InOrder, Workers};
 use std::alloc::Global;
 use std::marker::Model;
 use std::thread::Threads;
 use thiserror::Error;
 use tm_base::{Failed, NoMemory};
+use tm_codeblock::{codeblock_size, finds_polarity};
 use tm_config::Config;
 use tm_inner::InnerReceiver;
 use tm_phase::Chosen;
+use tm_rs_code::Params;
 use tm_sync::Search;
 use tm_viterbi::AllError;
-use tm_workers::{Gate, OpenGate};
+use tm_workers::{Gate, OpenGate, Word, decode_batch};
 
 /// Why a receiver refused a call.
 #[derive(Clone, Copy, Debug, PartialEq, Eq, Error)]
@@ -32,14 +38,14 @@ pub enum RecvError {
     /// The taker of the items failed.
     #[error("taker")]
     Taker,
-    /// An earlier call answered `Taker`, or `finish` was called.
+    /// An earlier call answered `Taker`, or the receiver was finished.
     #[error("stopped")]
     Stopped,
 }
 
-/// Turns received octets into what is said of each codeblock that is found in them, piece by piece (CCSDS 131.0-B, Convolutional
-/// Coding, Frame Synchronization, Pseudo-Randomizer and Reed-Solomon Coding). Codeblocks are repaired 32 at a time, by the workers of
-/// its configuration. It takes all its memory at `open`.
+/// Turns received octets into what is said of each codeblock that is found in them, piece by piece (CCSDS 131.0-B,
+/// Convolutional Coding, Frame Synchronization, Pseudo-Randomizer and Reed-Solomon Coding). Codeblocks are repaired 32
+/// at a time, by the workers of its configuration or by the caller alone. It takes all its memory at `open`.
 #[derive(Drop)]
 pub struct Receiver {
     config: Config,
@@ -56,7 +62,11 @@ impl Model for Receiver {
 
     ghost Value = { OctetReceiving };
 
-    ghost view = { λ r. record { config = r.config; has_stopped = r.has_stopped; stages = record { inner = r.inner; bits = r.stream } } };
+    ghost view = { λ r. record {
+      config = r.config;
+      has_stopped = r.has_stopped;
+      stages = record { inner = r.inner; bits = r.stream };
+    } };
 
     ghost invariant = { λ r. (r.inner.config ≡ r.config) × (r.stream.batch.config ≡ r.config) × (r.has_stopped ≡ false → r.inner.has_stopped ≡ false)
         × (3 * (r.inner.config.keep + r.inner.config.ahead) + 7 + 4096 ≤ r.kept.size) };
@@ -82,7 +92,7 @@ impl Receiver {
         let search = Search::new(
             config.tolerance() as u8,
             config.fly() as u8,
-            config.polarity() == 1,
+            finds_polarity(&config),
             8 * codeblock_size(&config) as u32,
         );
         Ok(Receiver {
@@ -94,13 +104,13 @@ impl Receiver {
         })
     }
 
-    /// Takes the next octets, and hands over the items that are due: those of the codeblocks that lie whole in the bits received,
-    /// 32 of them at a time. With an inner code these are the bits of all windows that are closed. Where the symbol phase is to be
-    /// found nothing is due until it is chosen: once all steps of a window can be compared, or with no inner code at the first octet.
-    /// Then it is handed over, once, before any item.
+    /// Takes the next octets, and hands over the items that are due: those of the codeblocks that lie whole in the bits
+    /// received, 32 of them at a time. With an inner code these are the bits of all windows that are closed. Where the
+    /// symbol phase is to be found nothing is due until it is chosen: once all steps of a window can be compared, or
+    /// with no inner code at the first octet. Then it is handed over, once, before any item.
     ///
-    /// `Taker` comes where `taker` fails; a front of what is due was then handed over. `Stopped` comes where an earlier call answered
-    /// `Taker` or `finish` was called; nothing is handed over then.
+    /// `Taker` comes where `taker` fails; a front of what is due was then handed over. `Stopped` comes where an earlier
+    /// call answered `Taker` or the receiver was finished; nothing is handed over then.
     ///
     /// The octets given in all are to be below 2^60. Workers enter `gate` before each word that they decode.
     pub fn feed<R: Threads + Sync, T: ItemTaker, G: Gate + Sync>(
@@ -114,16 +124,71 @@ impl Receiver {
         ensures unchanged { IsErrOf result RecvError.Stopped → (self.new ≡ self.old) × (taker.new ≡ taker.old) }
         ensures stops { IsTrue self.new.has_stopped ↔ OnOk result ⊥ }
         ensures config { self.new.config ≡ self.old.config }
-        ensures handed { OnOk result ((more : List (Handed ItemValue)) × HandedOver (on_handed T.took_phase T.took) taker.old more taker.new
-            × ((given : List ℕ) (done : List (Handed ItemValue)) → length given + length octets.now < 2 ^ 60 → StandsFor self.old given done
-            → StandsFor self.new (given ++ octets.now) (done ++ more) × AreReceivedDue self.old.config (given ++ octets.now) (done ++ more))) }
-        ensures front { IsErrOf result RecvError.Taker → (tried : List (Handed ItemValue)) × HandedPart (on_handed T.took_phase T.took) (on_handed T.broke_phase T.broke) taker.old tried taker.new
-            × ((given : List ℕ) (done : List (Handed ItemValue)) → length given + length octets.now < 2 ^ 60 → StandsFor self.old given done
-            → AreReceivedFirst self.old.config (given ++ octets.now) (done ++ tried)) }
-        ensures chosen { (given : List ℕ) (done : List (Handed ItemValue)) → length given + length octets.now < 2 ^ 60 → StandsFor self.old given done
-            → self.old.has_stopped ≡ false → IsChosenSoFar self.old.config (given ++ octets.now) self.new.stages.inner.phased.chosen }
+        ensures handed { OnOk result
+            (FeedHands (on_handed T.took_phase T.took) self.old self.new taker.old taker.new octets.now) }
+        ensures front { IsErrOf result RecvError.Taker
+            → FeedBreaks (on_handed T.took_phase T.took) (on_handed T.broke_phase T.broke) self.old taker.old taker.new
+            octets.now }
+        ensures chosen { FeedChooses self.old self.new octets.now }
         ensures later { T.faults taker.old ≤ T.faults taker.new }
-        ensures rose { IsErrOf result RecvError.Taker → Rose (T.faults taker.old) (T.faults taker.new) (T.is_last taker.new) }
+        ensures rose { IsErrOf result RecvError.Taker
+            → Rose (T.faults taker.old) (T.faults taker.new) (T.is_last taker.new) }
+        ensures same { result ≢ Err RecvError.Taker → T.faults taker.new ≡ T.faults taker.old }
+    {
+        let decode = |alloc: Global, params: &Params, repair: u8, words: &mut [Word], workers: u8|
+            requires { IsSync R.row × IsSync G.row × (repair ≤ params.now.e) × (length words.old < 2 ^ 32)
+                × ((0 < workers) × (workers ≤ 64)) }
+            ensures { EachBecomes (Decodes params.now repair) words.old words.new }
+        { decode_batch(rt, alloc, params, repair, words, workers, gate) };
+        self.feed_by(&Called { decode }, octets, taker)
+    }
+
+    /// Does what `feed` does with no thread but the caller's: words are decoded one after another, and the workers of
+    /// the configuration have no effect. Calls of both kinds may follow one another.
+    pub fn feed_in_order<T: ItemTaker>(
+        &mut self,
+        octets: &[u8],
+        taker: &mut T,
+    ) -> Result<(), RecvError>
+        ensures stopped { IsErrOf result RecvError.Stopped ↔ IsTrue self.old.has_stopped }
+        ensures unchanged { IsErrOf result RecvError.Stopped → (self.new ≡ self.old) × (taker.new ≡ taker.old) }
+        ensures stops { IsTrue self.new.has_stopped ↔ OnOk result ⊥ }
+        ensures config { self.new.config ≡ self.old.config }
+        ensures handed { OnOk result
+            (FeedHands (on_handed T.took_phase T.took) self.old self.new taker.old taker.new octets.now) }
+        ensures front { IsErrOf result RecvError.Taker
+            → FeedBreaks (on_handed T.took_phase T.took) (on_handed T.broke_phase T.broke) self.old taker.old taker.new
+            octets.now }
+        ensures chosen { FeedChooses self.old self.new octets.now }
+        ensures later { T.faults taker.old ≤ T.faults taker.new }
+        ensures rose { IsErrOf result RecvError.Taker
+            → Rose (T.faults taker.old) (T.faults taker.new) (T.is_last taker.new) }
+        ensures same { result ≢ Err RecvError.Taker → T.faults taker.new ≡ T.faults taker.old }
+    {
+        self.feed_by(&InOrder, octets, taker)
+    }
+
+    // Does what `feed` does, by these workers.
+    fn feed_by<P: Workers, T: ItemTaker>(
+        &mut self,
+        by: &P,
+        octets: &[u8],
+        taker: &mut T,
+    ) -> Result<(), RecvError>
+        requires workers { P.is_ready by.now }
+        ensures stopped { IsErrOf result RecvError.Stopped ↔ IsTrue self.old.has_stopped }
+        ensures unchanged { IsErrOf result RecvError.Stopped → (self.new ≡ self.old) × (taker.new ≡ taker.old) }
+        ensures stops { IsTrue self.new.has_stopped ↔ OnOk result ⊥ }
+        ensures config { self.new.config ≡ self.old.config }
+        ensures handed { OnOk result
+            (FeedHands (on_handed T.took_phase T.took) self.old self.new taker.old taker.new octets.now) }
+        ensures front { IsErrOf result RecvError.Taker
+            → FeedBreaks (on_handed T.took_phase T.took) (on_handed T.broke_phase T.broke) self.old taker.old taker.new
+            octets.now }
+        ensures chosen { FeedChooses self.old self.new octets.now }
+        ensures later { T.faults taker.old ≤ T.faults taker.new }
+        ensures rose { IsErrOf result RecvError.Taker
+            → Rose (T.faults taker.old) (T.faults taker.new) (T.is_last taker.new) }
         ensures same { result ≢ Err RecvError.Taker → T.faults taker.new ≡ T.faults taker.old }
     {
         if self.has_stopped {
@@ -133,10 +198,9 @@ impl Receiver {
             &mut self.inner,
             &mut self.kept,
             &mut self.stream,
-            rt,
+            by,
             octets,
             taker,
-            gate,
         ) {
             Ok(()) => Ok(()),
             Err(Failed) => {
@@ -146,11 +210,11 @@ impl Receiver {
         }
     }
 
-    /// Hands over what is left: the symbol phase, where it is to be found and was not chosen yet, and the last items. Answers how
-    /// many bits were received. It is called once, at the end of the octets.
+    /// Hands over what is left: the symbol phase, where it is to be found and was not chosen yet, and the last items.
+    /// Answers how many bits were received. It is called once, at the end of the octets.
     ///
-    /// `Taker` comes where `taker` fails; a front of all was then handed over. `Stopped` comes where an earlier call answered
-    /// `Taker` or `finish` was called; nothing is handed over then.
+    /// `Taker` comes where `taker` fails; a front of all was then handed over. `Stopped` comes where an earlier call
+    /// answered `Taker` or the receiver was finished; nothing is handed over then.
     pub fn finish<R: Threads + Sync, T: ItemTaker, G: Gate + Sync>(
         &mut self,
         rt: &R,
@@ -161,14 +225,62 @@ impl Receiver {
         ensures unchanged { IsErrOf result RecvError.Stopped → (self.new ≡ self.old) × (taker.new ≡ taker.old) }
         ensures stops { self.new.has_stopped ≡ true }
         ensures config { self.new.config ≡ self.old.config }
-        ensures handed { IfOk result (λ count. (last : List (Handed ItemValue)) × HandedOver (on_handed T.took_phase T.took) taker.old last taker.new
-            × ((given : List ℕ) (done : List (Handed ItemValue)) → StandsFor self.old given done → AreReceived self.old.config given (done ++ last) count)) }
-        ensures front { IsErrOf result RecvError.Taker → (tried : List (Handed ItemValue)) × HandedPart (on_handed T.took_phase T.took) (on_handed T.broke_phase T.broke) taker.old tried taker.new
-            × ((given : List ℕ) (done : List (Handed ItemValue)) → StandsFor self.old given done → AreReceivedFront self.old.config given (done ++ tried)) }
-        ensures chosen { (given : List ℕ) (done : List (Handed ItemValue)) → StandsFor self.old given done → self.old.has_stopped ≡ false
-            → IsChosen self.old.config given self.new.stages.inner.phased.chosen }
+        ensures handed { IfOk result (FinishHands (on_handed T.took_phase T.took) self.old taker.old taker.new) }
+        ensures front { IsErrOf result RecvError.Taker
+            → FinishBreaks (on_handed T.took_phase T.took) (on_handed T.broke_phase T.broke) self.old taker.old
+            taker.new }
+        ensures chosen { FinishChooses self.old self.new }
         ensures later { T.faults taker.old ≤ T.faults taker.new }
-        ensures rose { IsErrOf result RecvError.Taker → Rose (T.faults taker.old) (T.faults taker.new) (T.is_last taker.new) }
+        ensures rose { IsErrOf result RecvError.Taker
+            → Rose (T.faults taker.old) (T.faults taker.new) (T.is_last taker.new) }
+        ensures same { result ≢ Err RecvError.Taker → T.faults taker.new ≡ T.faults taker.old }
+    {
+        let decode = |alloc: Global, params: &Params, repair: u8, words: &mut [Word], workers: u8|
+            requires { IsSync R.row × IsSync G.row × (repair ≤ params.now.e) × (length words.old < 2 ^ 32)
+                × ((0 < workers) × (workers ≤ 64)) }
+            ensures { EachBecomes (Decodes params.now repair) words.old words.new }
+        { decode_batch(rt, alloc, params, repair, words, workers, gate) };
+        self.finish_by(&Called { decode }, taker)
+    }
+
+    /// Does what `finish` does with no thread but the caller's, whichever calls were before.
+    pub fn finish_in_order<T: ItemTaker>(&mut self, taker: &mut T) -> Result<u64, RecvError>
+        ensures stopped { IsErrOf result RecvError.Stopped ↔ IsTrue self.old.has_stopped }
+        ensures unchanged { IsErrOf result RecvError.Stopped → (self.new ≡ self.old) × (taker.new ≡ taker.old) }
+        ensures stops { self.new.has_stopped ≡ true }
+        ensures config { self.new.config ≡ self.old.config }
+        ensures handed { IfOk result (FinishHands (on_handed T.took_phase T.took) self.old taker.old taker.new) }
+        ensures front { IsErrOf result RecvError.Taker
+            → FinishBreaks (on_handed T.took_phase T.took) (on_handed T.broke_phase T.broke) self.old taker.old
+            taker.new }
+        ensures chosen { FinishChooses self.old self.new }
+        ensures later { T.faults taker.old ≤ T.faults taker.new }
+        ensures rose { IsErrOf result RecvError.Taker
+            → Rose (T.faults taker.old) (T.faults taker.new) (T.is_last taker.new) }
+        ensures same { result ≢ Err RecvError.Taker → T.faults taker.new ≡ T.faults taker.old }
+    {
+        self.finish_by(&InOrder, taker)
+    }
+
+    // Does what `finish` does, by these workers.
+    fn finish_by<P: Workers, T: ItemTaker>(
+        &mut self,
+        by: &P,
+        taker: &mut T,
+    ) -> Result<u64, RecvError>
+        requires workers { P.is_ready by.now }
+        ensures stopped { IsErrOf result RecvError.Stopped ↔ IsTrue self.old.has_stopped }
+        ensures unchanged { IsErrOf result RecvError.Stopped → (self.new ≡ self.old) × (taker.new ≡ taker.old) }
+        ensures stops { self.new.has_stopped ≡ true }
+        ensures config { self.new.config ≡ self.old.config }
+        ensures handed { IfOk result (FinishHands (on_handed T.took_phase T.took) self.old taker.old taker.new) }
+        ensures front { IsErrOf result RecvError.Taker
+            → FinishBreaks (on_handed T.took_phase T.took) (on_handed T.broke_phase T.broke) self.old taker.old
+            taker.new }
+        ensures chosen { FinishChooses self.old self.new }
+        ensures later { T.faults taker.old ≤ T.faults taker.new }
+        ensures rose { IsErrOf result RecvError.Taker
+            → Rose (T.faults taker.old) (T.faults taker.new) (T.is_last taker.new) }
         ensures same { result ≢ Err RecvError.Taker → T.faults taker.new ≡ T.faults taker.old }
     {
         if self.has_stopped {
@@ -180,11 +292,11 @@ impl Receiver {
             Ok(()) => {}
             Err(Failed) => return Err(RecvError::Taker),
         }
-        match self.stream.take_bits(rt, self.kept.bits(), taker, gate) {
+        match take_bits(&mut self.stream, by, self.kept.bits(), taker) {
             Ok(()) => {}
             Err(Failed) => return Err(RecvError::Taker),
         }
-        match self.stream.hand_last(rt, taker, gate) {
+        match self.stream.hand_last(by, taker) {
             Ok(()) => Ok(count),
             Err(Failed) => Err(RecvError::Taker),
         }
@@ -193,17 +305,18 @@ impl Receiver {
     /// The symbol phase that was chosen: None before the choice, and where the phase is given.
     pub fn chosen(&self) -> Option<Chosen>
         ensures value { result ≡ self.now.stages.inner.phased.chosen }
-        ensures so_far { (given : List ℕ) (done : List (Handed ItemValue)) → StandsFor self.now given done → IsChosenSoFar self.now.config given result }
+        ensures so_far { (given : List ℕ) (done : List (Handed ItemValue)) → StandsFor self.now given done
+            → IsChosenSoFar self.now.config given result }
     {
         self.inner.chosen()
     }
 }
 
-/// Hands over the symbol phase of octets, fewer than 2^60, where it is to be found, and all their items. Answers how many bits were
-/// received.
+/// Hands over the symbol phase of octets, fewer than 2^60, where it is to be found, and all their items. Answers how
+/// many bits were received.
 ///
-/// `Memory` comes only where there isn't enough of it; nothing is handed over then. `Taker` comes where `taker` fails; a front of
-/// all was then handed over. Workers enter `OpenGate`.
+/// `Memory` comes only where there isn't enough of it; nothing is handed over then. `Taker` comes where `taker` fails;
+/// a front of all was then handed over. Workers enter `OpenGate`.
 pub fn receive_all<R: Threads + Sync, T: ItemTaker>(
     rt: &R,
     alloc: Global,
@@ -211,13 +324,17 @@ pub fn receive_all<R: Threads + Sync, T: ItemTaker>(
     octets: &[u8],
     taker: &mut T,
 ) -> Result<u64, AllError>
-    ensures handed { IfOk result (λ count. (all : List (Handed ItemValue)) × HandedOver (on_handed T.took_phase T.took) taker.old all taker.new
+    ensures handed { IfOk result (λ count. (all : List (Handed ItemValue))
+        × HandedOver (on_handed T.took_phase T.took) taker.old all taker.new
         × (length octets.now < 2 ^ 60 → AreReceived config octets.now all count)) }
-    ensures front { IsErrOf result AllError.Taker → (tried : List (Handed ItemValue)) × HandedPart (on_handed T.took_phase T.took) (on_handed T.broke_phase T.broke) taker.old tried taker.new
+    ensures front { IsErrOf result AllError.Taker
+        → (tried : List (Handed ItemValue)) × HandedPart (on_handed T.took_phase T.took)
+        (on_handed T.broke_phase T.broke) taker.old tried taker.new
         × (length octets.now < 2 ^ 60 → AreReceivedFirst config octets.now tried ⊎ AreReceivedFront config octets.now tried) }
     ensures unchanged { IsErrOf result AllError.Memory → taker.new ≡ taker.old }
     ensures later { T.faults taker.old ≤ T.faults taker.new }
-    ensures rose { IsErrOf result AllError.Taker → Rose (T.faults taker.old) (T.faults taker.new) (T.is_last taker.new) }
+    ensures rose { IsErrOf result AllError.Taker
+        → Rose (T.faults taker.old) (T.faults taker.new) (T.is_last taker.new) }
     ensures same { result ≢ Err AllError.Taker → T.faults taker.new ≡ T.faults taker.old }
 {
     let Ok(mut receiver) = Receiver::open(alloc, config) else {

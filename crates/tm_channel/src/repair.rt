@@ -1,69 +1,65 @@
 // The repair of codeblocks, all columns at once.
-ghost use Rattle.std.specs.Prelude.{◌≡◌, ◌<◌, ◌≤◌, ◌*◌, length, map, take};
+ghost use Rattle.std.specs.Prelude.{◌≢◌, ◌≡◌, ◌<◌, ◌≤◌, ◌*◌, length, map, take};
 ghost use Rattle.tm_config.specs.Configuration.{codeblock_length};
 ghost use Rattle.tm_channel.specs.Receiving.{AreItemsFor};
 ghost use Rattle.tm_channel.specs.Storing.{AreDecoded, AreRead, column_count, item_in, kept_in};
 
-use crate::cadus::params_of;
 use crate::columns::read_columns;
 use crate::slot::{Slot, column_count};
+use crate::workers::Workers;
 use std::alloc::Global;
-use std::thread::Threads;
-use tm_config::Config;
-use tm_workers::{Gate, Word, decode_batch};
+use tm_codeblock::{codeblock_size, has_code, params_of};
+use tm_config::{Config, OuterCode};
+use tm_workers::Word;
 
-/// Repairs the codeblocks of the first slots, and writes their items. There are at most 32 slots, and words for the
-/// columns of all.
-pub fn repair<R: Threads + Sync, G: Gate + Sync>(
-    rt: &R,
+/// Repairs the codeblocks of the first slots by these workers, and writes their items. There are at most 32 slots, and
+/// words for the columns of all.
+pub fn repair<P: Workers>(
+    by: &P,
     alloc: Global,
     config: &Config,
     count: usize,
     slots: &mut [Slot],
     words: &mut [Word],
-    gate: &G,
 )
+    requires workers { P.is_ready by.now }
     requires count { count ≤ length slots.old }
     requires slots { length slots.old ≤ 32 }
     requires words { length words.old ≡ 32 * column_count config.now }
-    ensures kept { map (kept_in (codeblock_length config.now)) (take count slots.new) ≡ map (kept_in (codeblock_length config.now)) (take count slots.old) }
-    ensures items { AreItemsFor config.now (map (kept_in (codeblock_length config.now)) (take count slots.old)) (map (item_in config.now) (take count slots.new)) }
+    ensures kept { map (kept_in (codeblock_length config.now)) (take count slots.new)
+        ≡ map (kept_in (codeblock_length config.now)) (take count slots.old) }
+    ensures items { AreItemsFor config.now (map (kept_in (codeblock_length config.now)) (take count slots.old))
+        (map (item_in config.now) (take count slots.new)) }
     ensures slots { length slots.new ≡ length slots.old }
     ensures words { length words.new ≡ length words.old }
 {
     let size = count * column_count(config);
     let slots = &mut slots[..count];
     let words = &mut words[..size];
-    decode(rt, alloc, config, slots, words, gate);
+    decode(by, alloc, config, slots, words);
     write_items(config, words, slots);
 }
 
 // Decodes the columns of all codeblocks.
-fn decode<R: Threads + Sync, G: Gate + Sync>(
-    rt: &R,
-    alloc: Global,
-    config: &Config,
-    slots: &[Slot],
-    words: &mut [Word],
-    gate: &G,
-)
+fn decode<P: Workers>(by: &P, alloc: Global, config: &Config, slots: &[Slot], words: &mut [Word])
+    requires workers { P.is_ready by.now }
     requires slots { length slots.now ≤ 32 }
     requires words { length words.old ≡ length slots.now * column_count config.now }
     ensures decoded { AreDecoded config.now slots.now words.new }
     ensures length { length words.new ≡ length words.old }
 {
-    if config.code() > 0 {
+    if has_code(config) {
         read_slots(config, slots, words);
         let params = params_of(config);
         let repair = config.repair() as u8;
         let workers = config.workers() as u8;
-        decode_batch(rt, alloc, &params, repair, words, workers, gate);
+        by.decode(alloc, &params, repair, words, workers);
     }
 }
 
 // Reads the columns of all codeblocks.
 fn read_slots(config: &Config, slots: &[Slot], words: &mut [Word])
-    requires coded { 0 < config.now.code }
+    requires coded { config.now.code ≢ OuterCode.Uncoded }
     requires slots { length slots.now ≤ 32 }
     requires words { length words.old ≡ length slots.now * config.now.depth }
     ensures read { AreRead config.now slots.now words.new }
@@ -86,8 +82,10 @@ fn write_items(config: &Config, words: &[Word], slots: &mut [Slot])
     requires slots { length slots.old ≤ 32 }
     requires words { length words.now ≡ length slots.old * column_count config.now }
     requires decoded { AreDecoded config.now slots.old words.now }
-    ensures kept { map (kept_in (codeblock_length config.now)) slots.new ≡ map (kept_in (codeblock_length config.now)) slots.old }
-    ensures items { AreItemsFor config.now (map (kept_in (codeblock_length config.now)) slots.old) (map (item_in config.now) slots.new) }
+    ensures kept { map (kept_in (codeblock_length config.now)) slots.new
+        ≡ map (kept_in (codeblock_length config.now)) slots.old }
+    ensures items { AreItemsFor config.now (map (kept_in (codeblock_length config.now)) slots.old)
+        (map (item_in config.now) slots.new) }
     ensures length { length slots.new ≡ length slots.old }
 {
     let count = column_count(config);
@@ -95,12 +93,4 @@ fn write_items(config: &Config, words: &[Word], slots: &mut [Slot])
         let first = index * count;
         slots[index].write_item(config, &words[first..first + count]);
     }
-}
-
-/// The octets of a codeblock.
-pub fn codeblock_size(config: &Config) -> usize
-    ensures value { result ≡ codeblock_length config.now }
-    ensures most { result ≤ 2040 }
-{
-    (config.depth() * config.word_length()) as usize
 }

@@ -3,22 +3,22 @@ ghost use Rattle.std.specs.Prelude.{◌≡◌, ◌≢◌, ◌↔◌, ℕ, ◌+�
 ghost use Rattle.tm_base.specs.Outside.{Rose, HasCause};
 ghost use Rattle.tm_config.specs.Configuration.{codeblock_length};
 ghost use Rattle.tm_inner.specs.Sending.{Sends as InnerSends, SendsFront as InnerSendsFront};
-ghost use Rattle.tm_channel.specs.Frames.{behind_frames};
-ghost use Rattle.tm_channel.specs.Cadu.{cadu};
+ghost use Rattle.tm_codeblock.specs.Frames.{behind_frames};
+ghost use Rattle.tm_codeblock.specs.Cadu.{cadu};
 ghost use Rattle.tm_channel.specs.Sending.{StandsFor, Sends, SendsFront};
 ghost use Rattle.tm_channel.specs.Steps.{SendsFrames, SendsFramesFront};
 
-use crate::cadus::cadu;
 use std::marker::Model;
 use tm_base::{Failed, Sink};
+use tm_codeblock::{cadu, codeblock_size};
 use tm_config::Config;
 use tm_inner::{InnerSender, SendError};
 
 // The octets of the longest channel access data unit: a codeblock of 2,040 octets behind its marker.
 const LONGEST_CADU: usize = 2044;
 
-/// Takes the octets of transfer frames in pieces, and writes the symbols of the unit of each frame once the frame is whole.
-/// It keeps the front of one frame, and no history.
+/// Takes the octets of transfer frames in pieces, and writes the symbols of the unit of each frame once the frame is
+/// whole. It keeps the front of one frame, and no history.
 #[derive(Drop)]
 pub struct Sender {
     config: Config,
@@ -72,7 +72,8 @@ impl Sender {
         ensures failed { IsTrue self.new.inner.has_failed ↔ OnOk result ⊥ }
         ensures config { self.new.config ≡ self.old.config }
         ensures sent { OnOk result (Sends self.old self.new (O.taken out.old) (O.taken out.new) octets.now) }
-        ensures front { IsErrOf result SendError.Sink → SendsFront self.old (O.taken out.old) (O.taken out.new) octets.now }
+        ensures front { IsErrOf result SendError.Sink
+            → SendsFront self.old (O.taken out.old) (O.taken out.new) octets.now }
         ensures later { O.faults out.old ≤ O.faults out.new }
         ensures rose { IsErrOf result SendError.Sink → Rose (O.faults out.old) (O.faults out.new) (O.is_last out.new) }
         ensures same { result ≢ Err SendError.Sink → O.faults out.new ≡ O.faults out.old }
@@ -88,7 +89,8 @@ impl Sender {
 
     /// How many octets stand behind the last whole frame of those given so far, where no push answered `Sink`.
     pub fn left_over(&self) -> u32
-        ensures { (given : List ℕ) → StandsFor self.now given → result ≡ length (behind_frames self.now.config.frame_length given) }
+        ensures { (given : List ℕ) → StandsFor self.now given
+            → result ≡ length (behind_frames self.now.config.frame_length given) }
     {
         let held = &self.frame[..self.count];
         held.len() as u32
@@ -96,7 +98,8 @@ impl Sender {
 
     /// How many octets stand behind the last whole frame of those given, where no push answered `Sink`.
     pub fn finish(self) -> u32
-        ensures { (given : List ℕ) → StandsFor self given → result ≡ length (behind_frames self.config.frame_length given) }
+        ensures { (given : List ℕ) → StandsFor self given
+            → result ≡ length (behind_frames self.config.frame_length given) }
     {
         self.left_over()
     }
@@ -155,23 +158,17 @@ fn send_frame<O: Sink>(
     requires frame { length frame.now ≡ config.now.frame_length }
     ensures config { inner.new.config ≡ inner.old.config }
     ensures failed { IsTrue inner.new.has_failed ↔ OnOk result ⊥ }
-    ensures sent { OnOk result (InnerSends inner.old inner.new (O.taken out.old) (O.taken out.new) (cadu config.now frame.now)) }
-    ensures front { OnErr result (InnerSendsFront inner.old (O.taken out.old) (O.taken out.new) (cadu config.now frame.now)) }
+    ensures sent { OnOk result (InnerSends inner.old inner.new (O.taken out.old) (O.taken out.new)
+        (cadu config.now frame.now)) }
+    ensures front { OnErr result (InnerSendsFront inner.old (O.taken out.old) (O.taken out.new)
+        (cadu config.now frame.now)) }
     ensures cause { HasCause (O.faults out.old) (O.faults out.new) (O.is_last out.new) result }
 {
     let mut room = [0; LONGEST_CADU];
-    let unit = &mut room[..cadu_length(config)];
+    let unit = &mut room[..codeblock_size(config) + 4];
     cadu(config, frame, unit);
     match inner.push(unit, out) {
         Ok(()) => Ok(()),
         Err(_) => Err(Failed),
     }
-}
-
-// The octets of a channel access data unit.
-fn cadu_length(config: &Config) -> usize
-    ensures value { result ≡ codeblock_length config.now + 4 }
-    ensures most { result ≤ LONGEST_CADU }
-{
-    (config.depth() * config.word_length()) as usize + 4
 }

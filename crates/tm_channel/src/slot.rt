@@ -6,9 +6,10 @@ ghost use Rattle.tm_channel.specs.Items.{IsItem, are_fixed};
 ghost use Rattle.tm_channel.specs.Receiving.{kept_of};
 ghost use Rattle.tm_channel.specs.Storing.{IsDecoded, answers_of, column_count, item_in, kept_in};
 
-use crate::columns::{read_codeblock, write_frame};
+use crate::columns::write_frame;
 use crate::item::Item;
-use tm_config::Config;
+use tm_codeblock::{has_code, read_codeblock};
+use tm_config::{Config, OuterCode};
 use tm_rs_solve::Answer;
 use tm_sync::Found;
 use tm_workers::Word;
@@ -54,12 +55,13 @@ impl Slot {
         requires decoded { IsDecoded config.now (take (codeblock_length config.now) self.old.octets) words.now }
         ensures found { self.new.found ≡ self.old.found }
         ensures octets { self.new.octets ≡ self.old.octets }
-        ensures item { IsItem config.now self.old.found (take (codeblock_length config.now) self.old.octets) (item_in config.now self.new) }
+        ensures item { IsItem config.now self.old.found (take (codeblock_length config.now) self.old.octets)
+            (item_in config.now self.new) }
     {
         let count = column_count(config);
         let size = config.length() as usize;
         write_answers(words, &mut self.answers[..count]);
-        if config.code() > 0 {
+        if has_code(config) {
             write_frame(config, words, &mut self.frame[..size]);
         } else {
             self.frame = self.octets;
@@ -92,10 +94,9 @@ pub fn column_count(config: &Config) -> usize
     ensures value { result ≡ column_count config.now }
     ensures most { result ≤ 8 }
 {
-    if config.code() > 0 {
-        config.depth() as usize
-    } else {
-        0
+    match config.values().code {
+        OuterCode::Uncoded => 0,
+        _ => config.depth() as usize,
     }
 }
 

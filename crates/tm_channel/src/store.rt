@@ -4,17 +4,17 @@ ghost use Rattle.tm_base.specs.Bits.{bits_of, low_bits};
 ghost use Rattle.tm_config.specs.Configuration.{codeblock_length};
 ghost use Rattle.tm_channel.specs.Receiving.{AreItemsFor, IsItemAt, kept_of};
 
-use crate::gathering::Gathering;
 use crate::item::Item;
-use crate::repair::{codeblock_size, repair};
+use crate::repair::repair;
 use crate::slot::{Slot, column_count};
+use crate::workers::Workers;
 use std::alloc::{AllocError, Global};
 use std::marker::Model;
-use std::thread::Threads;
+use tm_codeblock::{Gathering, codeblock_size};
 use tm_config::Config;
 use tm_gf256::Gf;
 use tm_sync::Found;
-use tm_workers::{Gate, Word};
+use tm_workers::Word;
 
 /// How many codeblocks a batch has.
 pub const BATCH: usize = 32;
@@ -55,7 +55,8 @@ impl Model for Codeblocks {
 impl Codeblocks {
     /// Room for codeblocks of this configuration, with none in it. It takes all its memory here.
     pub fn open(alloc: Global, config: Config) -> Result<Codeblocks, AllocError>
-        ensures { IfOk result (λ codeblocks. codeblocks ≡ record { config = config; part = []; kept = []; items = [] }) }
+        ensures { IfOk result (λ codeblocks. codeblocks
+            ≡ record { config = config; part = []; kept = []; items = [] }) }
     {
         let word = Word {
             symbols: [Gf(0); 255],
@@ -134,21 +135,21 @@ impl Codeblocks {
         self.count
     }
 
-    /// Repairs all codeblocks that are kept, by workers that enter the gate before each word, and writes their items.
-    pub fn repair<R: Threads + Sync, G: Gate + Sync>(&mut self, rt: &R, gate: &G)
+    /// Repairs all codeblocks that are kept, by these workers, and writes their items.
+    pub fn repair<P: Workers>(&mut self, by: &P)
+        requires { P.is_ready by.now }
         ensures config { self.new.config ≡ self.old.config }
         ensures part { self.new.part ≡ self.old.part }
         ensures kept { self.new.kept ≡ self.old.kept }
         ensures repaired { AreItemsFor self.new.config self.new.kept self.new.items }
     {
         repair(
-            rt,
+            by,
             self.alloc,
             &self.config,
             self.count,
             self.slots.as_mut_slice(),
             self.words.as_mut_slice(),
-            gate,
         );
     }
 

@@ -1,19 +1,18 @@
 // Bits in, items out, with no codeblock whole between two calls.
-ghost use Rattle.std.specs.Prelude.{◌≡◌, ◌==◌, List, [], map, None, OnOk, OnErr, true};
+ghost use Rattle.std.specs.Prelude.{◌≡◌, ◌*◌, ◌<◌, ◌≤◌, ◌^◌, [], drop, length, None, OnOk, OnErr};
 ghost use Rattle.tm_base.specs.Bits.{bits_of};
 ghost use Rattle.tm_base.specs.Outside.{HasCause};
 ghost use Rattle.tm_sync.specs.Searching.{StandsFor as SearchStandsFor, inside_of};
-ghost use Rattle.tm_channel.specs.ReceivedCodeblock.{rules_of};
+ghost use Rattle.tm_codeblock.specs.ReceivedCodeblock.{rules_of};
 ghost use Rattle.tm_channel.specs.OctetReceiving.{StandsForBits, Received, ReceivedPart, ReceivedLast, ReceivedLastPart};
 
 use crate::bit_receiver::BitReceiver;
 use crate::item::ItemTaker;
 use crate::store::Codeblocks;
+use crate::workers::Workers;
 use std::marker::Model;
-use std::thread::Threads;
 use tm_base::Failed;
 use tm_sync::Search;
-use tm_workers::Gate;
 
 /// A receiver of bits between two calls.
 #[derive(Drop)]
@@ -48,51 +47,44 @@ impl BitStream {
         }
     }
 
-    /// Takes the next bits, each 0 or 1, and hands over the items that are due with them.
-    pub fn take_bits<R: Threads + Sync, T: ItemTaker, G: Gate + Sync>(
+    /// Takes the next bits, those of octets behind the first `from` ones, and hands over the items that are due with
+    /// them. Each full batch is repaired by these workers.
+    pub fn receive<P: Workers, T: ItemTaker>(
         &mut self,
-        rt: &R,
-        bits: &[u8],
-        taker: &mut T,
-        gate: &G,
-    ) -> Result<(), Failed>
-        ensures config { self.new.batch.config ≡ self.old.batch.config }
-        ensures handed { OnOk result (Received T.took self.old self.new taker.old taker.new (map (λ bit. bit == 1) bits.now)) }
-        ensures part { OnErr result (ReceivedPart T.took T.broke self.old self.new taker.old taker.new (map (λ bit. bit == 1) bits.now)) }
-        ensures cause { HasCause (T.faults taker.old) (T.faults taker.new) (T.is_last taker.new) result }
-    {
-        self.receiver.take_packed(rt, bits, taker, gate)
-    }
-
-    /// Takes the next bits, those of octets, and hands over the items that are due with them.
-    pub fn take_octets<R: Threads + Sync, T: ItemTaker, G: Gate + Sync>(
-        &mut self,
-        rt: &R,
+        by: &P,
         octets: &[u8],
+        from: usize,
         taker: &mut T,
-        gate: &G,
     ) -> Result<(), Failed>
+        requires workers { P.is_ready by.now }
+        requires from { from ≤ 8 * length octets.now }
+        requires most { 8 * length octets.now < 2 ^ 63 }
         ensures config { self.new.batch.config ≡ self.old.batch.config }
-        ensures handed { OnOk result (Received T.took self.old self.new taker.old taker.new (bits_of octets.now)) }
-        ensures part { OnErr result (ReceivedPart T.took T.broke self.old self.new taker.old taker.new (bits_of octets.now)) }
+        ensures handed { OnOk result
+            (Received T.took self.old self.new taker.old taker.new (drop from (bits_of octets.now))) }
+        ensures part { OnErr result
+            (ReceivedPart T.took T.broke self.old self.new taker.old taker.new (drop from (bits_of octets.now))) }
         ensures cause { HasCause (T.faults taker.old) (T.faults taker.new) (T.is_last taker.new) result }
     {
-        self.receiver.take_octets(rt, octets, taker, gate)
+        match self.receiver.receive(by, octets, from, taker) {
+            Ok(()) => Ok(()),
+            Err(Failed) => Err(Failed),
+        }
     }
 
     /// Hands over the items that were not due before the end of the bits was known.
-    pub fn hand_last<R: Threads + Sync, T: ItemTaker, G: Gate + Sync>(
+    pub fn hand_last<P: Workers, T: ItemTaker>(
         &mut self,
-        rt: &R,
+        by: &P,
         taker: &mut T,
-        gate: &G,
     ) -> Result<(), Failed>
+        requires workers { P.is_ready by.now }
         ensures config { self.new.batch.config ≡ self.old.batch.config }
         ensures handed { OnOk result (ReceivedLast T.took self.old taker.old taker.new) }
         ensures part { OnErr result (ReceivedLastPart T.took T.broke self.old taker.old taker.new) }
         ensures cause { HasCause (T.faults taker.old) (T.faults taker.new) (T.is_last taker.new) result }
     {
-        match self.receiver.hand_last(rt, taker, gate) {
+        match self.receiver.hand_last(by, taker) {
             Ok(()) => Ok(()),
             Err(Failed) => Err(Failed),
         }

@@ -12,29 +12,28 @@ ghost use Rattle.tm_channel.specs.OctetReceiving.{Ends, FirstWith, Grows, Receiv
 
 use crate::item::ItemTaker;
 use crate::kept::KeptBits;
-use crate::packing::bits_of_octet;
+use crate::packed::take_bits;
 use crate::stream::BitStream;
-use std::thread::Threads;
+use crate::workers::Workers;
 use tm_base::Failed;
 use tm_inner::InnerReceiver;
 use tm_phase::whole_window_law;
 use tm_viterbi::closed_windows_law;
-use tm_workers::Gate;
 
 /// How many octets go through both stages at a time.
 pub const PIECE: usize = 4096;
 
-/// Takes the next octets, and hands over what is due with them: the symbol phase, where it is chosen with them, and items. There is
-/// to be room for the bits of a window, of the octets that wait for the phase and of `PIECE` octets.
-pub fn take<R: Threads + Sync, T: ItemTaker, G: Gate + Sync>(
+/// Takes the next octets, and hands over what is due with them: the symbol phase, where it is chosen with them, and
+/// items. There is to be room for the bits of a window, of the octets that wait for the phase and of `PIECE` octets.
+pub fn take<P: Workers, T: ItemTaker>(
     inner: &mut InnerReceiver,
     kept: &mut KeptBits,
     stream: &mut BitStream,
-    rt: &R,
+    by: &P,
     octets: &[u8],
     taker: &mut T,
-    gate: &G,
 ) -> Result<(), Failed>
+    requires workers { P.is_ready by.now }
     requires fresh { inner.old.has_stopped ≡ false }
     requires of { stream.old.batch.config ≡ inner.old.config }
     requires room { 3 * (inner.old.config.keep + inner.old.config.ahead) + 7 + 4096 ≤ kept.old.size }
@@ -42,9 +41,11 @@ pub fn take<R: Threads + Sync, T: ItemTaker, G: Gate + Sync>(
     ensures fresh { inner.new.has_stopped ≡ false }
     ensures room { kept.new.size ≡ kept.old.size }
     ensures stream { stream.new.batch.config ≡ stream.old.batch.config }
-    ensures handed { OnOk result (Hands (on_handed T.took_phase T.took) StagesFor (record { inner = inner.old; bits = stream.old })
+    ensures handed { OnOk result (Hands (on_handed T.took_phase T.took) StagesFor
+        (record { inner = inner.old; bits = stream.old })
         (record { inner = inner.new; bits = stream.new }) taker.old taker.new octets.now) }
-    ensures front { OnErr result (HandsFront (on_handed T.took_phase T.took) (on_handed T.broke_phase T.broke) StagesFor (FirstWith inner.old.config inner.new.phased.chosen)
+    ensures front { OnErr result (HandsFront (on_handed T.took_phase T.took) (on_handed T.broke_phase T.broke) StagesFor
+        (FirstWith inner.old.config inner.new.phased.chosen)
         (record { inner = inner.old; bits = stream.old }) taker.old taker.new octets.now) }
     ensures cause { HasCause (T.faults taker.old) (T.faults taker.new) (T.is_last taker.new) result }
 {
@@ -53,7 +54,7 @@ pub fn take<R: Threads + Sync, T: ItemTaker, G: Gate + Sync>(
     let mut done = 0;
     while done < octets.len() {
         let end = done + PIECE.min(octets.len() - done);
-        match take_piece(inner, kept, stream, rt, &octets[done..end], taker, gate) {
+        match take_piece(inner, kept, stream, by, &octets[done..end], taker) {
             Ok(()) => {}
             Err(Failed) => return Err(Failed),
         }
@@ -63,25 +64,28 @@ pub fn take<R: Threads + Sync, T: ItemTaker, G: Gate + Sync>(
 }
 
 // Takes a piece of at most `PIECE` octets.
-fn take_piece<R: Threads + Sync, T: ItemTaker, G: Gate + Sync>(
+fn take_piece<P: Workers, T: ItemTaker>(
     inner: &mut InnerReceiver,
     kept: &mut KeptBits,
     stream: &mut BitStream,
-    rt: &R,
+    by: &P,
     octets: &[u8],
     taker: &mut T,
-    gate: &G,
 ) -> Result<(), Failed>
+    requires workers { P.is_ready by.now }
     requires fresh { inner.old.has_stopped ≡ false }
     requires of { stream.old.batch.config ≡ inner.old.config }
+    requires most { length octets.now ≤ 4096 }
     requires room { 3 * (inner.old.config.keep + inner.old.config.ahead) + 7 + length octets.now ≤ kept.old.size }
     ensures inner { inner.new.config ≡ inner.old.config }
     ensures fresh { inner.new.has_stopped ≡ false }
     ensures room { kept.new.size ≡ kept.old.size }
     ensures stream { stream.new.batch.config ≡ stream.old.batch.config }
-    ensures handed { OnOk result (Hands (on_handed T.took_phase T.took) StagesFor (record { inner = inner.old; bits = stream.old })
+    ensures handed { OnOk result (Hands (on_handed T.took_phase T.took) StagesFor
+        (record { inner = inner.old; bits = stream.old })
         (record { inner = inner.new; bits = stream.new }) taker.old taker.new octets.now) }
-    ensures front { OnErr result (HandsFront (on_handed T.took_phase T.took) (on_handed T.broke_phase T.broke) StagesFor (FirstWith inner.old.config inner.new.phased.chosen)
+    ensures front { OnErr result (HandsFront (on_handed T.took_phase T.took) (on_handed T.broke_phase T.broke) StagesFor
+        (FirstWith inner.old.config inner.new.phased.chosen)
         (record { inner = inner.old; bits = stream.old }) taker.old taker.new octets.now) }
     ensures cause { HasCause (T.faults taker.old) (T.faults taker.new) (T.is_last taker.new) result }
 {
@@ -92,12 +96,12 @@ fn take_piece<R: Threads + Sync, T: ItemTaker, G: Gate + Sync>(
         Err(Failed) => return Err(Failed),
     }
     if inner.has_inner_code() {
-        match stream.take_bits(rt, kept.bits(), taker, gate) {
+        match take_bits(stream, by, kept.bits(), taker) {
             Ok(()) => Ok(()),
             Err(Failed) => Err(Failed),
         }
     } else {
-        match take_behind(stream, skip, rt, octets, taker, gate) {
+        match take_behind(stream, skip, by, octets, taker) {
             Ok(()) => Ok(()),
             Err(Failed) => Err(Failed),
         }
@@ -111,7 +115,8 @@ fn decode(inner: &mut InnerReceiver, kept: &mut KeptBits, octets: &[u8])
     ensures inner { inner.new.config ≡ inner.old.config }
     ensures fresh { inner.new.has_stopped ≡ false }
     ensures room { kept.new.size ≡ kept.old.size }
-    ensures grows { Grows inner.old inner.new octets.now kept.new.phase (received_bits inner.old kept.new.bits octets.now) }
+    ensures grows { Grows inner.old inner.new octets.now kept.new.phase
+        (received_bits inner.old kept.new.bits octets.now) }
 {
     kept.clear();
     match inner.feed(octets, kept) {
@@ -122,8 +127,10 @@ fn decode(inner: &mut InnerReceiver, kept: &mut KeptBits, octets: &[u8])
 
 /// Hands over the symbol phase, where the first stage has handed it over.
 pub fn hand_phase<T: ItemTaker>(kept: &KeptBits, taker: &mut T) -> Result<(), Failed>
-    ensures handed { OnOk result (HandedOver (on_handed T.took_phase T.took) taker.old (in_turn kept.now.phase []) taker.new) }
-    ensures front { OnErr result (HandedPart (on_handed T.took_phase T.took) (on_handed T.broke_phase T.broke) taker.old (in_turn kept.now.phase []) taker.new) }
+    ensures handed { OnOk result (HandedOver (on_handed T.took_phase T.took) taker.old
+        (in_turn kept.now.phase []) taker.new) }
+    ensures front { OnErr result (HandedPart (on_handed T.took_phase T.took) (on_handed T.broke_phase T.broke) taker.old
+        (in_turn kept.now.phase []) taker.new) }
     ensures cause { HasCause (T.faults taker.old) (T.faults taker.new) (T.is_last taker.new) result }
 {
     match kept.phase() {
@@ -132,14 +139,16 @@ pub fn hand_phase<T: ItemTaker>(kept: &KeptBits, taker: &mut T) -> Result<(), Fa
     }
 }
 
-// Ends the first stage, keeps the phase and the bits of its last blocks, and answers how many bits were received in all.
+// Ends the first stage, keeps the phase and the bits of its last blocks, and answers how many bits were received in
+// all.
 pub fn end(inner: &mut InnerReceiver, kept: &mut KeptBits) -> u64
     requires fresh { inner.old.has_stopped ≡ false }
     requires room { 3 * (inner.old.config.keep + inner.old.config.ahead) + 7 ≤ kept.old.size }
     ensures inner { inner.new.config ≡ inner.old.config }
     ensures room { kept.new.size ≡ kept.old.size }
     ensures ends { Ends inner.old kept.new.phase (map (λ bit. bit == 1) kept.new.bits) result }
-    ensures chosen { (given : List ℕ) (done : List (Handed WindowBlock)) → InnerStandsFor inner.old given done → IsChosen inner.old.config given inner.new.phased.chosen }
+    ensures chosen { (given : List ℕ) (done : List (Handed WindowBlock)) → InnerStandsFor inner.old given done
+        → IsChosen inner.old.config given inner.new.phased.chosen }
 {
     kept.clear();
     match inner.finish(kept) {
@@ -149,34 +158,24 @@ pub fn end(inner: &mut InnerReceiver, kept: &mut KeptBits) -> u64
 }
 
 // Gives the bits of octets behind the first `skip` ones to the second stage.
-fn take_behind<R: Threads + Sync, T: ItemTaker, G: Gate + Sync>(
+fn take_behind<P: Workers, T: ItemTaker>(
     stream: &mut BitStream,
     skip: u64,
-    rt: &R,
+    by: &P,
     octets: &[u8],
     taker: &mut T,
-    gate: &G,
 ) -> Result<(), Failed>
+    requires workers { P.is_ready by.now }
+    requires most { length octets.now ≤ 4096 }
     ensures stream { stream.new.batch.config ≡ stream.old.batch.config }
-    ensures handed { OnOk result (Received T.took stream.old stream.new taker.old taker.new (drop skip (bits_of octets.now))) }
-    ensures part { OnErr result (ReceivedPart T.took T.broke stream.old stream.new taker.old taker.new (drop skip (bits_of octets.now))) }
+    ensures handed { OnOk result (Received T.took stream.old stream.new taker.old taker.new
+        (drop skip (bits_of octets.now))) }
+    ensures part { OnErr result (ReceivedPart T.took T.broke stream.old stream.new taker.old taker.new
+        (drop skip (bits_of octets.now))) }
     ensures cause { HasCause (T.faults taker.old) (T.faults taker.new) (T.is_last taker.new) result }
 {
-    let skipped = (skip / 8).min(octets.len() as u64) as usize;
-    if octets.len() <= skipped {
-        return Ok(());
-    }
-    let rest = &octets[skipped..];
-    match stream.take_bits(
-        rt,
-        &bits_of_octet(rest[0])[(skip % 8) as usize..],
-        taker,
-        gate,
-    ) {
-        Ok(()) => {}
-        Err(Failed) => return Err(Failed),
-    }
-    match stream.take_octets(rt, &rest[1..], taker, gate) {
+    let from = skip.min(8 * octets.len() as u64) as usize;
+    match stream.receive(by, octets, from, taker) {
         Ok(()) => Ok(()),
         Err(Failed) => Err(Failed),
     }

@@ -5,7 +5,7 @@ use std::process::Abort;
 use std::test::Fail;
 use std::thread::Threads;
 use tm_base::{Failed, MemSink, Sink};
-use tm_channel::{Answer, Config, Item, ItemTaker, Raw, Sender, receive_all};
+use tm_channel::{Answer, Config, Item, ItemTaker, OpenGate, Raw, Receiver, Sender, receive_all};
 
 // The sync marker, and the codeblock of the frame 7B: the coefficients of the generator of the code that corrects 16
 // errors, in the dual basis.
@@ -15,7 +15,8 @@ const CADU: [u8; 37] = [
     0x86, 0x5F, 0x32, 0x47, 0x7B,
 ];
 
-// Keeps the phase that came before any item, how many items came, and of the last one its first answer and its frame's first octet.
+// Keeps the phase that came before any item, how many items came, and of the last one its first answer and its frame's
+// first octet.
 #[derive(Drop)]
 struct Last {
     // Its skip and its cost.
@@ -133,5 +134,94 @@ fn the_phase_of_bits_is_0(rt: HostRuntime) -> Result<(), Fail> {
     assert!(rt; last.octet == Some(0x7B));
     let given = receive(&rt, rt.alloc(), 0, 0, &CADU)?;
     assert!(rt; given.phase == None);
+    Ok(())
+}
+
+// Keeps how many items came, and one number that all that was said of them goes into.
+#[derive(Drop)]
+struct Digest {
+    count: u64,
+    number: u64,
+}
+
+impl Digest {
+    fn add(&mut self, value: u64) {
+        self.number = self.number.wrapping_mul(31).wrapping_add(value);
+    }
+}
+
+impl ItemTaker for Digest {
+    ghost faults = { λ digest. 0 };
+
+    ghost is_last = { λ digest. ⊥ };
+
+    ghost took = { λ before item now. Unit {0} };
+
+    ghost broke = { λ before item now. ⊥ };
+
+    ghost took_phase = { λ before skip cost now. Unit {0} };
+
+    ghost broke_phase = { λ before skip cost now. ⊥ };
+
+    fn item(&mut self, item: &Item<'_>) -> Result<(), Failed> {
+        self.count = self.count.wrapping_add(1);
+        self.add(item.place);
+        match item.answers.first() {
+            Some(Answer::Fixed(wrong)) => self.add(u64::from(*wrong)),
+            _ => self.add(99),
+        }
+        match item.frame.first() {
+            Some(octet) => self.add(u64::from(*octet)),
+            None => self.add(999),
+        }
+        Ok(())
+    }
+
+    fn phase(&mut self, _skip: u8, _cost: u64) -> Result<(), Failed> {
+        Ok(())
+    }
+}
+
+// 40 units, more than a batch has, of which number k has the remainder of k by 18 wrong check symbols, so that some are
+// beyond repair.
+fn disturbed() -> [u8; 1480] {
+    let mut octets = [0; 1480];
+    for k in 0..40usize {
+        let first = 37 * k;
+        octets[first..first + 37].copy_from_slice(&CADU);
+        for j in 0..k % 18 {
+            octets[first + 5 + j] ^= 1;
+        }
+    }
+    octets
+}
+
+#[test]
+fn in_order_the_same_is_handed_over(rt: HostRuntime) -> Result<(), Fail> {
+    let config = Config::check(&Raw {
+        workers: 3,
+        ..raw(0, 0)
+    })?;
+    let octets = disturbed();
+    let mut by_workers = Digest {
+        count: 0,
+        number: 0,
+    };
+    let mut receiver = Receiver::open(rt.alloc(), config)?;
+    receiver.feed(&rt, &octets, &mut by_workers, &OpenGate)?;
+    let bits = receiver.finish(&rt, &mut by_workers, &OpenGate)?;
+    assert!(rt; by_workers.count == 40);
+    let mut alone = Digest {
+        count: 0,
+        number: 0,
+    };
+    let mut receiver = Receiver::open(rt.alloc(), config)?;
+    for piece in octets.chunks(700) {
+        receiver.feed_in_order(piece, &mut alone)?;
+    }
+    let bits_alone = receiver.finish_in_order(&mut alone)?;
+    assert!(rt; bits_alone == bits);
+    assert!(rt; alone.count == 40);
+    assert!(rt; alone.number == by_workers.number);
     Ok(())
 }

@@ -1,5 +1,5 @@
-//! Worked values and tests of the search for markers and of the channel, through their public calls. Beside its tests it has no
-//! code of its own.
+//! Worked values and tests of the search for markers and of the channel, through their public calls. Beside its tests
+//! it has no code of its own.
 #![tactic(auto)]
 
 #[cfg(test)]

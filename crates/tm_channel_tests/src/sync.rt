@@ -324,7 +324,8 @@ fn step(state: u64) -> u64 {
     second ^ (second << 17)
 }
 
-// A list of up to six codeblocks: with gaps now and then, and with markers that have some wrong bits, are missing or are inverted.
+// A list of up to six codeblocks: with gaps now and then, and with markers that have some wrong bits, are missing or
+// are inverted.
 fn drawn_bits(alloc: Global, seed: u64, block_bits: u32) -> Result<Vec<bool>, AllocError> {
     let mut bits = Vec::new(alloc);
     let mut state = seed;

@@ -5,7 +5,8 @@ use Rattle.tm_sync.specs.declared.found.Before.{Before}
 use Rattle.tm_sync.specs.Bits.{marker_bits}
 use Rattle.tm_sync.specs.Places.{Rules, match_of, before_next, found_at}
 
--- what came of one marked codeblock that was sent: bits that are no part of it, its marker part and its block part
+-- what came of one marked codeblock that was sent: bits that are no part of it, its marker part and
+-- its block part
 pub record Entry : Type 0 where
   pub gap : List Bool
   pub marker : List Bool
@@ -18,21 +19,25 @@ joined (e ∷ entries) last = e.gap ++ (e.marker ++ (e.block ++ joined entries l
 
 -- the bits begin with a gap, and at no place in it, with room for a codeblock, do 32 bits match
 abbrev pub HasNoMarker : Rules → List Bool → List Bool → Type 0
-HasNoMarker rules gap bits = (q : ℕ) → q < length gap → q + 32 + rules.block_bits ≤ length bits → match_of rules (drop q bits) ≡ None
+HasNoMarker rules gap bits = (q : ℕ) → q < length gap → q + 32 + rules.block_bits ≤ length bits
+    → match_of rules (drop q bits) ≡ None
 
--- a gap stands right behind a codeblock only where no place may be bridged there, or no codeblock has room
+-- a gap stands right behind a codeblock only where no place may be bridged there, or no codeblock
+-- has room
 abbrev pub MayGap : Rules → Option Before → List Bool → List Bool → Type 0
 MayGap rules before [] bits = Unit {0}
 MayGap rules None (b ∷ gap) bits = Unit {0}
-MayGap rules (Some before) (b ∷ gap) bits = (rules.fly ≤ before.bridged) ⊎ (length bits < 32 + rules.block_bits)
+MayGap rules (Some before) (b ∷ gap) bits =
+    (rules.fly ≤ before.bridged) ⊎ (length bits < 32 + rules.block_bits)
 
--- An entry whose marker part matches in no way is bridged: it stands right behind another one, and fewer than `fly` places in a row
--- were bridged before it.
+-- An entry whose marker part matches in no way is bridged: it stands right behind another one, and
+-- fewer than `fly` places in a row were bridged before it.
 abbrev pub MayBridge : Rules → Option Before → Entry → Option Bool → Type 0
 MayBridge rules before e (Some inverted) = Unit {0}
 MayBridge rules before e None = (e.gap ≡ []) × MatchOption before ⊥ (λ b. b.bridged < rules.fly)
 
--- the place of a marker part that matches in this way; a bridged one has the polarity of the place before
+-- the place of a marker part that matches in this way; a bridged one has the polarity of the place
+-- before
 abbrev pub place_by_marker : ℕ → Option Before → Entry → Option Bool → Found
 place_by_marker at before e (Some inverted) = found_at at false inverted e.marker
 place_by_marker at None e None = found_at at true false e.marker
@@ -61,7 +66,9 @@ abbrev pub AreEntries : Rules → ℕ → Option Before → List Entry → List 
 AreEntries rules at before [] last = HasNoMarker rules last last × MayGap rules before last last
 AreEntries rules at before (e ∷ entries) last =
     let f = place_of rules at before e in
-    IsEntry rules before e (joined (e ∷ entries) last) × AreEntries rules (f.place + 32 + rules.block_bits) (Some (before_next before f)) entries last
+    IsEntry rules before e (joined (e ∷ entries) last)
+    × AreEntries rules (f.place + 32 + rules.block_bits)
+    (Some (before_next before f)) entries last
 
 -- the bits are a marked stream of these entries
 pub record IsMarked (rules : Rules) (bits : List Bool) (entries : List Entry) (last : List Bool) : Type 0 where
@@ -71,10 +78,12 @@ pub record IsMarked (rules : Rules) (bits : List Bool) (entries : List Entry) (l
 -- codeblocks as they are sent, each with the marker before it and no gap
 abbrev pub clean_entries : List (List Bool) → List Entry
 clean_entries [] = []
-clean_entries (block ∷ blocks) = record { gap = []; marker = marker_bits; block = block } ∷ clean_entries blocks
+clean_entries (block ∷ blocks) = record { gap = []; marker = marker_bits; block = block }
+    ∷ clean_entries blocks
 
 -- the places of codeblocks of this size that are sent in this way
 abbrev pub clean_places : ℕ → ℕ → List (List Bool) → List Found
 clean_places block_bits at [] = []
 clean_places block_bits at (block ∷ blocks) =
-    record { place = at; distance = 0; bridged = false; inverted = false } ∷ clean_places block_bits (at + 32 + block_bits) blocks
+    record { place = at; distance = 0; bridged = false; inverted = false }
+    ∷ clean_places block_bits (at + 32 + block_bits) blocks

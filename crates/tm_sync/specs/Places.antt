@@ -1,4 +1,5 @@
--- Where markers with a whole codeblock behind them stand in a list of bits (CCSDS 131.0-B, Frame Synchronization).
+-- Where markers with a whole codeblock behind them stand in a list of bits (CCSDS 131.0-B, Frame
+-- Synchronization).
 use Rattle.std.specs.Prelude.{ℕ, zero, suc, ◌+◌, Bool, true, false, if◌then◌else◌, ◌&&◌, nat_le, nat_lt, List, [], ◌∷◌, length, take, Option, Some, None}
 use Rattle.std.specs.Option.{option_map_or}
 use Rattle.tm_sync.specs.declared.found.Found.{Found}
@@ -20,7 +21,8 @@ pub record Rules : Type 0 where
 unfoldable pub wrong_bits : Bool → List Bool → ℕ
 wrong_bits inverted bits = differences (take 32 bits) (in_polarity inverted marker_bits)
 
--- the polarity in which the first 32 bits match, upright (false) or inverted (true); None where they match in no way
+-- the polarity in which the first 32 bits match, upright (false) or inverted (true); None where
+-- they match in no way
 unfoldable pub match_of : Rules → List Bool → Option Bool
 match_of rules bits =
     if nat_le (wrong_bits false bits) rules.tolerance then Some false
@@ -28,16 +30,23 @@ match_of rules bits =
 
 -- the place whose 32 bits these are
 abbrev pub found_at : ℕ → Bool → Bool → List Bool → Found
-found_at at bridged inverted bits = record { place = at; distance = wrong_bits inverted bits; bridged = bridged; inverted = inverted }
+found_at at bridged inverted bits = record {
+  place = at;
+  distance = wrong_bits inverted bits;
+  bridged = bridged;
+  inverted = inverted;
+}
 
--- The place that the first 32 bits are, as they match in this way. Where they match in no way, right behind a codeblock, and fewer
--- than `fly` places in a row were bridged, theirs is bridged: it is taken all the same, in the polarity of the place before.
+-- The place that the first 32 bits are, as they match in this way. Where they match in no way,
+-- right behind a codeblock, and fewer than `fly` places in a row were bridged, theirs is bridged:
+-- it is taken all the same, in the polarity of the place before.
 abbrev pub place_by : Rules → ℕ → Option Before → List Bool → Option Bool → Option Found
 place_by rules at before bits (Some inverted) = Some (found_at at false inverted bits)
 place_by rules at (Some before) bits None = if nat_lt before.bridged rules.fly then Some (found_at at true before.inverted bits) else None
 place_by rules at None bits None = None
 
--- the place at the front of the bits, which stand behind `at` others, where they have room for its codeblock
+-- the place at the front of the bits, which stand behind `at` others, where they have room for its
+-- codeblock
 unfoldable pub place_at : Rules → ℕ → Option Before → List Bool → Option Found
 place_at rules at before bits = if nat_le (32 + rules.block_bits) (length bits) then place_by rules at before bits (match_of rules bits) else None
 
@@ -46,13 +55,15 @@ abbrev pub before_next : Option Before → Found → Before
 before_next None f = record { inverted = f.inverted; bridged = if f.bridged then 1 else 0 }
 before_next (Some before) f = record { inverted = f.inverted; bridged = if f.bridged then before.bridged + 1 else 0 }
 
--- The places in the bits behind `at` others. The first `skip` bits belong to a codeblock, and `before` ends right behind them.
--- Where a place stands, the search goes on behind its codeblock, and else at the next bit.
+-- The places in the bits behind `at` others. The first `skip` bits belong to a codeblock, and
+-- `before` ends right behind them. Where a place stands, the search goes on behind its codeblock,
+-- and else at the next bit.
 unfoldable pub places_from : Rules → ℕ → ℕ → Option Before → List Bool → List Found
 places_from rules at skip before [] = []
 places_from rules at (suc skip) before (b ∷ bits) = places_from rules (at + 1) skip before bits
 places_from rules at zero before (b ∷ bits) =
-    option_map_or (λ f. f ∷ places_from rules (at + 1) (31 + rules.block_bits) (Some (before_next before f)) bits) (place_at rules at before (b ∷ bits))
+    option_map_or (λ f. f ∷ places_from rules (at + 1) (31 + rules.block_bits)
+    (Some (before_next before f)) bits) (place_at rules at before (b ∷ bits))
     (places_from rules (at + 1) 0 None bits)
 
 -- the places in a list of bits, in their order

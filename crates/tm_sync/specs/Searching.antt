@@ -1,4 +1,5 @@
--- What contracts see of a search, and for which bits, given so far, and places, found so far, it stands.
+-- What contracts see of a search, and for which bits, given so far, and places, found so far, it
+-- stands.
 use Rattle.std.specs.Prelude.{◌≡◌, ℕ, ◌+◌, ◌-◌, ◌*◌, ◌%◌, ◌^◌, Bool, false, ◌==◌, List, [], ◌∷◌, length, take, drop, if◌then◌else◌, nat_le, Option, Some, None, unwrap_or, bit_or}
 use Rattle.std.specs.Option.{option_map, option_map_or, option_or}
 use Rattle.tm_base.specs.Bits.{bit_number, number_of}
@@ -41,7 +42,8 @@ abbrev pub before_behind : Option Before → List Found → Option Before
 before_behind before [] = before
 before_behind before (f ∷ found) = before_behind (Some (before_next before f)) found
 
--- the first place in the bits behind `at` others whose 32 bits are there, whether or not its codeblock is
+-- the first place in the bits behind `at` others whose 32 bits are there, whether or not its
+-- codeblock is
 unfoldable pub first_place : Rules → ℕ → Option Before → List Bool → Option Found
 first_place rules at before [] = None
 first_place rules at before (b ∷ bits) =
@@ -50,11 +52,13 @@ first_place rules at before (b ∷ bits) =
 
 -- the first place behind the codeblocks of the places found
 abbrev pub place_ahead : Rules → List Bool → List Found → Option Found
-place_ahead rules bits found = first_place rules (end_of rules found) (before_behind None found) (drop (end_of rules found) bits)
+place_ahead rules bits found = first_place rules (end_of rules found) (before_behind None found)
+    (drop (end_of rules found) bits)
 
 -- the bits behind the marker of that place; None where there is no such place
 abbrev pub inside_ahead : Rules → List Bool → List Found → Option ℕ
-inside_ahead rules bits found = option_map (λ f. length bits - (f.place + 32)) (place_ahead rules bits found)
+inside_ahead rules bits found = option_map (λ f. length bits - (f.place + 32))
+    (place_ahead rules bits found)
 
 -- a place, and what stands before the first bit behind its codeblock
 abbrev pub awaited_at : Option Before → Found → Awaited
@@ -72,7 +76,8 @@ search_of rules bits found = record {
   after = unwrap_or (inside_ahead rules bits found) 0;
 }
 
--- It was given these bits, and has found these places: they are those of the bits up to the end of the last one's codeblock.
+-- It was given these bits, and has found these places: they are those of the bits up to the end of
+-- the last one's codeblock.
 pub record StandsFor (s : Searching) (bits : List Bool) (found : List Found) : Type 0 where
   pub search : s ≡ search_of s.rules bits found
   pub found_first : places s.rules (take (end_of s.rules found) bits) ≡ found
@@ -91,7 +96,7 @@ pub record Counts (s s' : Searching) (bit : Bool) : Type 0 where
 abbrev pub before_last : ℕ → Option Before → Option Before
 before_last behind before = if behind == 32 then before else None
 
--- how many numbers, from one more than the tolerance on, show that 32 bits match in no way, where so many of them differ
--- from the marker
+-- how many numbers, from one more than the tolerance on, show that 32 bits match in no way, where
+-- so many of them differ from the marker
 abbrev pub far_count : ℕ → Bool → ℕ
 far_count tolerance either = if either then 31 - 2 * tolerance else 32 - tolerance

@@ -29,3 +29,23 @@ pub struct Awaited {
     /// What will stand before the first bit behind the codeblock.
     pub next: Before,
 }
+
+/// A search between two calls, as plain values: those that it was begun with, and what it keeps of the bits that it was
+/// given.
+#[derive(Clone, Copy, Debug, PartialEq, Eq)]
+pub struct Paused {
+    pub tolerance: u8,
+    pub fly: u8,
+    pub either: bool,
+    pub block_bits: u32,
+    /// The last 32 bits.
+    pub word: u32,
+    /// How many bits were given, and how many of them stand before the end of the last codeblock found.
+    pub pushed: u64,
+    pub start: u64,
+    /// What stands before that end.
+    pub before: Option<Before>,
+    /// The first place behind it, and how many bits were given behind its marker.
+    pub awaited: Option<Awaited>,
+    pub after: u32,
+}

@@ -11,7 +11,8 @@ pub fn one_polarity_law()
         → wrong_bits false bits ≤ tolerance → tolerance < wrong_bits true bits }
 {}
 
-/// Where inverted markers match too, the places in the complemented bits are those in the bits, each in the other polarity.
+/// Where inverted markers match too, the places in the complemented bits are those in the bits, each in the other
+/// polarity.
 pub fn polarity_law()
     ensures { (rules : Rules) (bits : List Bool) → rules.either ≡ true → rules.tolerance ≤ 8
         → places rules (complement bits) ≡ map turned_place (places rules bits) }
@@ -23,21 +24,26 @@ pub fn marked_law()
         → IsMarked rules bits entries last → places rules bits ≡ places_of rules 0 None entries }
 {}
 
-/// Codeblocks sent with their markers, and with no gap and no wrong bit, are a marked stream. Each is found at its marker.
+/// Codeblocks sent with their markers, and with no gap and no wrong bit, are a marked stream. Each is found at its
+/// marker.
 pub fn clean_law()
-    ensures marked { (rules : Rules) (blocks : List (List Bool)) → AllByRecursion (λ block. length block ≡ rules.block_bits) blocks
+    ensures marked { (rules : Rules) (blocks : List (List Bool))
+        → AllByRecursion (λ block. length block ≡ rules.block_bits) blocks
         → IsMarked rules (joined (clean_entries blocks) []) (clean_entries blocks) [] }
-    ensures places { (rules : Rules) (blocks : List (List Bool)) → AllByRecursion (λ block. length block ≡ rules.block_bits) blocks
+    ensures places { (rules : Rules) (blocks : List (List Bool))
+        → AllByRecursion (λ block. length block ≡ rules.block_bits) blocks
         → places rules (joined (clean_entries blocks) []) ≡ clean_places rules.block_bits 0 blocks }
 {}
 
-/// The places in a list that goes on are first those in its front, whose codeblocks end within the front, and then others, whose
-/// codeblocks end behind it.
+/// The places in a list that goes on are first those in its front, whose codeblocks end within the front, and then
+/// others, whose codeblocks end behind it.
 pub fn longer_law()
     ensures front { (rules : Rules) (bits more : List Bool)
-        → places rules (bits ++ more) ≡ places rules bits ++ drop (length (places rules bits)) (places rules (bits ++ more)) }
+        → places rules (bits ++ more) ≡ places rules bits
+        ++ drop (length (places rules bits)) (places rules (bits ++ more)) }
     ensures within { (rules : Rules) (bits : List Bool)
         → AllByRecursion (λ f. f.place + 32 + rules.block_bits ≤ length bits) (places rules bits) }
     ensures behind { (rules : Rules) (bits more : List Bool)
-        → AllByRecursion (λ f. length bits < f.place + 32 + rules.block_bits) (drop (length (places rules bits)) (places rules (bits ++ more))) }
+        → AllByRecursion (λ f. length bits < f.place + 32 + rules.block_bits)
+        (drop (length (places rules bits)) (places rules (bits ++ more))) }
 {}

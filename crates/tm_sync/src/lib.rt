@@ -1,12 +1,12 @@
 //! The search for attached sync markers in a stream of bits (CCSDS 131.0-B, Frame Synchronization): which markers stand
-//! there with a whole codeblock behind them. A marker may have some wrong bits, may be missing right behind a codeblock,
-//! and may be inverted. The search keeps the last 32 bits and no others. It stands on the marker of tm_base.
+//! there with a whole codeblock behind them. A marker may have some wrong bits, may be missing right behind a
+//! codeblock, and may be inverted. The search keeps the last 32 bits and no others. It stands on the marker of tm_base.
 #![tactic(auto)]
 
 mod found;
 mod laws;
 mod search;
 
-pub use found::{Awaited, Before, Found};
+pub use found::{Awaited, Before, Found, Paused};
 pub use laws::{clean_law, longer_law, marked_law, one_polarity_law, polarity_law};
 pub use search::Search;

@@ -5,9 +5,10 @@ ghost use Rattle.tm_base.specs.Bits.{number_of, bits_of, bits_of_octet};
 ghost use Rattle.tm_sync.specs.declared.found.Found.{Found};
 ghost use Rattle.tm_sync.specs.declared.found.Before.{Before};
 ghost use Rattle.tm_sync.specs.Places.{Rules, wrong_bits, match_of, place_by, places};
+ghost use Rattle.tm_sync.specs.Paused.{is_resumable, resumed};
 ghost use Rattle.tm_sync.specs.Searching.{Counts, Searching, StandsFor, awaited_at, before_last, far_count, end_of, inside_ahead, inside_of, is_pending};
 
-use crate::found::{Awaited, Before, Found};
+use crate::found::{Awaited, Before, Found, Paused};
 use std::marker::Model;
 use tm_base::MARKER;
 
@@ -27,7 +28,8 @@ pub struct Search {
     // The first place behind that codeblock, and the bits behind its marker.
     awaited: Option<Awaited>,
     after: u32,
-    // 32 bits match in no way where the number of them that differ from the marker is one of `far` numbers from here on.
+    // 32 bits match in no way where the number of them that differ from the marker is one of `far` numbers from here
+    // on.
     too_many: u8,
     // None while every bit is looked at more closely: a place is awaited, or the next one may be bridged.
     far: u8,
@@ -57,11 +59,16 @@ impl Search {
     /// A search that was given no bits.
     ///
     /// `tolerance` is the most wrong bits, at most 8, with which a marker still matches; `fly` the most places in a row
-    /// that are taken though no marker matches there; `either` says whether inverted markers match too; and `block_bits`
-    /// is the size of a codeblock in bits.
+    /// that are taken though no marker matches there; `either` says whether inverted markers match too; and
+    /// `block_bits` is the size of a codeblock in bits.
     pub fn new(tolerance: u8, fly: u8, either: bool, block_bits: u32) -> Search
         requires { tolerance ≤ 8 }
-        ensures rules { result.rules ≡ record { tolerance = tolerance; fly = fly; either = either; block_bits = block_bits } }
+        ensures rules { result.rules ≡ record {
+          tolerance = tolerance;
+          fly = fly;
+          either = either;
+          block_bits = block_bits;
+        } }
         ensures inside { inside_of result ≡ None }
         ensures stands { StandsFor result [] [] }
     {
@@ -78,6 +85,50 @@ impl Search {
             after: 0,
             too_many: tolerance + 1,
             far: 0,
+        }
+    }
+
+    /// The search that goes on from these values. None where no search has them: where the tolerance is above 8, or
+    /// more bits are behind a marker than a codeblock has.
+    pub fn resume(paused: &Paused) -> Option<Search>
+        ensures some { IfSome result (λ search. search ≡ resumed paused.now) }
+        ensures valid { IsTrue (is_resumable paused.now) ↔ IsSome result }
+    {
+        if paused.tolerance > 8 || paused.after > paused.block_bits {
+            return None;
+        }
+        Some(Search {
+            tolerance: paused.tolerance,
+            fly: paused.fly,
+            either: paused.either,
+            block_bits: paused.block_bits,
+            word: paused.word,
+            pushed: paused.pushed,
+            start: paused.start,
+            before: paused.before,
+            awaited: paused.awaited,
+            after: paused.after,
+            too_many: paused.tolerance + 1,
+            far: 0,
+        })
+    }
+
+    /// The values that `resume` goes on from.
+    pub fn pause(&self) -> Paused
+        ensures values { resumed result ≡ self.now }
+        ensures valid { IsTrue (is_resumable result) }
+    {
+        Paused {
+            tolerance: self.tolerance,
+            fly: self.fly,
+            either: self.either,
+            block_bits: self.block_bits,
+            word: self.word,
+            pushed: self.pushed,
+            start: self.start,
+            before: self.before,
+            awaited: self.awaited,
+            after: self.after,
         }
     }
 
@@ -102,9 +153,9 @@ impl Search {
         self.look_closer();
     }
 
-    /// Takes the next eight bits of the stream, the most significant bit of `octet` first, as eight calls of `push_bit` do. No
-    /// codeblock may be whole before the last of them: the one under way lacks eight bits or more, and where none is
-    /// under way, a codeblock has eight or more.
+    /// Takes the next eight bits of the stream, the most significant bit of `octet` first, as eight calls of `push_bit`
+    /// do. No codeblock may be whole before the last of them: the one under way lacks eight bits or more, and where
+    /// none is under way, a codeblock has eight or more.
     ///
     /// The bits given in all are to be below 2^63.
     pub fn push_octet(&mut self, octet: u8)
@@ -122,8 +173,8 @@ impl Search {
         }
     }
 
-    /// Takes the next octets of a codeblock that is under way and lacks as many bits as they have or more, as `push_octet`
-    /// does one by one.
+    /// Takes the next octets of a codeblock that is under way and lacks as many bits as they have or more, as
+    /// `push_octet` does one by one.
     ///
     /// The bits given in all are to be below 2^63.
     pub fn push_octets(&mut self, octets: &[u8])
@@ -195,11 +246,12 @@ impl Search {
         }
     }
 
-    /// How many bits were given behind the marker of the first place behind the last codeblock found, upright, inverted or
-    /// bridged; None where no place stands there yet.
+    /// How many bits were given behind the marker of the first place behind the last codeblock found, upright, inverted
+    /// or bridged; None where no place stands there yet.
     pub fn inside(&self) -> Option<u64>
         ensures count { result ≡ inside_of self.now }
-        ensures ahead { (bits : List Bool) (found : List Found) → StandsFor self.now bits found → result ≡ inside_ahead self.now.rules bits found }
+        ensures ahead { (bits : List Bool) (found : List Found) → StandsFor self.now bits found
+            → result ≡ inside_ahead self.now.rules bits found }
     {
         match self.awaited {
             Some(_) => Some(u64::from(self.after)),
@@ -223,7 +275,8 @@ impl Search {
         ensures pending { IsSome result ↔ IsTrue (is_pending self.old) }
         ensures free { is_pending self.new ≡ false }
         ensures unchanged { IfNone result (self.new ≡ self.old) }
-        ensures whole { IfSome result (λ f. (inside_of self.old ≡ Some self.old.rules.block_bits) × (inside_of self.new ≡ None)) }
+        ensures whole { IfSome result (λ f. (inside_of self.old ≡ Some self.old.rules.block_bits)
+            × (inside_of self.new ≡ None)) }
         ensures none { IfNone result ((bits : List Bool) (found : List Found) → StandsFor self.old bits found
             → places self.old.rules bits ≡ found) }
         ensures some { IfSome result (λ f. (bits : List Bool) (found : List Found) → StandsFor self.old bits found
@@ -259,7 +312,8 @@ impl Search {
 
 // The last 32 bits, where they were `word` before these octets.
 fn last_bits(word: u32, octets: &[u8]) -> u32
-    ensures { (bits : List Bool) → word ≡ number_of bits % 2 ^ 32 → result ≡ number_of (bits ++ bits_of octets.now) % 2 ^ 32 }
+    ensures { (bits : List Bool) → word ≡ number_of bits % 2 ^ 32
+        → result ≡ number_of (bits ++ bits_of octets.now) % 2 ^ 32 }
 {
     let mut last = word;
     for octet in octets {
@@ -285,9 +339,11 @@ fn far_while(awaited: Option<Awaited>, start: u64, pushed: u64, tolerance: u8, e
 
 // Whether the last 32 bits match in no way.
 fn is_far(word: u32, too_many: u8, far: u8) -> bool
-    ensures { IsTrue result → (0 < far) × ((bits : List Bool) (tolerance : ℕ) (either : Bool) (fly block_bits : ℕ) → tolerance ≤ 8
+    ensures { IsTrue result → (0 < far) × ((bits : List Bool) (tolerance : ℕ) (either : Bool) (fly block_bits : ℕ)
+        → tolerance ≤ 8
         → too_many ≡ tolerance + 1 → far ≡ far_count tolerance either → length bits ≡ 32 → word ≡ number_of bits
-        → match_of (record { tolerance = tolerance; fly = fly; either = either; block_bits = block_bits }) bits ≡ None) }
+        → match_of (record { tolerance = tolerance; fly = fly; either = either; block_bits = block_bits }) bits
+        ≡ None) }
 {
     wrong_count(word).wrapping_sub(too_many) < far
 }
@@ -311,7 +367,12 @@ fn wrong_count(word: u32) -> u8
 fn polarity_of(wrong: u8, tolerance: u8, either: bool) -> Option<bool>
     requires { wrong ≤ 32 }
     ensures { (bits : List Bool) (fly block_bits : ℕ) → length bits ≡ 32 → wrong ≡ wrong_bits false bits
-        → result ≡ match_of (record { tolerance = tolerance; fly = fly; either = either; block_bits = block_bits }) bits }
+        → result ≡ match_of (record {
+          tolerance = tolerance;
+          fly = fly;
+          either = either;
+          block_bits = block_bits;
+        }) bits }
 {
     if wrong <= tolerance {
         return Some(false);
@@ -328,7 +389,8 @@ fn polarity_of(wrong: u8, tolerance: u8, either: bool) -> Option<bool>
 // The number of 32 bits that differ from the marker, or from the inverted one, where `wrong` differ from the marker.
 fn distance_of(wrong: u8, inverted: bool) -> u8
     requires { wrong ≤ 32 }
-    ensures { (bits : List Bool) → length bits ≡ 32 → wrong ≡ wrong_bits false bits → result ≡ wrong_bits inverted bits }
+    ensures { (bits : List Bool) → length bits ≡ 32 → wrong ≡ wrong_bits false bits
+        → result ≡ wrong_bits inverted bits }
 {
     if inverted { 32 - wrong } else { wrong }
 }
@@ -343,7 +405,13 @@ fn place_of(
     either: bool,
 ) -> Option<Awaited>
     ensures { (bits : List Bool) (block_bits : ℕ) → length bits ≡ 32 → word ≡ number_of bits
-        → result ≡ option_map (awaited_at before) (place_by (record { tolerance = tolerance; fly = fly; either = either; block_bits = block_bits }) place before bits
+        → result ≡ option_map (awaited_at before)
+        (place_by (record {
+          tolerance = tolerance;
+          fly = fly;
+          either = either;
+          block_bits = block_bits;
+        }) place before bits
         (match_of (record { tolerance = tolerance; fly = fly; either = either; block_bits = block_bits }) bits)) }
 {
     let wrong = wrong_count(word);

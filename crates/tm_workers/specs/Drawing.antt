@@ -6,10 +6,15 @@ use Rattle.atomic_table.specs.Table.{State, Me, Step}
 use Rattle.tm_workers.specs.declared.seats.View.{View}
 use Rattle.tm_workers.specs.Numbers.{times, once_below, total}
 
--- a seat that draws below `limit` has drawn these numbers and has these shares; it is spent where it was told that no
--- number is left
+-- a seat that draws below `limit` has drawn these numbers and has these shares; it is spent where
+-- it was told that no number is left
 abbrev pub view : ℕ → List ℕ → ℕ → Bool → View
-view limit drawn shares spent = record { limit = limit; drawn = drawn; shares = shares; spent = spent }
+view limit drawn shares spent = record {
+  limit = limit;
+  drawn = drawn;
+  shares = shares;
+  spent = spent;
+}
 
 -- what the first seat knows: it has all shares
 abbrev pub first_view : ℕ → View
@@ -21,7 +26,8 @@ live_shares v = cond v.spent 0 v.shares
 
 -- each number below n that was drawn stands in one seat's list, once, and no other number in any
 abbrev pub EachOnce : ℕ → ℕ → List View → Type 0
-EachOnce n counter views = (x : ℕ) → total (λ v. times x v.drawn) views ≡ once_below x (min counter n)
+EachOnce n counter views = (x : ℕ) → total (λ v. times x v.drawn) views
+    ≡ once_below x (min counter n)
 
 -- a spent seat saw the counter at n; a seat with shares knows n; a seat with none is empty
 pub record Fits (n counter : ℕ) (v : View) : Type 0 where
@@ -42,11 +48,13 @@ Rule n s = (length s.words ≡ 1) × KeptAt n (slice_index s.words 0) s.views
 
 -- the view after a draw that found the counter at `found`
 abbrev pub drawn_at : ℕ → View → View
-drawn_at found v = cond (nat_lt found v.limit) (view v.limit (v.drawn ++ found ∷ []) v.shares v.spent) (view v.limit v.drawn v.shares true)
+drawn_at found v = cond (nat_lt found v.limit)
+    (view v.limit (v.drawn ++ found ∷ []) v.shares v.spent) (view v.limit v.drawn v.shares true)
 
 -- what a draw tells; the seat has at most as many numbers as there are
 abbrev pub Drew : Step (Unit {0}) → Me (Unit {0}) View → ℕ → Me (Unit {0}) View → Type 0
-Drew step me found me' = (me'.0 ≡ drawn_at found me.0) × (me'.1 ≡ me.1) × (length me'.0.drawn ≤ me'.0.limit)
+Drew step me found me' = (me'.0 ≡ drawn_at found me.0) × (me'.1 ≡ me.1)
+    × (length me'.0.drawn ≤ me'.0.limit)
 
 -- a seat after `part` shares were cut off
 abbrev pub kept_part : ℕ → View → View

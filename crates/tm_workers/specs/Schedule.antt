@@ -1,7 +1,8 @@
 -- Schedules: in which order workers draw numbers.
 use Rattle.std.specs.Prelude.{ℕ, ◌+◌, List, [], ◌∷◌, map}
 
--- a schedule is a list of workers: each entry gives its worker the counter's value, and the counter goes up by one
+-- a schedule is a list of workers: each entry gives its worker the counter's value, and the counter
+-- goes up by one
 abbrev pub given_from : ℕ → List ℕ → List (ℕ × ℕ)
 given_from counter [] = []
 given_from counter (worker ∷ workers) = (worker, counter) ∷ given_from (counter + 1) workers

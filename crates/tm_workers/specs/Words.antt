@@ -12,12 +12,13 @@ use Rattle.tm_rs_solve.specs.declared.answers.ErasedAnswer.TheVariants.{Beyond a
 use Rattle.tm_workers.specs.declared.words.Word.{Word}
 use Rattle.tm_workers.specs.declared.words.ErasedWord.{ErasedWord}
 
--- the first n symbols become the nearest codeword, or stay where none is near; the symbols behind them stay, and the
--- answer stands in the word
+-- the first n symbols become the nearest codeword, or stay where none is near; the symbols behind
+-- them stay, and the answer stands in the word
 pub record Decodes (code : Code) (repair : ℕ) (w w' : Word) : Type 0 where
   pub answer : Answer
   pub told : w'.answer ≡ Some answer
-  pub nearest : IsNearest code.e repair (numbers (take code.n w.symbols)) (found answer (numbers (take code.n w'.symbols)))
+  pub nearest : IsNearest code.e repair (numbers (take code.n w.symbols))
+      (found answer (numbers (take code.n w'.symbols)))
   pub unchanged : answer ≡ Beyond → take code.n w'.symbols ≡ take code.n w.symbols
   pub behind : drop code.n w'.symbols ≡ drop code.n w.symbols
 
@@ -25,7 +26,8 @@ pub record Decodes (code : Code) (repair : ℕ) (w w' : Word) : Type 0 where
 pub record DecodesErased (code : Code) (repair : ℕ) (w w' : ErasedWord) : Type 0 where
   pub answer : ErasedAnswer
   pub told : w'.answer ≡ Some answer
-  pub nearest : IsNearestErased code.e repair (take code.n w.erased) (numbers (take code.n w.symbols)) (found_erased answer (numbers (take code.n w'.symbols)))
+  pub nearest : IsNearestErased code.e repair (take code.n w.erased)
+      (numbers (take code.n w.symbols)) (found_erased answer (numbers (take code.n w'.symbols)))
   pub unchanged : answer ≡ BeyondBoth → take code.n w'.symbols ≡ take code.n w.symbols
   pub behind : drop code.n w'.symbols ≡ drop code.n w.symbols
   pub erased : w'.erased ≡ w.erased

@@ -1,4 +1,5 @@
--- What workers bring that draw numbers and call a function at each. Each has a room for its results.
+-- What workers bring that draw numbers and call a function at each. Each has a room for its
+-- results.
 use Rattle.std.specs.Prelude.{◌≡◌, ℕ, ◌<◌, ◌≤◌, List, [], ◌∷◌, ◌++◌, vec_capacity, Vec}
 use Rattle.std.specs.Global.{Global}
 use lib.ListN.{set}

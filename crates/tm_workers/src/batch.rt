@@ -5,8 +5,8 @@ ghost use Rattle.tm_workers.specs.Words.{Decodes, DecodesErased};
 ghost use Rattle.tm_workers.specs.Working.{all_drawn, put_all};
 
 use crate::draws::{Drawn, call_each};
-use crate::gate::Gate;
-use crate::split::split_evenly;
+use crate::gate::{Gate, OpenGate};
+use crate::split::{decode_part, split_evenly};
 use crate::words::{ErasedWord, InPlace, Word};
 use std::alloc::{AllocError, Global};
 use std::thread::Threads;
@@ -125,4 +125,14 @@ pub fn decode_erased_batch<R: Threads + Sync, G: Gate + Sync>(
     ensures { EachBecomes (DecodesErased params.now repair) words.old words.new }
 {
     decode_all(rt, alloc, params, repair, words, workers, gate);
+}
+
+/// Decodes each word in its place, one after another, as `decode_batch` does with one worker. It starts no thread,
+/// enters no gate and takes no memory. The words are fewer than 2^32, and `repair` at most e.
+pub fn decode_in_order(params: &Params, repair: u8, words: &mut [Word])
+    requires bound { repair ≤ params.now.e }
+    requires count { length words.old < 2 ^ 32 }
+    ensures { EachBecomes (Decodes params.now repair) words.old words.new }
+{
+    decode_part(&OpenGate, params, repair, 0, words);
 }

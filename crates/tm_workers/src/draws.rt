@@ -39,7 +39,8 @@ fn fill<X: Copy, F: Fn(u32) -> X>(
     requires seat { IsOf tickets.now seat.old × (numbers seat.old ≡ []) }
     requires room { IsRoom (limit_of tickets.now) room.old }
     ensures seat { IsOf tickets.now seat.new × (is_spent seat.new ≡ true) × (shares_of seat.new ≡ shares_of seat.old) }
-    ensures room { (numbers seat.new ≡ numbers_of room.new.items) × AreResults (F.post f.now) (limit_of tickets.now) room.new.items }
+    ensures room { (numbers seat.new ≡ numbers_of room.new.items)
+        × AreResults (F.post f.now) (limit_of tickets.now) room.new.items }
 {
     while let Some(number) = tickets.draw(seat) {
         let value = f(number);
@@ -60,7 +61,8 @@ fn fill_all<R: Threads + Sync, X: Copy + Send, F: Fn(u32) -> X + Sync>(
     requires seat { IsOf tickets.now seat.old × (numbers seat.old ≡ []) × (length rooms.old ≤ shares_of seat.old) }
     requires rooms { (0 < length rooms.old) × (length rooms.old ≤ 64) × AreRooms (limit_of tickets.now) rooms.old }
     ensures seat { IsOf tickets.now seat.new × (is_spent seat.new ≡ true) × (shares_of seat.new ≡ shares_of seat.old) }
-    ensures rooms { (numbers seat.new ≡ all_numbers rooms.new) × AllResults (F.post f.now) (limit_of tickets.now) rooms.new }
+    ensures rooms { (numbers seat.new ≡ all_numbers rooms.new)
+        × AllResults (F.post f.now) (limit_of tickets.now) rooms.new }
 {
     match rooms {
         [] => unreachable!(),
@@ -94,23 +96,30 @@ fn fill_both<R: Threads + Sync, X: Copy + Send, F: Fn(u32) -> X + Sync>(
     requires other { IsOf tickets.now other.old × (numbers other.old ≡ []) × (length back.old ≤ shares_of other.old) }
     requires back { (0 < length back.old) × (length back.old ≤ 64) × AreRooms (limit_of tickets.now) back.old }
     ensures seat { IsOf tickets.now seat.new × (is_spent seat.new ≡ true) × (shares_of seat.new ≡ shares_of seat.old) }
-    ensures front { (numbers seat.new ≡ all_numbers front.new) × AllResults (F.post f.now) (limit_of tickets.now) front.new }
-    ensures other { IsOf tickets.now other.new × (is_spent other.new ≡ true) × (shares_of other.new ≡ shares_of other.old) }
-    ensures back { (numbers other.new ≡ all_numbers back.new) × AllResults (F.post f.now) (limit_of tickets.now) back.new }
+    ensures front { (numbers seat.new ≡ all_numbers front.new)
+        × AllResults (F.post f.now) (limit_of tickets.now) front.new }
+    ensures other { IsOf tickets.now other.new × (is_spent other.new ≡ true)
+        × (shares_of other.new ≡ shares_of other.old) }
+    ensures back { (numbers other.new ≡ all_numbers back.new)
+        × AllResults (F.post f.now) (limit_of tickets.now) back.new }
 {
     let mut fill_front = ||
         requires { IsSync R.row × IsSync F.row × IsSend X.row × IsCallableBelow (F.pre f.now) (limit_of tickets.now)
             × (IsOf tickets.now seat.now × (numbers seat.now ≡ []) × (length front.now ≤ shares_of seat.now))
             × ((0 < length front.now) × (length front.now ≤ 64) × AreRooms (limit_of tickets.now) front.now) }
-        ensures { (IsOf tickets.entry.now seat.exit.now × (is_spent seat.exit.now ≡ true) × (shares_of seat.exit.now ≡ shares_of seat.entry.now))
-            × ((numbers seat.exit.now ≡ all_numbers front.exit.now) × AllResults (F.post f.entry.now) (limit_of tickets.entry.now) front.exit.now) }
+        ensures { (IsOf tickets.entry.now seat.exit.now × (is_spent seat.exit.now ≡ true)
+            × (shares_of seat.exit.now ≡ shares_of seat.entry.now))
+            × ((numbers seat.exit.now ≡ all_numbers front.exit.now)
+            × AllResults (F.post f.entry.now) (limit_of tickets.entry.now) front.exit.now) }
     { fill_all(rt, f, tickets, seat, front) };
     let mut fill_back = ||
         requires { IsSync R.row × IsSync F.row × IsSend X.row × IsCallableBelow (F.pre f.now) (limit_of tickets.now)
             × (IsOf tickets.now other.now × (numbers other.now ≡ []) × (length back.now ≤ shares_of other.now))
             × ((0 < length back.now) × (length back.now ≤ 64) × AreRooms (limit_of tickets.now) back.now) }
-        ensures { (IsOf tickets.entry.now other.exit.now × (is_spent other.exit.now ≡ true) × (shares_of other.exit.now ≡ shares_of other.entry.now))
-            × ((numbers other.exit.now ≡ all_numbers back.exit.now) × AllResults (F.post f.entry.now) (limit_of tickets.entry.now) back.exit.now) }
+        ensures { (IsOf tickets.entry.now other.exit.now × (is_spent other.exit.now ≡ true)
+            × (shares_of other.exit.now ≡ shares_of other.entry.now))
+            × ((numbers other.exit.now ≡ all_numbers back.exit.now)
+            × AllResults (F.post f.entry.now) (limit_of tickets.entry.now) back.exit.now) }
     { fill_all(rt, f, tickets, other, back) };
     join_mut(rt, &mut fill_front, &mut fill_back);
 }

@@ -14,7 +14,7 @@ mod split;
 mod tickets;
 mod words;
 
-pub use batch::{decode_all, decode_batch, decode_erased_batch};
+pub use batch::{decode_all, decode_batch, decode_erased_batch, decode_in_order};
 pub use gate::{Gate, OpenGate};
 pub use outcome::one_outcome_law;
 pub use schedule::schedule_law;

@@ -8,8 +8,8 @@ use crate::words::InPlace;
 use std::thread::{Threads, join_mut};
 use tm_rs_code::Params;
 
-// Decodes words one after another. The first has the number `first`.
-fn decode_part<G: Gate, W: InPlace>(
+/// Decodes words one after another. The first has the number `first`.
+pub fn decode_part<G: Gate, W: InPlace>(
     gate: &G,
     params: &Params,
     repair: u8,
@@ -75,11 +75,13 @@ fn split_both<R: Threads + Sync, G: Gate + Sync, W: InPlace + Send>(
     let others = workers - some;
     let behind = first + front.len() as u32;
     let mut decode_front = ||
-        requires { IsSync R.row × IsSync G.row × IsSend W.row × (repair ≤ params.now.e) × (first + length front.now < 2 ^ 32) }
+        requires { IsSync R.row × IsSync G.row × IsSend W.row × (repair ≤ params.now.e)
+            × (first + length front.now < 2 ^ 32) }
         ensures { EachBecomes (W.becomes params.entry.now repair) front.entry.now front.exit.now }
     { split_evenly(rt, gate, params, repair, first, some, front) };
     let mut decode_back = ||
-        requires { IsSync R.row × IsSync G.row × IsSend W.row × (repair ≤ params.now.e) × (behind + length back.now < 2 ^ 32) }
+        requires { IsSync R.row × IsSync G.row × IsSend W.row × (repair ≤ params.now.e)
+            × (behind + length back.now < 2 ^ 32) }
         ensures { EachBecomes (W.becomes params.entry.now repair) back.entry.now back.exit.now }
     { split_evenly(rt, gate, params, repair, behind, others, back) };
     join_mut(rt, &mut decode_front, &mut decode_back);

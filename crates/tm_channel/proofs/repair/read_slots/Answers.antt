@@ -1,7 +1,7 @@
 use Rattle.std.proofs.Common.{◌∙◌, [], false, ◌*◌, length, take, sym, ap, arith}
 use Rattle.std.proofs.lemmas.List.{get_or_default}
+use Rattle.tm_codeblock.specs.ReceivedCodeblock.{received_columns}
 use Rattle.tm_channel.specs.declared.slot.Slot.{Slot}
-use Rattle.tm_channel.specs.ReceivedCodeblock.{received_columns}
 use Rattle.tm_channel.proofs.Repaired.{read-more, within}
 use Rattle.tm_channel.proofs.repair.read_slots.Goals as goal
 

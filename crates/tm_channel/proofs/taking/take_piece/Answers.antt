@@ -3,7 +3,6 @@ use Rattle.std.specs.Option.{is_some}
 use Rattle.tm_base.specs.Bits.{bits_of}
 use Rattle.tm_base.specs.Handed.{on_handed}
 use Rattle.tm_config.specs.Configuration.{Configuration}
-use Rattle.tm_inner.specs.Symbols.{rate_of}
 use Rattle.tm_channel.specs.OctetReceiving.{Grows, Stages, received_bits}
 use Rattle.tm_channel.proofs.GivenOctets.{first-chosen, found-none, found-some, front-due, front-phase, hands-due}
 use Rattle.tm_channel.proofs.taking.take_piece.Goals as goal
@@ -26,13 +25,16 @@ returns-in-Err-take_bits-clause-front g c =
     let before : Stages = record { inner = inner; bits = c.args.stream.now } in
     let kept = c.decode.new.kept in
     let octets = c.args.octets.now in
-    let is : is_some (rate_of inner.config.inner) ≡ true =
-    ap (λ (k : Configuration). is_some (rate_of k.inner)) (sym c.decode.ensures.inner) ∙ sym c.has_inner_code.ensures ∙ c.if-has_inner_code.true in
-    let same = found-some (rate_of inner.config.inner) (inner.config.skip - 8 * inner.count) kept.bits octets is ∙ ap (map (λ bit. bit == 1)) (sym c.bits.ensures) in
+    let is : is_some inner.config.inner ≡ true =
+    ap (λ (k : Configuration). is_some k.inner) (sym c.decode.ensures.inner) ∙ sym c.has_inner_code.ensures
+    ∙ c.if-has_inner_code.true in
+    let same = found-some inner.config.inner (inner.config.skip - 8 * inner.count) kept.bits octets is
+    ∙ ap (map (λ bit. bit == 1)) (sym c.bits.ensures) in
     let grows = subst (Grows inner c.decode.new.inner octets kept.phase) same c.decode.ensures.grows in
     first-chosen (on_handed g.T.ItemTaker.took_phase g.T.ItemTaker.took) (on_handed g.T.ItemTaker.broke_phase g.T.ItemTaker.broke) before c.decode.new.inner
     c.args.taker.now c.take_bits.new.taker octets kept.phase (map (λ bit. bit == 1) c.bits.result.now) c.decode.ensures.inner grows
-    (front-due g.T.ItemTaker.took_phase g.T.ItemTaker.broke_phase g.T.ItemTaker.took g.T.ItemTaker.broke before c.decode.new.inner c.take_bits.new.self
+    (front-due g.T.ItemTaker.took_phase g.T.ItemTaker.broke_phase g.T.ItemTaker.took g.T.ItemTaker.broke before
+    c.decode.new.inner c.take_bits.new.stream
     c.args.taker.now c.hand_phase.new.taker c.take_bits.new.taker octets kept.phase (map (λ bit. bit == 1) c.bits.result.now) c.requires.of
     grows c.in-Ok.ensures.handed c.in-Err-take_bits.ensures.part)
 
@@ -42,9 +44,11 @@ returns-in-Err-take_behind-clause-front g c =
     let before : Stages = record { inner = inner; bits = c.args.stream.now } in
     let kept = c.decode.new.kept in
     let octets = c.args.octets.now in
-    let is : is_some (rate_of inner.config.inner) ≡ false =
-    ap (λ (k : Configuration). is_some (rate_of k.inner)) (sym c.decode.ensures.inner) ∙ sym c.has_inner_code.ensures ∙ c.if-has_inner_code.false in
-    let same = found-none (rate_of inner.config.inner) (inner.config.skip - 8 * inner.count) kept.bits octets is ∙ ap (λ n. drop n (bits_of octets)) (sym c.bits_to_skip-skip.ensures.value) in
+    let is : is_some inner.config.inner ≡ false =
+    ap (λ (k : Configuration). is_some k.inner) (sym c.decode.ensures.inner) ∙ sym c.has_inner_code.ensures
+    ∙ c.if-has_inner_code.false in
+    let same = found-none inner.config.inner (inner.config.skip - 8 * inner.count) kept.bits octets is
+    ∙ ap (λ n. drop n (bits_of octets)) (sym c.bits_to_skip-skip.ensures.value) in
     let grows = subst (Grows inner c.decode.new.inner octets kept.phase) same c.decode.ensures.grows in
     first-chosen (on_handed g.T.ItemTaker.took_phase g.T.ItemTaker.took) (on_handed g.T.ItemTaker.broke_phase g.T.ItemTaker.broke) before c.decode.new.inner
     c.args.taker.now c.take_behind.new.taker octets kept.phase (drop c.bits_to_skip-skip.result (bits_of octets)) c.decode.ensures.inner grows
@@ -56,12 +60,14 @@ pub returns-in-Ok-take_bits-clause-handed : goal.returns-in-Ok-take_bits-clause-
 returns-in-Ok-take_bits-clause-handed g c =
     let inner = c.args.inner.now in
     let before : Stages = record { inner = inner; bits = c.args.stream.now } in
-    let now : Stages = record { inner = c.decode.new.inner; bits = c.take_bits.new.self } in
+    let now : Stages = record { inner = c.decode.new.inner; bits = c.take_bits.new.stream } in
     let kept = c.decode.new.kept in
     let octets = c.args.octets.now in
-    let is : is_some (rate_of inner.config.inner) ≡ true =
-    ap (λ (k : Configuration). is_some (rate_of k.inner)) (sym c.decode.ensures.inner) ∙ sym c.has_inner_code.ensures ∙ c.if-has_inner_code.true in
-    let same = found-some (rate_of inner.config.inner) (inner.config.skip - 8 * inner.count) kept.bits octets is ∙ ap (map (λ bit. bit == 1)) (sym c.bits.ensures) in
+    let is : is_some inner.config.inner ≡ true =
+    ap (λ (k : Configuration). is_some k.inner) (sym c.decode.ensures.inner) ∙ sym c.has_inner_code.ensures
+    ∙ c.if-has_inner_code.true in
+    let same = found-some inner.config.inner (inner.config.skip - 8 * inner.count) kept.bits octets is
+    ∙ ap (map (λ bit. bit == 1)) (sym c.bits.ensures) in
     hands-due g.T.ItemTaker.took_phase g.T.ItemTaker.took before now c.args.taker.now c.hand_phase.new.taker c.take_bits.new.taker octets kept.phase (map (λ bit. bit == 1) c.bits.result.now)
     c.requires.of c.decode.ensures.inner (subst (Grows inner c.decode.new.inner octets kept.phase) same c.decode.ensures.grows) c.in-Ok.ensures.handed c.in-Ok-take_bits.ensures.handed
 
@@ -72,8 +78,10 @@ returns-in-Ok-take_behind-clause-handed g c =
     let now : Stages = record { inner = c.decode.new.inner; bits = c.take_behind.new.stream } in
     let kept = c.decode.new.kept in
     let octets = c.args.octets.now in
-    let is : is_some (rate_of inner.config.inner) ≡ false =
-    ap (λ (k : Configuration). is_some (rate_of k.inner)) (sym c.decode.ensures.inner) ∙ sym c.has_inner_code.ensures ∙ c.if-has_inner_code.false in
-    let same = found-none (rate_of inner.config.inner) (inner.config.skip - 8 * inner.count) kept.bits octets is ∙ ap (λ n. drop n (bits_of octets)) (sym c.bits_to_skip-skip.ensures.value) in
+    let is : is_some inner.config.inner ≡ false =
+    ap (λ (k : Configuration). is_some k.inner) (sym c.decode.ensures.inner) ∙ sym c.has_inner_code.ensures
+    ∙ c.if-has_inner_code.false in
+    let same = found-none inner.config.inner (inner.config.skip - 8 * inner.count) kept.bits octets is
+    ∙ ap (λ n. drop n (bits_of octets)) (sym c.bits_to_skip-skip.ensures.value) in
     hands-due g.T.ItemTaker.took_phase g.T.ItemTaker.took before now c.args.taker.now c.hand_phase.new.taker c.take_behind.new.taker octets kept.phase (drop c.bits_to_skip-skip.result (bits_of octets))
     c.requires.of c.decode.ensures.inner (subst (Grows inner c.decode.new.inner octets kept.phase) same c.decode.ensures.grows) c.in-Ok.ensures.handed c.in-Ok-take_behind.ensures.handed

@@ -16,11 +16,12 @@ begins c =
 pub returns-clause-agree : goal.returns-clause-agree
 returns-clause-agree c =
     agree-begun c.args.self.now.search c.push_octet.new.self c.args.self.now.batch c.begin.new.self c.args.octet c.requires.ready.agree
-    c.push_octet.ensures.rules c.push_octet.ensures.within c.begin.ensures.config (begins c).0 c.begin.ensures.kept
+    c.push_octet.ensures.rules c.push_octet.ensures.within c.begin.ensures.config (begins c).0
 
-pub returns-clause-stands : goal.returns-clause-stands
-returns-clause-stands c = λ bits few h.
+pub returns-clause-holds : goal.returns-clause-holds
+returns-clause-holds c = λ handed bits few h.
     let count = unwrap_or (inside_of c.push_octet.new.self) 0 in
-    stands-begun c.args.self.now.search c.push_octet.new.self c.args.self.now.batch c.begin.new.self bits (low_bits (8 - count) (c.args.octet / 2 ^ count)) (bits_of_octet c.args.octet)
+    stands-begun c.args.self.now.search c.push_octet.new.self c.args.self.now.batch c.begin.new.self handed bits
+    (low_bits (8 - count) (c.args.octet / 2 ^ count)) (bits_of_octet c.args.octet)
     c.begin.ensures.config (octet-ends count c.args.octet (begins c).1 ∙ ap (λ l. low_bits (8 - count) (c.args.octet / 2 ^ count) ++ l) (sym (begins c).0)) c.begin.ensures.kept
     (λ found stood. c.push_octet.ensures.stands bits found (omega (arith, length-append bits (bits_of_octet c.args.octet), length-low_bits 8 c.args.octet)) stood) h

@@ -1,4 +1,4 @@
-use Rattle.std.proofs.Common.{◌≡◌, ℕ, length, take, ap, ◌∙◌}
+use Rattle.std.proofs.Common.{length, ap, ◌∙◌}
 use Rattle.tm_channel.specs.Sending.{Sending}
 use Rattle.tm_channel.proofs.sender.Sender.left_over.Goals as goal
 

@@ -1,0 +1,67 @@
+use Rattle.std.proofs.Common.{◌≡◌, ◌++◌, ◌+◌, ◌^◌, ◌<◌, ◌∙◌, ℕ, List, length, false, subst}
+use Rattle.tm_base.specs.Handed.{Handed, on_handed}
+use Rattle.tm_base.specs.Takers.{HandedOver, HandedPart}
+use Rattle.tm_config.specs.Configuration.{Configuration}
+use Rattle.tm_inner.specs.Phase.{IsChosenSoFar}
+use Rattle.tm_inner.proofs.HandedPieces.{stands-so-far}
+use Rattle.tm_channel.specs.Items.{ItemValue}
+use Rattle.tm_channel.specs.Handing.{AreReceivedDue, AreReceivedFirst}
+use Rattle.tm_channel.specs.OctetReceiving.{OctetReceiving, Stages, StandsFor}
+use Rattle.tm_channel.proofs.GivenOctets.{received-due}
+use Rattle.tm_channel.proofs.receiver.Receiver.feed_by.Goals as goal
+
+pub returns-in-Ok-clause-handed : goal.returns-in-Ok-clause-handed
+returns-in-Ok-clause-handed g c =
+    let s = c.self.inside in
+    let octets = c.args.octets.now in
+    let now : OctetReceiving = record { config = s.config; has_stopped = s.has_stopped; stages = record { inner = c.take.new.inner; bits = c.take.new.stream } } in
+    let p = c.in-Ok.ensures.handed in
+    let took = on_handed g.T.ItemTaker.took_phase g.T.ItemTaker.took in
+    subst (λ (r : OctetReceiving). (more : List (Handed ItemValue)) × HandedOver took c.args.taker.now more c.take.new.taker
+    × ((given : List ℕ) (done : List (Handed ItemValue)) → length given + length octets < 2 ^ 60 → StandsFor r given done
+    → StandsFor now (given ++ octets) (done ++ more) × AreReceivedDue r.config (given ++ octets) (done ++ more))) c.self.view_is (
+      p.more,
+      p.handed,
+      λ given done few stood.
+          let there = p.stands given done few stood in (
+            there,
+            subst (λ (k : Configuration). AreReceivedDue k (given ++ octets) (done ++ p.more)) (c.take.ensures.inner ∙ c.self.invariant.0)
+                (received-due now.stages (given ++ octets) (done ++ p.more) there),
+          ),
+    )
+
+pub returns-in-Err-clause-front : goal.returns-in-Err-clause-front
+returns-in-Err-clause-front g c = λ _.
+    let octets = c.args.octets.now in
+    let p = c.in-Err.ensures.front in
+    let took = on_handed g.T.ItemTaker.took_phase g.T.ItemTaker.took in
+    let broke = on_handed g.T.ItemTaker.broke_phase g.T.ItemTaker.broke in
+    subst (λ (r : OctetReceiving). (tried : List (Handed ItemValue)) × HandedPart took broke c.args.taker.now tried c.take.new.taker
+    × ((given : List ℕ) (done : List (Handed ItemValue)) → length given + length octets < 2 ^ 60 → StandsFor r given done
+    → AreReceivedFirst r.config (given ++ octets) (done ++ tried))) c.self.view_is (
+      p.tried,
+      p.handed,
+      λ given done few stood. subst (λ (k : Configuration). AreReceivedFirst k (given ++ octets) (done ++ p.tried)) c.self.invariant.0 (p.first given done few stood).0,
+    )
+
+pub returns-in-Ok-clause-chosen : goal.returns-in-Ok-clause-chosen
+returns-in-Ok-clause-chosen g c =
+    let octets = c.args.octets.now in
+    let now : Stages = record { inner = c.take.new.inner; bits = c.take.new.stream } in
+    let chosen = c.take.new.inner.phased.chosen in
+    let p = c.in-Ok.ensures.handed in
+    subst (λ (r : OctetReceiving). (given : List ℕ) (done : List (Handed ItemValue)) → length given + length octets < 2 ^ 60 → StandsFor r given done
+    → r.has_stopped ≡ false → IsChosenSoFar r.config (given ++ octets) chosen) c.self.view_is
+    (λ given done few stood _.
+    let there = p.stands given done few stood in
+    subst (λ (k : Configuration). IsChosenSoFar k (given ++ octets) chosen) (c.take.ensures.inner ∙ c.self.invariant.0)
+    (stands-so-far now.inner (given ++ octets) there.handed there.inner))
+
+pub returns-in-Err-clause-chosen : goal.returns-in-Err-clause-chosen
+returns-in-Err-clause-chosen g c =
+    let octets = c.args.octets.now in
+    let chosen = c.take.new.inner.phased.chosen in
+    let p = c.in-Err.ensures.front in
+    subst (λ (r : OctetReceiving). (given : List ℕ) (done : List (Handed ItemValue)) → length given + length octets < 2 ^ 60 → StandsFor r given done
+    → r.has_stopped ≡ false → IsChosenSoFar r.config (given ++ octets) chosen) c.self.view_is
+    (λ given done few stood _. subst (λ (k : Configuration). IsChosenSoFar k (given ++ octets) chosen) c.self.invariant.0 (p.first given done few stood).1)

@@ -1,0 +1,135 @@
+use Rattle.std.proofs.Common.{◌==◌, ◌++◌, ◌∙◌, ℕ, List, [], map, sym, subst, Result, Ok, Err, IfOk, IsErrOf}
+use Rattle.tm_base.specs.Handed.{Handed, Item, on_handed}
+use Rattle.tm_base.specs.Takers.{HandedOver, HandedPart}
+use Rattle.tm_base.proofs.Handing.{HandedOver-append, HandedPart-after}
+use Rattle.tm_base.proofs.HandedItems.{HandedOver-items, HandedPart-items}
+use Rattle.tm_config.specs.Configuration.{Configuration}
+use Rattle.tm_inner.specs.Phase.{in_turn}
+use Rattle.tm_channel.specs.Items.{ItemValue}
+use Rattle.tm_channel.specs.Handing.{AreReceived, AreReceivedFront}
+use Rattle.tm_channel.specs.OctetReceiving.{OctetReceiving, StandsFor, Stages, Ends}
+use Rattle.tm_channel.specs.declared.receiver.RecvError.{RecvError}
+use Rattle.tm_channel.specs.declared.receiver.RecvError.TheVariants.{Taker}
+use Rattle.tm_channel.proofs.GivenOctets.{chosen-at_end, ends, ends-front, ends-part, ends-phase}
+use Rattle.tm_channel.proofs.receiver.Receiver.finish_by.Goals as goal
+use Rattle.tm_channel.proofs.receiver.Receiver.finish_by.Goals.{in-Ok-hand_last, in-Err-hand_last}
+
+-- the taker failed at the phase
+pub returns-in-Err-clause-front : goal.returns-in-Err-clause-front
+returns-in-Err-clause-front g c = λ _.
+    let s = c.self.inside in
+    let stages : Stages = record { inner = s.inner; bits = s.stream } in
+    let took = on_handed g.T.ItemTaker.took_phase g.T.ItemTaker.took in
+    let broke = on_handed g.T.ItemTaker.broke_phase g.T.ItemTaker.broke in
+    let kept = c.end-count.new.kept in
+    subst (λ (r : OctetReceiving). (tried : List (Handed ItemValue)) × HandedPart took broke c.args.taker.now tried c.hand_phase.new.taker
+    × ((given : List ℕ) (done : List (Handed ItemValue)) → StandsFor r given done → AreReceivedFront r.config given (done ++ tried))) c.self.view_is (
+      in_turn kept.phase [],
+      c.in-Err.ensures.front,
+      λ given done stood. subst (λ (k : Configuration). AreReceivedFront k given (done ++ in_turn kept.phase [])) c.self.invariant.0
+          (ends-phase stages kept.phase (map (λ bit. bit == 1) kept.bits) c.end-count.result (c.self.invariant.1 ∙ sym c.self.invariant.0) c.end-count.ensures.ends given done stood),
+    )
+
+-- it failed at an item that is due with the last bits
+pub returns-in-Err-take_bits-clause-front : goal.returns-in-Err-take_bits-clause-front
+returns-in-Err-take_bits-clause-front g c = λ _.
+    let s = c.self.inside in
+    let stages : Stages = record { inner = s.inner; bits = s.stream } in
+    let took = on_handed g.T.ItemTaker.took_phase g.T.ItemTaker.took in
+    let broke = on_handed g.T.ItemTaker.broke_phase g.T.ItemTaker.broke in
+    let start = c.args.taker.now in
+    let first = c.hand_phase.new.taker in
+    let middle = c.take_bits.new.taker in
+    let phase = c.end-count.new.kept.phase in
+    let piece = map (λ bit. bit == 1) c.bits.result.now in
+    let count = c.end-count.result in
+    let over = subst (λ (l : List ℕ). Ends s.inner phase (map (λ bit. bit == 1) l) count) (sym c.bits.ensures) c.end-count.ensures.ends in
+    let p = c.in-Err-take_bits.ensures.part in
+    let tried = in_turn phase [] ++ map Item p.tried in
+    subst (λ (r : OctetReceiving). (tried : List (Handed ItemValue)) × HandedPart took broke start tried middle
+    × ((given : List ℕ) (done : List (Handed ItemValue)) → StandsFor r given done → AreReceivedFront r.config given (done ++ tried))) c.self.view_is (
+      tried,
+      HandedPart-after took broke start first middle (in_turn phase []) (map Item p.tried) c.in-Ok.ensures.handed
+          (HandedPart-items g.T.ItemTaker.took_phase g.T.ItemTaker.broke_phase g.T.ItemTaker.took g.T.ItemTaker.broke first middle p.tried p.handed),
+      λ given done stood. subst (λ (k : Configuration). AreReceivedFront k given (done ++ tried)) c.self.invariant.0
+          (ends-part g.T.ItemTaker.took g.T.ItemTaker.broke stages c.take_bits.new.stream first middle phase piece count
+          (c.self.invariant.1 ∙ sym c.self.invariant.0) over p given done stood),
+    )
+
+pub returns-clause-handed : goal.returns-clause-handed
+returns-clause-handed g c =
+    let s = c.self.inside in
+    let before : OctetReceiving = record { config = s.config; has_stopped = s.has_stopped; stages = record { inner = s.inner; bits = s.stream } } in
+    let took = on_handed g.T.ItemTaker.took_phase g.T.ItemTaker.took in
+    let start = c.args.taker.now in
+    let first = c.hand_phase.new.taker in
+    let middle = c.take_bits.new.taker in
+    let last = c.hand_last.new.taker in
+    let phase = c.end-count.new.kept.phase in
+    let piece = map (λ bit. bit == 1) c.bits.result.now in
+    let count = c.end-count.result in
+    let over = subst (λ (l : List ℕ). Ends s.inner phase (map (λ bit. bit == 1) l) count) (sym c.bits.ensures) c.end-count.ensures.ends in
+    let p = c.in-Ok-take_bits.ensures.handed in
+    let Said : OctetReceiving → Result ℕ RecvError → Type 0 = λ r result. IfOk result (λ n. (all : List (Handed ItemValue)) × HandedOver took start all last
+    × ((given : List ℕ) (done : List (Handed ItemValue)) → StandsFor r given done → AreReceived r.config given (done ++ all) n)) in
+    subst (λ (r : OctetReceiving). Said r c.match-hand_last.result) c.self.view_is (elim c.match-hand_last.branch as (λ _. Said before c.match-hand_last.result) [
+      | in-Ok-hand_last w ↦ (
+          let q = w.in-Ok-hand_last.ensures.handed in
+          let all = in_turn phase [] ++ map Item (p.items ++ q.items) in
+          let said : Said before (Ok count) = (
+            all,
+            HandedOver-append took start first last (in_turn phase []) (map Item (p.items ++ q.items)) c.in-Ok.ensures.handed
+                (HandedOver-items g.T.ItemTaker.took_phase g.T.ItemTaker.took first last (p.items ++ q.items)
+                (HandedOver-append g.T.ItemTaker.took first middle last p.items q.items p.handed q.handed)),
+            λ given done stood. subst (λ (k : Configuration). AreReceived k given (done ++ all) count) c.self.invariant.0
+                (ends g.T.ItemTaker.took before.stages c.take_bits.new.stream first middle last phase piece count
+                (c.self.invariant.1 ∙ sym c.self.invariant.0) over p q given done stood),
+          ) in
+          subst (Said before) (sym w.result-is) said
+          )
+      | in-Err-hand_last w ↦ subst (Said before) (sym w.result-is) tt
+    ])
+
+pub returns-clause-front : goal.returns-clause-front
+returns-clause-front g c =
+    let s = c.self.inside in
+    let before : OctetReceiving = record { config = s.config; has_stopped = s.has_stopped; stages = record { inner = s.inner; bits = s.stream } } in
+    let took = on_handed g.T.ItemTaker.took_phase g.T.ItemTaker.took in
+    let broke = on_handed g.T.ItemTaker.broke_phase g.T.ItemTaker.broke in
+    let start = c.args.taker.now in
+    let first = c.hand_phase.new.taker in
+    let middle = c.take_bits.new.taker in
+    let last = c.hand_last.new.taker in
+    let phase = c.end-count.new.kept.phase in
+    let piece = map (λ bit. bit == 1) c.bits.result.now in
+    let count = c.end-count.result in
+    let over = subst (λ (l : List ℕ). Ends s.inner phase (map (λ bit. bit == 1) l) count) (sym c.bits.ensures) c.end-count.ensures.ends in
+    let p = c.in-Ok-take_bits.ensures.handed in
+    let Said : OctetReceiving → Result ℕ RecvError → Type 0 = λ r result. IsErrOf result Taker → (tried : List (Handed ItemValue)) × HandedPart took broke start tried last
+    × ((given : List ℕ) (done : List (Handed ItemValue)) → StandsFor r given done → AreReceivedFront r.config given (done ++ tried)) in
+    subst (λ (r : OctetReceiving). Said r c.match-hand_last.result) c.self.view_is (elim c.match-hand_last.branch as (λ _. Said before c.match-hand_last.result) [
+      | in-Ok-hand_last w ↦ (let said : Said before (Ok count) = λ none. absurd cc in subst (Said before) (sym w.result-is) said)
+      | in-Err-hand_last w ↦ (
+          let q = w.in-Err-hand_last.ensures.part in
+          let tried = in_turn phase [] ++ map Item (p.items ++ q.tried) in
+          let said : Said before (Err Taker) = λ _. (
+            tried,
+            HandedPart-after took broke start first last (in_turn phase []) (map Item (p.items ++ q.tried)) c.in-Ok.ensures.handed
+                (HandedPart-items g.T.ItemTaker.took_phase g.T.ItemTaker.broke_phase g.T.ItemTaker.took g.T.ItemTaker.broke first last (p.items ++ q.tried)
+                (HandedPart-after g.T.ItemTaker.took g.T.ItemTaker.broke first middle last p.items q.tried p.handed q.handed)),
+            λ given done stood. subst (λ (k : Configuration). AreReceivedFront k given (done ++ tried)) c.self.invariant.0
+                (ends-front g.T.ItemTaker.took g.T.ItemTaker.broke before.stages c.take_bits.new.stream first middle
+                last phase piece count (c.self.invariant.1 ∙ sym c.self.invariant.0) over p q given done stood),
+          ) in
+          subst (Said before) (sym w.result-is) said
+          )
+    ])
+
+pub returns-in-Err-clause-chosen : goal.returns-in-Err-clause-chosen
+returns-in-Err-clause-chosen g c = chosen-at_end _ _ c.end-count.new.inner.phased.chosen c.self.view_is c.self.invariant.0 c.end-count.ensures.chosen
+
+pub returns-in-Err-take_bits-clause-chosen : goal.returns-in-Err-take_bits-clause-chosen
+returns-in-Err-take_bits-clause-chosen g c = chosen-at_end _ _ c.end-count.new.inner.phased.chosen c.self.view_is c.self.invariant.0 c.end-count.ensures.chosen
+
+pub returns-clause-chosen : goal.returns-clause-chosen
+returns-clause-chosen g c = chosen-at_end _ _ c.end-count.new.inner.phased.chosen c.self.view_is c.self.invariant.0 c.end-count.ensures.chosen

@@ -1,0 +1,88 @@
+// Bits that are octets 0 and 1, packed to octets for the search.
+ghost use Rattle.std.specs.Prelude.{◌≡◌, ◌<◌, ◌≤◌, ◌⊎◌, ◌*◌, ◌%◌, ◌==◌, length, map, OnOk, OnErr};
+ghost use Rattle.tm_base.specs.Outside.{HasCause};
+ghost use Rattle.tm_channel.specs.OctetReceiving.{Received, ReceivedPart};
+
+use crate::item::ItemTaker;
+use crate::stream::BitStream;
+use crate::workers::Workers;
+use tm_base::Failed;
+use tm_codeblock::pack;
+
+// How many octets bits are packed to at a time.
+const RUN: usize = 256;
+
+/// Gives bits, each 0 or 1, to the second stage, and hands over the items that are due with them.
+pub fn take_bits<P: Workers, T: ItemTaker>(
+    stream: &mut BitStream,
+    by: &P,
+    bits: &[u8],
+    taker: &mut T,
+) -> Result<(), Failed>
+    requires workers { P.is_ready by.now }
+    ensures config { stream.new.batch.config ≡ stream.old.batch.config }
+    ensures handed { OnOk result
+        (Received T.took stream.old stream.new taker.old taker.new (map (λ bit. bit == 1) bits.now)) }
+    ensures part { OnErr result
+        (ReceivedPart T.took T.broke stream.old stream.new taker.old taker.new (map (λ bit. bit == 1) bits.now)) }
+    ensures cause { HasCause (T.faults taker.old) (T.faults taker.new) (T.is_last taker.new) result }
+{
+    let mut done = 0;
+    while done < bits.len() {
+        let count = run_length(bits.len() - done);
+        match take_run(stream, by, &bits[done..done + count], taker) {
+            Ok(()) => {}
+            Err(Failed) => return Err(Failed),
+        }
+        done += count;
+    }
+    Ok(())
+}
+
+// Gives fewer than eight bits to it, or those of up to `RUN` octets.
+fn take_run<P: Workers, T: ItemTaker>(
+    stream: &mut BitStream,
+    by: &P,
+    bits: &[u8],
+    taker: &mut T,
+) -> Result<(), Failed>
+    requires workers { P.is_ready by.now }
+    requires whole { (length bits.now < 8) ⊎ (length bits.now % 8 ≡ 0) }
+    requires most { length bits.now ≤ 8 * 256 }
+    ensures config { stream.new.batch.config ≡ stream.old.batch.config }
+    ensures handed { OnOk result
+        (Received T.took stream.old stream.new taker.old taker.new (map (λ bit. bit == 1) bits.now)) }
+    ensures part { OnErr result
+        (ReceivedPart T.took T.broke stream.old stream.new taker.old taker.new (map (λ bit. bit == 1) bits.now)) }
+    ensures cause { HasCause (T.faults taker.old) (T.faults taker.new) (T.is_last taker.new) result }
+{
+    if bits.len() < 8 {
+        // They stand behind others in an octet, which are left out.
+        let from = 8 - bits.len();
+        let mut eight = [0; 8];
+        eight[from..].copy_from_slice(bits);
+        let mut octet = [0; 1];
+        pack(&eight, &mut octet);
+        return stream.receive(by, &octet, from, taker);
+    }
+    let mut octets = [0; RUN];
+    let octets = &mut octets[..bits.len() / 8];
+    pack(bits, octets);
+    stream.receive(by, octets, 0, taker)
+}
+
+// How many of the bits that are left are packed at once: as many as are whole octets, up to `RUN` of them, or fewer
+// than eight.
+fn run_length(left: usize) -> usize
+    requires { 0 < left }
+    ensures some { 0 < result }
+    ensures within { result ≤ left }
+    ensures most { result ≤ 8 * 256 }
+    ensures whole { (result < 8) ⊎ (result % 8 ≡ 0) }
+{
+    if left < 8 {
+        left
+    } else {
+        left.min(8 * RUN) / 8 * 8
+    }
+}

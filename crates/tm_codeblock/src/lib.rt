@@ -1,0 +1,15 @@
+//! Codeblocks, as they are sent and as they are received: the channel access data unit (CADU) of a transfer frame,
+//! which is its randomized codeblock behind the attached sync marker, the bits of a codeblock gathered into octets, and
+//! the codeblock that received octets are (CCSDS 131.0-B, Reed-Solomon Coding, Pseudo-Randomizer and Frame
+//! Synchronization).
+#![tactic(auto)]
+
+mod cadus;
+mod gathering;
+mod packing;
+mod received;
+
+pub use cadus::{basis_of, cadu, codeblock_size, has_code, params_of};
+pub use gathering::Gathering;
+pub use packing::{bits_of_octet, pack};
+pub use received::{finds_polarity, read_codeblock};

@@ -1,0 +1,44 @@
+// The codeblock that received octets are.
+ghost use Rattle.std.specs.Prelude.{◌≡◌, length};
+ghost use Rattle.tm_base.specs.Bits.{bits_of, octets_of};
+ghost use Rattle.tm_config.specs.Configuration.{is_sought};
+ghost use Rattle.tm_sync.specs.Bits.{complement};
+ghost use Rattle.tm_codeblock.specs.ReceivedCodeblock.{codeblock_in};
+
+use crate::cadus::is_randomized;
+use tm_config::{Config, Sought};
+use tm_random::mask;
+
+/// Writes the codeblock that was received as these octets: turned over where it was received inverted, and with the
+/// randomizer taken off where it is on (CCSDS 131.0-B, Pseudo-Randomizer). `codeblock` is as long as `received`.
+pub fn read_codeblock(config: &Config, inverted: bool, received: &[u8], codeblock: &mut [u8])
+    requires { length codeblock.old ≡ length received.now }
+    ensures { codeblock.new ≡ codeblock_in config.now inverted (bits_of received.now) }
+{
+    codeblock.copy_from_slice(received);
+    if inverted {
+        turn_over(codeblock);
+    }
+    if is_randomized(config) {
+        mask(codeblock);
+    }
+}
+
+/// Whether markers are found in either polarity.
+pub fn finds_polarity(config: &Config) -> bool
+    ensures { result ≡ is_sought config.now.polarity }
+{
+    match config.values().polarity {
+        Sought::Given => false,
+        Sought::Find => true,
+    }
+}
+
+// Turns each bit of octets over.
+fn turn_over(octets: &mut [u8])
+    ensures { octets.new ≡ octets_of (complement (bits_of octets.old)) }
+{
+    for k in 0..octets.len() {
+        octets[k] = 255 - octets[k];
+    }
+}

@@ -1,0 +1,25 @@
+-- A search as plain values.
+use Rattle.std.specs.Prelude.{Bool, ◌&&◌, nat_le}
+use Rattle.tm_sync.specs.declared.found.Paused.{Paused}
+use Rattle.tm_sync.specs.Searching.{Searching}
+
+-- the search that goes on from these values
+abbrev pub resumed : Paused → Searching
+resumed p = record {
+  rules = record {
+    tolerance = p.tolerance;
+    fly = p.fly;
+    either = p.either;
+    block_bits = p.block_bits;
+  };
+  pushed = p.pushed;
+  word = p.word;
+  start = p.start;
+  before = p.before;
+  awaited = p.awaited;
+  after = p.after;
+}
+
+-- a search can have these values
+abbrev pub is_resumable : Paused → Bool
+is_resumable p = nat_le p.tolerance 8 && nat_le p.after p.block_bits
