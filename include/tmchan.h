@@ -1,13 +1,14 @@
-/* libtmchan: the outer part of a CCSDS 131.0-B (TM Synchronization and Channel Coding) link for programs in C: Reed-Solomon codes,
- * pseudo-randomizer (scrambler), columns of a codeblock (interleaving), and channel access data units (CADUs).
+/* libtmchan: a CCSDS 131.0-B (TM Synchronization and Channel Coding) link for programs in C. Calls that keep nothing: Reed-Solomon codes,
+ * pseudo-randomizer (scrambler), columns of a codeblock (interleaving), channel access data units (CADUs). Streams: a sender, a soft decoder of
+ * the convolutional code, a search for sync markers, and a whole receiver.
  *
  * The library is proved in Rattle: what each call writes and answers is a clause of it, for every value that can be passed
  * (docs/PROMISES.md, "The C library").
  *
  * What holds of every call
  *
- * - It allocates nothing, keeps nothing between calls, starts no thread and calls nothing outside but memcpy, memmove and memset: any
- *   thread may make any call at any time. It needs less than 4 KiB of stack (measured, not proved).
+ * - It starts no thread and calls nothing outside but memcpy, memmove, memset, and where it is said malloc, realloc and free. Calls that are
+ *   passed different handles, or none, may be made by different threads at the same time; a handle is passed to one call at a time.
  * - An array is passed as a pointer followed by its length, always in octets. A call reads and writes no octet beyond that length.
  * - Any length may be passed, 0 too, and any number. What does not fit is answered by a negative number, and nothing is written then.
  * - What the caller owes, since no call can test it: a pointer is never null, not even where the length is 0; the memory that it points to
@@ -58,6 +59,22 @@ extern "C" {
 #define TMCHAN_BAD_SWITCH (-20) /* randomize is neither 0 nor 1 */
 #define TMCHAN_BAD_BASIS (-21)  /* no such basis */
 #define TMCHAN_BAD_REPAIR (-23) /* the repair bound is above E */
+
+#define TMCHAN_CLOSED (-5)      /* the handle is closed, or a stream of another kind is open */
+#define TMCHAN_OPEN (-6)        /* the handle is open already */
+#define TMCHAN_MEMORY (-7)      /* malloc gave no memory */
+#define TMCHAN_BAD_INNER (-19)
+#define TMCHAN_BAD_TOLERANCE (-22)
+#define TMCHAN_BAD_SOFT (-24)
+#define TMCHAN_BAD_START (-25)
+#define TMCHAN_BAD_SKIP (-26)
+#define TMCHAN_BAD_WORKERS (-27)
+#define TMCHAN_BAD_LIMIT (-28)
+#define TMCHAN_BAD_FLY (-29)
+#define TMCHAN_BAD_KEEP (-30)
+#define TMCHAN_BAD_AHEAD (-31)
+#define TMCHAN_BAD_PHASE (-32)
+#define TMCHAN_BAD_POLARITY (-33)
 
 /* The version of the library that is linked. */
 uint32_t tmchan_version(void);
@@ -120,6 +137,169 @@ int32_t tmchan_cadu_length(uint32_t code, uint32_t depth, size_t frame_length);
  * CADU). */
 int32_t tmchan_cadu(uint32_t code, uint32_t depth, uint32_t basis, uint32_t randomize, const uint8_t *frame, size_t frame_length, uint8_t *cadu,
                     size_t cadu_length);
+
+/* Configurations */
+
+/* The value of an option that is left to the library: of length, invert and repair alone. */
+#define TMCHAN_UNSET UINT64_MAX
+
+/* The options of a link, as those of the command line: which numbers each takes, and what the defaults are. A number outside is answered by the
+ * option's TMCHAN_BAD_.., the first in the order in which they stand here (but invert and randomize are tested together). */
+typedef struct {
+    uint64_t code;      /* TMCHAN_RS16 (default), TMCHAN_RS8 or TMCHAN_NO_CODE */
+    uint64_t depth;     /* interleaving depth: 1 (default), 2, 3, 4, 5 or 8; 1 alone where there is no code */
+    uint64_t length;    /* octets of a transfer frame: a multiple of the depth, 1 to 255 - 2E times it; with no code 1 to 2,040. TMCHAN_UNSET
+                           (default): the most */
+    uint64_t inner;     /* the convolutional code's rate by its digits: 12 (default), 23, 34, 56, 78; 0: none */
+    uint64_t invert;    /* 1: each second symbol of the convolutional code is inverted, 0: not. TMCHAN_UNSET (default): at rate 1/2 alone */
+    uint64_t randomize; /* 1 (default): codeblocks are randomized, 0: not. TMCHAN_BAD_SWITCH is the answer of invert and of randomize */
+    uint64_t basis;     /* TMCHAN_DUAL (default) or TMCHAN_POLYNOMIAL */
+    uint64_t tolerance; /* sync threshold: how many of a marker's 32 bits may be wrong, 0 (default) to 8 */
+    uint64_t repair;    /* how many symbols of a codeword are repaired at most, 0 to E. TMCHAN_UNSET (default): E */
+    uint64_t soft;      /* soft octets: 0 (default): 0 is the surest 0 and 255 the surest 1; 1: in two's complement, -128 and 127 */
+    uint64_t start;     /* the decoder's first path starts from register zero: 0 (default), or from any: 1 */
+    uint64_t skip;      /* how many soft octets, or bits with no inner code, are dropped from the front: 0 (default) to 15 */
+    uint64_t workers;   /* 1 (default) to 64: has no effect here, where no thread is started */
+    uint64_t limit;     /* 1 to 2^40 (default 2^32): has no effect here */
+    uint64_t fly;       /* flywheel: how many markers in a row may be missing, 0 (default) to 15 */
+    uint64_t keep;      /* steps of a decoder's window that are kept: 64 to 65,536, default 8,192 */
+    uint64_t ahead;     /* steps behind these: 0 to 4,096, default 256 */
+    uint64_t phase;     /* the symbol phase is given: 0 (default), or to be found: 1 */
+    uint64_t polarity;  /* the polarity of the bits is given: 0 (default), or to be found: 1 */
+} tmchan_config;
+
+/* Fills in the defaults. */
+void tmchan_config_defaults(tmchan_config *config);
+
+/* Answers 0, or the TMCHAN_BAD_.. of the first option whose value is outside. */
+int32_t tmchan_config_check(const tmchan_config *config);
+
+/* The octets of a transfer frame, 1 to 2,040; or the TMCHAN_BAD_.. of the first option. */
+int32_t tmchan_frame_length(const tmchan_config *config);
+
+/* Streams
+ *
+ * A handle begins as {0}, which is closed, and only calls change it. A call that opens it takes all the memory of the stream by malloc; no other
+ * call allocates. tmchan_close, and the finish of each kind of stream, close it and give the memory back, so that a handle after either is
+ * answered TMCHAN_CLOSED, and may be opened again. Handles may be moved in memory, and not copied.
+ *
+ * What a push writes stands at the front of its arrays; what stands behind it is left open, and may have changed. How large the arrays have to
+ * be a call tells before: tmchan_sender_room and tmchan_decoder_room. No push takes more than 2^40 elements (TMCHAN_ROOM). The octets of a
+ * decoder or a receiver in all are to be below 2^60. */
+typedef struct {
+    uint64_t is_open;
+    void *at;
+} tmchan_stream;
+
+/* The symbol phase: how many soft octets stand before the first step's symbols, and what the best path behind them costs. */
+typedef struct {
+    uint32_t is_chosen; /* 0: not chosen yet, or the phase is given */
+    uint32_t skip;
+    uint64_t cost;
+} tmchan_phase;
+
+/* Closes a stream of any kind, and drops what was not written yet. Answers 0; TMCHAN_CLOSED. */
+int32_t tmchan_close(tmchan_stream *stream);
+
+/* The sender: the octets of transfer frames in pieces of any length, and the symbols of the CADU of each frame once it is whole: with an inner
+ * code an octet for each symbol, 00 and FF (or 80 and 7F in the signed form), and else the octets of the CADU. */
+
+/* For how many symbols a push of so many octets needs room: more than it writes. Answers TMCHAN_BAD_.., TMCHAN_ROOM. */
+int64_t tmchan_sender_room(const tmchan_config *config, size_t octets_length);
+
+/* Opens a sender. Answers 0; TMCHAN_OPEN, TMCHAN_BAD_.., TMCHAN_MEMORY. */
+int32_t tmchan_sender_open(tmchan_stream *stream, const tmchan_config *config);
+
+/* Takes the next octets of the frames. Answers how many symbols were written; TMCHAN_CLOSED, TMCHAN_ROOM: nothing was taken then. */
+int64_t tmchan_sender_push(tmchan_stream *stream, const uint8_t *octets, size_t octets_length, uint8_t *symbols, size_t symbols_length);
+
+/* Closes a sender. Answers how many octets stand behind the last whole frame, which were not sent; TMCHAN_CLOSED. */
+int64_t tmchan_sender_finish(tmchan_stream *stream);
+
+/* The soft decoder of the convolutional code: soft octets in pieces of any length, and the decoded bits, an octet for each, 0 or 1. With
+ * inner = 0 no bit comes. Bits come a window at a time: keep bits once more than keep + ahead steps are there. */
+
+/* For how many bits a push of so many octets needs room, or with 0 the finish. Answers TMCHAN_BAD_.., TMCHAN_ROOM. */
+int64_t tmchan_decoder_room(const tmchan_config *config, size_t octets_length);
+
+/* Opens a decoder. Answers 0; TMCHAN_OPEN, TMCHAN_BAD_.., TMCHAN_MEMORY. */
+int32_t tmchan_decoder_open(tmchan_stream *stream, const tmchan_config *config);
+
+/* Takes the next soft octets. Answers how many bits were written; TMCHAN_CLOSED, TMCHAN_ROOM: nothing was taken then. */
+int64_t tmchan_decoder_push(tmchan_stream *stream, const uint8_t *octets, size_t octets_length, uint8_t *bits, size_t bits_length);
+
+/* Tells the phase so far. Answers 0; TMCHAN_CLOSED. */
+int32_t tmchan_decoder_phase(tmchan_stream *stream, tmchan_phase *phase);
+
+/* Writes the bits that are left, tells the phase, and closes the decoder. Answers how many bits were written; TMCHAN_CLOSED, TMCHAN_ROOM: the
+ * decoder is still open then. */
+int64_t tmchan_decoder_finish(tmchan_stream *stream, uint8_t *bits, size_t bits_length, tmchan_phase *phase);
+
+/* The receiver: received soft octets (or octets that hold the bits, with no inner code) in pieces of any length; the frames of the codeblocks
+ * that are found in them, and a report of each. Codeblocks come 32 at a time, and what is left at the finish. */
+
+typedef struct {
+    uint64_t place;        /* how many received bits stand before its marker */
+    uint64_t frame_length; /* the octets of its frame; 0 where a column is uncorrectable: it has none then */
+    uint8_t distance;      /* how many of the marker's 32 bits are wrong, in the codeblock's polarity */
+    uint8_t bridged;       /* 1: no marker stands there, and its place was taken since it stands right behind a codeblock */
+    uint8_t inverted;      /* 1: the codeblock was received inverted */
+    uint8_t columns;       /* how many columns it has: the depth, or 0 with no code */
+    uint8_t repaired[8];   /* for each column how many symbols were wrong, or 255 where it is uncorrectable; of others nothing is said */
+} tmchan_report;
+
+/* Opens a receiver. Answers 0; TMCHAN_OPEN, TMCHAN_BAD_.., TMCHAN_MEMORY. */
+int32_t tmchan_receiver_open(tmchan_stream *stream, const tmchan_config *config);
+
+/* Takes the next octets, and writes the frames of the codeblocks that are handed over, one behind the other, to frames, and a report of each to
+ * reports; frames_length is in octets, reports_length in reports. Answers how many codeblocks these are; TMCHAN_CLOSED: nothing was taken then;
+ * TMCHAN_ROOM: the octets were taken, and all codeblocks from the first that had no room on are lost.
+ *
+ * For that not to be, have room for (m + 8n) / b + 33 reports and as many frames, where n is octets_length, m is 3 (keep + ahead) + 7, and b is
+ * the bits of a marker and a codeblock, 8 times what tmchan_cadu_length answers. (That TMCHAN_ROOM comes only where there is less room than
+ * codeblocks is proved; that this is room enough is not.) */
+int64_t tmchan_receiver_push(tmchan_stream *stream, const uint8_t *octets, size_t octets_length, uint8_t *frames, size_t frames_length,
+                             tmchan_report *reports, size_t reports_length);
+
+/* Tells the phase so far. Answers 0; TMCHAN_CLOSED. */
+int32_t tmchan_receiver_phase(tmchan_stream *stream, tmchan_phase *phase);
+
+/* Writes the codeblocks that are left in the same way, tells how many bits were received and the phase, and closes the receiver. Answers how
+ * many codeblocks these are; TMCHAN_CLOSED; TMCHAN_ROOM, as of a push with n = 0. */
+int64_t tmchan_receiver_finish(tmchan_stream *stream, uint8_t *frames, size_t frames_length, tmchan_report *reports, size_t reports_length,
+                               uint64_t *bits, tmchan_phase *phase);
+
+/* The search for sync markers: in bits, or in octets, which marker has a whole codeblock behind it. It takes no memory: what it keeps stands in
+ * the caller's struct, which begins as {0} and only calls change. Searches may be copied. */
+typedef struct {
+    uint64_t is_open, pushed, start, place;
+    uint32_t block_bits, word, after;
+    uint8_t tolerance, fly, either, has_before, before_inverted, before_bridged, has_place, distance, bridged, inverted, next_inverted,
+        next_bridged;
+} tmchan_search;
+
+typedef struct {
+    uint64_t place;   /* how many bits stand before the marker */
+    uint8_t distance; /* how many of its 32 bits are wrong, in its polarity */
+    uint8_t bridged;  /* 1: no marker stands there, and the place was taken since it stands right behind a codeblock */
+    uint8_t inverted; /* 1: the marker is inverted */
+} tmchan_place;
+
+/* Begins a search: of markers with at most `tolerance` wrong bits, 0 to 8; where at most `fly` in a row may be missing, 0 to 15; inverted ones
+ * too where either is 1, and not where it is 0; with codeblocks of block_bits bits. Answers 0; TMCHAN_BAD_TOLERANCE, TMCHAN_BAD_FLY,
+ * TMCHAN_BAD_POLARITY (of either). */
+int32_t tmchan_search_open(tmchan_search *search, uint32_t tolerance, uint32_t fly, uint32_t either, uint32_t block_bits);
+
+/* Takes bits of an array, each 0, or any other number for 1, from number *at on, up to the end of the first codeblock that is whole, or all;
+ * *at is how many of the array are taken then. Answers 1 where a codeblock is whole, whose place it tells; 0 where all are taken;
+ * TMCHAN_CLOSED, TMCHAN_ROOM (*at is beyond the array, or that has more than 2^40 elements): nothing was taken then. So this takes an array:
+ *
+ *     uint64_t at = 0;
+ *     while (tmchan_search_bits(&search, bits, bits_length, &at, &place) == 1) use(place); */
+int32_t tmchan_search_bits(tmchan_search *search, const uint8_t *bits, size_t bits_length, uint64_t *at, tmchan_place *place);
+
+/* The same of the bits of octets: *at is a number of bits. */
+int32_t tmchan_search_octets(tmchan_search *search, const uint8_t *octets, size_t octets_length, uint64_t *at, tmchan_place *place);
 
 #ifdef __cplusplus
 }

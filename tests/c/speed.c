@@ -1,5 +1,5 @@
 /* Mbit/s of each call, by processor time, the best of five rounds of about a tenth of a second; beside libfec's where it is built in.
- * A bit is one of what the call is given: of data, of a word with its checks, of a block, of a frame. */
+ * A bit is one of what the call is given: of data, of a word with its checks, of a block, of a frame; of symbols, one for each bit of the unit. */
 #include <stdio.h>
 #include <stdlib.h>
 #include <string.h>
@@ -10,7 +10,13 @@
 #include <fec.h>
 #endif
 
+enum { FRAMES = 5 * 223, UNIT = 16 * 1279, MOST = 3 * (8192 + 256) + 7 + UNIT, ITEMS = 64 };
+
 static uint8_t sent[255], word[255], flags[255], checks[32], block[2040], unit[2044];
+static uint8_t symbols[2 * UNIT + 1], soft[UNIT], bits[MOST], frames[ITEMS * FRAMES];
+static tmchan_report reports[ITEMS];
+static tmchan_stream sender, decoder, receiver;
+static tmchan_search search;
 static int bad; /* answers that were not the wanted ones */
 
 static double seconds(void) {
@@ -40,6 +46,25 @@ static void take(void) { bad += tmchan_take_column(5, 2, block, 1275, word, 255)
 static void put(void) { bad += tmchan_put_column(5, 2, block, 1275, word, 255) != 0; }
 static void cadu(void) { bad += tmchan_cadu(16, 5, 0, 1, block, 1115, unit, 1279) != 0; }
 
+/* Streams of all defaults but the depth, 5: a frame, or its symbols, at a time. */
+static void open_streams(void) {
+    tmchan_config config;
+    tmchan_config_defaults(&config);
+    config.depth = 5;
+    bad += tmchan_sender_open(&sender, &config) + tmchan_decoder_open(&decoder, &config) + tmchan_receiver_open(&receiver, &config) != 0;
+    bad += tmchan_search_open(&search, 0, 0, 0, 8 * 1275) != 0;
+    bad += tmchan_sender_push(&sender, block, FRAMES, symbols, sizeof symbols) != UNIT;
+    memcpy(soft, symbols, UNIT);
+}
+static void send_frame(void) { bad += tmchan_sender_push(&sender, block, FRAMES, symbols, sizeof symbols) != UNIT; }
+static void decode_soft(void) { bad += tmchan_decoder_push(&decoder, soft, UNIT, bits, sizeof bits) < 0; }
+static void receive(void) { bad += tmchan_receiver_push(&receiver, soft, UNIT, frames, sizeof frames, reports, ITEMS) < 0; }
+static void find(void) {
+    tmchan_place place;
+    uint64_t at = 0;
+    while (tmchan_search_octets(&search, unit, 1279, &at, &place) == 1) continue;
+}
+
 #ifdef WITH_LIBFEC
 static void fec_encode(void) { encode_rs_ccsds(sent, checks, 0); }
 static void fec_decode(int wrong) {
@@ -63,17 +88,17 @@ static void fec_erased(void) {
 #define fec_erased NULL
 #endif
 
-static double speed(void (*call)(void), int bits) {
+static double speed(void (*call)(void), int size) {
     double best = 0;
     for (int round = 0; round < 5; round++) {
         long count = 0;
         double start = seconds(), spent;
         do {
-            for (int i = 0; i < 200; i++) call();
-            count += 200;
+            for (int i = 0; i < 20; i++) call();
+            count += 20;
             spent = seconds() - start;
         } while (spent < 0.1);
-        double reached = (double)count * bits / spent / 1e6;
+        double reached = (double)count * size / spent / 1e6;
         if (reached > best) best = reached;
     }
     return best;
@@ -90,6 +115,10 @@ int main(void) {
         {"take_column, depth 5", take, NULL, 8 * 255},
         {"put_column, depth 5", put, NULL, 8 * 255},
         {"cadu, depth 5, 1,115 octets", cadu, NULL, 8 * 1115},
+        {"sender, rate 1/2", send_frame, NULL, 8 * FRAMES},
+        {"soft decoder, rate 1/2", decode_soft, NULL, UNIT / 2},
+        {"receiver, rate 1/2", receive, NULL, UNIT / 2},
+        {"search in octets", find, NULL, 8 * 1279},
     };
     srand(131);
     for (int i = 0; i < 223; i++) sent[i] = (uint8_t)rand();
@@ -97,6 +126,8 @@ int main(void) {
     for (int i = 0; i < 16; i++) flags[15 * i] = 1;
     encode();
     memcpy(sent + 223, checks, 32);
+    cadu();
+    open_streams();
     printf("%-30s %10s %10s\n", "Mbit/s, (255,223), dual basis", "libtmchan", "libfec");
     for (size_t i = 0; i < sizeof rows / sizeof *rows; i++) {
         printf("%-30s %10.0f", rows[i].name, speed(rows[i].ours, rows[i].bits));

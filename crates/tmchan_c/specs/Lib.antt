@@ -1,3 +1,9 @@
 pub mod Refusal
+pub mod Options
 pub mod Repaired
 pub mod Unit
+pub mod Kept
+pub mod Phases
+pub mod Streams
+pub mod Searches
+pub mod Receivers

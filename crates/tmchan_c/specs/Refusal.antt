@@ -1,41 +1,28 @@
 -- When a call is refused, and the numbers that calls answer.
 use Rattle.std.specs.Prelude.{ℕ, ◌+◌, ◌*◌, ◌==◌, ℤ, pos, negsuc, [], ◌∷◌, Option, Some, None, nat_lt, nat_le, if◌then◌else◌}
-use Rattle.tm_config.specs.Refusal.{is_listed, is_within}
+use Rattle.tm_config.specs.Accepted.{is_listed, is_within, place_of}
 use Rattle.tm_config.specs.declared.error.ConfigError.{ConfigError}
-use Rattle.tm_config.specs.declared.error.ConfigError.TheVariants.{Code, Depth, Length, Inner, Switch, Basis, Tolerance, Repair, Soft, Start, Skip, Workers, Limit, Fly, Keep, Ahead, Phase, Polarity}
+use Rattle.tm_config.specs.declared.error.ConfigError.TheVariants.{Code, Length, Basis, Repair}
 use Rattle.tmchan_c.specs.declared.refusal.Refusal.{Refusal}
-use Rattle.tmchan_c.specs.declared.refusal.Refusal.TheVariants.{Room, Flags, Column, Value}
+use Rattle.tmchan_c.specs.declared.refusal.Refusal.TheVariants.{Room, Flags, Column, Closed, Open, Memory, Value}
 
 -- the answer where no codeword is within the repair bound
 abbrev pub beyond : ℤ
 beyond = negsuc 0
 
--- the answer where the value of an option is outside its list or range: -16 for the first option, and on in their order
+-- the answer where the value of an option is outside its list or range: -16 for the first option,
+-- and on in their order
 abbrev pub value_answer : ConfigError → ℤ
-value_answer Code = negsuc 15
-value_answer Depth = negsuc 16
-value_answer Length = negsuc 17
-value_answer Inner = negsuc 18
-value_answer Switch = negsuc 19
-value_answer Basis = negsuc 20
-value_answer Tolerance = negsuc 21
-value_answer Repair = negsuc 22
-value_answer Soft = negsuc 23
-value_answer Start = negsuc 24
-value_answer Skip = negsuc 25
-value_answer Workers = negsuc 26
-value_answer Limit = negsuc 27
-value_answer Fly = negsuc 28
-value_answer Keep = negsuc 29
-value_answer Ahead = negsuc 30
-value_answer Phase = negsuc 31
-value_answer Polarity = negsuc 32
+value_answer error = negsuc (15 + place_of error)
 
 -- the answer of a call that is refused
 abbrev pub refused : Refusal → ℤ
 refused Room = negsuc 1
 refused Flags = negsuc 2
 refused Column = negsuc 3
+refused Closed = negsuc 4
+refused Open = negsuc 5
+refused Memory = negsuc 6
 refused (Value error) = value_answer error
 
 -- the answer of a call that does nothing else than succeed or be refused
@@ -43,7 +30,8 @@ abbrev pub answered : Option Refusal → ℤ
 answered None = pos 0
 answered (Some refusal) = refused refusal
 
--- the first reason to refuse a word of n symbols of the code that corrects this many, or else the one that comes after these, or none
+-- the first reason to refuse a word of n symbols of the code that corrects this many, or else the
+-- one that comes after these, or none
 abbrev pub word_refusal : ℕ → ℕ → ℕ → ℕ → Option Refusal → Option Refusal
 word_refusal code n basis repair other =
     if is_listed code (16 ∷ 8 ∷ []) then
@@ -61,7 +49,8 @@ checks_refusal code checks = if checks == 2 * code then None else Some Room
 
 -- the first reason to refuse so many information octets and check octets, or none
 abbrev pub encode_refusal : ℕ → ℕ → ℕ → ℕ → Option Refusal
-encode_refusal code basis info checks = word_refusal code (info + 2 * code) basis 0 (checks_refusal code checks)
+encode_refusal code basis info checks = word_refusal code (info + 2 * code) basis 0
+    (checks_refusal code checks)
 
 -- the first reason to refuse a word of n octets, or none
 abbrev pub decode_refusal : ℕ → ℕ → ℕ → ℕ → Option Refusal

@@ -8,7 +8,8 @@ use Rattle.tm_rs_code.specs.Nearest.{Nearest, IsNearest}
 use Rattle.tm_rs_code.specs.Nearest.Nearest.{Fixed, Beyond}
 use Rattle.tmchan_c.specs.Refusal.{beyond}
 
--- the octets of the codeword and the number of symbols that were wrong; or the word and that no codeword is near
+-- the octets of the codeword and the number of symbols that were wrong; or the word and that no
+-- codeword is near
 abbrev pub Tells : Basis → List ℕ → Nearest → ℤ → List ℕ → Type 0
 Tells basis word (Fixed c d) answer left = (answer ≡ pos d) × (left ≡ map (sent_octet basis) c)
 Tells basis word Beyond answer left = (answer ≡ beyond) × (left ≡ word)
@@ -23,9 +24,11 @@ pub record IsRepaired (e : ℕ) (basis : Basis) (repair : ℕ) (word : List ℕ)
 abbrev pub erased_by : List ℕ → List Bool
 erased_by flags = map (λ flag. not (flag == 0)) flags
 
--- the same with erased symbols: the number of symbols that were wrong is that of erased ones and of others together
+-- the same with erased symbols: the number of symbols that were wrong is that of erased ones and of
+-- others together
 abbrev pub TellsErased : Basis → List ℕ → NearestErased → ℤ → List ℕ → Type 0
-TellsErased basis word (FixedErased c a b) answer left = (answer ≡ pos (a + b)) × (left ≡ map (sent_octet basis) c)
+TellsErased basis word (FixedErased c a b) answer left =
+    (answer ≡ pos (a + b)) × (left ≡ map (sent_octet basis) c)
 TellsErased basis word BeyondErased answer left = (answer ≡ beyond) × (left ≡ word)
 
 -- the answer, and what is left, is that of what is nearest to the word with these flags

@@ -1,21 +1,28 @@
 -- The channel access data unit of a frame, by the numbers that a call is given.
 use Rattle.std.specs.Prelude.{ℕ, ◌+◌, ◌==◌, Option, Some, None, ℤ, pos, if◌then◌else◌}
-use Rattle.tm_config.specs.Configuration.{Configuration, codeblock_length, configuration_of}
-use Rattle.tm_config.specs.Defaults.{default_raw}
-use Rattle.tm_config.specs.Refusal.{refusal_of}
+use Rattle.tm_config.specs.Configuration.{Configuration, codeblock_length, configuration_of, default_raw}
+use Rattle.tm_config.specs.Accepted.{refusal_of}
 use Rattle.tm_config.specs.declared.error.ConfigError.{ConfigError}
-use Rattle.tm_config.specs.declared.raw.Raw.{Raw}
+use Rattle.tm_config.specs.declared.values.Raw.{Raw}
 use Rattle.tmchan_c.specs.Refusal.{value_answer}
 use Rattle.tmchan_c.specs.declared.refusal.Refusal.{Refusal}
 use Rattle.tmchan_c.specs.declared.refusal.Refusal.TheVariants.{Room, Value}
 
 -- the values of the options: those that were told, and else the defaults
 abbrev pub unit_raw : ℕ → ℕ → ℕ → ℕ → ℕ → Raw
-unit_raw code depth basis randomize frame = record default_raw { code = code; depth = depth; length = Some frame; randomize = randomize; basis = basis }
+unit_raw code depth basis randomize frame =
+    record default_raw {
+      code = code;
+      depth = depth;
+      length = Some frame;
+      randomize = randomize;
+      basis = basis;
+    }
 
 -- the configuration that they give
 abbrev pub unit_configuration : ℕ → ℕ → ℕ → ℕ → ℕ → Configuration
-unit_configuration code depth basis randomize frame = configuration_of (unit_raw code depth basis randomize frame)
+unit_configuration code depth basis randomize frame =
+    configuration_of (unit_raw code depth basis randomize frame)
 
 -- the octets of the unit of a frame: four of the marker, and those of the codeblock
 abbrev pub unit_size : Configuration → ℕ

@@ -1,6 +1,7 @@
 // Words of the Reed-Solomon codes.
 ghost use Rattle.std.specs.Prelude.{◌≡◌, ◌≢◌, ◌+◌, ◌*◌, ◌<◌, ◌≤◌, ◌++◌, None, Some, length, pos};
-ghost use Rattle.tm_channel.specs.Cadu.{basis_of, coded_octets};
+ghost use Rattle.tm_codeblock.specs.Cadu.{coded_octets};
+ghost use Rattle.tm_dual.specs.Octet.{basis_of};
 ghost use Rattle.tm_gf256.specs.Poly.{numbers};
 ghost use Rattle.tm_rs_code.specs.Code.{IsLength, IsStrength};
 ghost use Rattle.tm_rs_code.specs.Erasures.{IsNearestErased};
@@ -25,8 +26,8 @@ const MOST: usize = 255;
 // The most check symbols of a word.
 const MOST_CHECKS: usize = 32;
 
-/// Writes the octets of the 2E check symbols behind those of the information symbols into `checks`, for the code that corrects
-/// E = `code` symbols, in the basis of this number. Answers 0, or why it is refused.
+/// Writes the octets of the 2E check symbols behind those of the information symbols into `checks`, for the code that
+/// corrects E = `code` symbols, in the basis of this number. Answers 0, or why it is refused.
 #[unsafe(no_mangle)]
 pub extern "C" fn tmchan_rs_encode(code: u32, basis: u32, info: &[u8], checks: &mut [u8]) -> i32
     ensures answer { result ≡ answered (encode_refusal code basis (length info.now) (length checks.old)) }
@@ -45,8 +46,8 @@ pub extern "C" fn tmchan_rs_encode(code: u32, basis: u32, info: &[u8], checks: &
     }
 }
 
-/// Makes a word the nearest codeword, where one differs from it in at most `repair` symbols. Answers the number of those symbols, or
-/// -1 where there is none, and the word is as it was; or why it is refused.
+/// Makes a word the nearest codeword, where one differs from it in at most `repair` symbols. Answers the number of
+/// those symbols, or -1 where there is none, and the word is as it was; or why it is refused.
 #[unsafe(no_mangle)]
 pub extern "C" fn tmchan_rs_decode(code: u32, basis: u32, repair: u32, word: &mut [u8]) -> i32
     ensures refused { (refusal : Refusal) → decode_refusal code basis repair (length word.old) ≡ Some refusal
@@ -60,7 +61,8 @@ pub extern "C" fn tmchan_rs_decode(code: u32, basis: u32, repair: u32, word: &mu
     }
 }
 
-/// The same with erased symbols: those whose flag is not 0. Answers the number of symbols that were wrong, erased or not.
+/// The same with erased symbols: those whose flag is not 0. Answers the number of symbols that were wrong, erased or
+/// not.
 #[unsafe(no_mangle)]
 pub extern "C" fn tmchan_rs_decode_erased(
     code: u32,
@@ -69,7 +71,8 @@ pub extern "C" fn tmchan_rs_decode_erased(
     word: &mut [u8],
     erased: &[u8],
 ) -> i32
-    ensures refused { (refusal : Refusal) → erased_refusal code basis repair (length word.old) (length erased.now) ≡ Some refusal
+    ensures refused { (refusal : Refusal) → erased_refusal code basis repair (length word.old) (length erased.now)
+        ≡ Some refusal
         → (result ≡ refused refusal) × (word.new ≡ word.old) }
     ensures repaired { erased_refusal code basis repair (length word.old) (length erased.now) ≡ None
         → IsRepairedErased code (basis_of basis) repair erased.now word.old result word.new }
@@ -199,7 +202,8 @@ fn erased_counted<L: Ledger>(
     requires bound { repair ≤ params.now.e }
     requires flags { length erased.now ≡ params.now.n }
     requires size { length word.old ≡ params.now.n }
-    ensures nearest { IsNearestErased params.now.e repair erased.now (numbers word.old) (found_erased result (numbers word.new)) }
+    ensures nearest { IsNearestErased params.now.e repair erased.now (numbers word.old)
+        (found_erased result (numbers word.new)) }
     ensures size { length word.new ≡ length word.old }
 {
     let mut steps = Steps::<L>::open(blank);

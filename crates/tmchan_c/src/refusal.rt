@@ -14,6 +14,12 @@ pub enum Refusal {
     Flags,
     /// The column is not below the interleaving depth.
     Column,
+    /// The handle is not open.
+    Closed,
+    /// The handle is open.
+    Open,
+    /// There is not enough memory.
+    Memory,
     /// The value of an option is outside its list or range.
     Value(ConfigError),
 }
@@ -28,6 +34,9 @@ impl Refusal {
             Refusal::Room => -2,
             Refusal::Flags => -3,
             Refusal::Column => -4,
+            Refusal::Closed => -5,
+            Refusal::Open => -6,
+            Refusal::Memory => -7,
             Refusal::Value(error) => value_answer(error),
         }
     }
@@ -38,26 +47,7 @@ fn value_answer(error: ConfigError) -> i32
     ensures value { result ≡ value_answer error }
     ensures negative { result <ℤ pos 0 }
 {
-    match error {
-        ConfigError::Code => -16,
-        ConfigError::Depth => -17,
-        ConfigError::Length => -18,
-        ConfigError::Inner => -19,
-        ConfigError::Switch => -20,
-        ConfigError::Basis => -21,
-        ConfigError::Tolerance => -22,
-        ConfigError::Repair => -23,
-        ConfigError::Soft => -24,
-        ConfigError::Start => -25,
-        ConfigError::Skip => -26,
-        ConfigError::Workers => -27,
-        ConfigError::Limit => -28,
-        ConfigError::Fly => -29,
-        ConfigError::Keep => -30,
-        ConfigError::Ahead => -31,
-        ConfigError::Phase => -32,
-        ConfigError::Polarity => -33,
-    }
+    -16 - i32::from(error.place())
 }
 
 /// The first reason to refuse a word of n symbols, or else `other`.

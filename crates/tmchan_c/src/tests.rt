@@ -1,9 +1,18 @@
-// Each call once, on values from outside: the generator polynomial of the (255,223) code, which is the codeword that begins with 1, and the
-// first octets of the pseudo-random sequence.
+// Each call once, on values from outside: the generator polynomial of the (255,223) code, which is the codeword that
+// begins with 1, and the first octets of the pseudo-random sequence.
 use crate::codeblock::{tmchan_put_column, tmchan_randomize, tmchan_take_column};
+use crate::config::{Options, tmchan_config_check, tmchan_config_defaults};
+use crate::handle::{Handle, tmchan_close};
+use crate::kept::Kept;
+use crate::phase::PhaseState;
+use crate::receiver::{tmchan_receiver_finish, tmchan_receiver_open, tmchan_receiver_push};
 use crate::reed_solomon::{tmchan_rs_decode, tmchan_rs_decode_erased, tmchan_rs_encode};
+use crate::sender::{
+    tmchan_sender_finish, tmchan_sender_open, tmchan_sender_push, tmchan_sender_room,
+};
 use crate::unit::{tmchan_cadu, tmchan_cadu_length};
 use crate::version::tmchan_version;
+use tm_buffers::Report;
 
 static WORD: [u8; 33] = [
     0x01, 0x5B, 0x7F, 0x56, 0x10, 0x1E, 0x0D, 0xEB, 0x61, 0xA5, 0x08, 0x2A, 0x36, 0x56, 0xAB, 0x20,
@@ -54,4 +63,93 @@ fn units_are_written_and_taken_apart(rt: HostRuntime) {
     assert_eq!(rt; &block[..6], &[0x01, 0x01, 0x5B, 0x5B, 0x7F, 0x7F][..]);
     assert_eq!(rt; tmchan_put_column(2, 2, block, &word), -4);
     assert_eq!(rt; tmchan_version(), 256);
+}
+
+#[test]
+fn frames_are_sent_and_received_behind_handles(rt: HostRuntime) {
+    let alloc = rt.alloc();
+    let mut options = Options {
+        code: 0,
+        depth: 0,
+        length: 0,
+        inner: 0,
+        invert: 0,
+        randomize: 0,
+        basis: 0,
+        tolerance: 0,
+        repair: 0,
+        soft: 0,
+        start: 0,
+        skip: 0,
+        workers: 0,
+        limit: 0,
+        fly: 0,
+        keep: 0,
+        ahead: 0,
+        phase: 0,
+        polarity: 0,
+    };
+    assert_eq!(rt; tmchan_config_check(&options), -17);
+    tmchan_config_defaults(&mut options);
+    assert_eq!(rt; tmchan_config_check(&options), 0);
+    options.code = 0;
+    options.length = 3;
+    options.inner = 0;
+    options.randomize = 0;
+    let mut handle = Handle {
+        is_open: 0,
+        kept: Kept::none(alloc),
+    };
+    let mut symbols = [0; 20];
+    assert_eq!(rt;
+        tmchan_sender_push(alloc, &mut handle, &[1, 2, 3], &mut symbols),
+        -5
+    );
+    assert_eq!(rt; tmchan_sender_open(alloc, &mut handle, &options), 0);
+    assert_eq!(rt; tmchan_receiver_open(alloc, &mut handle, &options), -6);
+    assert_eq!(rt; tmchan_sender_room(&options, 4), 15);
+    assert_eq!(rt;
+        tmchan_sender_push(alloc, &mut handle, &[1, 2, 3, 4], &mut symbols),
+        7
+    );
+    assert_eq!(rt; &symbols[..7], &[0x1A, 0xCF, 0xFC, 0x1D, 1, 2, 3][..]);
+    assert_eq!(rt; tmchan_sender_finish(alloc, &mut handle), 1);
+    assert_eq!(rt; tmchan_close(alloc, &mut handle), -5);
+
+    let none = Report {
+        place: 0,
+        frame_length: 0,
+        distance: 0,
+        bridged: 0,
+        inverted: 0,
+        columns: 0,
+        repaired: [0; 8],
+    };
+    let mut reports = [none; 2];
+    let mut frames = [0; 6];
+    let mut bits = 0;
+    let mut phase = PhaseState {
+        is_chosen: 1,
+        skip: 1,
+        cost: 1,
+    };
+    assert_eq!(rt; tmchan_receiver_open(alloc, &mut handle, &options), 0);
+    let received = &symbols[..7];
+    assert_eq!(rt;
+        tmchan_receiver_push(alloc, &mut handle, received, &mut frames, &mut reports),
+        0
+    );
+    let count = tmchan_receiver_finish(
+        alloc,
+        &mut handle,
+        &mut frames,
+        &mut reports,
+        &mut bits,
+        &mut phase,
+    );
+    assert_eq!(rt; count, 1);
+    assert_eq!(rt; bits, 56);
+    assert_eq!(rt; phase.is_chosen, 0);
+    assert_eq!(rt; reports[0].frame_length, 3);
+    assert_eq!(rt; &frames[..3], &[1, 2, 3][..]);
 }

@@ -1,7 +1,7 @@
 // Channel access data units.
 ghost use Rattle.std.specs.Prelude.{◌≡◌, ◌≢◌, ◌≤◌, length, pos};
-ghost use Rattle.tm_channel.specs.Cadu.{cadu as cadu_of};
-ghost use Rattle.tm_config.specs.Refusal.{refusal_of};
+ghost use Rattle.tm_codeblock.specs.Cadu.{cadu as cadu_of};
+ghost use Rattle.tm_config.specs.Accepted.{refusal_of};
 ghost use Rattle.tmchan_c.specs.Refusal.{answered};
 ghost use Rattle.tmchan_c.specs.Unit.{size_answer, unit_configuration, unit_raw, unit_refusal, unit_size};
 
@@ -12,7 +12,8 @@ use tm_config::{Config, Raw};
 /// The octets of the unit of a frame of so many: of its marker and its codeblock; or why there is none.
 #[unsafe(no_mangle)]
 pub extern "C" fn tmchan_cadu_length(code: u32, depth: u32, frame_length: usize) -> i32
-    ensures { result ≡ size_answer (refusal_of (unit_raw code depth 0 0 frame_length)) (unit_size (unit_configuration code depth 0 0 frame_length)) }
+    ensures { result ≡ size_answer (refusal_of (unit_raw code depth 0 0 frame_length))
+        (unit_size (unit_configuration code depth 0 0 frame_length)) }
 {
     match Config::check(&raw(code, depth, 0, 0, frame_length)) {
         Err(error) => Refusal::Value(error).answer(),
@@ -31,7 +32,8 @@ pub extern "C" fn tmchan_cadu(
     unit: &mut [u8],
 ) -> i32
     ensures answer { result ≡ answered (unit_refusal code depth basis randomize (length frame.now) (length unit.old)) }
-    ensures unit { result ≡ pos 0 → unit.new ≡ cadu_of (unit_configuration code depth basis randomize (length frame.now)) frame.now }
+    ensures unit { result ≡ pos 0 → unit.new ≡ cadu_of
+        (unit_configuration code depth basis randomize (length frame.now)) frame.now }
     ensures unchanged { result ≢ pos 0 → unit.new ≡ unit.old }
 {
     match Config::check(&raw(code, depth, basis, randomize, frame.len())) {

@@ -1,6 +1,6 @@
 use Rattle.std.proofs.Common.{arith}
 use Rattle.tm_base.proofs.Octets.{are_octets}
-use Rattle.tm_channel.proofs.Codeblocks.{coded-is}
+use Rattle.tm_codeblock.proofs.Codeblocks.{coded-is}
 use Rattle.tmchan_c.proofs.reed_solomon.write_checks.Goals as goal
 
 pub returns : goal.returns

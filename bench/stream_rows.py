@@ -1,0 +1,84 @@
+#!/usr/bin/env python3
+"""Writes rows for the tests of the C library's streams: the worked rows of the program's `encode` and `decode` in crates/tm_rows/stdin, of
+undisturbed and of disturbed units, and rows that are drawn.
+
+    bench/stream_rows.py > rows.txt
+
+A row is "send" or "receive", 19 numbers of a configuration in the order of tmchan_config, octets in hexadecimal ("-": none) that are given, and
+those that have to come: symbols, or frames. Rows that are refused are "check", 19 numbers, and the answer.
+"""
+import re
+from pathlib import Path
+
+NAMES = "code depth length inner invert randomize basis tolerance repair soft start skip workers limit fly keep ahead phase polarity".split()
+UNSET = 2**64 - 1
+DEFAULTS = dict(code=16, depth=1, length=UNSET, inner=12, invert=UNSET, randomize=1, basis=0, tolerance=0, repair=UNSET, soft=0, start=0, skip=0,
+                workers=1, limit=2**32, fly=0, keep=8192, ahead=256, phase=0, polarity=0)
+WORDS = {"code": {"rs16": 16, "rs8": 8, "none": 0}, "inner": {"none": 0, "1/2": 12, "2/3": 23, "3/4": 34, "5/6": 56, "7/8": 78},
+         "invert": {"on": 1, "off": 0}, "randomize": {"on": 1, "off": 0}, "basis": {"dual": 0, "poly": 1}, "soft": {"u8": 0, "i8": 1},
+         "start": {"zero": 0, "any": 1}, "phase": {"given": 0, "find": 1}, "polarity": {"given": 0, "find": 1}}
+REFUSALS = {word: -16 - k for k, word in enumerate("code depth length inner switch basis tolerance repair soft start skip workers limit fly keep ahead "
+                                                   "phase polarity".split())}
+values = {}
+
+
+def symbols(digits, high, low):
+    return bytes(high if digit == "1" else low for octet in bytes.fromhex(digits) for digit in f"{octet:08b}")
+
+
+def octets(text):
+    made = b""
+    for word in re.findall(r'"[^"]*"|\'[^\']*\'|\S+', text):
+        if word[0] in "\"'":
+            made += word[1:-1].encode() + b"\n" * (word[0] == '"')
+            continue
+        word, _, times = word.partition("*")
+        part = (values[word[1:]] if word[0] == "$" else symbols(word[3:], 255, 0) if word.startswith("u8:")
+                else symbols(word[3:], 127, 128) if word.startswith("i8:") else bytes.fromhex(word))
+        made += part * int(times or 1)
+    return made
+
+
+def config(words):
+    made = dict(DEFAULTS)
+    for name, value in zip(words[::2], words[1::2]):
+        name = name.removeprefix("--")
+        if name not in made:
+            return None
+        if value in WORDS.get(name, {}):
+            made[name] = WORDS[name][value]
+        elif name in WORDS or not re.fullmatch(r"\d{1,20}", value) or int(value) >= UNSET:
+            made[name] = 2**63                       # outside every list and range
+        else:
+            made[name] = int(value)
+    return made
+
+
+def rows():
+    text = (Path(__file__).parent.parent / "crates/tm_rows/stdin").read_text()
+    for part in text.split("\n\n"):
+        fields = {}
+        for line in part.splitlines():
+            name, found, value = line.partition(": ")
+            if not found or line[0] == "#":
+                continue
+            if name.startswith("value "):
+                values[name[6:]] = values.get(name[6:], b"") + octets(value)
+            else:
+                fields[name] = fields.get(name, "") + " " + value
+        if "line" in fields:
+            yield fields
+
+
+for fields in rows():
+    command, *words = fields["line"].split()[1:] or [""]
+    made = config(words) if command in ("encode", "decode") and len(words) % 2 == 0 else None
+    if made is None or "through" in fields or "failing read" in fields or "failing write" in fields or "room of out" in fields:
+        continue
+    numbers = " ".join(str(made[name]) for name in NAMES)
+    if "refused" in fields:
+        if fields["refused"].strip() in REFUSALS:
+            print("check", numbers, REFUSALS[fields["refused"].strip()])
+    elif fields["status"].strip() in "016":
+        given, wanted = octets(fields.get("in", "")), octets(fields.get("out", ""))
+        print({"encode": "send", "decode": "receive"}[command], numbers, given.hex() or "-", wanted.hex() or "-")

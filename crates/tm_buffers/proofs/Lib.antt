@@ -1,0 +1,7 @@
+pub mod Needed
+pub mod SymbolRoom
+pub mod Written
+pub mod KeptBits
+pub mod Spans
+pub mod ItemsInTurn
+pub mod Filled

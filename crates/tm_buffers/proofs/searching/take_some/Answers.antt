@@ -1,0 +1,20 @@
+use Rattle.std.proofs.Common.{rules, arith, ◌≡◌, ◌<◌, ◌+◌, ◌-◌, ◌*◌, ◌/◌, ◌%◌, Bool, List, [], ◌∷◌, ◌++◌, take, drop, length, ap, sym, ◌∙◌, subst}
+use Rattle.tm_base.specs.Bits.{bits_of}
+use Rattle.tm_sync.specs.Searching.{StandsFor}
+use Rattle.tm_sync.proofs.Sliding.{masked-bit}
+use Rattle.tm_buffers.proofs.Spans.{span-bit, span-octets}
+use Rattle.tm_buffers.proofs.searching.take_some.Goals as goal
+
+pub returns-then-whole-gt0-clause-takes : goal.returns-then-whole-gt0-clause-takes
+returns-then-whole-gt0-clause-takes c = λ given found few stands.
+    let whole = c.min-whole.result in
+    let some : 0 < c.whole_octets.result = omega (arith, c.if-whole-gt0.true, c.min-whole.ensures) in
+    let aligned : c.args.from % 8 ≡ 0 = (c.whole_octets.ensures some).2 in
+    subst (λ (l : List Bool). StandsFor c.push_octets.new.self (given ++ l) found) (sym (span-octets c.args.from (c.args.from / 8) whole c.args.octets.now (omega (arith, aligned))))
+    (search rules)
+
+pub returns-clause-takes : goal.returns-clause-takes
+returns-clause-takes c = λ given found few stands.
+    subst (λ (l : List Bool). StandsFor c.push_bit.new.self (given ++ l) found)
+    (ap (λ b. b ∷ []) (masked-bit (7 - c.args.from % 8) _) ∙ sym (span-bit c.args.from c.args.octets.now c.requires.from))
+    (c.push_bit.ensures.stands given found (omega (arith, few)) stands)

@@ -1,0 +1,7 @@
+pub mod Buffer
+pub mod Sending
+pub mod Decoding
+pub mod Searching
+pub mod Reports
+pub mod Items
+pub mod Receiving

@@ -1,0 +1,23 @@
+-- A sender whose symbols go to a buffer.
+use Rattle.std.specs.Prelude.{◌≡◌, ℕ, ◌+◌, ◌*◌, ◌/◌, ◌^◌, nat_le, false, if◌then◌else◌, List, Option, Some, None}
+use Rattle.std.specs.Option.{is_some}
+use Rattle.tm_base.specs.Bits.{AreOctets}
+use Rattle.tm_config.specs.Configuration.{Configuration, codeblock_length}
+use Rattle.tm_channel.specs.Sending.{Sending, StandsFor}
+
+-- how many symbols an octet comes to at most: two for each of its bits, or with no inner code
+-- itself
+abbrev pub most_symbols : Configuration → ℕ
+most_symbols c = if is_some c.inner then 16 else 1
+
+-- For how many symbols there has to be room where so many more octets are given: for those of a
+-- unit for each frame that may become whole, and one more. No more than 2^40 octets are taken at a
+-- time.
+abbrev pub symbols_room : Configuration → ℕ → Option ℕ
+symbols_room c count = if nat_le count (2 ^ 40) then Some ((count / c.frame_length + 1) * (codeblock_length c + 4) * most_symbols c + 1) else None
+
+-- a sender that was given these octets and no others, and whose symbols all found room
+pub record IsSending (sender : Sending) (given : List ℕ) : Type 0 where
+  pub octets : AreOctets given
+  pub going : sender.inner.has_failed ≡ false
+  pub stands : StandsFor sender given

@@ -1,0 +1,124 @@
+// Items, in arrays.
+ghost use Rattle.std.specs.Prelude.{◌≡◌, ◌≤◌, length, map, take};
+ghost use Rattle.tm_channel.specs.Items.{ItemValue};
+ghost use Rattle.tm_buffers.specs.Reports.{IsReport, number_of, repaired_of};
+
+use tm_base::Failed;
+use tm_channel::{Answer, Item, ItemTaker};
+
+/// What is said of a codeblock that was found, but for its frame, as plain numbers.
+#[repr(C)]
+#[derive(Clone, Copy, Debug, PartialEq, Eq)]
+pub struct Report {
+    /// How many received bits stand before its marker.
+    pub place: u64,
+    /// The octets of its frame; 0 where a column is beyond repair.
+    pub frame_length: u64,
+    /// How many of the marker's 32 bits are wrong, in the codeblock's polarity.
+    pub distance: u8,
+    /// 1 where the marker matches in no way, and its place was taken since it stands right behind a codeblock.
+    pub bridged: u8,
+    /// 1 where the codeblock was received inverted.
+    pub inverted: u8,
+    /// How many columns it has; 0 with no outer code.
+    pub columns: u8,
+    /// For each of them how many symbols were wrong, or 255 where it is beyond repair.
+    pub repaired: [u8; 8],
+}
+
+/// Writes the frames of items to a buffer and what else is said of them to an array, from their fronts on. It never
+/// fails: from the first item on for which there is no room, all are dropped.
+#[derive(Drop)]
+pub struct BufferItems<'a, 'b> {
+    pub frames: &'a mut [u8],
+    pub reports: &'b mut [Report],
+    /// How many octets and how many items were written.
+    pub octets: usize,
+    pub count: usize,
+    /// An item was dropped.
+    pub is_short: bool,
+    ghost octets_within: { octets ≤ length frames.now },
+    ghost within: { count ≤ length reports.now },
+}
+
+impl<'a, 'b> ItemTaker for BufferItems<'a, 'b> {
+    ghost use Rattle.std.specs.Prelude.{◌≡◌};
+    ghost use Rattle.tm_buffers.specs.Items.{Collects, collected};
+
+    ghost faults = { λ b. 0 };
+
+    ghost is_last = { λ b. ⊥ };
+
+    ghost took = { λ a item b. (b.frames.ghost_name ≡ a.frames.ghost_name) × (b.reports.ghost_name ≡ a.reports.ghost_name)
+        × Collects (collected a) item (collected b) };
+
+    ghost broke = { λ a item b. ⊥ };
+
+    ghost took_phase = { λ a skip cost b. b ≡ a };
+
+    ghost broke_phase = { λ a skip cost b. ⊥ };
+
+    fn item(&mut self, item: &Item<'_>) -> Result<(), Failed> {
+        let size = item.frame.len();
+        if self.is_short
+            || self.count == self.reports.len()
+            || size > self.frames.len() - self.octets
+        {
+            self.is_short = true;
+            return Ok(());
+        }
+        let end = self.octets + size;
+        self.frames[self.octets..end].copy_from_slice(item.frame);
+        self.octets = end;
+        self.reports[self.count] = report_of(item);
+        self.count += 1;
+        Ok(())
+    }
+
+    fn phase(&mut self, _skip: u8, _cost: u64) -> Result<(), Failed> {
+        Ok(())
+    }
+}
+
+// What is said of an item.
+fn report_of(item: &Item<'_>) -> Report
+    ensures { IsReport item.now result }
+{
+    Report {
+        place: item.place,
+        frame_length: item.frame.len() as u64,
+        distance: item.distance,
+        bridged: number_of(item.bridged),
+        inverted: number_of(item.inverted),
+        columns: item.answers.len() as u8,
+        repaired: repaired(item.answers),
+    }
+}
+
+// For each answer how many symbols were wrong.
+fn repaired(answers: &[Answer]) -> [u8; 8]
+    requires { length answers.now ≤ 8 }
+    ensures { take (length answers.now) result ≡ map repaired_of answers.now }
+{
+    let mut repaired = [0; 8];
+    for i in 0..answers.len() {
+        repaired[i] = repaired_of(answers[i]);
+    }
+    repaired
+}
+
+// How many symbols were wrong.
+fn repaired_of(answer: Answer) -> u8
+    ensures { result ≡ repaired_of answer }
+{
+    match answer {
+        Answer::Fixed(count) => count,
+        Answer::Beyond => 255,
+    }
+}
+
+fn number_of(is: bool) -> u8
+    ensures { result ≡ number_of is }
+{
+    if is { 1 } else { 0 }
+}

@@ -1,0 +1,19 @@
+//! The streams of the codec over buffers: what comes of octets that are given in pieces is written to the front of a
+//! buffer that the caller lends, and how large that has to be is told before. No call here fails but for want of room;
+//! what takes memory is opened.
+#![tactic(auto)]
+
+mod bits;
+mod decoding;
+mod items;
+mod receiving;
+mod room;
+mod searching;
+mod sending;
+mod sink;
+
+pub use decoding::{BufferDecoder, bits_room};
+pub use items::Report;
+pub use receiving::BufferReceiver;
+pub use searching::{find_in_bits, find_in_octets};
+pub use sending::{BufferSender, symbols_room};

@@ -1,0 +1,3 @@
+pub mod AsBox
+pub mod Streams
+pub mod ReceiverCalls

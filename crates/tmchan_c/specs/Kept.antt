@@ -1,0 +1,17 @@
+-- What room for a stream on the heap owns: nothing, or the same as a `Box` of the stream.
+use base.Fml.{Fml, ftrue}
+use base.Stored.{Coded}
+use denote.RawPtr.{Ptr}
+use Rattle.std.specs.Prelude.{Option, Some, None}
+use Rattle.std.specs.Box.Ownership.{box_owns}
+use Rattle.std.specs.Coded.{coded_option}
+use Rattle.std.specs.Global.{Global}
+use Rattle.std_heap.specs.contracts.GlobalAllocator.TheImpl.{ghosts}
+use Rattle.tmchan_c.specs.contracts.stream.Stream.{the_row}
+
+abbrev pub kept_owns : Global → Ptr → Option the_row.Denot → Fml
+kept_owns alloc at None = ftrue
+kept_owns alloc at (Some value) = box_owns (ghosts.dealloc_token alloc) the_row at value
+
+abbrev pub stream_coded : Coded (Option the_row.Denot)
+stream_coded = coded_option the_row.coded

@@ -1,0 +1,36 @@
+-- The values of the options, as a program in C passes them.
+use Rattle.std.specs.Prelude.{ℕ, ◌-◌, ◌^◌, ◌==◌, Option, Some, None, if◌then◌else◌}
+use Rattle.tm_config.specs.Configuration.{Configuration, configuration_of}
+use Rattle.tm_config.specs.declared.values.Raw.{Raw}
+use Rattle.tmchan_c.specs.declared.config.Options.{Options}
+
+-- a value that was given: any but the greatest number
+abbrev pub given : ℕ → Option ℕ
+given value = if value == 2 ^ 64 - 1 then None else Some value
+
+abbrev pub raw_of : Options → Raw
+raw_of options = record {
+  code = options.code;
+  depth = options.depth;
+  length = given options.length;
+  inner = options.inner;
+  invert = given options.invert;
+  randomize = options.randomize;
+  basis = options.basis;
+  tolerance = options.tolerance;
+  repair = given options.repair;
+  soft = options.soft;
+  start = options.start;
+  skip = options.skip;
+  workers = options.workers;
+  limit = options.limit;
+  fly = options.fly;
+  keep = options.keep;
+  ahead = options.ahead;
+  phase = options.phase;
+  polarity = options.polarity;
+}
+
+-- the configuration that they give
+abbrev pub configuration : Options → Configuration
+configuration options = configuration_of (raw_of options)

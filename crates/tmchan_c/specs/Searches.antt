@@ -1,0 +1,104 @@
+-- A search for markers, as a program in C keeps it.
+use Rattle.std.specs.Prelude.{◌≡◌, ℕ, ◌+◌, ◌^◌, ◌≤◌, ◌==◌, ◌&&◌, nat_le, ℤ, pos, Bool, true, List, ◌++◌, length, Option, Some, None, if◌then◌else◌}
+use Rattle.tm_config.specs.declared.error.ConfigError.TheVariants.{Tolerance, Fly, Polarity}
+use Rattle.tm_sync.specs.declared.found.Found.{Found}
+use Rattle.tm_sync.specs.declared.found.Before.{Before}
+use Rattle.tm_sync.specs.declared.found.Awaited.{Awaited}
+use Rattle.tm_sync.specs.declared.found.Paused.{Paused}
+use Rattle.tm_sync.specs.Paused.{is_resumable, resumed}
+use Rattle.tm_sync.specs.Places.{Rules}
+use Rattle.tm_sync.specs.Searching.{Searching, StandsFor}
+use Rattle.tm_buffers.specs.Searching.{Finds, span}
+use Rattle.tmchan_c.specs.declared.refusal.Refusal.{Refusal}
+use Rattle.tmchan_c.specs.declared.refusal.Refusal.TheVariants.{Room, Closed, Value}
+use Rattle.tmchan_c.specs.declared.search.SearchState.{SearchState}
+use Rattle.tmchan_c.specs.declared.search.PlaceState.{PlaceState}
+
+abbrev pub number_of : Bool → ℕ
+number_of is = if is then 1 else 0
+
+abbrev pub before_of : SearchState → Option Before
+before_of s = if s.has_before == 1 then Some (record { inverted = s.before_inverted == 1; bridged = s.before_bridged }) else None
+
+abbrev pub awaited_of : SearchState → Option Awaited
+awaited_of s =
+    if s.has_place == 1
+    then Some (record {
+      found = record {
+        place = s.place;
+        distance = s.distance;
+        bridged = s.bridged == 1;
+        inverted = s.inverted == 1;
+      };
+      next = record { inverted = s.next_inverted == 1; bridged = s.next_bridged };
+    })
+    else None
+
+-- the search that it stands for
+abbrev pub paused_of : SearchState → Paused
+paused_of s = record {
+  tolerance = s.tolerance;
+  fly = s.fly;
+  either = s.either == 1;
+  block_bits = s.block_bits;
+  word = s.word;
+  pushed = s.pushed;
+  start = s.start;
+  before = before_of s;
+  awaited = awaited_of s;
+  after = s.after;
+}
+
+abbrev pub search_of : SearchState → Searching
+search_of s = resumed (paused_of s)
+
+-- the rules that numbers give
+abbrev pub rules_with : ℕ → ℕ → ℕ → ℕ → Rules
+rules_with tolerance fly either block_bits =
+    record { tolerance = tolerance; fly = fly; either = either == 1; block_bits = block_bits }
+
+-- the first reason to refuse them, or none
+abbrev pub rules_refusal : ℕ → ℕ → ℕ → Option Refusal
+rules_refusal tolerance fly either =
+    if nat_le tolerance 8 then if nat_le fly 15 then if nat_le either 1 then None else Some (Value Polarity) else Some (Value Fly) else Some (Value Tolerance)
+
+-- the first reason to refuse an array of so many elements that has `size` bits, from bit `at` on,
+-- or none: the search is not open, or no search is kept in this way
+abbrev pub span_refusal : SearchState → ℕ → ℕ → ℕ → Option Refusal
+span_refusal s at count size =
+    if (s.is_open == 1) && is_resumable (paused_of s) then if nat_le count (2 ^ 40) && nat_le at size then None else Some Room else Some Closed
+
+-- a search that is open, was given these bits, and has found these places
+pub record IsSearching (s : SearchState) (bits : List Bool) (found : List Found) : Type 0 where
+  pub is_open : s.is_open ≡ 1
+  pub valid : is_resumable (paused_of s) ≡ true
+  pub stands : StandsFor (search_of s) bits found
+
+abbrev pub found_answer : Option Found → ℤ
+found_answer None = pos 0
+found_answer (Some found) = pos 1
+
+-- the place that was found, or what stood there before
+abbrev pub place_after : Option Found → PlaceState → PlaceState
+place_after None place = place
+place_after (Some f) place = record {
+  place = f.place;
+  distance = f.distance;
+  bridged = number_of f.bridged;
+  inverted = number_of f.inverted;
+}
+
+-- a search has taken bits of a list of `size` from one index on up to another, behind which the
+-- first codeblock ends that is whole
+pub record FindsInto (was now : SearchState) (at end size : ℕ) (bits : List Bool) (place place_now : PlaceState) (answer : ℤ) : Type 0 where
+  pub found : Option Found
+  pub answers : answer ≡ found_answer found
+  pub tells : place_now ≡ place_after found place
+  pub first : at ≤ end
+  pub within : end ≤ size
+  pub all : found ≡ None → end ≡ size
+  pub is_open : now.is_open ≡ 1
+  pub valid : is_resumable (paused_of now) ≡ true
+  pub finds : (given : List Bool) (before : List Found) → length given + size ≤ 2 ^ 63
+      → StandsFor (search_of was) given before
+      → Finds (search_of now) (given ++ span at end bits) before found

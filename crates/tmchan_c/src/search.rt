@@ -1,0 +1,291 @@
+// The search for sync markers: bits or octets in, places out.
+ghost use Rattle.std.specs.Prelude.{◌≡◌, ◌+◌, ◌*◌, ◌^◌, ◌≤◌, ℕ, Bool, List, [], None, Some, length, IsTrue};
+ghost use Rattle.tm_base.specs.Bits.{bits_of};
+ghost use Rattle.tm_sync.specs.Paused.{is_resumable};
+ghost use Rattle.tm_buffers.specs.Searching.{bits_in};
+ghost use Rattle.tmchan_c.specs.Refusal.{answered, refused};
+ghost use Rattle.tmchan_c.specs.Searches.{FindsInto, IsSearching, awaited_of, before_of, found_answer, number_of, paused_of, place_after, rules_refusal, rules_with, search_of, span_refusal};
+
+use crate::refusal::Refusal;
+use tm_buffers::{find_in_bits, find_in_octets};
+use tm_config::ConfigError;
+use tm_sync::{Awaited, Before, Found, Paused, Search};
+
+// The most octets that are taken at a time.
+const MOST: usize = 1 << 40;
+
+/// A search between two calls, as a program in C keeps it, which changes none of it.
+#[repr(C)]
+#[derive(Clone, Copy)]
+pub struct SearchState {
+    pub is_open: u64,
+    pub pushed: u64,
+    pub start: u64,
+    pub place: u64,
+    pub block_bits: u32,
+    pub word: u32,
+    pub after: u32,
+    pub tolerance: u8,
+    pub fly: u8,
+    pub either: u8,
+    pub has_before: u8,
+    pub before_inverted: u8,
+    pub before_bridged: u8,
+    pub has_place: u8,
+    pub distance: u8,
+    pub bridged: u8,
+    pub inverted: u8,
+    pub next_inverted: u8,
+    pub next_bridged: u8,
+}
+
+/// The place of a marker, for C.
+#[repr(C)]
+#[derive(Clone, Copy)]
+pub struct PlaceState {
+    pub place: u64,
+    pub distance: u8,
+    pub bridged: u8,
+    pub inverted: u8,
+}
+
+/// Begins a search that was given nothing yet. Answers 0, or why it is refused.
+#[unsafe(no_mangle)]
+pub extern "C" fn tmchan_search_open(
+    search: &mut SearchState,
+    tolerance: u32,
+    fly: u32,
+    either: u32,
+    block_bits: u32,
+) -> i32
+    ensures answer { result ≡ answered (rules_refusal tolerance fly either) }
+    ensures opened { rules_refusal tolerance fly either ≡ None → IsSearching search.new [] []
+        × ((search_of search.new).rules ≡ rules_with tolerance fly either block_bits) }
+    ensures unchanged { (refusal : Refusal) → rules_refusal tolerance fly either ≡ Some refusal
+        → search.new ≡ search.old }
+{
+    match rules_refusal(tolerance, fly, either) {
+        Some(refusal) => refusal.answer(),
+        None => {
+            let begun = Search::new(tolerance as u8, fly as u8, either == 1, block_bits);
+            *search = state(&begun.pause());
+            0
+        }
+    }
+}
+
+/// Takes bits from number `at` of an array on, each 0 or another number for 1, up to the end of the first codeblock
+/// that is whole, or all, and tells how far it came. Answers 1 where a codeblock is whole, whose place it tells, and
+/// else 0; or why it is refused.
+#[unsafe(no_mangle)]
+pub extern "C" fn tmchan_search_bits(
+    search: &mut SearchState,
+    bits: &[u8],
+    at: &mut u64,
+    place: &mut PlaceState,
+) -> i32
+    ensures refused { (refusal : Refusal) → span_refusal search.old at.old (length bits.now) (length bits.now)
+        ≡ Some refusal
+        → (result ≡ refused refusal) × (search.new ≡ search.old) × (at.new ≡ at.old) × (place.new ≡ place.old) }
+    ensures found { span_refusal search.old at.old (length bits.now) (length bits.now) ≡ None
+        → FindsInto search.old search.new at.old at.new (length bits.now)
+        (bits_in bits.now) place.old place.new result }
+{
+    let size = bits.len() as u64;
+    match span_refusal(search, *at, bits.len(), size) {
+        Some(refusal) => refusal.answer(),
+        None => match Search::resume(&paused(search)) {
+            None => Refusal::Closed.answer(),
+            Some(mut resumed) => {
+                let (end, found) = find_in_bits(&mut resumed, bits, *at as usize);
+                *search = state(&resumed.pause());
+                *at = end as u64;
+                tell(found, place)
+            }
+        },
+    }
+}
+
+/// The same of the bits of octets, the most significant bit of each octet first: from bit `at` on.
+#[unsafe(no_mangle)]
+pub extern "C" fn tmchan_search_octets(
+    search: &mut SearchState,
+    octets: &[u8],
+    at: &mut u64,
+    place: &mut PlaceState,
+) -> i32
+    ensures refused { (refusal : Refusal) → span_refusal search.old at.old (length octets.now) (8 * length octets.now)
+        ≡ Some refusal
+        → (result ≡ refused refusal) × (search.new ≡ search.old) × (at.new ≡ at.old) × (place.new ≡ place.old) }
+    ensures found { span_refusal search.old at.old (length octets.now) (8 * length octets.now) ≡ None
+        → FindsInto search.old search.new at.old at.new (8 * length octets.now)
+        (bits_of octets.now) place.old place.new result }
+{
+    let size = 8 * octets.len().min(MOST) as u64;
+    match span_refusal(search, *at, octets.len(), size) {
+        Some(refusal) => refusal.answer(),
+        None => match Search::resume(&paused(search)) {
+            None => Refusal::Closed.answer(),
+            Some(mut resumed) => {
+                let (end, found) = find_in_octets(&mut resumed, search.block_bits, octets, *at);
+                *search = state(&resumed.pause());
+                *at = end;
+                tell(found, place)
+            }
+        },
+    }
+}
+
+// The first reason to refuse the rules of a search, or none.
+fn rules_refusal(tolerance: u32, fly: u32, either: u32) -> Option<Refusal>
+    ensures value { result ≡ rules_refusal tolerance fly either }
+    ensures fit { result ≡ None → (tolerance ≤ 8) × (fly ≤ 15) × (either ≤ 1) }
+{
+    if tolerance > 8 {
+        return Some(Refusal::Value(ConfigError::Tolerance));
+    }
+    if fly > 15 {
+        return Some(Refusal::Value(ConfigError::Fly));
+    }
+    if either > 1 {
+        return Some(Refusal::Value(ConfigError::Polarity));
+    }
+    None
+}
+
+// The first reason to refuse an array of so many elements that has `size` bits, from bit `at` on, or none.
+fn span_refusal(search: &SearchState, at: u64, count: usize, size: u64) -> Option<Refusal>
+    ensures value { result ≡ span_refusal search.now at count size }
+    ensures few { result ≡ None → count ≤ 2 ^ 40 }
+    ensures at { result ≡ None → at ≤ size }
+    ensures valid { result ≡ None → IsTrue (is_resumable (paused_of search.now)) }
+{
+    if search.is_open != 1 || search.tolerance > 8 || search.after > search.block_bits {
+        return Some(Refusal::Closed);
+    }
+    if count > MOST || at > size {
+        return Some(Refusal::Room);
+    }
+    None
+}
+
+// Tells a place that was found. Answers 1 where one was, and else 0.
+fn tell(found: Option<Found>, place: &mut PlaceState) -> i32
+    ensures answer { result ≡ found_answer found }
+    ensures place { place.new ≡ place_after found place.old }
+{
+    match found {
+        Some(found) => {
+            *place = PlaceState {
+                place: found.place,
+                distance: found.distance,
+                bridged: number_of(found.bridged),
+                inverted: number_of(found.inverted),
+            };
+            1
+        }
+        None => 0,
+    }
+}
+
+fn number_of(is: bool) -> u8
+    ensures { result ≡ number_of is }
+{
+    if is { 1 } else { 0 }
+}
+
+// What a program in C keeps of a search.
+fn state(paused: &Paused) -> SearchState
+    ensures paused { paused_of result ≡ paused.now }
+    ensures open { result.is_open ≡ 1 }
+{
+    let before = paused.before.unwrap_or(Before {
+        inverted: false,
+        bridged: 0,
+    });
+    let awaited = paused.awaited.unwrap_or(Awaited {
+        found: Found {
+            place: 0,
+            distance: 0,
+            bridged: false,
+            inverted: false,
+        },
+        next: Before {
+            inverted: false,
+            bridged: 0,
+        },
+    });
+    SearchState {
+        is_open: 1,
+        pushed: paused.pushed,
+        start: paused.start,
+        place: awaited.found.place,
+        block_bits: paused.block_bits,
+        word: paused.word,
+        after: paused.after,
+        tolerance: paused.tolerance,
+        fly: paused.fly,
+        either: number_of(paused.either),
+        has_before: number_of(paused.before.is_some()),
+        before_inverted: number_of(before.inverted),
+        before_bridged: before.bridged,
+        has_place: number_of(paused.awaited.is_some()),
+        distance: awaited.found.distance,
+        bridged: number_of(awaited.found.bridged),
+        inverted: number_of(awaited.found.inverted),
+        next_inverted: number_of(awaited.next.inverted),
+        next_bridged: awaited.next.bridged,
+    }
+}
+
+// The search that it stands for.
+fn paused(search: &SearchState) -> Paused
+    ensures { result ≡ paused_of search.now }
+{
+    Paused {
+        tolerance: search.tolerance,
+        fly: search.fly,
+        either: search.either == 1,
+        block_bits: search.block_bits,
+        word: search.word,
+        pushed: search.pushed,
+        start: search.start,
+        before: before_of(search),
+        awaited: awaited_of(search),
+        after: search.after,
+    }
+}
+
+fn before_of(search: &SearchState) -> Option<Before>
+    ensures { result ≡ before_of search.now }
+{
+    if search.has_before == 1 {
+        Some(Before {
+            inverted: search.before_inverted == 1,
+            bridged: search.before_bridged,
+        })
+    } else {
+        None
+    }
+}
+
+fn awaited_of(search: &SearchState) -> Option<Awaited>
+    ensures { result ≡ awaited_of search.now }
+{
+    if search.has_place == 1 {
+        Some(Awaited {
+            found: Found {
+                place: search.place,
+                distance: search.distance,
+                bridged: search.bridged == 1,
+                inverted: search.inverted == 1,
+            },
+            next: Before {
+                inverted: search.next_inverted == 1,
+                bridged: search.next_bridged,
+            },
+        })
+    } else {
+        None
+    }
+}

@@ -1,0 +1,58 @@
+/* Reads received soft octets from standard input, and writes the frames of the codeblocks that are found in them to standard output, and a line
+ * for each codeblock to standard error. Its arguments are options as NAME=NUMBER, with the names of tmchan_config:
+ *
+ *     cc -o receive examples/c/receive.c $(pkg-config --cflags --libs tmchan)
+ *     ./receive inner=12 depth=5 tolerance=2 fly=1 <symbols >frames
+ */
+#include <inttypes.h>
+#include <stdio.h>
+#include <stdlib.h>
+#include <string.h>
+
+#include "tmchan.h"
+
+enum { PIECE = 65536, NAMES = 19 };
+
+static const char *const names[NAMES] = {"code", "depth", "length", "inner", "invert", "randomize", "basis", "tolerance", "repair", "soft",
+                                         "start", "skip", "workers", "limit", "fly", "keep", "ahead", "phase", "polarity"};
+
+static int64_t show(int64_t count, const uint8_t *frames, const tmchan_report *reports) {
+    size_t octets = 0;
+    for (int64_t i = 0; i < count; i++) {
+        fprintf(stderr, "place %" PRIu64 " distance %u%s%s", reports[i].place, reports[i].distance, reports[i].bridged ? " bridged" : "",
+                reports[i].inverted ? " inverted" : "");
+        for (int k = 0; k < reports[i].columns; k++) fprintf(stderr, reports[i].repaired[k] == 255 ? " x" : " %u", reports[i].repaired[k]);
+        fputc('\n', stderr);
+        octets += reports[i].frame_length;
+    }
+    return count < 0 || fwrite(frames, 1, octets, stdout) != octets ? -1 : 0;
+}
+
+int main(int argc, char **argv) {
+    tmchan_config config;
+    tmchan_config_defaults(&config);
+    for (int i = 1; i < argc; i++) {
+        int k = 0;
+        const char *equals = strchr(argv[i], '=');
+        while (k < NAMES && (!equals || strlen(names[k]) != (size_t)(equals - argv[i]) || strncmp(names[k], argv[i], equals - argv[i]))) k++;
+        if (k == NAMES) return fprintf(stderr, "no option: %s\n", argv[i]), 2;
+        ((uint64_t *)&config)[k] = strtoull(equals + 1, NULL, 10);
+    }
+    tmchan_stream receiver = {0};
+    int32_t opened = tmchan_receiver_open(&receiver, &config);
+    if (opened) return fprintf(stderr, "refused: %" PRId32 "\n", opened), 2;
+    uint64_t depth = config.depth, size = tmchan_frame_length(&config);
+    uint64_t block = 8 * (uint64_t)tmchan_cadu_length(config.code, depth, size);
+    size_t room = (3 * (config.keep + config.ahead) + 7 + 8 * PIECE) / block + 33;
+    tmchan_report *reports = calloc(room, sizeof *reports);
+    uint8_t *frames = malloc(room * size), *piece = malloc(PIECE);
+    if (!reports || !frames || !piece) return 5;
+    for (size_t count; (count = fread(piece, 1, PIECE, stdin)) > 0;)
+        if (show(tmchan_receiver_push(&receiver, piece, count, frames, room * size, reports, room), frames, reports)) return 4;
+    uint64_t bits;
+    tmchan_phase phase;
+    if (show(tmchan_receiver_finish(&receiver, frames, room * size, reports, room, &bits, &phase), frames, reports)) return 4;
+    fprintf(stderr, "bits %" PRIu64 "\n", bits);
+    free(reports), free(frames), free(piece);
+    return 0;
+}

@@ -1,0 +1,209 @@
+#define _POSIX_C_SOURCE 200809L
+
+/* Makes the calls of the streams of each row on standard input (bench/stream_rows.py writes them), in pieces of several sizes, and refusals of
+ * each call. Each array has exactly its length on the heap, so that valgrind and AddressSanitizer see an octet beyond it. Status 0: no call
+ * differed. */
+#include <stdio.h>
+#include <stdlib.h>
+#include <string.h>
+
+#include "tmchan.h"
+
+enum { OPTIONS = 19 };
+
+static long differing, calls;
+static size_t line_number;
+
+static void expect(int right, const char *what) {
+    calls++;
+    if (right) return;
+    differing++;
+    fprintf(stderr, "line %zu: %s\n", line_number, what);
+}
+
+static void *room(size_t size) {
+    void *made = calloc(1, size + (size == 0));
+    if (!made) exit(2);
+    return made;
+}
+
+static uint8_t *octets(const char *digits, size_t *length) {
+    *length = *digits == '-' ? 0 : strcspn(digits, " \n") / 2;
+    uint8_t *made = room(*length);
+    for (size_t i = 0; i < *length; i++) {
+        unsigned octet;
+        sscanf(digits + 2 * i, "%2x", &octet);
+        made[i] = (uint8_t)octet;
+    }
+    return made;
+}
+
+static void send(const tmchan_config *config, const uint8_t *given, size_t given_length, const uint8_t *wanted, size_t wanted_length, size_t piece) {
+    tmchan_stream sender = {0};
+    uint8_t *sent = room(wanted_length);
+    size_t count = 0;
+    expect(tmchan_sender_open(&sender, config) == 0, "the sender does not open");
+    for (size_t at = 0; at < given_length; at += piece) {
+        size_t size = given_length - at < piece ? given_length - at : piece;
+        int64_t needed = tmchan_sender_room(config, size);
+        uint8_t *octets = room(size), *symbols = room(needed);
+        memcpy(octets, given + at, size);
+        int64_t answer = tmchan_sender_push(&sender, octets, size, symbols, needed);
+        expect(answer >= 0 && answer < needed && count + answer <= wanted_length, "a push has a wrong answer");
+        if (answer > 0 && count + answer <= wanted_length) memcpy(sent + count, symbols, answer);
+        count += answer;
+        free(octets), free(symbols);
+    }
+    expect(count == wanted_length && !memcmp(sent, wanted, count), "other symbols were sent");
+    int32_t size = tmchan_frame_length(config);
+    expect(tmchan_sender_finish(&sender) == (int64_t)(given_length % size), "another number is left over");
+    expect(tmchan_close(&sender) == TMCHAN_CLOSED, "the sender is open behind its finish");
+    free(sent);
+}
+
+static void receive(const tmchan_config *config, const uint8_t *given, size_t given_length, const uint8_t *wanted, size_t wanted_length, size_t piece) {
+    tmchan_stream receiver = {0}, decoder = {0};
+    uint8_t *received = room(wanted_length);
+    size_t count = 0, decoded = 0;
+    uint64_t bits = 0;
+    tmchan_phase phase, decoder_phase;
+    int32_t size = tmchan_frame_length(config), unit = tmchan_cadu_length(config->code, config->depth, size);
+    size_t most = (3 * (config->keep + config->ahead) + 7 + 8 * piece) / (8 * unit) + 33;
+    expect(tmchan_receiver_open(&receiver, config) == 0, "the receiver does not open");
+    expect(tmchan_decoder_open(&decoder, config) == 0, "the decoder does not open");
+    for (size_t at = 0; at <= given_length; at += piece) {
+        size_t length = given_length - at < piece ? given_length - at : piece;
+        int last = at + piece > given_length;
+        uint8_t *octets = room(length), *frames = room(most * size);
+        tmchan_report *reports = room(most * sizeof *reports);
+        memcpy(octets, given + at, length);
+        for (int ending = 0; ending <= last; ending++) {
+            int64_t answer = ending ? tmchan_receiver_finish(&receiver, frames, most * size, reports, most, &bits, &phase)
+                                    : tmchan_receiver_push(&receiver, octets, length, frames, most * size, reports, most);
+            expect(answer >= 0, "the receiver refuses");
+            size_t written = 0;
+            for (int64_t i = 0; i < answer; i++) {
+                int uncorrectable = 0;
+                for (int k = 0; k < reports[i].columns; k++) uncorrectable |= reports[i].repaired[k] == 255;
+                expect(reports[i].frame_length == (uncorrectable ? 0 : (uint64_t)size) && reports[i].distance <= 32, "a report is wrong");
+                written += reports[i].frame_length;
+            }
+            if (count + written <= wanted_length) memcpy(received + count, frames, written);
+            count += written;
+            int64_t needed = tmchan_decoder_room(config, ending ? 0 : length);
+            uint8_t *its_bits = room(needed);
+            answer = ending ? tmchan_decoder_finish(&decoder, its_bits, needed, &decoder_phase) : tmchan_decoder_push(&decoder, octets, length, its_bits, needed);
+            expect(answer >= 0 && answer <= needed, "the decoder refuses");
+            for (int64_t i = 0; i < answer; i++) expect(its_bits[i] <= 1, "no bit");
+            decoded += answer;
+            free(its_bits);
+        }
+        free(octets), free(frames), free(reports);
+    }
+    expect(count == wanted_length && !memcmp(received, wanted, count), "other frames were received");
+    expect(config->inner == 0 ? decoded == 0 : decoded == bits, "another number of bits was decoded");
+    expect(!memcmp(&phase, &decoder_phase, sizeof phase) || config->inner == 0, "the phases differ");
+    expect(tmchan_close(&receiver) == TMCHAN_CLOSED && tmchan_close(&decoder) == TMCHAN_CLOSED, "one is open behind its finish");
+    free(received);
+}
+
+static void make_row(char *line) {
+    tmchan_config config;
+    const char *call = strtok(line, " \n");
+    for (int k = 0; k < OPTIONS; k++) ((uint64_t *)&config)[k] = strtoull(strtok(NULL, " \n"), NULL, 10);
+    if (!strcmp(call, "check")) {
+        long wanted = strtol(strtok(NULL, " \n"), NULL, 10);
+        tmchan_stream stream = {0};
+        expect(tmchan_config_check(&config) == wanted && tmchan_frame_length(&config) == wanted, "the check has a wrong answer");
+        expect(tmchan_sender_open(&stream, &config) == wanted && tmchan_decoder_open(&stream, &config) == wanted && tmchan_receiver_open(&stream, &config) == wanted,
+               "an open has a wrong answer");
+        expect(tmchan_sender_room(&config, 1) == wanted && tmchan_decoder_room(&config, 1) == wanted, "a room has a wrong answer");
+        return;
+    }
+    expect(tmchan_config_check(&config) == 0, "the check refuses");
+    size_t given_length, wanted_length;
+    uint8_t *given = octets(strtok(NULL, " \n"), &given_length), *wanted = octets(strtok(NULL, " \n"), &wanted_length);
+    const size_t pieces[] = {1, 17, 4096, 1 << 20};
+    for (int k = given_length > 20000; k < 4; k++)
+        (*call == 's' ? send : receive)(&config, given, given_length, wanted, wanted_length, pieces[k]);
+    free(given), free(wanted);
+}
+
+static void make_refusals(void) {
+    tmchan_stream s = {0};
+    tmchan_config config;
+    tmchan_phase phase;
+    uint64_t bits, at = 0;
+    uint8_t some[64] = {0};
+    tmchan_report reports[1];
+    tmchan_config_defaults(&config);
+    line_number = 0;
+    expect(tmchan_config_check(&config) == 0 && tmchan_frame_length(&config) == 223, "the defaults");
+    for (int round = 0; round < 2; round++) {
+        expect(tmchan_sender_push(&s, some, 1, some, 64) == TMCHAN_CLOSED && tmchan_sender_finish(&s) == TMCHAN_CLOSED, "a closed sender");
+        expect(tmchan_decoder_push(&s, some, 1, some, 64) == TMCHAN_CLOSED && tmchan_decoder_finish(&s, some, 64, &phase) == TMCHAN_CLOSED, "a closed decoder");
+        expect(tmchan_decoder_phase(&s, &phase) == TMCHAN_CLOSED && tmchan_receiver_phase(&s, &phase) == TMCHAN_CLOSED, "a closed phase");
+        expect(tmchan_receiver_push(&s, some, 1, some, 64, reports, 1) == TMCHAN_CLOSED, "a closed receiver");
+        expect(tmchan_receiver_finish(&s, some, 64, reports, 1, &bits, &phase) == TMCHAN_CLOSED && tmchan_close(&s) == TMCHAN_CLOSED, "closed");
+        expect(tmchan_sender_open(&s, &config) == 0 && tmchan_receiver_open(&s, &config) == TMCHAN_OPEN, "open");
+        expect(tmchan_sender_open(&s, &config) == TMCHAN_OPEN && tmchan_decoder_open(&s, &config) == TMCHAN_OPEN, "open already");
+        expect(tmchan_receiver_push(&s, some, 1, some, 64, reports, 1) == TMCHAN_CLOSED && tmchan_decoder_push(&s, some, 1, some, 64) == TMCHAN_CLOSED, "another kind");
+        int64_t needed = tmchan_sender_room(&config, 64);
+        uint8_t *symbols = room(needed);
+        expect(tmchan_sender_push(&s, some, 64, symbols, needed - 1) == TMCHAN_ROOM && tmchan_sender_push(&s, some, 0, symbols, 0) == TMCHAN_ROOM, "no room");
+        expect(tmchan_sender_push(&s, some, 64, symbols, needed) == 0, "room");
+        expect(tmchan_sender_room(&config, SIZE_MAX) == TMCHAN_ROOM && tmchan_decoder_room(&config, (size_t)1 << 41) == TMCHAN_ROOM, "too many");
+        free(symbols);
+        expect(tmchan_close(&s) == 0, "close");
+    }
+    expect(tmchan_decoder_open(&s, &config) == 0, "open");
+    expect(tmchan_decoder_push(&s, some, 64, some, 64) == TMCHAN_ROOM && tmchan_decoder_finish(&s, some, 64, &phase) == TMCHAN_ROOM, "no room for bits");
+    expect(tmchan_decoder_phase(&s, &phase) == 0 && phase.is_chosen == 0 && tmchan_close(&s) == 0, "still open");
+    tmchan_search search = {0};
+    tmchan_place place;
+    expect(tmchan_search_bits(&search, some, 1, &at, &place) == TMCHAN_CLOSED && tmchan_search_octets(&search, some, 1, &at, &place) == TMCHAN_CLOSED, "closed");
+    expect(tmchan_search_open(&search, 9, 99, 9, 8) == TMCHAN_BAD_TOLERANCE && tmchan_search_open(&search, 8, 16, 9, 8) == TMCHAN_BAD_FLY, "bad rules");
+    expect(tmchan_search_open(&search, 8, 15, 2, 8) == TMCHAN_BAD_POLARITY && tmchan_search_open(&search, 0, 0, 1, 20) == 0, "rules");
+    at = 9;
+    expect(tmchan_search_bits(&search, some, 8, &at, &place) == TMCHAN_ROOM && at == 9, "beyond the array");
+}
+
+/* Two markers, the second inverted, each before a codeblock of 20 bits and behind 5 bits: found alike in bits and in octets, cut at any place. */
+static void make_searches(void) {
+    static const char marker[] = "00011010110011111111110000011101";
+    uint8_t bits[120] = {0}, packed[15] = {0};
+    for (int i = 0; i < 32; i++) bits[5 + i] = marker[i] - '0', bits[5 + 32 + 20 + 5 + i] = 1 - (marker[i] - '0');
+    for (int i = 0; i < 120; i++) packed[i / 8] |= bits[i] << (7 - i % 8);
+    for (int cut = 0; cut <= 15; cut++)
+        for (int in_octets = 0; in_octets < 2; in_octets++) {
+            tmchan_search search = {0};
+            tmchan_place place, found[3];
+            int count = 0;
+            expect(tmchan_search_open(&search, 0, 0, 1, 20) == 0, "the search does not open");
+            for (int part = 0; part < 2; part++) {
+                int first = part ? cut : 0, size = part ? 15 - cut : cut;
+                uint8_t *array = room(in_octets ? size : 8 * size);
+                memcpy(array, in_octets ? packed + first : bits + 8 * first, in_octets ? size : 8 * size);
+                uint64_t at = 0;
+                while ((in_octets ? tmchan_search_octets(&search, array, size, &at, &place) : tmchan_search_bits(&search, array, 8 * size, &at, &place)) == 1)
+                    if (count < 3) found[count++] = place;
+                expect(at == (uint64_t)8 * size, "not all was taken");
+                free(array);
+            }
+            expect(count == 2 && found[0].place == 5 && found[1].place == 62 && !found[0].inverted && found[1].inverted, "other places were found");
+        }
+}
+
+int main(void) {
+    size_t size = 0;
+    char *line = NULL;
+    while (getline(&line, &size, stdin) > 0) {
+        line_number++;
+        make_row(line);
+    }
+    free(line);
+    make_refusals();
+    make_searches();
+    printf("%ld tests of streams, %ld fail\n", calls, differing);
+    return differing != 0;
+}
