@@ -1,11 +1,16 @@
 -- What follows from how a command ended.
-use Rattle.std.proofs.Common.{◌≡◌, ◌⊎◌, inl, inr, ℕ, ◌+◌, ◌≤◌, List, [], ◌++◌, length, Option, Some, None, Result, Ok, Err, true, refl, sym, ◌∙◌, ap, subst, arith, length-append}
+use Rattle.std.proofs.Common.{◌≡◌, ◌≢◌, ◌⊎◌, inl, inr, ℕ, ◌+◌, ◌≤◌, List, [], ◌++◌, length, Option, Some, None, Result, Ok, Err, true, refl, sym, ◌∙◌, ap, subst, arith, length-append}
 use Rattle.std.proofs.lemmas.List.{append-nil}
 use Rattle.std.specs.Io.KnownBytes.{prepend_known, IsAtEnd}
 use Rattle.std.specs.Result.{IfOk}
 use Rattle.tm_base.specs.Written.{Gave}
 use Rattle.tm_base.proofs.Known.{append_known-nil, prepend_known-nil}
-use Rattle.tm_config.specs.Configuration.{Configuration}
+use Rattle.std.specs.Prelude.{if◌then◌else◌, is_none}
+use Rattle.tm_config.specs.Configuration.{Configuration, is_uncoded}
+use Rattle.tm_config.specs.declared.error.ConfigError.TheVariants.{Code, Inner}
+use Rattle.tm_config.specs.declared.values.OuterCode.{OuterCode}
+use Rattle.tm_config.specs.declared.values.OuterCode.TheVariants.{Rs16, Rs8, Uncoded}
+use Rattle.tm_conv.specs.declared.rates.Rate.{Rate}
 use Rattle.tm_driver.specs.Courses.{SinkState, SinkCourse, SinksCourse}
 use Rattle.tm_driver.specs.Meaning.{Meaning, Ends, Output, Taken, taken_by}
 use Rattle.tm_driver.specs.Statuses.{is_sink_fault, status_of}
@@ -15,8 +20,11 @@ use Rattle.tm_words.specs.declared.job.Job.{Job}
 use Rattle.tm_words.specs.declared.job.JobKind.{JobKind}
 use Rattle.tm_words.specs.declared.job.JobKind.TheVariants as kind
 use Rattle.tm_cli.specs.Command.{Command, command_by, command_of, reads}
-use Rattle.tm_cli.specs.Command.Command.{Encode, Decode, Report, Trace, Word, Soak, Erased, Certify, Check}
+use Rattle.tm_cli.specs.Command.Command.{Encode, Decode, Report, Trace, Word, Soak, Erased, Certify, Check, Bits}
 use Rattle.tm_cli.specs.Meanings.{meaning_of}
+use Rattle.tm_cli.specs.Refusal.{refusal_of_command}
+use Rattle.tm_cli.specs.declared.refusal.Refusal.{Refusal}
+use Rattle.tm_cli.specs.declared.refusal.Refusal.TheVariants.{Value}
 
 -- ---- which command a job asks for
 
@@ -30,6 +38,7 @@ check-kind kind.Soak job is = cc is
 check-kind kind.Erased job is = cc is
 check-kind kind.Certify job is = cc is
 check-kind kind.Check job is = refl
+check-kind kind.Bits job is = cc is
 
 pub of-check : (job : Job) → command_of job ≡ Check → job.kind ≡ kind.Check
 of-check job is = check-kind job.kind job is
@@ -44,6 +53,7 @@ encode-kind kind.Soak job is = cc is
 encode-kind kind.Erased job is = cc is
 encode-kind kind.Certify job is = cc is
 encode-kind kind.Check job is = cc is
+encode-kind kind.Bits job is = cc is
 
 pub of-encode : (job : Job) → command_of job ≡ Encode → job.kind ≡ kind.Encode
 of-encode job is = encode-kind job.kind job is
@@ -59,6 +69,7 @@ partial-reads (Soak seed frames hits) c octets partial = absurd partial
 partial-reads Erased c octets partial = refl
 partial-reads Certify c octets partial = refl
 partial-reads Check c octets partial = refl
+partial-reads Bits c octets partial = refl
 
 pub left-reads : (e : Ending) (command : Command) (c : Configuration) (octets : List ℕ) (taken : Taken)
     → Ends e (meaning_of command c) c.limit octets taken → e ≡ LeftOver → reads command ≡ true
@@ -76,6 +87,7 @@ due-reads (Soak seed frames hits) c octets output due = absurd due
 due-reads Erased c octets output due = refl
 due-reads Certify c octets output due = refl
 due-reads Check c octets output due = refl
+due-reads Bits c octets output due = refl
 
 pub source-reads : (e : Ending) (command : Command) (c : Configuration) (octets : List ℕ) (taken : Taken)
     → Ends e (meaning_of command c) c.limit octets taken → e ≡ SourceFault → reads command ≡ true
@@ -192,3 +204,24 @@ one-sink (Ok ending) out out_now out_last notes notes_last h = go ending h
     go SourceFault h = (h, refl)
     go PastLimit h = (h, refl)
 one-sink (Err e) out out_now out_last notes notes_last h = tt
+
+-- ---- what a command that is not refused has
+
+coded-by : (code : OuterCode) (why : Refusal) → (if is_uncoded code then Some why else None) ≡ None → code ≢ Uncoded
+coded-by Rs16 why none = λ is. cc
+coded-by Rs8 why none = λ is. cc
+coded-by Uncoded why none = absurd cc
+
+rate-by : (rate : Option Rate) (why : Refusal) → (if is_none rate then Some why else None) ≡ None → rate ≢ None
+rate-by (Some rate) why none = λ is. cc
+rate-by None why none = absurd cc
+
+pub erased-coded : (c : Configuration) (job : Job) → job.kind ≡ kind.Erased
+    → refusal_of_command c (command_of job) ≡ None → c.code ≢ Uncoded
+erased-coded c job is none = coded-by c.code (Value Code)
+    (subst (λ (k : JobKind). refusal_of_command c (command_by k job) ≡ None) is none)
+
+pub check-rate : (c : Configuration) (job : Job) → job.kind ≡ kind.Check
+    → refusal_of_command c (command_of job) ≡ None → c.inner ≢ None
+check-rate c job is none = rate-by c.inner (Value Inner)
+    (subst (λ (k : JobKind). refusal_of_command c (command_by k job) ≡ None) is none)

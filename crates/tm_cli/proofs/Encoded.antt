@@ -9,8 +9,8 @@ use Rattle.tm_base.specs.Pieces.{further}
 use Rattle.tm_base.specs.Written.{Wrote, WroteFront}
 use Rattle.tm_config.specs.Accepted.{IsAccepted}
 use Rattle.tm_config.specs.Configuration.{Configuration}
+use Rattle.tm_codeblock.specs.Frames.{behind_frames}
 use Rattle.tm_channel.specs.Sending.{Sending, StandsFor, Sends, SendsFront}
-use Rattle.tm_channel.specs.Frames.{behind_frames}
 use Rattle.tm_channel.specs.Sent.{sent}
 use Rattle.tm_channel.proofs.Sending.{sent-goes_on, sends-all, sends-all_front}
 use Rattle.tm_driver.specs.Courses.{SinkState, SinkCourse}

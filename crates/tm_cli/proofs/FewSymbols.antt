@@ -10,7 +10,7 @@ use Rattle.tm_conv.specs.Encoding.{bit_numbers}
 use Rattle.tm_conv.specs.Path.{path, steps_size}
 use Rattle.tm_conv.proofs.Paths.{length-path}
 use Rattle.tm_conv.proofs.Sizes.{steps_size-add, steps_size-most}
-use Rattle.tm_inner.specs.Symbols.{rate_of, is_inverted, symbols_by, symbols_of_octets}
+use Rattle.tm_inner.specs.Symbols.{is_inverted, symbols_by, symbols_of_octets}
 use Rattle.tm_inner.proofs.Symbols.{symbols-go_on}
 
 -- how many octets are sent for bits
@@ -42,15 +42,18 @@ size_of-few (Some rate) n = omega (arith, steps_size-most rate 0 (8 * n))
 
 -- of all octets
 pub length-symbols : (c : Configuration) (octets : List ℕ) → length (symbols_of_octets c octets) ≤ 16 * length octets
-length-symbols c octets = omega (arith, length-symbols_by (rate_of c.inner) c octets, size_of-few (rate_of c.inner) (length octets))
+length-symbols c octets = omega (arith, length-symbols_by c.inner c octets, size_of-few c.inner (length octets))
 
 -- and of those behind others
 pub length-further : (c : Configuration) (given piece : List ℕ) → length (further (symbols_of_octets c) given piece) ≤ 16 * length piece
 length-further c given piece =
-    let both : size_of (rate_of c.inner) (8 * length (given ++ piece)) ≡ length (symbols_of_octets c given) + length (further (symbols_of_octets c) given piece) =
-    sym (length-symbols_by (rate_of c.inner) c (given ++ piece)) ∙ ap length (symbols-go_on c given piece) ∙ length-append (symbols_of_octets c given) (further (symbols_of_octets c) given piece) in
-    let front : length (symbols_of_octets c given) ≡ size_of (rate_of c.inner) (8 * length given) = length-symbols_by (rate_of c.inner) c given in
-    let long : size_of (rate_of c.inner) (8 * length (given ++ piece)) ≡ size_of (rate_of c.inner) (8 * (length given + length piece)) =
-    ap (λ (n : ℕ). size_of (rate_of c.inner) (8 * n)) (length-append given piece) in
-    let most = size_of-more (rate_of c.inner) (length given) (length piece) in
+    let both : size_of c.inner (8 * length (given ++ piece))
+    ≡ length (symbols_of_octets c given) + length (further (symbols_of_octets c) given piece) =
+    sym (length-symbols_by c.inner c (given ++ piece)) ∙ ap length (symbols-go_on c given piece)
+    ∙ length-append (symbols_of_octets c given) (further (symbols_of_octets c) given piece) in
+    let front : length (symbols_of_octets c given)
+    ≡ size_of c.inner (8 * length given) = length-symbols_by c.inner c given in
+    let long : size_of c.inner (8 * length (given ++ piece)) ≡ size_of c.inner (8 * (length given + length piece)) =
+    ap (λ (n : ℕ). size_of c.inner (8 * n)) (length-append given piece) in
+    let most = size_of-more c.inner (length given) (length piece) in
     omega (arith, both, front, long, most)

@@ -12,7 +12,7 @@ use Rattle.rand_pcg.specs.Pcg.{multiplier_64, pcg32}
 use Rattle.rand_pcg.proofs.LcgLemmas.{advance_zero}
 use Rattle.tm_config.specs.Accepted.{IsAccepted}
 use Rattle.tm_config.specs.Configuration.{Configuration, word_length, codeblock_length}
-use Rattle.tm_channel.specs.Cadu.{cadu}
+use Rattle.tm_codeblock.specs.Cadu.{cadu}
 use Rattle.tm_cli.specs.Generated.{drawn, draw, drawn_octets, changed, changed_column, changed_columns, generated_unit, draw_count, generated_units}
 
 -- ---- draws

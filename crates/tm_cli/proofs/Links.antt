@@ -7,23 +7,26 @@ use Rattle.tm_base.specs.Handed.{Handed, items_of}
 use Rattle.tm_base.specs.Written.{Wrote}
 use Rattle.tm_base.proofs.HandedItems.{items_of-items}
 use Rattle.tm_base.proofs.Packing.{length-bits_of}
-use Rattle.tm_config.specs.Configuration.{Configuration, codeblock_length}
+use Rattle.tm_config.specs.Configuration.{Configuration, codeblock_length, is_uncoded}
+use Rattle.tm_viterbi.specs.declared.block.Start.TheVariants.{Any}
+use Rattle.tm_conv.specs.declared.rates.Rate.TheVariants.{R12}
+use Rattle.tm_config.specs.declared.values.Sought.TheVariants.{Find}
 use Rattle.tm_config.specs.Accepted.{IsAccepted}
 use Rattle.tm_conv.specs.declared.rates.Rate.{Rate}
 use Rattle.tm_conv.specs.Path.{period}
 use Rattle.tm_phase.specs.declared.choosing.Chosen.{Chosen}
 use Rattle.tm_inner.specs.Inner.{Inner, IsStartKnown, inner_bits}
 use Rattle.tm_inner.specs.Phase.{IsChosen, PhaseAt, phase_octets, skip_of, in_turn}
-use Rattle.tm_inner.specs.Symbols.{rate_of, symbols_of_octets}
+use Rattle.tm_inner.specs.Symbols.{symbols_of_octets}
 use Rattle.tm_inner.proofs.InTurn.{OnePhase, one-choice}
 use Rattle.tm_inner.proofs.ReceivedBits.{bits-coded, bits-plain, whole_steps}
 use Rattle.tm_rs_solve.specs.declared.answers.Answer.{Answer}
 use Rattle.tm_rs_solve.specs.declared.answers.Answer.TheVariants.{Fixed}
 use Rattle.tm_sync.specs.declared.found.Found.{Found}
 use Rattle.tm_viterbi.specs.Clean.{turned_octets}
-use Rattle.tm_channel.specs.Frames.{whole_frames}
+use Rattle.tm_codeblock.specs.Frames.{whole_frames}
+use Rattle.tm_codeblock.specs.ReceivedCodeblock.{received_columns}
 use Rattle.tm_channel.specs.Sent.{cadus, sent, sent_phase}
-use Rattle.tm_channel.specs.ReceivedCodeblock.{received_columns}
 use Rattle.tm_channel.specs.Items.{ItemValue, are_fixed, frames_of, turned_item}
 use Rattle.tm_channel.specs.Handing.{AreReceived}
 use Rattle.tm_channel.specs.Receive.{Receive}
@@ -84,11 +87,13 @@ SentFrames = (c : Configuration) (phase : ℕ) (octets : List ℕ) (bits : List 
 
 -- the items of octets turned over, with no inner code and of symbols at rate 1/2
 abbrev TurnedItems : Type 0
-TurnedItems = (c : Configuration) (phase : ℕ) (octets : List ℕ) (items : List ItemValue) → IsAccepted c → c.inner ≡ 0 → c.polarity ≡ 1 → AreOctets octets
+TurnedItems = (c : Configuration) (phase : ℕ) (octets : List ℕ) (items : List ItemValue) → IsAccepted c
+    → c.inner ≡ None → c.polarity ≡ Find → AreOctets octets
     → Receive c phase octets items → Receive c phase (turned_octets octets) (map turned_item items)
 
 abbrev TurnedSymbols : Type 0
-TurnedSymbols = (c : Configuration) (octets : List ℕ) (items : List ItemValue) → IsAccepted c → c.inner ≡ 12 → c.polarity ≡ 1 → c.start ≡ 1 → c.skip ≡ 0 → AreOctets octets
+TurnedSymbols = (c : Configuration) (octets : List ℕ) (items : List ItemValue) → IsAccepted c → c.inner ≡ Some R12
+    → c.polarity ≡ Find → c.start ≡ Any → c.skip ≡ 0 → AreOctets octets
     → Receive c 0 (turned_octets (sent c octets)) items → items ≡ map turned_item (clean_items c 0 (whole_frames c.frame_length octets))
 
 -- ---- no column is beyond repair
@@ -110,7 +115,8 @@ one-good false rest is none = cc
 clean-good : (c : Configuration) (at : ℕ) (frames : List (List ℕ)) → bad (clean_items c at frames) ≡ 0
 clean-good c at [] = refl
 clean-good c at (frame ∷ frames) =
-    one-good (are_fixed (clean_answers c)) (bad (clean_items c (at + 32 + 8 * codeblock_length c) frames)) (clean-fixed (c.code == 0) c.depth)
+    one-good (are_fixed (clean_answers c)) (bad (clean_items c (at + 32 + 8 * codeblock_length c) frames))
+    (clean-fixed (is_uncoded c.code) c.depth)
     (clean-good c (at + 32 + 8 * codeblock_length c) frames)
 
 -- of columns that are disturbed within the bound
@@ -148,7 +154,8 @@ bad-turned (item ∷ items) = ap (λ n. (if are_fixed item.answers then 0 else 1
 -- they come to as many bits
 same-count : (c : Configuration) (phase : ℕ) (octets others : List ℕ) (bits more : List Bool) → length octets ≡ length others → Inner c phase octets bits → Inner c phase others more
     → length bits ≡ length more
-same-count c phase octets others bits more long a b = ap length a.are_bits ∙ by-rate (rate_of c.inner) refl ∙ sym (ap length b.are_bits)
+same-count c phase octets others bits more long a b = ap length a.are_bits ∙ by-rate c.inner refl
+    ∙ sym (ap length b.are_bits)
   where
     n : ℕ
     n = length others
@@ -156,7 +163,8 @@ same-count c phase octets others bits more long a b = ap length a.are_bits ∙ b
     m : ℕ
     m = 8 * n - c.skip
 
-    by-rate : (rate : Option Rate) → rate_of c.inner ≡ rate → length (inner_bits c octets a.blocks) ≡ length (inner_bits c others b.blocks)
+    by-rate : (rate : Option Rate) → c.inner ≡ rate
+        → length (inner_bits c octets a.blocks) ≡ length (inner_bits c others b.blocks)
     by-rate None is = sym (bits-plain c n m octets a.blocks is long refl) ∙ bits-plain c n m others b.blocks is refl refl
     by-rate (Some rate) is =
         let p = period rate in
@@ -171,10 +179,11 @@ phase-plain : (rate : Option Rate) (c : Configuration) (soft others : List ℕ) 
 phase-plain None c soft others chosen is p = p
 phase-plain (Some rate) c soft others chosen is p = absurd (cc)
 
-choice-plain : (c : Configuration) (octets others : List ℕ) (chosen : Option Chosen) → c.inner ≡ 0 → IsChosen c octets chosen → IsChosen c others chosen
+choice-plain : (c : Configuration) (octets others : List ℕ) (chosen : Option Chosen) → c.inner ≡ None
+    → IsChosen c octets chosen → IsChosen c others chosen
 choice-plain c octets others None none is = is
 choice-plain c octets others (Some chosen) none is =
-    (is.0, phase-plain (rate_of c.inner) c (phase_octets c octets) (phase_octets c others) chosen (ap rate_of none) is.1)
+    (is.0, phase-plain c.inner c (phase_octets c octets) (phase_octets c others) chosen none is.1)
 
 -- ---- what was written
 

@@ -6,11 +6,12 @@ use Rattle.tm_base.specs.Takers.{HandedOver, HandedPart}
 use Rattle.tm_base.specs.Handed.{Handed, items_of}
 use Rattle.tm_base.proofs.Handing.{HandedOver-append, HandedPart-after}
 use Rattle.tm_config.specs.Accepted.{IsAccepted}
+use Rattle.tm_config.proofs.Choices.{never_both, given_or_find}
+use Rattle.tm_config.specs.declared.values.Sought.TheVariants.{Find}
 use Rattle.tm_config.specs.Configuration.{Configuration}
 use Rattle.tm_conv.specs.declared.rates.Rate.{Rate}
 use Rattle.tm_conv.proofs.Sizes.{steps_size_ge}
 use Rattle.tm_viterbi.specs.Due.{first_place}
-use Rattle.tm_inner.specs.Symbols.{rate_of}
 use Rattle.tm_inner.specs.Inner.{Inner, DueAt, AreInnerDue, settings_of, soft_octets, inner_bits}
 use Rattle.tm_inner.specs.Phase.{InTurn, IsSettled, skip_of}
 use Rattle.tm_inner.proofs.FewBits.{first-few, whole-few, first-of-due}
@@ -21,7 +22,7 @@ use Rattle.tm_inner.proofs.ReceivedBits.{length-soft}
 use Rattle.tm_sync.specs.declared.found.Found.{Found}
 use Rattle.tm_sync.specs.Places.{places}
 use Rattle.tm_sync.proofs.Longer.{places-count}
-use Rattle.tm_channel.specs.ReceivedCodeblock.{rules_of}
+use Rattle.tm_codeblock.specs.ReceivedCodeblock.{rules_of}
 use Rattle.tm_channel.specs.Due.{in_batches, due}
 use Rattle.tm_channel.specs.Items.{ItemValue, AreItemsOf, AreFirstItemsOf}
 use Rattle.tm_channel.specs.Receive.{ReceiveDue, ReceiveFirst, ReceiveFront}
@@ -118,15 +119,15 @@ no-blocks (Some rate) c = record {
   few = omega (arith, length-soft c 0 [], steps_size_ge rate 0 (c.keep + c.ahead + 1));
 }
 
-none-settled : (c : Configuration) → IsAccepted c → 1 ≤ c.phase → IsSettled c [] → ⊥
-none-settled c accepted find (inl given) = omega (arith, find, given)
-none-settled c accepted find (inr many) = let keep = accepted.some_keep in omega (arith, many, few-soft c [], needed-some (rate_of c.inner) c (omega arith))
+none-settled : (c : Configuration) → IsAccepted c → c.phase ≡ Find → IsSettled c [] → ⊥
+none-settled c accepted find (inl given) = never_both c.phase given find
+none-settled c accepted find (inr many) = let keep = accepted.some_keep in omega
+    (arith, many, few-soft c [], needed-some c.inner c (omega arith))
 
 none-due : (c : Configuration) → IsAccepted c → AreReceivedDue c [] []
-none-due c accepted = elim (cases_lt c.phase 1) as (λ _. AreReceivedDue c [] []) [
-  | inl less ↦ (
-      let given : c.phase ≡ 0 = omega (arith, less) in
-      let blocks : AreInnerDue c 0 [] [] = no-blocks (rate_of c.inner) c in
+none-due c accepted = elim (given_or_find c.phase) as (λ _. AreReceivedDue c [] []) [
+  | inl given ↦ (
+      let blocks : AreInnerDue c 0 [] [] = no-blocks c.inner c in
       let bits = inner_bits c [] [] in
       let items = no-items c bits (due (rules_of c) bits) (few-places c [] bits (first-few c 0 [] [] (first-of-due c 0 [] [] blocks))) in
       inr (inl given, record { chosen = None; choice = given; items = []; are_items = record { blocks = []; are_due = blocks; are_items = items }; are = refl })

@@ -16,6 +16,7 @@ pub data Command : Type 0 where
   Erased : Command
   Certify : Command
   Check : Command
+  Bits : Command
 
 abbrev pub command_by : JobKind → Job → Command
 command_by kind.Encode job = Encode
@@ -27,6 +28,7 @@ command_by kind.Soak job = Soak job.seed job.frames job.hits
 command_by kind.Erased job = Erased
 command_by kind.Certify job = Certify
 command_by kind.Check job = Check
+command_by kind.Bits job = Bits
 
 -- the command that a job asks for
 abbrev pub command_of : Job → Command

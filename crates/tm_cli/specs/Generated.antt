@@ -8,7 +8,7 @@ use Rattle.rand_pcg.specs.Pcg.{multiplier_64, pcg32}
 use Rattle.tm_base.specs.Marker.{marker}
 use Rattle.tm_config.specs.Configuration.{Configuration, word_length}
 use Rattle.tm_inner.specs.Symbols.{symbols_of_octets}
-use Rattle.tm_channel.specs.Cadu.{sent_codeblock}
+use Rattle.tm_codeblock.specs.Cadu.{sent_codeblock}
 
 -- the generator of a seed, on stream 0
 abbrev pub generator_of : ℕ → Lcg

@@ -28,10 +28,12 @@ answers_text (answer ∷ answers) = codes " words" ++ flat_map answer_text (answ
 abbrev pub item_text : ℕ → ItemValue → List ℕ
 item_text number item =
     codes "frame " ++ decimal number ++ codes " at " ++ decimal item.found.place
-    ++ marker_text item.found.bridged item.found.distance item.found.inverted ++ answers_text item.answers ++ 10 ∷ []
+    ++ marker_text item.found.bridged item.found.distance item.found.inverted
+    ++ answers_text item.answers ++ 10 ∷ []
 
 -- the end of a report: the codeblocks without and with a column beyond repair, the symbols
 -- repaired, and the bits received
 abbrev pub report_end_text : (good bad fixed bits : ℕ) → List ℕ
 report_end_text good bad fixed bits =
-    codes "frames " ++ decimal good ++ codes " bad " ++ decimal bad ++ codes " fixed " ++ decimal fixed ++ codes " bits " ++ decimal bits ++ 10 ∷ []
+    codes "frames " ++ decimal good ++ codes " bad " ++ decimal bad ++ codes " fixed "
+    ++ decimal fixed ++ codes " bits " ++ decimal bits ++ 10 ∷ []

@@ -1,13 +1,16 @@
 -- What `decode` makes of octets in which transfer frames were sent.
-use Rattle.std.specs.Prelude.{◌≡◌, ℕ, ◌*◌, Bool, List, length, map, Option}
+use Rattle.std.specs.Prelude.{◌≡◌, ℕ, ◌*◌, Bool, List, length, map, Option, Some, None}
 use Rattle.std.specs.List.{concat}
 use Rattle.tm_base.specs.Bits.{AreOctets}
 use Rattle.tm_base.specs.Written.{Wrote}
 use Rattle.tm_config.specs.Configuration.{Configuration}
+use Rattle.tm_config.specs.declared.values.Sought.TheVariants.{Find}
+use Rattle.tm_conv.specs.declared.rates.Rate.TheVariants.{R12}
+use Rattle.tm_viterbi.specs.declared.block.Start.TheVariants.{Any}
 use Rattle.tm_phase.specs.declared.choosing.Chosen.{Chosen}
 use Rattle.tm_inner.specs.Inner.{Inner, IsStartKnown}
 use Rattle.tm_inner.specs.Phase.{IsChosen, skip_of, in_turn}
-use Rattle.tm_channel.specs.Frames.{whole_frames}
+use Rattle.tm_codeblock.specs.Frames.{whole_frames}
 use Rattle.tm_channel.specs.Sent.{cadus, sent, sent_phase}
 use Rattle.tm_viterbi.specs.Clean.{turned_octets}
 use Rattle.tm_channel.specs.Items.{ItemValue, AreItems, frames_of, turned_item}
@@ -47,7 +50,7 @@ abbrev pub KeepsTurnedInput : Configuration → List ℕ
     → (taken taken_now noted noted_now : Option (List ℕ)) → Type 0
 KeepsTurnedInput c octets taken taken_now noted noted_now =
     (other : List ℕ) (bits : List Bool) (items : List ItemValue) (chosen : Option Chosen)
-    → c.inner ≡ 0 → c.polarity ≡ 1 → AreOctets other → octets ≡ turned_octets other
+    → c.inner ≡ None → c.polarity ≡ Find → AreOctets other → octets ≡ turned_octets other
     → IsChosen c other chosen → Inner c (skip_of chosen) other bits → AreItems c bits items
     → Wrote taken taken_now (frames_of items)
     × Wrote noted noted_now (report_text (in_turn chosen (map turned_item items)) (length bits))
@@ -58,8 +61,8 @@ KeepsTurnedInput c octets taken taken_now noted noted_now =
 abbrev pub KeepsTurnedSymbols : ℕ → Configuration → List ℕ
     → (taken taken_now noted noted_now : Option (List ℕ)) → Type 0
 KeepsTurnedSymbols status c octets taken taken_now noted noted_now =
-    (input : List ℕ) → c.inner ≡ 12 → c.polarity ≡ 1 → c.start ≡ 1 → c.skip ≡ 0 → AreOctets input
-    → octets ≡ turned_octets (sent c input)
+    (input : List ℕ) → c.inner ≡ Some R12 → c.polarity ≡ Find → c.start ≡ Any → c.skip ≡ 0
+    → AreOctets input → octets ≡ turned_octets (sent c input)
     → (status ≡ 0) × Wrote taken taken_now (concat (whole_frames c.frame_length input))
     × Wrote noted noted_now (report_text
     (in_turn (sent_phase c) (map turned_item

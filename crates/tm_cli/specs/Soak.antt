@@ -1,6 +1,6 @@
 -- The command `soak`: generated frames, and what is received of them.
 use Rattle.std.specs.Prelude.{◌≡◌, ℕ, ◌*◌, ◌^◌, ◌≤◌, if◌then◌else◌, nat_le, nat_lt, List, [], codes, Option, Some, None}
-use Rattle.tm_config.specs.Configuration.{Configuration}
+use Rattle.tm_config.specs.Configuration.{Configuration, correctable}
 use Rattle.tm_base.specs.Handed.{Handed, items_of, on_handed}
 use Rattle.tm_channel.specs.Items.{ItemValue}
 use Rattle.tm_channel.specs.Handing.{AreReceived}
@@ -19,7 +19,7 @@ use Rattle.tm_cli.specs.declared.soak_refusal.SoakRefusal.TheVariants.{Seed, Fra
 abbrev pub soak_refusal : Configuration → (seed frames hits : ℕ) → Option SoakRefusal
 soak_refusal c seed frames hits =
     if nat_lt seed (2 ^ 63) then if nat_le frames 1000000 then if nat_le hits
-    (2 * c.code) then None else Some Hits else Some Frames else Some Seed
+    (2 * correctable c.code) then None else Some Hits else Some Frames else Some Seed
 
 -- the reason that the line gives
 abbrev pub soak_reason : SoakRefusal → List ℕ

@@ -23,7 +23,7 @@ impl<'a, 'b, 'c, O: Sink, N: Sink> Feed for Encoding<'a, 'b, 'c, O, N> {
     ghost use Rattle.std.proofs.Common.{◌∙◌, subst};
     ghost use Rattle.tm_base.specs.Outside.{Rose};
     ghost use Rattle.tm_base.specs.Written.{Wrote, WroteFront};
-    ghost use Rattle.tm_channel.specs.Frames.{behind_frames};
+    ghost use Rattle.tm_codeblock.specs.Frames.{behind_frames};
     ghost use Rattle.tm_channel.specs.Sending.{Sends, SendsFront, StandsFor};
     ghost use Rattle.tm_channel.proofs.Sending.{sends-none, sends-more, sends-front};
     ghost use Rattle.tm_driver.specs.Courses.{SinkCourse, SinksCourse, sink_state};
@@ -89,8 +89,8 @@ impl<'a, 'b, 'c, O: Sink, N: Sink> Feed for Encoding<'a, 'b, 'c, O, N> {
     }
 }
 
-/// Sends the frames of the source, up to the limit in octets, and at the end of the input tells on the notes how many octets
-/// are left over behind the last whole frame. After a fault nothing more is read or written.
+/// Sends the frames of the source, up to the limit in octets, and at the end of the input tells on the notes how many
+/// octets are left over behind the last whole frame. After a fault nothing more is read or written.
 pub fn encode<S: Source, O: Sink, N: Sink>(
     config: &Config,
     source: &mut S,

@@ -12,20 +12,32 @@ use tm_channel::{clean_law, disturbed_law, items_law, polarity_law, received_law
 use tm_inner::{clean_inner_law, inner_law};
 use tm_phase::phase_law;
 
-/// Where `decode` reads its whole input, sent frames come back, as far as they were not disturbed too much, and in the other polarity
-/// too. It does nothing.
+/// Where `decode` reads its whole input, sent frames come back, as far as they were not disturbed too much, and in the
+/// other polarity too. It does nothing.
 pub fn link_law()
-    ensures clean { (ending : Ending) (status : ℕ) (c : Configuration) (octets : List ℕ) (taken taken_now noted noted_now : Option (List ℕ))
-        → IsAccepted c → status ≡ status_of ending → Ends ending (decode_meaning c) c.limit octets (taken_by taken taken_now noted noted_now) → (status ≡ 0) ⊎ (status ≡ 1)
+    ensures clean { (ending : Ending) (status : ℕ) (c : Configuration) (octets : List ℕ)
+        (taken taken_now noted noted_now : Option (List ℕ))
+        → IsAccepted c → status ≡ status_of ending
+        → Ends ending (decode_meaning c) c.limit octets (taken_by taken taken_now noted noted_now)
+        → (status ≡ 0) ⊎ (status ≡ 1)
         → KeepsCleanLink status c octets taken taken_now noted noted_now }
-    ensures disturbed { (ending : Ending) (status : ℕ) (c : Configuration) (octets : List ℕ) (taken taken_now noted noted_now : Option (List ℕ))
-        → IsAccepted c → status ≡ status_of ending → Ends ending (decode_meaning c) c.limit octets (taken_by taken taken_now noted noted_now) → (status ≡ 0) ⊎ (status ≡ 1)
+    ensures disturbed { (ending : Ending) (status : ℕ) (c : Configuration) (octets : List ℕ)
+        (taken taken_now noted noted_now : Option (List ℕ))
+        → IsAccepted c → status ≡ status_of ending
+        → Ends ending (decode_meaning c) c.limit octets (taken_by taken taken_now noted noted_now)
+        → (status ≡ 0) ⊎ (status ≡ 1)
         → KeepsDisturbedLink status c octets taken taken_now noted noted_now }
-    ensures turned_input { (ending : Ending) (status : ℕ) (c : Configuration) (octets : List ℕ) (taken taken_now noted noted_now : Option (List ℕ))
-        → IsAccepted c → status ≡ status_of ending → Ends ending (decode_meaning c) c.limit octets (taken_by taken taken_now noted noted_now) → (status ≡ 0) ⊎ (status ≡ 1)
+    ensures turned_input { (ending : Ending) (status : ℕ) (c : Configuration) (octets : List ℕ)
+        (taken taken_now noted noted_now : Option (List ℕ))
+        → IsAccepted c → status ≡ status_of ending
+        → Ends ending (decode_meaning c) c.limit octets (taken_by taken taken_now noted noted_now)
+        → (status ≡ 0) ⊎ (status ≡ 1)
         → KeepsTurnedInput c octets taken taken_now noted noted_now }
-    ensures turned_symbols { (ending : Ending) (status : ℕ) (c : Configuration) (octets : List ℕ) (taken taken_now noted noted_now : Option (List ℕ))
-        → IsAccepted c → status ≡ status_of ending → Ends ending (decode_meaning c) c.limit octets (taken_by taken taken_now noted noted_now) → (status ≡ 0) ⊎ (status ≡ 1)
+    ensures turned_symbols { (ending : Ending) (status : ℕ) (c : Configuration) (octets : List ℕ)
+        (taken taken_now noted noted_now : Option (List ℕ))
+        → IsAccepted c → status ≡ status_of ending
+        → Ends ending (decode_meaning c) c.limit octets (taken_by taken taken_now noted noted_now)
+        → (status ≡ 0) ⊎ (status ≡ 1)
         → KeepsTurnedSymbols status c octets taken taken_now noted noted_now }
 {
     items_law();

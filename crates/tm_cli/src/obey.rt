@@ -16,11 +16,12 @@ use std::thread::Threads;
 use tm_base::{NoMemory, Sink, Source};
 use tm_channel::Config;
 use tm_driver::Ending;
-use tm_path_commands::{certify, check, trace};
+use tm_path_commands::{bits, certify, check, trace};
 use tm_records::{erased, word};
 use tm_words::{Job, JobKind};
 
-/// Does what a command asks for, and answers how it ended. Where there is not enough memory, nothing is read or written.
+/// Does what a command asks for, and answers how it ended. Where there is not enough memory, nothing is read or
+/// written.
 pub fn obey<R: Threads + Sync, S: Source, O: Sink, N: Sink>(
     rt: &R,
     alloc: Global,
@@ -66,5 +67,6 @@ pub fn obey<R: Threads + Sync, S: Source, O: Sink, N: Sink>(
         JobKind::Erased => erased(rt, alloc, config, source, out, notes),
         JobKind::Certify => certify(alloc, config, source, out),
         JobKind::Check => check(alloc, config, source, out, notes),
+        JobKind::Bits => bits(alloc, config, source, out, notes),
     }
 }

@@ -1,5 +1,5 @@
-// Receives the soft octets of a source: hands over their phase, where it is to be found, the items that are found in them, and the end of
-// their report.
+// Receives the soft octets of a source: hands over their phase, where it is to be found, the items that are found in
+// them, and the end of their report.
 ghost use Rattle.std.specs.Prelude.{◌≡◌, ℕ, ◌+◌, ◌≤◌, Bool, List, length, IfOk, OnErr};
 ghost use Rattle.tm_base.specs.Handed.{on_handed};
 ghost use Rattle.tm_base.specs.Written.{Gave};
@@ -103,8 +103,8 @@ impl<'a, 'b, 'c, R: Threads + Sync, T: ItemTaker + ReportEnd> Feed for Receiving
 }
 
 /// Hands over the symbol phase of the soft octets of a source, where it is to be found, their items, up to the limit in
-/// octets, and at the end of the input the end of their report. After a fault of the source or of the taker nothing more is read or handed
-/// over. It takes all its memory before it reads; where there is not enough, it reads nothing.
+/// octets, and at the end of the input the end of their report. After a fault of the source or of the taker nothing
+/// more is read or handed over. It takes all its memory before it reads; where there is not enough, it reads nothing.
 pub fn receive<R: Threads + Sync, S: Source, T: ItemTaker + ReportEnd>(
     rt: &R,
     alloc: Global,
@@ -115,7 +115,8 @@ pub fn receive<R: Threads + Sync, S: Source, T: ItemTaker + ReportEnd>(
     ensures received { IfOk result (λ ending. (octets : List ℕ)
         × Gave (S.given source.old) (S.given source.new) (S.left source.old) (S.left source.new) octets
         × (length octets ≤ config.now.limit + 1)
-        × ReceivedTo (on_handed T.took_phase T.took) (on_handed T.broke_phase T.broke) T.told T.broke_end config.now ending octets taker.old taker.new) }
+        × ReceivedTo (on_handed T.took_phase T.took)
+        (on_handed T.broke_phase T.broke) T.told T.broke_end config.now ending octets taker.old taker.new) }
     ensures memory { OnErr result ((source.new ≡ source.old) × (taker.new ≡ taker.old)) }
     ensures accepted { IsAccepted config.now }
     ensures source { IfOk result (λ ending. SourceCourse ending

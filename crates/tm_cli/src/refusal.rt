@@ -7,7 +7,7 @@ ghost use Rattle.tm_config.specs.Configuration.{configuration_of, Configuration}
 ghost use Rattle.tm_config.specs.Accepted.{IsAccepted};
 ghost use Rattle.tm_words.specs.declared.job.Job.{Job};
 ghost use Rattle.tm_cli.specs.Command.{command_of};
-ghost use Rattle.tm_cli.specs.Refusal.{reason_of, reason_of_value, refusal_of, refusal_of_command, IsAsked};
+ghost use Rattle.tm_cli.specs.Refusal.{reason_of, refusal_of, refusal_of_command, IsAsked};
 
 use crate::soak_refusal::{SoakRefusal, test_soak};
 use std::alloc::Global;
@@ -38,36 +38,10 @@ impl Refusal {
     {
         match self {
             Refusal::Words => b"words",
-            Refusal::Value(error) => reason_of_value(error),
+            Refusal::Value(error) => error.name().as_bytes(),
             Refusal::OfWord(refusal) => refusal.reason(),
             Refusal::OfSoak(refusal) => refusal.reason(),
         }
-    }
-}
-
-fn reason_of_value(error: ConfigError) -> &'static [u8]
-    ensures text { result.now ≡ reason_of_value error }
-    ensures length { length result.now ≤ 9 }
-{
-    match error {
-        ConfigError::Code => b"code",
-        ConfigError::Depth => b"depth",
-        ConfigError::Length => b"length",
-        ConfigError::Inner => b"inner",
-        ConfigError::Switch => b"switch",
-        ConfigError::Basis => b"basis",
-        ConfigError::Tolerance => b"tolerance",
-        ConfigError::Repair => b"repair",
-        ConfigError::Soft => b"soft",
-        ConfigError::Start => b"start",
-        ConfigError::Skip => b"skip",
-        ConfigError::Workers => b"workers",
-        ConfigError::Limit => b"limit",
-        ConfigError::Fly => b"fly",
-        ConfigError::Keep => b"keep",
-        ConfigError::Ahead => b"ahead",
-        ConfigError::Phase => b"phase",
-        ConfigError::Polarity => b"polarity",
     }
 }
 
@@ -95,8 +69,12 @@ fn test_command(job: &Job, config: &Config) -> Option<Refusal>
             Some(refusal) => Some(Refusal::OfSoak(refusal)),
             None => None,
         },
-        JobKind::Erased if config.code() == 0 => Some(Refusal::Value(ConfigError::Code)),
-        JobKind::Check if config.inner() == 0 => Some(Refusal::Value(ConfigError::Inner)),
+        JobKind::Erased if config.values().code.is_uncoded() => Some(Refusal::Value(
+            ConfigError::Code,
+        )),
+        JobKind::Check if config.values().inner.is_none() => Some(Refusal::Value(
+            ConfigError::Inner,
+        )),
         _ => None,
     }
 }
@@ -106,7 +84,8 @@ pub fn ask(alloc: Global, words: &[String]) -> Asked
     ensures command { (job : Job) (config : Configuration) → result ≡ Asked.Command job config
         → IsAsked (map string_bytes words.now) job × (configuration_of job.raw ≡ config) × IsAccepted config
         × (refusal_of_command config (command_of job) ≡ None) }
-    ensures refused { (why : Refusal) → result ≡ Asked.Refused why → refusal_of (map string_bytes words.now) ≡ Some why }
+    ensures refused { (why : Refusal) → result ≡ Asked.Refused why
+        → refusal_of (map string_bytes words.now) ≡ Some why }
 {
     let job = match read_words(alloc, words) {
         Ok(job) => job,

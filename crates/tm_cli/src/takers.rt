@@ -57,8 +57,8 @@ impl<'a, N: Sink> ItemTaker for Report<'a, N> {
     }
 }
 
-/// Writes the frame of each item to one sink and then its line to another, which takes the line of the symbol phase too, and
-/// counts the items.
+/// Writes the frame of each item to one sink and then its line to another, which takes the line of the symbol phase
+/// too, and counts the items.
 #[derive(Drop)]
 pub struct Decoding<'a, 'b, O, N> {
     pub out: &'a mut O,

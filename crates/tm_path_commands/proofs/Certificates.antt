@@ -1,5 +1,5 @@
 -- What `check` shows of a certificate that passes, and that what `certify` writes passes, from the laws of certificates.
-use Rattle.std.proofs.Common.{◌≡◌, ℕ, ◌+◌, ◌-◌, ◌<◌, ◌≤◌, ◌==◌, Bool, true, false, if◌then◌else◌, List, [], ◌∷◌, ◌++◌, length, take, drop, map, Option, Some, None, refl, sym, ap, ◌∙◌, subst, arith}
+use Rattle.std.proofs.Common.{◌≡◌, ℕ, ◌+◌, ◌-◌, ◌<◌, ◌≤◌, ◌==◌, Bool, true, false, List, [], ◌∷◌, ◌++◌, length, take, drop, map, Option, Some, None, refl, sym, ap, ◌∙◌, subst, arith}
 use Rattle.std.proofs.lemmas.Bool.Decides.{nat_tests}
 use Rattle.std.proofs.lemmas.List.{length-map, take_all}
 use Rattle.std.proofs.lemmas.List.Elements.{All-drop, All-map, All-weaker}
@@ -11,8 +11,6 @@ use Rattle.tm_config.specs.Configuration.{Configuration}
 use Rattle.tm_config.specs.Accepted.{IsAccepted}
 use Rattle.tm_conv.specs.declared.rates.Rate.{Rate}
 use Rattle.tm_conv.specs.Path.{steps_size}
-use Rattle.tm_path_cert.specs.declared.verdicts.Starts.TheVariants.{Any, One}
-use Rattle.tm_viterbi.specs.declared.block.Start.TheVariants.{Zero as FromZero, Any as FromAny}
 use Rattle.tm_viterbi.specs.Settings.{Settings}
 use Rattle.tm_viterbi.specs.Starts.{first_start}
 use Rattle.tm_viterbi.specs.WindowBlock.{WindowBlock}
@@ -20,7 +18,6 @@ use Rattle.tm_viterbi.specs.Blocks.{AreBlocks, AreBlocksOf}
 use Rattle.tm_viterbi.specs.Clean.{kept_bits}
 use Rattle.tm_inner.specs.Inner.{BlocksAt, bits_at, inner_bits, settings_of, soft_octets, soft_value}
 use Rattle.tm_inner.specs.Phase.{skip_of}
-use Rattle.tm_inner.specs.Symbols.{rate_of}
 use Rattle.tm_inner.proofs.ReceivedBits.{kept-count, kept-le}
 use Rattle.tm_cert_file.specs.declared.seen.Reason.{Reason}
 use Rattle.tm_cert_file.specs.declared.seen.Seen.{Seen}
@@ -87,7 +84,7 @@ pub shows-least : AllShown → (e : Ending) (status : ℕ) (c : Configuration) (
     → status ≡ status_of e → Ends e (check_meaning c) c.limit octets (taken_by taken taken_now noted noted_now) → status ≡ 0 → ShowsLeast c octets taken taken_now
 shows-least shown Done status c octets taken taken_now noted noted_now told ends none =
     let o = ends.0.0 in
-    shown-at shown (rate_of c.inner) c octets o.out o.notes taken taken_now ends.0.1 ends.0.2.out ends.2 ends.3
+    shown-at shown c.inner c octets o.out o.notes taken taken_now ends.0.1 ends.0.2.out ends.2 ends.3
 shows-least shown Bad status c octets taken taken_now noted noted_now told ends none = absurd (omega (arith, told, none))
 shows-least shown BadWindow status c octets taken taken_now noted noted_now told ends none = absurd (omega (arith, told, none))
 shows-least shown LeftOver status c octets taken taken_now noted noted_now told ends none = absurd (omega (arith, told, none))
@@ -102,17 +99,10 @@ by-rate : (P : Rules → Type 0) (rate : Option Rate) (c : Configuration) → Re
 by-rate P None c read = absurd read
 by-rate P (Some r) c read = (r, refl, read)
 
-same-starts : (c d : Bool) → c ≡ d → starts_by (if d then FromZero else FromAny) ≡ (if c then One 0 else Any)
-same-starts true true is = refl
-same-starts false false is = refl
-same-starts true false is = cc is
-same-starts false true is = cc is
-
 -- the same paths are candidates by the same rules
-same-rules : (c d : Configuration) (rate : Rate) → rate_of c.inner ≡ Some rate → HasSamePaths c d → rules_by (settings_of d rate) ≡ rules_of c rate
+same-rules : (c d : Configuration) (rate : Rate) → c.inner ≡ Some rate → HasSamePaths c d → rules_by (settings_of d rate) ≡ rules_of c rate
 same-rules c d rate is same =
-    let starts = same-starts (c.start == 0) (d.start == 0) same.start in
-    λ i. record { rate = rate; invert = sym (same.inverted rate is) i; starts = starts i; keep = sym same.keep i; ahead = sym same.ahead i }
+    λ i. record { rate = rate; invert = sym (same.inverted rate is) i; starts = starts_by (sym same.start i); keep = sym same.keep i; ahead = sym same.ahead i }
 
 soft-octet : (c : Configuration) (octet : ℕ) → octet < 256 → soft_value c octet < 256
 soft-octet c octet small = grind (arith, nat_tests)
@@ -139,14 +129,14 @@ all-bits rate invert keep ahead starts t n octets (w ∷ windows) are =
     let rest = all-bits rate invert keep ahead (Some b.end_state) (t + w.kept) (n - w.kept) (drop (steps_size rate t w.kept) octets) windows are.2 in
     omega (arith, are.1.kept, kept-le keep ahead n, rest)
 
-certifies : Passing → (c d : Configuration) (given octets : List ℕ) (rate : Rate) → rate_of c.inner ≡ Some rate → IsAccepted c → HasSamePaths c d → AreOctets given
+certifies : Passing → (c d : Configuration) (given octets : List ℕ) (rate : Rate) → c.inner ≡ Some rate → IsAccepted c → HasSamePaths c d → AreOctets given
     → (all : IsCertifiedAll d given octets) → Certifies c d given octets all.are_handed.items rate
 certifies passing c d given octets rate is accepted same small all =
     let s = settings_of d rate in
     let phase = skip_of all.are_handed.chosen in
     let soft = soft_octets d phase given in
     let blocks = all.are_handed.items in
-    let here : rate_of d.inner ≡ Some rate = ap rate_of (sym same.inner) ∙ is in
+    let here : d.inner ≡ Some rate = sym same.inner ∙ is in
     let are : AreBlocksOf s soft blocks all.left = subst (λ (r : Option Rate). BlocksAt r d phase given blocks all.left) here all.are_handed.are_items in
     let text : IsCertificate s soft blocks octets = subst (λ (r : Option Rate). TextAt r d phase given blocks octets) here all.is_text in
     let passed = passing s soft blocks all.left octets (omega (arith, accepted.some_keep, same.keep)) (omega (arith, accepted.keep, accepted.ahead, same.keep, same.ahead))
@@ -191,14 +181,14 @@ told-whole one rules octets out notes windows checked whole =
 
 not-broken : OneRead → Passing → (c d : Configuration) (given octets : List ℕ) → IsAccepted c → HasSamePaths c d → AreOctets given → IsCertifiedAll d given octets → (check_meaning c).is_bad octets → ⊥
 not-broken one passing c d given octets accepted same small all bad =
-    let r = by-rate (λ rules. (windows : List Window) × (reason : Reason) × IsBroken rules octets windows reason) (rate_of c.inner) c bad in
+    let r = by-rate (λ rules. (windows : List Window) × (reason : Reason) × IsBroken rules octets windows reason) c.inner c bad in
     let k = certifies passing c d given octets r.0 r.1 accepted same small all in
     let failed : Failed r.2.1 ≡ More = (read-whole one (rules_of c r.0) octets r.2.0 k.windows (Failed r.2.1) r.2.2 k.whole).1 in
     cc failed
 
 not-cut : OneRead → Passing → (c d : Configuration) (given octets : List ℕ) → IsAccepted c → HasSamePaths c d → AreOctets given → IsCertifiedAll d given octets → (check_meaning c).is_partial octets → ⊥
 not-cut one passing c d given octets accepted same small all partial =
-    let r = by-rate (λ rules. (windows : List Window) × IsCut rules octets windows) (rate_of c.inner) c partial in
+    let r = by-rate (λ rules. (windows : List Window) × IsCut rules octets windows) c.inner c partial in
     let k = certifies passing c d given octets r.0 r.1 accepted same small all in
     let no : true ≡ false = sym r.2.1.1 ∙ (read-whole one (rules_of c r.0) octets r.2.0 k.windows More r.2.1.0 k.whole).2 in
     cc no
@@ -207,7 +197,7 @@ pub passes-certified : OneRead → Passing → (e : Ending) (status : ℕ) (c : 
     → IsAccepted c → status ≡ status_of e → Ends e (check_meaning c) c.limit octets (taken_by taken taken_now noted noted_now) → PassesCertified status c octets noted noted_now
 passes-certified one passing Done status c octets taken taken_now noted noted_now accepted told ends = λ d given same small all within source sink.
     let o = ends.0.0 in
-    let r = by-rate (λ rules. IsChecked rules octets o.out o.notes) (rate_of c.inner) c ends.0.1 in
+    let r = by-rate (λ rules. IsChecked rules octets o.out o.notes) c.inner c ends.0.1 in
     let k = certifies passing c d given octets r.0 r.1 accepted same small all in
     let text = told-whole one (rules_of c r.0) octets o.out o.notes k.windows r.2 k.whole ∙ same-trace c d given octets all.are_handed.items r.0 k in
     (told, subst (Wrote noted noted_now) text ends.0.2.notes)

@@ -7,7 +7,6 @@ use Rattle.tm_config.specs.Accepted.{IsAccepted}
 use Rattle.tm_config.specs.Configuration.{Configuration}
 use Rattle.tm_conv.specs.declared.rates.Rate.{Rate}
 use Rattle.tm_viterbi.specs.WindowBlock.{WindowBlock}
-use Rattle.tm_inner.specs.Symbols.{rate_of}
 use Rattle.tm_inner.specs.Inner.{settings_of, soft_octets, BlocksAt, AreInnerBlocks}
 use Rattle.tm_inner.specs.Phase.{skip_of}
 use Rattle.tm_inner.specs.Receiving.{InnerReceiving}
@@ -58,7 +57,7 @@ ends-cut c octets taken taken_now noted w within =
 
 -- ---- what is due
 
-so-far : (q : Option Rate) (c : Configuration) (now : Certifying) (octets : List ℕ) (handed : List (Handed WindowBlock)) (text : List ℕ) → rate_of c.inner ≡ q
+so-far : (q : Option Rate) (c : Configuration) (now : Certifying) (octets : List ℕ) (handed : List (Handed WindowBlock)) (text : List ℕ) → c.inner ≡ q
     → WritesAt q c now octets handed text → AreHandedDue c octets handed → IsCertifiedSoFar c octets handed text
 so-far None c now octets handed text is w (inl none) = inl (none.0, none.1, w)
 so-far None c now octets handed text is w (inr h) =
@@ -84,7 +83,7 @@ module _ (exists : HasBlocks) (stands : StandFirst) (phase : HasPhase) (stays : 
       let all = in_turn-exists (λ n blocks. (left : ℕ) × AreInnerBlocks c n octets blocks left) phase c octets
       (λ n. let b = has_blocks exists c n octets accepted in (b.0, (b.1, b.2))) in
       let h = all.1 in
-      let text = text-all has (rate_of c.inner) c (skip_of h.chosen) octets h.items h.are_items.0 h.are_items.1 in (
+      let text = text-all has c.inner c (skip_of h.chosen) octets h.items h.are_items.0 h.are_items.1 in (
         text.0,
         record {
           handed = all.0;
@@ -123,7 +122,7 @@ module _ (exists : HasBlocks) (stands : StandFirst) (phase : HasPhase) (stays : 
   ends-early : (c : Configuration) (r : InnerReceiving) (now : Certifying) (octets : List ℕ) (taken taken_now noted : Option (List ℕ)) → IsAccepted c
       → Certifies c r now taken taken_now octets → WroteEarly (certify_meaning c) octets (taken_by taken taken_now noted noted)
   ends-early c r now octets taken taken_now noted accepted t =
-      let due = so-far (rate_of c.inner) c now octets t.handed t.text refl t.writes (subst (λ (k : Configuration). AreHandedDue k octets t.handed) t.config t.stands.1) in (
+      let due = so-far c.inner c now octets t.handed t.text refl t.writes (subst (λ (k : Configuration). AreHandedDue k octets t.handed) t.config t.stands.1) in (
         (record { out = t.text; notes = [] }, ((t.handed, due), refl), record { out = t.wrote; notes = wrote-nothing noted }),
         λ more.
             let later = front-later c octets more t.handed t.text taken taken_now accepted t.wrote due in

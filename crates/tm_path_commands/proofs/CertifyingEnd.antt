@@ -10,7 +10,6 @@ use Rattle.tm_viterbi.specs.WindowBlock.{WindowBlock}
 use Rattle.tm_viterbi.specs.Blocks.{AreBlocksOf}
 use Rattle.tm_viterbi.specs.Due.{Place, Closed, first_place}
 use Rattle.tm_phase.specs.declared.choosing.Chosen.{Chosen}
-use Rattle.tm_inner.specs.Symbols.{rate_of}
 use Rattle.tm_inner.specs.Inner.{settings_of, soft_octets, BlocksAt}
 use Rattle.tm_inner.specs.Phase.{IsChosen, phase_octets, skip_of, in_turn}
 use Rattle.tm_inner.specs.Receiving.{InnerReceiving, StandsFor, FirstAt, AreInnerFirst}
@@ -30,7 +29,7 @@ use Rattle.tm_path_commands.proofs.CertifyingPieces.{no-items, stood-now}
 -- ---- all of it was written
 
 last-at : Append → WritesLast → (q : Option Rate) (c : Configuration) (old now : Certifying) (octets : List ℕ) (handed last : List (Handed WindowBlock)) (left : ℕ) (text : List ℕ)
-    (taken taken_now : Option (List ℕ)) → IsAccepted c → rate_of c.inner ≡ q → length octets < 2 ^ 44 → WritesAt q c old octets handed text → WroteHanded old now last taken taken_now
+    (taken taken_now : Option (List ℕ)) → IsAccepted c → c.inner ≡ q → length octets < 2 ^ 44 → WritesAt q c old octets handed text → WroteHanded old now last taken taken_now
     → (h : AreHanded c octets (handed ++ last) left) → (rest : List ℕ) × TextAt q c (skip_of h.chosen) octets h.items (text ++ rest) × Wrote taken taken_now rest
 last-at append writes None c old now octets handed last left text taken taken_now accepted is few w wrote h =
     let none : h.items ≡ [] = (subst (λ (r : Option Rate). BlocksAt r c (skip_of h.chosen) octets h.items left) is h.are_items).0 in
@@ -47,7 +46,7 @@ pub certified-last : Append → WritesLast → (c : Configuration) (r : InnerRec
     → ((given : List ℕ) (done : List (Handed WindowBlock)) → StandsFor r given done → AreHanded r.config given (done ++ last) left) → WroteCertificate c start taken_now octets
 certified-last append writes c r old now start taken taken_now octets last left accepted t wrote finish =
     let all = subst (λ (k : Configuration). AreHanded k octets (t.handed ++ last) left) t.config (finish octets t.handed t.stands.0) in
-    let end = last-at append writes (rate_of c.inner) c old now octets t.handed last left t.text taken taken_now accepted refl t.few t.writes wrote all in (
+    let end = last-at append writes c.inner c old now octets t.handed last left t.text taken taken_now accepted refl t.few t.writes wrote all in (
       t.text ++ end.0,
       record { handed = t.handed ++ last; left = left; are_handed = all; is_text = end.1 },
       wrote-then start taken taken_now t.text end.0 t.wrote end.2,
@@ -113,10 +112,10 @@ module _ (exists : HasBlocks) (stands : StandFirst) (has : HasCertificate) (one 
       }
 
   first-all : (c : Configuration) (start taken_now : Option (List ℕ)) (octets : List ℕ) (chosen : Option Chosen) (items : List WindowBlock) (text : List ℕ) → IsAccepted c
-      → IsChosen c octets chosen → AreInnerFirst c (skip_of chosen) octets items → TextAt (rate_of c.inner) c (skip_of chosen) octets items text → WroteFront start taken_now text
+      → IsChosen c octets chosen → AreInnerFirst c (skip_of chosen) octets items → TextAt c.inner c (skip_of chosen) octets items text → WroteFront start taken_now text
       → WroteCertificateFront c start taken_now octets
   first-all c start taken_now octets chosen items text accepted choice first is wrote =
-      let all = all-at (rate_of c.inner) c (skip_of chosen) octets items text accepted first is in (
+      let all = all-at c.inner c (skip_of chosen) octets items text accepted first is in (
         all.whole,
         record {
           handed = in_turn chosen all.blocks;
@@ -137,7 +136,7 @@ module _ (exists : HasBlocks) (stands : StandFirst) (has : HasCertificate) (one 
 
   module _ (append : Append) (closes : WritesClosedFront) (ends : WritesLastFront) where
     front-at : (q : Option Rate) (c : Configuration) (old : Certifying) (octets : List ℕ) (handed tried : List (Handed WindowBlock)) (text : List ℕ) (taken taken_now : Option (List ℕ))
-        → IsAccepted c → rate_of c.inner ≡ q → length octets < 2 ^ 44 → WritesAt q c old octets handed text → WroteHandedFront old tried taken taken_now
+        → IsAccepted c → c.inner ≡ q → length octets < 2 ^ 44 → WritesAt q c old octets handed text → WroteHandedFront old tried taken taken_now
         → (h : AreHandedFront c octets (handed ++ tried))
         → FirstAt q c (skip_of h.chosen) octets h.items ⊎ ((left : ℕ) × BlocksAt q c (skip_of h.chosen) octets h.items left)
         → (rest : List ℕ) × TextAt q c (skip_of h.chosen) octets h.items (text ++ rest) × WroteFront taken taken_now rest
@@ -159,7 +158,7 @@ module _ (exists : HasBlocks) (stands : StandFirst) (has : HasCertificate) (one 
         → ((given : List ℕ) (done : List (Handed WindowBlock)) → StandsFor r given done → AreHandedFront r.config given (done ++ tried)) → WroteCertificateFront c start taken_now octets
     certified-front c r old start taken taken_now octets tried accepted t part finish =
         let h = subst (λ (k : Configuration). AreHandedFront k octets (t.handed ++ tried)) t.config (finish octets t.handed t.stands.0) in
-        let end = front-at (rate_of c.inner) c old octets t.handed tried t.text taken taken_now accepted refl t.few t.writes part h h.are_items in
+        let end = front-at c.inner c old octets t.handed tried t.text taken taken_now accepted refl t.few t.writes part h h.are_items in
         let wrote = wrote-then_front start taken taken_now t.text end.0 t.wrote end.2 in
         elim h.are_items as (λ _. WroteCertificateFront c start taken_now octets) [
           | inl first ↦ first-all c start taken_now octets h.chosen h.items (t.text ++ end.0) accepted h.choice first end.1 wrote

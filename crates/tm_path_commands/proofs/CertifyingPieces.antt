@@ -14,7 +14,7 @@ use Rattle.tm_viterbi.specs.Starts.{first_start}
 use Rattle.tm_viterbi.specs.WindowBlock.{WindowBlock}
 use Rattle.tm_viterbi.specs.Due.{Place, Closed, AreDue, AreFirst, first_place}
 use Rattle.tm_phase.specs.declared.choosing.Chosen.{Chosen}
-use Rattle.tm_inner.specs.Symbols.{rate_of, is_inverted}
+use Rattle.tm_inner.specs.Symbols.{is_inverted}
 use Rattle.tm_inner.specs.Inner.{settings_of, soft_value, soft_octets, DueAt, AreInnerDue}
 use Rattle.tm_inner.specs.Phase.{IsChosenBy, PhaseAt, needed_at, phase_octets, skip_of, skipped_at}
 use Rattle.tm_inner.specs.Receiving.{InnerReceiving, StandsFor, FirstAt, AreInnerFirst}
@@ -35,11 +35,11 @@ use Rattle.tm_path_commands.proofs.TraceEndings.{stands-new}
 
 -- ---- with an inner code, and with none
 
-pub due-some : (c : Configuration) (rate : Rate) (phase : ℕ) (octets : List ℕ) (blocks : List WindowBlock) → rate_of c.inner ≡ Some rate → AreInnerDue c phase octets blocks
+pub due-some : (c : Configuration) (rate : Rate) (phase : ℕ) (octets : List ℕ) (blocks : List WindowBlock) → c.inner ≡ Some rate → AreInnerDue c phase octets blocks
     → AreDue (settings_of c rate) (soft_octets c phase octets) blocks
 due-some c rate phase octets blocks is due = subst (λ (r : Option Rate). DueAt r c phase octets blocks) is due
 
-pub first-some : (c : Configuration) (rate : Rate) (phase : ℕ) (octets : List ℕ) (blocks : List WindowBlock) → rate_of c.inner ≡ Some rate → AreInnerFirst c phase octets blocks
+pub first-some : (c : Configuration) (rate : Rate) (phase : ℕ) (octets : List ℕ) (blocks : List WindowBlock) → c.inner ≡ Some rate → AreInnerFirst c phase octets blocks
     → AreFirst (settings_of c rate) (soft_octets c phase octets) blocks
 first-some c rate phase octets blocks is first = subst (λ (r : Option Rate). FirstAt r c phase octets blocks) is first
 
@@ -51,19 +51,19 @@ nil-second (x ∷ xs) ys is = absurd cc
 pub no-items : (handed more : List (Handed WindowBlock)) → items_of (handed ++ more) ≡ [] → items_of more ≡ []
 no-items handed more none = nil-second (items_of handed) (items_of more) (sym (items_of-append handed more) ∙ none)
 
-no-due : (c : Configuration) (octets : List ℕ) (handed : List (Handed WindowBlock)) → rate_of c.inner ≡ None → AreHandedDue c octets handed → items_of handed ≡ []
+no-due : (c : Configuration) (octets : List ℕ) (handed : List (Handed WindowBlock)) → c.inner ≡ None → AreHandedDue c octets handed → items_of handed ≡ []
 no-due c octets handed is (inl none) = ap items_of none.1
 no-due c octets handed is (inr h) =
     ap items_of h.1.are ∙ items_of-in_turn h.1.chosen h.1.items ∙ subst (λ (r : Option Rate). DueAt r c (skip_of h.1.chosen) octets h.1.items) is h.1.are_items
 
-pub no-first : (c : Configuration) (octets : List ℕ) (handed : List (Handed WindowBlock)) → rate_of c.inner ≡ None → AreHandedFirst c octets handed → items_of handed ≡ []
+pub no-first : (c : Configuration) (octets : List ℕ) (handed : List (Handed WindowBlock)) → c.inner ≡ None → AreHandedFirst c octets handed → items_of handed ≡ []
 no-first c octets handed is h =
     ap items_of h.1.are ∙ items_of-in_turn h.1.chosen h.1.items ∙ subst (λ (r : Option Rate). FirstAt r c (skip_of h.1.chosen) octets h.1.items) is h.1.are_items
 
 -- ---- nothing was given yet
 
 no-phase_octets : (c : Configuration) → phase_octets c [] ≡ []
-no-phase_octets c = ap (map (soft_value c)) (drop_all (skipped_at (rate_of c.inner) c) [] (omega arith))
+no-phase_octets c = ap (map (soft_value c)) (drop_all (skipped_at c.inner c) [] (omega arith))
 
 no-soft_octets : (c : Configuration) (phase : ℕ) → soft_octets c phase [] ≡ []
 no-soft_octets c phase = ap (map (soft_value c)) (ap (drop phase) (drop_all c.skip [] (omega arith)) ∙ drop_all phase [] (omega arith))
@@ -102,7 +102,7 @@ new-writes c now (Some rate) each due =
         inr (record { settled = h.0; are_due = h.1; closed = both.0; is_text = both.1 })
 
 pub certifies-new : (c : Configuration) (r : InnerReceiving) (now : Certifying) (taken : Option (List ℕ)) → IsAccepted c → r.config ≡ c → StandsFor r [] []
-    → ((rate : Rate) → rate_of c.inner ≡ Some rate → now ≡ new-at c rate) → Certifies c r now taken taken []
+    → ((rate : Rate) → c.inner ≡ Some rate → now ≡ new-at c rate) → Certifies c r now taken taken []
 certifies-new c r now taken accepted same stands each =
     let there = stands-new c r accepted same stands in
     record {
@@ -111,18 +111,18 @@ certifies-new c r now taken accepted same stands each =
       handed = [];
       stands = there;
       text = [];
-      writes = new-writes c now (rate_of c.inner) each (subst (λ (k : Configuration). AreHandedDue k [] []) same there.1);
+      writes = new-writes c now c.inner each (subst (λ (k : Configuration). AreHandedDue k [] []) same there.1);
       wrote = wrote-nothing taken;
     }
 
 -- ---- where the certificate stands once a piece was given
 
 -- the window that is open has few octets, and so have those that wait
-has-room : (c : Configuration) (rate : Rate) (now : Certifying) (octets : List ℕ) (handed : List (Handed WindowBlock)) (text : List ℕ) → rate_of c.inner ≡ Some rate
+has-room : (c : Configuration) (rate : Rate) (now : Certifying) (octets : List ℕ) (handed : List (Handed WindowBlock)) (text : List ℕ) → c.inner ≡ Some rate
     → Waits c rate now octets handed text ⊎ Goes c rate now octets handed text → length now.place.octets ≤ 2 * (c.keep + c.ahead) + 8
 has-room c rate now octets handed text is (inl w) =
-    elim (cases_lt (length (phase_octets c octets)) (needed_at (rate_of c.inner) c)) as (λ _. length now.place.octets ≤ 2 * (c.keep + c.ahead) + 8) [
-      | inl less ↦ omega (arith, less, needed-few (rate_of c.inner) c, ap (λ (p : Place). length p.octets) w.place)
+    elim (cases_lt (length (phase_octets c octets)) (needed_at c.inner c)) as (λ _. length now.place.octets ≤ 2 * (c.keep + c.ahead) + 8) [
+      | inl less ↦ omega (arith, less, needed-few c.inner c, ap (λ (p : Place). length p.octets) w.place)
       | inr many ↦ absurd (w.unsettled (inr many))
     ]
 has-room c rate now octets handed text is (inr g) =
@@ -151,13 +151,13 @@ pub stood-now : (c : Configuration) (rate : Rate) (now : Certifying) (octets : L
 stood-now c rate now octets handed text w = record { is_rate = w.0; is_invert = w.1; is_room = w.2; stood = stood-goes c rate now octets handed text w.3 }
 
 -- a phase skips no more octets than there are
-skip-within : PhaseWithin → (c : Configuration) (rate : Rate) (soft : List ℕ) (chosen : Option Chosen) → rate_of c.inner ≡ Some rate → IsChosenBy c soft chosen → skip_of chosen ≤ length soft
+skip-within : PhaseWithin → (c : Configuration) (rate : Rate) (soft : List ℕ) (chosen : Option Chosen) → c.inner ≡ Some rate → IsChosenBy c soft chosen → skip_of chosen ≤ length soft
 skip-within within c rate soft None is choice = omega arith
 skip-within within c rate soft (Some chosen) is choice =
     within rate (is_inverted rate c.invert) (c.keep + c.ahead) soft chosen (subst (λ (r : Option Rate). PhaseAt r c soft chosen) is choice.1)
 
 -- the soft octets behind a phase go on
-soft-on : (c : Configuration) (rate : Rate) (octets piece new : List ℕ) (skip : ℕ) → rate_of c.inner ≡ Some rate → skip ≤ length (phase_octets c octets)
+soft-on : (c : Configuration) (rate : Rate) (octets piece new : List ℕ) (skip : ℕ) → c.inner ≡ Some rate → skip ≤ length (phase_octets c octets)
     → phase_octets c (octets ++ piece) ≡ phase_octets c octets ++ new → soft_octets c skip (octets ++ piece) ≡ soft_octets c skip octets ++ new
 soft-on c rate octets piece new skip is inside soft =
     sym (soft-skipped c rate skip (octets ++ piece) is) ∙ ap (drop skip) soft ∙ drop-append-le skip (phase_octets c octets) new inside
@@ -170,7 +170,7 @@ place-waits c rate old given octets piece new handed text soft gives w =
     ap (λ (v : Certifying). v.place) gives ∙ ap (λ (p : Place). with_more p new) w.place ∙ ap (first_place (settings_of c rate)) (sym soft)
 
 stood-piece : Longer → StayClosed → PhaseWithin → (c : Configuration) (rate : Rate) (old given : Certifying) (octets piece new : List ℕ) (handed : List (Handed WindowBlock)) (text : List ℕ)
-    → rate_of c.inner ≡ Some rate → phase_octets c (octets ++ piece) ≡ phase_octets c octets ++ new → given ≡ with_octets old (old.place.octets ++ new)
+    → c.inner ≡ Some rate → phase_octets c (octets ++ piece) ≡ phase_octets c octets ++ new → given ≡ with_octets old (old.place.octets ++ new)
     → Waits c rate old octets handed text ⊎ Goes c rate old octets handed text
     → StoodWaiting c rate given (octets ++ piece) handed text ⊎ StoodGoing c rate given (octets ++ piece) handed text
 stood-piece longer stay within c rate old given octets piece new handed text is soft gives (inl w) =
@@ -206,13 +206,13 @@ pub record Given (c : Configuration) (old given : Certifying) (octets piece new 
 
 -- there is room for all of it
 gives-all : (c : Configuration) (rate : Rate) (old given : Certifying) (octets piece new : List ℕ) (handed : List (Handed WindowBlock)) (text : List ℕ)
-    → rate_of c.inner ≡ Some rate → Given c old given octets piece new → WritesAt (Some rate) c old octets handed text → given ≡ with_octets old (old.place.octets ++ new)
+    → c.inner ≡ Some rate → Given c old given octets piece new → WritesAt (Some rate) c old octets handed text → given ≡ with_octets old (old.place.octets ++ new)
 gives-all c rate old given octets piece new handed text is g w =
     let room = has-room c rate old octets handed text is w.3 in
     g.gives ∙ ap (λ (l : List ℕ). with_octets old (old.place.octets ++ l)) (take_all (old.room - length old.place.octets) new (omega (arith, g.few, room, w.2)))
 
 pub stood-more : Longer → StayClosed → PhaseWithin → (c : Configuration) (rate : Rate) (old given : Certifying) (octets piece new : List ℕ) (handed : List (Handed WindowBlock)) (text : List ℕ)
-    → rate_of c.inner ≡ Some rate → Given c old given octets piece new → WritesAt (Some rate) c old octets handed text → Stood c rate given (octets ++ piece) handed text
+    → c.inner ≡ Some rate → Given c old given octets piece new → WritesAt (Some rate) c old octets handed text → Stood c rate given (octets ++ piece) handed text
 stood-more longer stay within c rate old given octets piece new handed text is g w =
     let all = gives-all c rate old given octets piece new handed text is g w in
     record {
@@ -231,7 +231,7 @@ pub record WritesOn (r : Option Rate) (c : Configuration) (now : Certifying) (oc
   pub wrote : Wrote taken taken_now last
 
 writes-some : Append → Longer → WritesClosed → StayClosed → PhaseWithin → (c : Configuration) (rate : Rate) (old given now : Certifying) (octets piece new : List ℕ) (handed more : List (Handed WindowBlock)) (text : List ℕ) (taken taken_now : Option (List ℕ))
-    → IsAccepted c → rate_of c.inner ≡ Some rate → length (octets ++ piece) < 2 ^ 44 → Given c old given octets piece new → WritesAt (Some rate) c old octets handed text
+    → IsAccepted c → c.inner ≡ Some rate → length (octets ++ piece) < 2 ^ 44 → Given c old given octets piece new → WritesAt (Some rate) c old octets handed text
     → WroteHanded given now more taken taken_now → AreHandedDue c (octets ++ piece) (handed ++ more) → WritesOn (Some rate) c now (octets ++ piece) (handed ++ more) text taken taken_now
 writes-some append longer closes stay within c rate old given now octets piece new handed more text taken taken_now accepted is few g w wrote (inr h) =
     let stood = stood-more longer stay within c rate old given octets piece new handed text is g w in
@@ -282,7 +282,7 @@ writes-some append longer closes stay within c rate old given now octets piece n
     }
 
 writes-on : Append → Longer → WritesClosed → StayClosed → PhaseWithin → (r : Option Rate) (c : Configuration) (old given now : Certifying) (octets piece new : List ℕ) (handed more : List (Handed WindowBlock)) (text : List ℕ) (taken taken_now : Option (List ℕ))
-    → IsAccepted c → rate_of c.inner ≡ r → length (octets ++ piece) < 2 ^ 44 → Given c old given octets piece new → WritesAt r c old octets handed text
+    → IsAccepted c → c.inner ≡ r → length (octets ++ piece) < 2 ^ 44 → Given c old given octets piece new → WritesAt r c old octets handed text
     → WroteHanded given now more taken taken_now → AreHandedDue c (octets ++ piece) (handed ++ more) → WritesOn r c now (octets ++ piece) (handed ++ more) text taken taken_now
 writes-on append longer closes stay within None c old given now octets piece new handed more text taken taken_now accepted is few g w wrote due = record {
   last = [];
@@ -317,7 +317,7 @@ module _ (append : Append) (longer : Longer) (stay : StayClosed) (within : Phase
       let there = hands octets t.handed (omega (arith, few)) t.stands.0 in
       let short : length (octets ++ piece) < 2 ^ 44 = omega (arith, few, length-append octets piece) in
       let due = subst (λ (k : Configuration). AreHandedDue k (octets ++ piece) (t.handed ++ more)) t.config there.1 in
-      let on = writes-on append longer closes stay within (rate_of c.inner) c old given now octets piece p.soft t.handed more t.text taken taken_now accepted refl short (given-at t) t.writes wrote due in
+      let on = writes-on append longer closes stay within c.inner c old given now octets piece p.soft t.handed more t.text taken taken_now accepted refl short (given-at t) t.writes wrote due in
       record {
         config = same ∙ t.config;
         few = short;
@@ -329,7 +329,7 @@ module _ (append : Append) (longer : Longer) (stay : StayClosed) (within : Phase
       }
 
   -- the sink failed in what is written
-  front-on : WritesClosedFront → (q : Option Rate) (handed tried : List (Handed WindowBlock)) (text : List ℕ) → IsAccepted c → rate_of c.inner ≡ q → length (octets ++ piece) < 2 ^ 44
+  front-on : WritesClosedFront → (q : Option Rate) (handed tried : List (Handed WindowBlock)) (text : List ℕ) → IsAccepted c → c.inner ≡ q → length (octets ++ piece) < 2 ^ 44
       → Given c old given octets piece p.soft → WritesAt q c old octets handed text → WroteHandedFront given tried taken taken_now → (h : AreHandedFirst c (octets ++ piece) (handed ++ tried))
       → (last : List ℕ) × TextAt q c (skip_of h.1.chosen) (octets ++ piece) h.1.items (text ++ last) × WroteFront taken taken_now last
   front-on closes None handed tried text accepted is few g w part h =
@@ -346,7 +346,7 @@ module _ (append : Append) (longer : Longer) (stay : StayClosed) (within : Phase
   fails-more closes tried accepted t few part hands =
       let short : length (octets ++ piece) < 2 ^ 44 = omega (arith, few, length-append octets piece) in
       let first = subst (λ (k : Configuration). AreHandedFirst k (octets ++ piece) (t.handed ++ tried)) t.config (hands octets t.handed (omega (arith, few)) t.stands.0) in
-      let on = front-on closes (rate_of c.inner) t.handed tried t.text accepted refl short (given-at t) t.writes part first in
+      let on = front-on closes c.inner t.handed tried t.text accepted refl short (given-at t) t.writes part first in
       record {
         handed = t.handed ++ tried;
         are_first = first;
@@ -370,7 +370,7 @@ longer-at longer stay (Some rate) c phase octets more items text first is =
 pub fails-longer : Longer → StayClosed → PhaseStays → (c : Configuration) (start taken_now : Option (List ℕ)) (octets more : List ℕ) → CertifyFails c start taken_now octets → CertifyFails c start taken_now (octets ++ more)
 fails-longer longer stay stays c start taken_now octets more t =
     let h = t.are_first.1 in
-    let more_of = longer-at longer stay (rate_of c.inner) c (skip_of h.chosen) octets more h.items t.text h.are_items t.is_text in
+    let more_of = longer-at longer stay c.inner c (skip_of h.chosen) octets more h.items t.text h.are_items t.is_text in
     record {
       handed = t.handed;
       are_first = (

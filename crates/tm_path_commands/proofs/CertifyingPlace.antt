@@ -5,6 +5,7 @@ use Rattle.tm_base.specs.Handed.{Handed, Item}
 use Rattle.tm_base.specs.Written.{Wrote, WroteFront}
 use Rattle.tm_config.specs.Accepted.{IsAccepted}
 use Rattle.tm_config.specs.Configuration.{Configuration}
+use Rattle.tm_config.proofs.Choices.{never_both}
 use Rattle.tm_conv.specs.declared.rates.Rate.{Rate}
 use Rattle.tm_conv.specs.Path.{steps_size}
 use Rattle.tm_conv.proofs.Sizes.{steps_size-add, steps_size_ge}
@@ -13,7 +14,7 @@ use Rattle.tm_viterbi.specs.Blocks.{IsBlock, AreBlocks, AreBlocksOf}
 use Rattle.tm_viterbi.specs.Due.{Place, Closed, behind, first_place}
 use Rattle.tm_viterbi.proofs.CleanBlocks.{steps-mono}
 use Rattle.tm_phase.specs.declared.choosing.Chosen.{Chosen}
-use Rattle.tm_inner.specs.Symbols.{rate_of, is_inverted}
+use Rattle.tm_inner.specs.Symbols.{is_inverted}
 use Rattle.tm_inner.specs.Inner.{settings_of, soft_octets}
 use Rattle.tm_inner.specs.Phase.{IsChosenBy, phase_octets, skip_of, skipped_at, in_turn}
 use Rattle.tm_inner.proofs.GivenPieces.{soft-behind}
@@ -110,8 +111,8 @@ items-on (x ∷ items) (y ∷ all) more is =
 pub goes-on : (c : Configuration) (soft soft_now : List ℕ) (chosen other : Option Chosen) (items all : List WindowBlock) (more : List (Handed WindowBlock))
     → IsChosenBy c soft chosen → IsChosenBy c soft_now other → in_turn chosen items ++ more ≡ in_turn other all → GoesOn chosen other items all more
 goes-on c soft soft_now None None items all more is now same = let h = items-on items all more same in record { skip = refl; rest = h.0; split = h.1; are = h.2 }
-goes-on c soft soft_now None (Some b) items all more is now same = absurd (now.0 is)
-goes-on c soft soft_now (Some a) None items all more is now same = absurd (is.0 now)
+goes-on c soft soft_now None (Some b) items all more is now same = absurd (never_both c.phase is now.0)
+goes-on c soft soft_now (Some a) None items all more is now same = absurd (never_both c.phase now is.0)
 goes-on c soft soft_now (Some a) (Some b) items all more is now same =
     let skip : a.skip ≡ b.skip = cc in
     let tail : map Item items ++ more ≡ map Item all = cc in
@@ -156,11 +157,11 @@ pub record From (c : Configuration) (rate : Rate) (given : Certifying) (octets :
   pub broke : (taken taken_now : Option (List ℕ)) → WroteHandedFront given more taken taken_now → WroteBlocksFront from rest taken taken_now
 
 -- the soft octets behind a phase
-pub soft-skipped : (c : Configuration) (rate : Rate) (skip : ℕ) (octets : List ℕ) → rate_of c.inner ≡ Some rate → drop skip (phase_octets c octets) ≡ soft_octets c skip octets
-soft-skipped c rate skip octets is = soft-behind c skip (skipped_at (rate_of c.inner) c) octets (ap (λ (r : Option Rate). skipped_at r c) is)
+pub soft-skipped : (c : Configuration) (rate : Rate) (skip : ℕ) (octets : List ℕ) → c.inner ≡ Some rate → drop skip (phase_octets c octets) ≡ soft_octets c skip octets
+soft-skipped c rate skip octets is = soft-behind c skip (skipped_at c.inner c) octets (ap (λ (r : Option Rate). skipped_at r c) is)
 
 from-waiting : (c : Configuration) (rate : Rate) (given : Certifying) (octets : List ℕ) (other : Option Chosen) (all : List WindowBlock) (handed more : List (Handed WindowBlock)) (text : List ℕ)
-    → rate_of c.inner ≡ Some rate → handed ++ more ≡ in_turn other all → (s : Stood c rate given octets handed text) → StoodWaiting c rate given octets handed text
+    → c.inner ≡ Some rate → handed ++ more ≡ in_turn other all → (s : Stood c rate given octets handed text) → StoodWaiting c rate given octets handed text
     → From c rate given octets (skip_of other) all more text
 from-waiting c rate given octets other all handed more text is are s w =
     let turn : more ≡ in_turn other all = ap (λ l. l ++ more) (sym w.nothing) ∙ are in
@@ -205,7 +206,7 @@ from-going c rate given octets soft other all handed more text choice are s g =
     }
 
 pub from-stood : (c : Configuration) (rate : Rate) (given : Certifying) (octets soft : List ℕ) (other : Option Chosen) (all : List WindowBlock) (handed more : List (Handed WindowBlock)) (text : List ℕ)
-    → rate_of c.inner ≡ Some rate → IsChosenBy c soft other → handed ++ more ≡ in_turn other all → Stood c rate given octets handed text
+    → c.inner ≡ Some rate → IsChosenBy c soft other → handed ++ more ≡ in_turn other all → Stood c rate given octets handed text
     → From c rate given octets (skip_of other) all more text
 from-stood c rate given octets soft other all handed more text is choice are s = elim s.stood as (λ _. From c rate given octets (skip_of other) all more text) [
   | inl w ↦ from-waiting c rate given octets other all handed more text is are s w

@@ -7,7 +7,6 @@ use Rattle.tm_base.specs.Written.{Wrote, WroteFront}
 use Rattle.tm_config.specs.Accepted.{IsAccepted}
 use Rattle.tm_config.specs.Configuration.{Configuration}
 use Rattle.tm_conv.specs.declared.rates.Rate.{Rate}
-use Rattle.tm_inner.specs.Symbols.{rate_of}
 use Rattle.tm_cert_file.specs.declared.seen.Reason.{Reason}
 use Rattle.tm_cert_file.specs.declared.seen.Seen.{Seen}
 use Rattle.tm_cert_file.specs.declared.seen.Seen.TheVariants.{More, Failed}
@@ -79,10 +78,10 @@ abbrev output-of : (rules : Rules) (octets : List ℕ) (windows : List Window) (
 output-of rules octets windows seen read =
     record { out = all_kept rules.rate 0 windows; notes = windows_text 0 windows ++ end_text seen (is_cut read.before.next read.rest) windows }
 
-module _ (c : Configuration) (k : Rate) (is : rate_of c.inner ≡ Some k) where
+module _ (c : Configuration) (k : Rate) (is : c.inner ≡ Some k) where
   output-is : (octets : List ℕ) (windows : List Window) (seen : Seen) (read : IsRead (rules_of c k) octets windows seen) → (check_meaning c).is_output octets (output-of (rules_of c k) octets windows seen read)
   output-is octets windows seen read =
-      at-rate (λ r. IsChecked r octets (output-of (rules_of c k) octets windows seen read).out (output-of (rules_of c k) octets windows seen read).notes) (rate_of c.inner) c k is
+      at-rate (λ r. IsChecked r octets (output-of (rules_of c k) octets windows seen read).out (output-of (rules_of c k) octets windows seen read).notes) c.inner c k is
       (record { windows = windows; seen = seen; read = read; is_out = refl; are_notes = refl })
 
   -- all windows were written, and of the end a part
@@ -101,7 +100,7 @@ module _ (c : Configuration) (k : Rate) (is : rate_of c.inner ≡ Some k) where
           notes = (length lines + notes.0, notes.1 ∙ ap (append_known noted) (sym (take-append-add lines end notes.0)));
         },
         at-rate (λ r. (others : List Window) × (other : Seen) × (again : IsRead r octets others other)
-            × AreInOrder r others (end_text other (is_cut again.before.next again.rest) others) (taken_by taken taken_now noted noted_now)) (rate_of c.inner) c k is (
+            × AreInOrder r others (end_text other (is_cut again.before.next again.rest) others) (taken_by taken taken_now noted noted_now)) c.inner c k is (
               windows,
               seen,
               read,
@@ -146,7 +145,7 @@ module _ (c : Configuration) (k : Rate) (is : rate_of c.inner ≡ Some k) where
           notes = front-of noted noted_now (windows_text 0 windows) end (subst (WroteFront noted noted_now) (sym text) fronts.1);
         },
         at-rate (λ r. (others : List Window) × (other : Seen) × (again : IsRead r octets others other)
-            × AreInOrder r others (end_text other (is_cut again.before.next again.rest) others) (taken_by taken taken_now noted noted_now)) (rate_of c.inner) c k is
+            × AreInOrder r others (end_text other (is_cut again.before.next again.rest) others) (taken_by taken taken_now noted noted_now)) c.inner c k is
             (windows, seen, read, record { prefix = b.windows; rest = w ∷ more.0; split = split; stops = b.stops }),
       )
 
@@ -182,7 +181,7 @@ module _ (c : Configuration) (k : Rate) (is : rate_of c.inner ≡ Some k) where
       let notes = windows_text 0 h.windows in (
         (
           record { out = out; notes = notes },
-          at-rate (λ k'. IsCheckedDue k' octets out notes) (rate_of c.inner) c k is (record { windows = h.windows; read = read; is_out = refl; are_notes = refl }),
+          at-rate (λ k'. IsCheckedDue k' octets out notes) c.inner c k is (record { windows = h.windows; read = read; is_out = refl; are_notes = refl }),
           record { out = h.wrote.out; notes = h.wrote.notes },
         ),
         λ more. written-first once octets more h.windows taken taken_now noted noted_now read h.wrote.out h.wrote.notes,
@@ -206,10 +205,10 @@ module _ (c : Configuration) (k : Rate) (is : rate_of c.inner ≡ Some k) where
           },
         ),
         within,
-        λ partial. let other = from-rate (λ r'. (windows : List Window) × IsCut r' octets windows) (rate_of c.inner) c k is partial in
+        λ partial. let other = from-rate (λ r'. (windows : List Window) × IsCut r' octets windows) c.inner c k is partial in
             let same = once.one (rules_of c k) octets h.windows other.0 More More read other.1.0 in
             let no : false ≡ true = sym whole ∙ (λ i. is_cut (same.2 i).next (same.3 i)) ∙ other.1.1 in cc no,
-        λ bad. let other = from-rate (λ r'. (windows : List Window) × (reason : Reason) × IsBroken r' octets windows reason) (rate_of c.inner) c k is bad in
+        λ bad. let other = from-rate (λ r'. (windows : List Window) × (reason : Reason) × IsBroken r' octets windows reason) c.inner c k is bad in
             let no : More ≡ Failed other.1 = (once.one (rules_of c k) octets h.windows other.0 More (Failed other.1) read other.2).1 in cc no,
       )
 
@@ -230,7 +229,7 @@ module _ (c : Configuration) (k : Rate) (is : rate_of c.inner ≡ Some k) where
           },
         ),
         within,
-        at-rate (λ r'. (windows : List Window) × IsCut r' octets windows) (rate_of c.inner) c k is (h.windows, (read, cut)),
+        at-rate (λ r'. (windows : List Window) × IsCut r' octets windows) c.inner c k is (h.windows, (read, cut)),
       )
 
   -- the notes failed at the end
@@ -257,10 +256,10 @@ module _ (c : Configuration) (k : Rate) (is : rate_of c.inner ≡ Some k) where
       record { out = f.out; notes = f.notes },
     ),
     at-rate (λ r'. (windows : List Window) × (why : Reason) × IsBroken r' (take c.limit octets) windows why)
-        (rate_of c.inner) c k is (f.windows, f.reason, f.broken),
+        c.inner c k is (f.windows, f.reason, f.broken),
     λ bad.
         let early = from-rate (λ r'. (windows : List Window) × (why : Reason)
-        × IsBroken r' (but_last_turn (take c.limit octets)) windows why) (rate_of c.inner) c k is bad in
+        × IsBroken r' (but_last_turn (take c.limit octets)) windows why) c.inner c k is bad in
         f.late early.0 early.1 early.2,
   )
 
@@ -282,9 +281,9 @@ at-rules P k None c is p = absurd is
 at-rules P k (Some rate) c is p = subst P is p
 
 module _ (c : Configuration) (r : Reading) (p : Progress) (octets : List ℕ) (taken taken_now noted noted_then : Option (List ℕ)) (is_open : IsOpen r)
-    (h : ReadAt (λ rules. Passes rules r p taken taken_now noted noted_then octets) (rate_of c.inner) c) where
-  k : With (λ rules. Passes rules r p taken taken_now noted noted_then octets) (rate_of c.inner) c
-  k = with-rate (λ rules. Passes rules r p taken taken_now noted noted_then octets) (rate_of c.inner) c h
+    (h : ReadAt (λ rules. Passes rules r p taken taken_now noted noted_then octets) c.inner c) where
+  k : With (λ rules. Passes rules r p taken taken_now noted noted_then octets) c.inner c
+  k = with-rate (λ rules. Passes rules r p taken taken_now noted noted_then octets) c.inner c h
 
   pub early-checked : ReadOnce → WroteEarly (check_meaning c) octets (taken_by taken taken_now noted noted_then)
   early-checked once = early c k.0 k.1 once r p octets taken taken_now noted noted_then is_open k.2
@@ -328,7 +327,7 @@ module _ {F : Type 0} (reader : F → Reading) (progress : F → Progress) (out 
   -- nothing was read before
   module _ (once : ReadOnce) (c : Configuration) (before now : F) (count : (progress before).count ≡ 0)
       (bits : (progress before).bits ≡ 0)
-      (accepted : IsAccepted c) (rules_are : ReadAt (λ rules. (reader before).rules ≡ rules) (rate_of c.inner) c)
+      (accepted : IsAccepted c) (rules_are : ReadAt (λ rules. (reader before).rules ≡ rules) c.inner c)
       (fresh : StandsFor (reader before) [] []) where
     abbrev rules : Rules
     rules = (reader before).rules
@@ -338,19 +337,19 @@ module _ {F : Type 0} (reader : F → Reading) (progress : F → Progress) (out 
 
     of-fed : (b : F) (octets : List ℕ) → length octets ≤ c.limit → Fed before b octets
         → ReadAt (λ k. Passes k (reader b) (progress b) (out before) (out b) (notes before) (notes b) octets)
-        (rate_of c.inner) c
+        c.inner c
     of-fed b octets within p =
         let most = accepted.limit in
         at-rules (λ k. Passes k (reader b) (progress b) (out before) (out b) (notes before) (notes b) octets) rules
-        (rate_of c.inner) c rules_are
+        c.inner c rules_are
         (p.1 rules (out before) (notes before) [] (λ _. none) (omega arith))
 
     of-stopped : (why : Stop) (octets : List ℕ) → length octets ≤ c.limit → Stopped before now octets why
-        → ReadAt (λ k. StopsBy why k (out before) (out now) (notes before) (notes now) octets) (rate_of c.inner) c
+        → ReadAt (λ k. StopsBy why k (out before) (out now) (notes before) (notes now) octets) c.inner c
     of-stopped why octets within p =
         let most = accepted.limit in
         at-rules (λ k. StopsBy why k (out before) (out now) (notes before) (notes now) octets) rules
-        (rate_of c.inner) c rules_are
+        c.inner c rules_are
         (p rules (out before) (notes before) [] (λ _. none) (omega arith))
 
     up-to : (octets : List ℕ) → length (take c.limit octets) ≤ c.limit
@@ -373,13 +372,13 @@ module _ {F : Type 0} (reader : F → Reading) (progress : F → Progress) (out 
     ended-by BadWindow octets ended unended p =
         let at = take c.limit octets in
         let b = with-rate (λ k. Fails TookAfter k (out before) (out now) (notes before) (notes now) at)
-        (rate_of c.inner) c (of-stopped stop.BadWindow at (up-to octets) p) in
+        c.inner c (of-stopped stop.BadWindow at (up-to octets) p) in
         told-bad c b.0 b.1 octets (out before) (out now) (notes before) (notes now) b.2
     ended-by SourceFault octets ended unended p = (early-by octets p.1 p.0, p.1)
     ended-by SinkFault octets ended unended (inl p) =
         let at = take c.limit octets in
         let b = with-rate (λ k. StopsBy stop.SinkFault k (out before) (out now) (notes before) (notes now) at)
-        (rate_of c.inner) c
+        c.inner c
         (of-stopped stop.SinkFault at (up-to octets) p.0) in
         told-part_way c b.0 b.1 once octets (out before) (out now) (notes before) (notes now) b.2
     ended-by SinkFault octets ended unended (inr p) =

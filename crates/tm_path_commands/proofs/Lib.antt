@@ -8,3 +8,6 @@ pub mod CertifyingPieces
 pub mod CertifyingEnd
 pub mod CertifyEndings
 pub mod Certificates
+pub mod PackedBits
+pub mod BitsGathered
+pub mod BitsEndings

@@ -16,7 +16,6 @@ use Rattle.tm_viterbi.specs.Due.{Place, Closed, behind, first_place, AreFirst}
 use Rattle.tm_viterbi.specs.Starts.{first_start}
 use Rattle.tm_viterbi.proofs.CleanBlocks.{steps-mono}
 use Rattle.tm_viterbi.proofs.HasBlocks.{some_kept}
-use Rattle.tm_inner.specs.Symbols.{rate_of}
 use Rattle.tm_inner.specs.Inner.{settings_of, soft_value, soft_octets, BlocksAt, AreInnerBlocks, AreInnerDue, inner_bits}
 use Rattle.tm_inner.specs.Phase.{skip_of, in_turn, InTurnSettled}
 use Rattle.tm_inner.specs.Receiving.{InnerReceiving, StandsFor, FirstAt, AreInnerFirst, Hands, HandsFront}
@@ -103,16 +102,16 @@ first-settled c octets handed h = (
 
 few-first : (c : Configuration) (octets : List ℕ) (handed : List (Handed WindowBlock)) → IsAccepted c → AreHandedFirst c octets handed → length (items_of handed) ≤ length octets
 few-first c octets handed accepted h =
-    let few = few-first-at (rate_of c.inner) c (skip_of h.1.chosen) octets h.1.items (keeps-some c accepted) h.1.are_items in
+    let few = few-first-at c.inner c (skip_of h.1.chosen) octets h.1.items (keeps-some c accepted) h.1.are_items in
     omega (arith, few, ap (λ l. length (items_of l)) h.1.are, ap length (items_of-in_turn h.1.chosen h.1.items))
 
-few-due : (c : Configuration) (octets : List ℕ) (handed : List (Handed WindowBlock)) → IsAccepted c → AreHandedDue c octets handed → length (items_of handed) ≤ length octets
+pub few-due : (c : Configuration) (octets : List ℕ) (handed : List (Handed WindowBlock)) → IsAccepted c → AreHandedDue c octets handed → length (items_of handed) ≤ length octets
 few-due c octets handed accepted (inl none) = omega (arith, ap (λ l. length (items_of l)) none.1)
 few-due c octets handed accepted (inr h) = few-first c octets handed accepted (first-settled c octets handed h)
 
-few-handed : (c : Configuration) (octets : List ℕ) (handed : List (Handed WindowBlock)) (left : ℕ) → IsAccepted c → AreHanded c octets handed left → length (items_of handed) ≤ length octets
+pub few-handed : (c : Configuration) (octets : List ℕ) (handed : List (Handed WindowBlock)) (left : ℕ) → IsAccepted c → AreHanded c octets handed left → length (items_of handed) ≤ length octets
 few-handed c octets handed left accepted h =
-    let few = few-at (rate_of c.inner) c (skip_of h.chosen) octets h.items left (keeps-some c accepted) h.are_items in
+    let few = few-at c.inner c (skip_of h.chosen) octets h.items left (keeps-some c accepted) h.are_items in
     omega (arith, few, ap (λ l. length (items_of l)) h.are, ap length (items_of-in_turn h.chosen h.items))
 
 -- ---- first windows stand first
@@ -137,7 +136,7 @@ front-of-all exists stands c octets front accepted f =
     elim f.are_items as (λ _. (handed : List (Handed WindowBlock)) × (left : ℕ) × AreHanded c octets handed left × ((rest : List (Handed WindowBlock)) × (handed ≡ front ++ rest))) [
       | inl first ↦ (
           let all = has_blocks exists c phase octets accepted in
-          let split = first-of-all stands (rate_of c.inner) c phase octets f.items all.0 all.1 first all.2 in (
+          let split = first-of-all stands c.inner c phase octets f.items all.0 all.1 first all.2 in (
             in_turn f.chosen all.0,
             all.1,
             record { chosen = f.chosen; choice = f.choice; items = all.0; are_items = all.2; are = refl },
@@ -331,8 +330,8 @@ module _ (exists : HasBlocks) (stands : StandFirst) (phase : HasPhase) (one : On
         let all = trace-output c (octets ++ more) accepted in
         let due = subst (λ (k : Configuration). AreHandedDue k octets t.handed) t.config t.stands.1 in
         let split = in_turn-so_far (λ n. AreInnerDue c n octets) (λ n blocks. AreInnerBlocks c n (octets ++ more) blocks all.1.left) stays one c octets more t.handed all.1.handed
-        (λ n first blocks p q. first-of-all stands (rate_of c.inner) c n (octets ++ more) first blocks all.1.left
-        (stay-first stay (rate_of c.inner) c n octets more first (first-of-due c n octets first p)) q) due all.1.are_handed in (
+        (λ n first blocks p q. first-of-all stands c.inner c n (octets ++ more) first blocks all.1.left
+        (stay-first stay c.inner c n octets more first (first-of-due c n octets first p)) q) due all.1.are_handed in (
           all.0,
           all.1,
           fronts-by c (octets ++ more) t.handed before.taken now.taken noted all.0 all.1 split
@@ -346,7 +345,7 @@ module _ (exists : HasBlocks) (stands : StandFirst) (phase : HasPhase) (one : On
       let read = take c.limit octets in
       let all = trace-output c read accepted in
       let split = in_turn-front (λ n. AreInnerFirst c n read) (λ n blocks. AreInnerBlocks c n read blocks all.1.left) one c read t.handed all.1.handed
-      (λ n first blocks p q. first-of-all stands (rate_of c.inner) c n read first blocks all.1.left p q) t.are_first.1 all.1.are_handed in (
+      (λ n first blocks p q. first-of-all stands c.inner c n read first blocks all.1.left p q) t.are_first.1 all.1.are_handed in (
         all.0,
         all.1,
         fronts-by c read t.handed before.taken now.taken noted all.0 all.1 split (trace-front before now is_last t.handed t.broke),

@@ -9,7 +9,6 @@ use Rattle.tm_viterbi.specs.WindowBlock.{WindowBlock}
 use Rattle.tm_inner.specs.Inner.{AreInnerDue, settings_of, soft_octets}
 use Rattle.tm_inner.specs.Handing.{AreHanded}
 use Rattle.tm_inner.specs.Phase.{InTurn, IsSettled, skip_of}
-use Rattle.tm_inner.specs.Symbols.{rate_of}
 use Rattle.tm_cert_file.specs.Certificate.{IsCertificate}
 
 -- the certificate of blocks of received octets after a phase; with no inner code there is none
@@ -23,14 +22,14 @@ pub record IsCertifiedAll (c : Configuration) (octets text : List ℕ) : Type 0 
   pub handed : List (Handed WindowBlock)
   pub left : ℕ
   pub are_handed : AreHanded c octets handed left
-  pub is_text : TextAt (rate_of c.inner) c (skip_of are_handed.chosen) octets are_handed.items text
+  pub is_text : TextAt c.inner c (skip_of are_handed.chosen) octets are_handed.items text
 
 -- the certificate of those that were handed over once the phase is settled, whatever octets follow
 pub record IsCertifiedSettled (c : Configuration) (octets : List ℕ)
     (handed : List (Handed WindowBlock)) (text : List ℕ) : Type 0 where
   pub settled : IsSettled c octets
   pub are_due : InTurn (λ phase. AreInnerDue c phase octets) c octets handed
-  pub is_text : TextAt (rate_of c.inner) c (skip_of are_due.chosen) octets are_due.items text
+  pub is_text : TextAt c.inner c (skip_of are_due.chosen) octets are_due.items text
 
 -- the same before the phase is settled too, where there are none
 abbrev pub IsCertifiedSoFar : Configuration → List ℕ → List (Handed WindowBlock) → List ℕ → Type 0

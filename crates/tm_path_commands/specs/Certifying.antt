@@ -11,7 +11,7 @@ use Rattle.tm_inner.specs.Handing.{AreHandedFirst}
 use Rattle.tm_inner.specs.Inner.{AreInnerDue, settings_of, soft_octets}
 use Rattle.tm_inner.specs.Phase.{InTurn, IsSettled, phase_octets, skip_of}
 use Rattle.tm_inner.specs.Receiving.{InnerReceiving, StandsFor}
-use Rattle.tm_inner.specs.Symbols.{rate_of, is_inverted}
+use Rattle.tm_inner.specs.Symbols.{is_inverted}
 use Rattle.tm_cert_file.specs.Certificate.{IsCertificate}
 use Rattle.tm_cert_file.specs.Certifying.{Certifying, with_octets}
 use Rattle.tm_path_commands.specs.Certify.{IsCertifiedAll, TextAt}
@@ -55,7 +55,7 @@ pub record Certifies (c : Configuration) (receiver : InnerReceiving) (now : Cert
   pub handed : List (Handed WindowBlock)
   pub stands : StandsAt receiver octets handed
   pub text : List ℕ
-  pub writes : WritesAt (rate_of c.inner) c now octets handed text
+  pub writes : WritesAt c.inner c now octets handed text
   pub wrote : Wrote taken taken_now text
 
 -- the soft octets of a piece were given, as far as there was room for them
@@ -75,7 +75,7 @@ pub record CertifyFails (c : Configuration) (taken taken_now : Option (List ℕ)
   pub handed : List (Handed WindowBlock)
   pub are_first : AreHandedFirst c octets handed
   pub text : List ℕ
-  pub is_text : TextAt (rate_of c.inner) c
+  pub is_text : TextAt c.inner c
       (skip_of are_first.1.chosen) octets are_first.1.items text
   pub wrote : WroteFront taken taken_now text
 

@@ -1,28 +1,22 @@
 -- The command `check`: a certificate is read, and each of its windows is checked.
-use Rattle.std.specs.Prelude.{◌≡◌, ℕ, ◌+◌, ◌==◌, Bool, true, false, if◌then◌else◌, List, [], ◌∷◌, ◌++◌, length, Option, Some, None}
+use Rattle.std.specs.Prelude.{◌≡◌, ℕ, ◌+◌, Bool, true, false, List, [], ◌∷◌, ◌++◌, length, Option, Some, None}
 use Rattle.tm_config.specs.Configuration.{Configuration}
 use Rattle.tm_conv.specs.declared.rates.Rate.{Rate}
-use Rattle.tm_path_cert.specs.declared.verdicts.Starts.TheVariants.{Any, One}
 use Rattle.tm_driver.specs.Meaning.{Meaning, Taken}
 use Rattle.tm_driver.specs.Texts.{StopsAt}
-use Rattle.tm_inner.specs.Symbols.{is_inverted, rate_of}
+use Rattle.tm_inner.specs.Inner.{settings_of}
 use Rattle.tm_cert_file.specs.declared.seen.Reason.{Reason}
 use Rattle.tm_cert_file.specs.declared.seen.Seen.{Seen}
 use Rattle.tm_cert_file.specs.declared.seen.Seen.TheVariants.{More, Failed}
 use Rattle.tm_cert_file.specs.Window.{Window}
 use Rattle.tm_cert_file.specs.Before.{Rules}
+use Rattle.tm_cert_file.specs.Passes.{rules_by}
 use Rattle.tm_cert_file.specs.File.{IsRead, IsBroken, IsCut, all_kept, is_cut, kept_octets}
 use Rattle.tm_path_commands.specs.Lines.{window_text, trace_end_text, bad_text, cut_text}
 
 -- what a certificate is read by
 abbrev pub rules_of : Configuration → Rate → Rules
-rules_of c rate = record {
-  rate = rate;
-  invert = is_inverted rate c.invert;
-  starts = if c.start == 0 then One 0 else Any;
-  keep = c.keep;
-  ahead = c.ahead;
-}
+rules_of c rate = rules_by (settings_of c rate)
 
 -- a property of how octets are read as a certificate; with no inner code none is read
 abbrev pub ReadAt : (Rules → Type 0) → Option Rate → Configuration → Type 0
@@ -90,19 +84,19 @@ pub record AreInOrder (rules : Rules) (windows : List Window) (end : List ℕ)
 abbrev pub check_meaning : Configuration → Meaning
 check_meaning c = record {
   is_output = λ octets output. ReadAt (λ rules. IsChecked rules octets output.out output.notes)
-      (rate_of c.inner) c;
+      c.inner c;
   is_due = λ octets output. ReadAt (λ rules. IsCheckedDue rules octets output.out output.notes)
-      (rate_of c.inner) c;
+      c.inner c;
   -- no window fails, and it ends inside of a window or where one is missing
   is_partial = λ octets. ReadAt (λ rules. (windows : List Window) × IsCut rules octets windows)
-      (rate_of c.inner) c;
+      c.inner c;
   -- a window fails
   is_bad = λ octets. ReadAt (λ rules. (windows : List Window) × (reason : Reason)
-      × IsBroken rules octets windows reason) (rate_of c.inner) c;
+      × IsBroken rules octets windows reason) c.inner c;
   -- the line of a window follows its octets
   is_in_order = λ octets output taken. ReadAt
       (λ rules. (windows : List Window) × (seen : Seen) × (read : IsRead rules octets windows seen)
       × AreInOrder rules windows (end_text seen (is_cut read.before.next read.rest) windows) taken)
-      (rate_of c.inner) c;
+      c.inner c;
   stops_at_bad = Unit {0};
 }

@@ -14,7 +14,6 @@ use Rattle.tm_driver.specs.Texts.{StopsAt}
 use Rattle.tm_driver.specs.declared.ending.Ending.{Ending}
 use Rattle.tm_driver.specs.declared.ending.Stop.{Stop}
 use Rattle.tm_driver.specs.declared.ending.Stop.TheVariants.{BadWindow, SinkFault}
-use Rattle.tm_inner.specs.Symbols.{rate_of}
 use Rattle.tm_path_commands.specs.Check.{ReadAt, bits_kept, check_meaning, windows_text}
 use Rattle.tm_path_commands.specs.Lines.{bad_text, window_text}
 use Rattle.tm_path_commands.specs.declared.checking.Progress.{Progress}
@@ -135,6 +134,6 @@ abbrev pub EndsBy : Ending → Reading → Progress → (out notes out_now notes
 EndsBy ending reading progress out notes out_now notes_now =
     (c : Configuration) (start noted : Option (List ℕ)) (octets : List ℕ)
     → ReadAt (λ rules. Passes rules reading progress start out noted notes octets)
-    (rate_of c.inner) c
+    c.inner c
     → length octets ≤ c.limit
     → Ends ending (check_meaning c) c.limit octets (taken_by start out_now noted notes_now)

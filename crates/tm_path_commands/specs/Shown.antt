@@ -1,12 +1,12 @@
 -- What `check` shows, and that what `certify` writes passes.
-use Rattle.std.specs.Prelude.{◌≡◌, ℕ, ◌≤◌, ◌==◌, List, length, map, Option, Some}
+use Rattle.std.specs.Prelude.{◌≡◌, ℕ, ◌≤◌, List, length, map, Option, Some}
 use Rattle.tm_base.specs.Bits.{AreOctets}
 use Rattle.tm_base.specs.Handed.{Item}
 use Rattle.tm_base.specs.Written.{Wrote}
 use Rattle.tm_config.specs.Configuration.{Configuration}
 use Rattle.tm_conv.specs.declared.rates.Rate.{Rate}
 use Rattle.tm_inner.specs.Inner.{inner_bits}
-use Rattle.tm_inner.specs.Symbols.{rate_of, is_inverted}
+use Rattle.tm_inner.specs.Symbols.{is_inverted}
 use Rattle.tm_cert_file.specs.Window.{Window}
 use Rattle.tm_cert_file.specs.File.{IsWhole, all_kept}
 use Rattle.tm_cert_file.specs.Shown.{AreAllShown}
@@ -21,15 +21,15 @@ abbrev pub ShowsLeast : Configuration → List ℕ → (taken taken_now : Option
 ShowsLeast c octets taken taken_now = ReadAt
     (λ rules. (windows : List Window) × IsWhole rules octets windows
     × Wrote taken taken_now (all_kept rules.rate 0 windows)
-    × AreAllShown rules (all_kept rules.rate 0 windows) windows) (rate_of c.inner) c
+    × AreAllShown rules (all_kept rules.rate 0 windows) windows) c.inner c
 
 -- two configurations by which the same paths are candidates: of the same inner code, start and
 -- windows
 pub record HasSamePaths (c d : Configuration) : Type 0 where
   pub inner : c.inner ≡ d.inner
-  pub inverted : (rate : Rate) → rate_of c.inner ≡ Some rate
+  pub inverted : (rate : Rate) → c.inner ≡ Some rate
       → is_inverted rate c.invert ≡ is_inverted rate d.invert
-  pub start : (c.start == 0) ≡ (d.start == 0)
+  pub start : c.start ≡ d.start
   pub keep : c.keep ≡ d.keep
   pub ahead : c.ahead ≡ d.ahead
 

@@ -1,5 +1,5 @@
 // The command `certify`: the certificate of the windows of the soft decoder.
-ghost use Rattle.std.specs.Prelude.{◌≡◌, ℕ, ◌+◌, ◌^◌, ◌<◌, ◌≤◌, List, [], ◌++◌, length, ◌==◌, if◌then◌else◌, Option, false, OnOk, OnErr, IfOk};
+ghost use Rattle.std.specs.Prelude.{◌≡◌, ℕ, ◌+◌, ◌^◌, ◌<◌, ◌≤◌, List, [], ◌++◌, length, Option, false, OnOk, OnErr, IfOk};
 ghost use Rattle.tm_base.specs.Outside.{HasCause};
 ghost use Rattle.tm_base.specs.Written.{Gave};
 ghost use Rattle.tm_config.specs.Accepted.{IsAccepted};
@@ -7,7 +7,6 @@ ghost use Rattle.tm_config.specs.Configuration.{Configuration};
 ghost use Rattle.tm_driver.specs.Courses.{SourceCourse, SinkCourse, sink_state, source_state};
 ghost use Rattle.tm_driver.specs.Meaning.{Ends, taken_by};
 ghost use Rattle.tm_driver.specs.Statuses.{is_sink_fault};
-ghost use Rattle.tm_viterbi.specs.declared.block.Start.TheVariants.{Zero, Any};
 ghost use Rattle.tm_inner.specs.Receiving.{InnerReceiving, StandsFor};
 ghost use Rattle.tm_path_commands.specs.Certify.{certify_meaning};
 ghost use Rattle.tm_path_commands.specs.Certifying.{Certifies, CertifyFails, CutsCertificate, EndsCertificate, GavePiece};
@@ -20,18 +19,7 @@ use tm_conv::Rate;
 use tm_driver::{Ending, Feed, Outcome, Stop, drive};
 use tm_inner::{InnerReceiver, is_inverted, rate_of};
 use tm_phase::{phase_law, whole_window_law};
-use tm_viterbi::{Start, closed_windows_law, due_law, one_list_law};
-
-// Where the first window's path may start.
-fn start_of(config: &Config) -> Start
-    ensures { result ≡ (if config.now.start == 0 then Zero else Any) }
-{
-    if config.start() == 0 {
-        Start::Zero
-    } else {
-        Start::Any
-    }
-}
+use tm_viterbi::{closed_windows_law, due_law, one_list_law};
 
 // What is kept to write the certificate of a configuration, which was given nothing yet. With no inner code it is given
 // nothing.
@@ -41,14 +29,14 @@ fn open(alloc: Global, config: &Config) -> Result<Certifying, NoMemory>
         → Certifies config.now receiver certifying taken taken []) }
 {
     let rate = rate_of(config).unwrap_or(Rate::R12);
-    let start = start_of(config);
+    let values = config.values();
     let keep = config.keep() as u32;
     let ahead = config.ahead() as u32;
     Certifying::open(
         alloc,
         rate,
-        is_inverted(rate, config.invert()),
-        start,
+        is_inverted(rate, values.invert),
+        values.start,
         keep,
         ahead,
     )

@@ -1,5 +1,5 @@
 // The command `check`: a certificate is read, and each of its windows is checked.
-ghost use Rattle.std.specs.Prelude.{◌≡◌, ℕ, ◌+◌, ◌^◌, ◌<◌, ◌≤◌, ◌==◌, List, ◌++◌, length, take, Option, if◌then◌else◌, OnOk, OnErr, IfOk, IfErr};
+ghost use Rattle.std.specs.Prelude.{◌≡◌, ◌≢◌, ℕ, ◌+◌, ◌^◌, ◌<◌, ◌≤◌, List, ◌++◌, length, take, Option, None, OnOk, OnErr, IfOk, IfErr};
 ghost use Rattle.tm_base.specs.Outside.{HasCause};
 ghost use Rattle.tm_base.specs.Written.{Gave};
 ghost use Rattle.tm_driver.specs.Courses.{SourceCourse, SinkCourse, SinksCourse, sink_state, source_state};
@@ -7,8 +7,8 @@ ghost use Rattle.tm_driver.specs.Meaning.{Ends, taken_by};
 ghost use Rattle.tm_driver.specs.Statuses.{ending_at_end, ending_of_stop, failed_at_end, failed_in_piece, is_sink_fault};
 ghost use Rattle.tm_driver.specs.declared.ending.Ending.TheVariants.{SinkFault};
 ghost use Rattle.tm_driver.specs.declared.ending.Outcome.TheVariants.{Bad};
-ghost use Rattle.tm_path_cert.specs.declared.verdicts.Starts.TheVariants.{Any, One};
 ghost use Rattle.tm_cert_file.specs.Before.{Rules};
+ghost use Rattle.tm_cert_file.specs.Passes.{starts_by};
 ghost use Rattle.tm_cert_file.specs.Reading.{HasPassed, IsOpen};
 ghost use Rattle.tm_path_commands.specs.Check.{check_meaning};
 ghost use Rattle.tm_path_commands.specs.Checking.{Passes, Breaks, EndsBy, StopsBy, WroteBy, WroteWindow, WroteWindowFront};
@@ -22,6 +22,7 @@ use tm_config::Config;
 use tm_driver::{Ending, Feed, Outcome, Stop, drive};
 use tm_inner::{is_inverted, rate_of};
 use tm_path_cert::Starts;
+use tm_viterbi::Start;
 
 /// The windows that passed, and how many of their steps are kept.
 #[derive(Clone, Copy)]
@@ -161,7 +162,8 @@ fn check_octets<O: Sink, N: Sink>(
     ensures ok { OnOk result ((rules : Rules) (start noted : Option (List ℕ)) (given : List ℕ)
         → length given + length octets.now < 2 ^ 43
         → Passes rules reader.old progress.old start (O.taken out.old) noted (N.taken notes.old) given
-        → Passes rules reader.new progress.new start (O.taken out.new) noted (N.taken notes.new) (given ++ octets.now)) }
+        → Passes rules reader.new progress.new start (O.taken out.new) noted (N.taken notes.new)
+        (given ++ octets.now)) }
     ensures stopped { IfErr result (λ stop. (rules : Rules) (start noted : Option (List ℕ)) (given : List ℕ)
         → length given + length octets.now < 2 ^ 43
         → Passes rules reader.old progress.old start (O.taken out.old) noted (N.taken notes.old) given
@@ -295,12 +297,11 @@ impl<'a, 'b, 'c, O: Sink, N: Sink> Feed for Checking<'a, 'b, 'c, O, N> {
 
 // Where the first path may start.
 fn first_starts(config: &Config) -> Starts
-    ensures { result ≡ (if config.now.start == 0 then One 0 else Any) }
+    ensures { result ≡ starts_by config.now.start }
 {
-    if config.start() == 0 {
-        Starts::One(0)
-    } else {
-        Starts::Any
+    match config.values().start {
+        Start::Zero => Starts::One(0),
+        Start::Any => Starts::Any,
     }
 }
 
@@ -317,7 +318,7 @@ pub fn check<S: Source, O: Sink, N: Sink>(
     out: &mut O,
     notes: &mut N,
 ) -> Result<Ending, NoMemory>
-    requires { 0 < config.now.inner }
+    requires { config.now.inner ≢ None }
     ensures ends { IfOk result (λ ending. (octets : List ℕ)
         × Gave (S.given source.old) (S.given source.new) (S.left source.old) (S.left source.new) octets
         × (length octets ≤ config.now.limit + 1)
@@ -342,7 +343,7 @@ pub fn check<S: Source, O: Sink, N: Sink>(
     let Ok(mut reader) = Reader::open(
         alloc,
         rate,
-        is_inverted(rate, config.invert()),
+        is_inverted(rate, config.values().invert),
         first_starts(config),
         keep,
         ahead,

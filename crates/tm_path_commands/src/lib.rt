@@ -1,8 +1,9 @@
-//! The commands that show what the soft decoder found: `trace` writes a line for each window, `certify` writes a
-//! certificate of their paths, and `check` reads one and checks each window. None of them needs the outer code. What
-//! each of them writes is its meaning (`specs/Trace.antt`, `Certify.antt`, `Check.antt`).
+//! The commands that show what the soft decoder found: `trace` writes a line for each window, `bits` the bits that they
+//! keep, `certify` a certificate of their paths, and `check` reads one and checks each window. None of them needs the
+//! outer code. What each of them writes is its meaning (`specs/Trace.antt`, `Bits.antt`, `Certify.antt`, `Check.antt`).
 #![tactic(auto)]
 
+mod bits_command;
 mod certificate;
 mod certifying;
 mod checking;
@@ -10,6 +11,7 @@ mod lines;
 mod trace_lines;
 mod tracing;
 
+pub use bits_command::bits;
 pub use certificate::certificate_law;
 pub use certifying::certify;
 pub use checking::check;

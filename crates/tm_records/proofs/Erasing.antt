@@ -20,7 +20,7 @@ use Rattle.tm_driver.specs.declared.ending.Stop.{Stop}
 use Rattle.tm_driver.specs.declared.ending.Stop.TheVariants.{SinkFault, BadWindow}
 use Rattle.tm_driver.proofs.SinkTexts.{wrote-nothing, wrote-front, wrote-no_front, wrote-then, wrote-then_front, front-of}
 use Rattle.tm_dual.specs.declared.basis.Basis.{Basis}
-use Rattle.tm_dual.specs.Octet.{basis_of, sent_octet}
+use Rattle.tm_dual.specs.Octet.{sent_octet}
 use Rattle.tm_rs_code.specs.Erasures.{NearestErased}
 use Rattle.tm_rs_solve.specs.Answers.{found_erased}
 use Rattle.tm_rs_solve.specs.declared.answers.ErasedAnswer.{ErasedAnswer}
@@ -295,7 +295,7 @@ due-are c batch beyond start now octets h space = record {
 output-of : (c : Configuration) (octets : List ℕ) (nearest : List NearestErased)
     → AreNearest (coding_of c) octets nearest
     → (erased_meaning c).is_output octets (record {
-      out = nearest_lines (basis_of c.basis) nearest;
+      out = nearest_lines c.basis nearest;
       notes =
           left_over_text (record_rest c octets);
     })
@@ -308,16 +308,16 @@ early-output : (c : Configuration) (octets : List ℕ) (taken now noted : Option
 early-output c octets taken now noted b =
     let rest = has_rest (coding_of c) octets b.nearest b.each
     (le-div (length b.nearest) (length octets) (record_size (coding_of c)) b.some b.few) in
-    let lines = lines-append (basis_of c.basis) b.nearest rest.0 in (
+    let lines = lines-append c.basis b.nearest rest.0 in (
       record {
-        out = nearest_lines (basis_of c.basis) (b.nearest ++ rest.0);
+        out = nearest_lines c.basis (b.nearest ++ rest.0);
         notes = left_over_text
             (record_rest c octets);
       },
       output-of c octets (b.nearest ++ rest.0) rest.1,
       record {
-        out = subst (WroteFront taken now) (sym lines) (front-of taken now (nearest_lines (basis_of c.basis) b.nearest)
-            (nearest_lines (basis_of c.basis) rest.0) b.wrote);
+        out = subst (WroteFront taken now) (sym lines) (front-of taken now (nearest_lines c.basis b.nearest)
+            (nearest_lines c.basis rest.0) b.wrote);
         notes = wrote-no_front noted (left_over_text (record_rest c octets));
       },
     )
@@ -337,7 +337,7 @@ early-lines : (c : Configuration) (batch : Batch) (beyond : Bool) (octets : List
     → WroteEarly (erased_meaning c) octets (taken_by taken now noted noted)
 early-lines c batch beyond octets taken now noted space h = (
   (
-    record { out = nearest_lines (basis_of c.basis) h.nearest; notes = [] },
+    record { out = nearest_lines c.basis h.nearest; notes = [] },
     (
       record {
         nearest = h.nearest;
@@ -468,11 +468,11 @@ module _ (c : Configuration) (taken now noted noted_now : Option (List ℕ)) whe
   shows-stop octets BadWindow is same b = cc is
 
   whole-output : (octets : List ℕ) (nearest : List NearestErased) → AreNearest (coding_of c) octets nearest
-      → Wrote taken now (nearest_lines (basis_of c.basis) nearest)
+      → Wrote taken now (nearest_lines c.basis nearest)
       → Wrote noted noted_now (left_over_text (record_rest c octets))
       → WroteOutput (erased_meaning c) octets (taken_by taken now noted noted_now)
   whole-output octets nearest are lines rest = (
-    record { out = nearest_lines (basis_of c.basis) nearest; notes = left_over_text (record_rest c octets) },
+    record { out = nearest_lines c.basis nearest; notes = left_over_text (record_rest c octets) },
     output-of c octets nearest are,
     record { out = lines; notes = rest },
   )
@@ -520,10 +520,10 @@ module _ (c : Configuration) (taken now noted noted_now : Option (List ℕ)) whe
       → WroteInOrder (erased_meaning c) octets (taken_by taken now noted noted_now)
   shows-broken octets noted' same (inl b) = shows-cut octets (b.1 ∙ same) b.0
   shows-broken octets noted' same (inr b) = (
-    record { out = nearest_lines (basis_of c.basis) b.nearest; notes = left_over_text (record_rest c octets) },
+    record { out = nearest_lines c.basis b.nearest; notes = left_over_text (record_rest c octets) },
     output-of c octets b.nearest b.are_nearest,
     record {
-      out = wrote-front taken now (nearest_lines (basis_of c.basis) b.nearest) b.lines;
+      out = wrote-front taken now (nearest_lines c.basis b.nearest) b.lines;
       notes = subst
           (λ (k : Option (List ℕ)). WroteFront k noted_now (left_over_text (record_rest c octets))) same b.rest;
     },

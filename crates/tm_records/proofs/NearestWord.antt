@@ -1,5 +1,5 @@
 -- Words in hexadecimal, and the lines of their nearest codewords.
-use Rattle.std.proofs.Common.{◌≡◌, ℕ, ◌*◌, ◌/◌, ◌%◌, ◌≤◌, ◌<◌, Bool, true, false, cond, List, [], length, map, Some, None, Result, Ok, Err, refl, sym, ap, ◌∙◌, subst, arith}
+use Rattle.std.proofs.Common.{◌≡◌, ◌≢◌, ℕ, ◌*◌, ◌/◌, ◌%◌, ◌≤◌, ◌<◌, Bool, true, false, cond, List, [], length, map, if◌then◌else◌, Option, Some, None, Result, Ok, Err, refl, sym, ap, ◌∙◌, subst, arith}
 use Rattle.std.specs.Prelude.{MatchResult, IsOk}
 use Rattle.std.specs.List.{list_all}
 use Rattle.std.specs.Result.{result_unwrap_or}
@@ -8,14 +8,18 @@ use Rattle.std.proofs.lemmas.List.Sums.{AllPass-from_list_all, list_all-from_All
 use Rattle.hex.specs.Hex.{is_hex_digit, decode_sized}
 use Rattle.hex.specs.declared.error.FromHexError.{FromHexError}
 use Rattle.hex.proofs.HexLemmas.{IsOk-written, IsOk-decode_sized, decode_of-digits, decode_sized-twice}
-use Rattle.tm_config.specs.Configuration.{Configuration}
-use Rattle.tm_dual.specs.Octet.{basis_of, sent_octet, element_of}
+use Rattle.tm_config.specs.Configuration.{Configuration, correctable, is_uncoded}
+use Rattle.tm_config.specs.declared.values.OuterCode.{OuterCode}
+use Rattle.tm_config.specs.declared.values.OuterCode.TheVariants.{Rs16, Rs8, Uncoded}
+use Rattle.tm_config.proofs.Choices.{uncoded_false}
+use Rattle.tm_dual.specs.Octet.{sent_octet, element_of}
 use Rattle.tm_rs_code.specs.Nearest.{IsNearest}
 use Rattle.tm_rs_solve.specs.Answers.{found}
 use Rattle.tm_rs_solve.specs.declared.answers.Answer.{Answer}
 use Rattle.tm_rs_solve.specs.declared.answers.Answer.TheVariants.{Fixed, Beyond}
 use Rattle.tm_records.specs.Word.{octets_of_hex, word_refusal, word_of, word_text, IsWordLine, IsBeyond}
-use Rattle.tm_records.specs.declared.word_command.WordRefusal.TheVariants.{Hex}
+use Rattle.tm_records.specs.declared.word_command.WordRefusal.{WordRefusal}
+use Rattle.tm_records.specs.declared.word_command.WordRefusal.TheVariants.{Code, Hex}
 
 -- what writing the octets of a text answers
 abbrev pub Written : List ℕ → ℕ → Result Unit FromHexError → List ℕ → Type 0
@@ -25,10 +29,12 @@ Written text count answer octets = MatchResult (decode_sized text count) (λ byt
 -- ---- the text that is refused
 
 -- a text of the length of a word is refused where a byte is no digit
-pub refused-by_digits : (c : Configuration) (text : List ℕ) (all : Bool) → (c.code ≡ 0 → ⊥) → length text % 2 ≡ 0
-    → 2 * c.code < length text / 2 → length text / 2 ≤ 255
+pub refused-by_digits : (c : Configuration) (text : List ℕ) (all : Bool) → c.code ≢ Uncoded → length text % 2 ≡ 0
+    → 2 * correctable c.code < length text / 2 → length text / 2 ≤ 255
     → list_all is_hex_digit text ≡ all → word_refusal c text ≡ cond all None (Some Hex)
-refused-by_digits c text all code even some most is = rw (← is) (grind (arith, nat_tests))
+refused-by_digits c text all code even some most is =
+    let coded = uncoded_false c.code code in
+    rw (← is) (rw coded (grind (arith, nat_tests)))
 
 pub all-digits : (text : List ℕ) (count : ℕ) (octets : List ℕ) (answer : Result Unit FromHexError)
     → Written text count answer octets → IsOk answer → list_all is_hex_digit text ≡ true
@@ -54,20 +60,28 @@ not_all-digits text count octets e long written = no-digit text count octets e (
 
 -- what an accepted text is
 pub record IsAcceptedText (c : Configuration) (text : List ℕ) : Type 0 where
-  pub code : 0 < c.code
+  pub code : c.code ≢ Uncoded
   pub even : length text % 2 ≡ 0
-  pub some : 2 * c.code < length text / 2
+  pub some : 2 * correctable c.code < length text / 2
   pub most : length text / 2 ≤ 255
   pub digits : list_all is_hex_digit text ≡ true
 
+not-refused : (code : OuterCode) (rest : Option WordRefusal) → (if is_uncoded code then Some Code else rest) ≡ None
+    → (code ≢ Uncoded) × (rest ≡ None)
+not-refused Rs16 rest is = (λ e. cc, is)
+not-refused Rs8 rest is = (λ e. cc, is)
+not-refused Uncoded rest is = absurd cc
+
 pub accepted-text : (c : Configuration) (text : List ℕ) → word_refusal c text ≡ None → IsAcceptedText c text
-accepted-text c text accepted = record {
-  code = grind (arith, nat_tests);
-  even = grind (arith, nat_tests);
-  some = grind (arith, nat_tests);
-  most = grind (arith, nat_tests);
-  digits = grind (arith, nat_tests);
-}
+accepted-text c text accepted =
+    let coded = not-refused c.code _ accepted in
+    let fits = coded.1 in record {
+      code = coded.0;
+      even = grind (arith, nat_tests);
+      some = grind (arith, nat_tests);
+      most = grind (arith, nat_tests);
+      digits = grind (arith, nat_tests);
+    }
 
 -- its octets are read
 pub octets-read : (text : List ℕ) (count : ℕ) (octets : List ℕ) (answer : Result Unit FromHexError)
@@ -83,8 +97,8 @@ octets-read text count octets answer long digits written =
 -- what repairing the octets of a word has made of them
 abbrev pub Repaired : Configuration → List ℕ → Answer → List ℕ → Type 0
 Repaired c octets answer now = (codeword : List ℕ)
-    × IsNearest c.code c.repair (map (element_of (basis_of c.basis)) octets) (found answer codeword)
-    × (now ≡ map (sent_octet (basis_of c.basis)) codeword)
+    × IsNearest (correctable c.code) c.repair (map (element_of c.basis) octets) (found answer codeword)
+    × (now ≡ map (sent_octet c.basis) codeword)
 
 repaired-text : (c : Configuration) (text octets now : List ℕ) (answer : Answer) → word_refusal c text ≡ None
     → (list_all is_hex_digit text ≡ true → octets ≡ octets_of_hex text)
@@ -105,15 +119,15 @@ pub is_beyond : (c : Configuration) (text octets now : List ℕ) (answer : Answe
     → Repaired c octets answer now → answer ≡ Beyond → IsBeyond c text
 is_beyond c text octets now answer accepted read repaired is =
     let near = repaired-text c text octets now answer accepted read repaired in
-    subst (λ (a : Answer). IsNearest c.code c.repair (word_of c text) (found a near.0)) is near.1
+    subst (λ (a : Answer). IsNearest (correctable c.code) c.repair (word_of c text) (found a near.0)) is near.1
 
 pub not_beyond : (c : Configuration) (text octets now : List ℕ) (answer : Answer) (d : ℕ) → word_refusal c text ≡ None
     → (list_all is_hex_digit text ≡ true → octets ≡ octets_of_hex text)
     → Repaired c octets answer now → answer ≡ Fixed d → IsBeyond c text → ⊥
 not_beyond c text octets now answer d accepted read repaired is beyond =
     let near = repaired-text c text octets now answer accepted read repaired in
-    let fixed : IsNearest c.code c.repair (word_of c text) (found (Fixed d) near.0) = subst
-    (λ (a : Answer). IsNearest c.code c.repair (word_of c text) (found a near.0)) is near.1 in
+    let fixed : IsNearest (correctable c.code) c.repair (word_of c text) (found (Fixed d) near.0) = subst
+    (λ (a : Answer). IsNearest (correctable c.code) c.repair (word_of c text) (found a near.0)) is near.1 in
     let far = beyond near.0 fixed.0 in
     let at = fixed.1 in
     let within = fixed.2 in

@@ -4,11 +4,11 @@ use Rattle.std.specs.Prelude.{◌≡◌, ◌⊎◌, ℕ, Bool, true, false, List
 use Rattle.std.specs.List.{list_any}
 use Rattle.hex.specs.Hex.{encode_lower}
 use Rattle.tm_base.specs.Written.{Wrote}
-use Rattle.tm_config.specs.Configuration.{Configuration, word_length}
+use Rattle.tm_config.specs.Configuration.{Configuration, correctable, word_length}
 use Rattle.tm_driver.specs.Lines.{left_over_text}
 use Rattle.tm_driver.specs.Meaning.{Meaning}
 use Rattle.tm_dual.specs.declared.basis.Basis.{Basis}
-use Rattle.tm_dual.specs.Octet.{basis_of, sent_octet}
+use Rattle.tm_dual.specs.Octet.{sent_octet}
 use Rattle.tm_rs_code.specs.Erasures.{NearestErased}
 use Rattle.tm_rs_code.specs.Erasures.NearestErased.{Fixed, Beyond}
 use Rattle.tm_rs_solve.specs.declared.answers.ErasedAnswer.{ErasedAnswer}
@@ -19,8 +19,8 @@ use Rattle.tm_records.specs.Records.{AreNearest, AreNearestDue, left_over}
 -- what the words of the records are decoded by
 abbrev pub coding_of : Configuration → Coding
 coding_of c = record {
-  params = record { e = c.code; n = word_length c };
-  basis = basis_of c.basis;
+  params = record { e = correctable c.code; n = word_length c };
+  basis = c.basis;
   repair = c.repair;
 }
 
@@ -51,13 +51,13 @@ is_beyond Beyond = true
 pub record AreLines (c : Configuration) (octets lines : List ℕ) : Type 0 where
   pub nearest : List NearestErased
   pub are_nearest : AreNearest (coding_of c) octets nearest
-  pub are_lines : lines ≡ nearest_lines (basis_of c.basis) nearest
+  pub are_lines : lines ≡ nearest_lines c.basis nearest
 
 -- the lines of the records in whole batches
 pub record AreLinesDue (c : Configuration) (octets lines : List ℕ) : Type 0 where
   pub nearest : List NearestErased
   pub are_nearest : AreNearestDue (coding_of c) octets nearest
-  pub are_lines : lines ≡ nearest_lines (basis_of c.basis) nearest
+  pub are_lines : lines ≡ nearest_lines c.basis nearest
 
 -- no codeword is near to the word of one of the records
 abbrev pub HasBeyond : Configuration → List ℕ → Type 0

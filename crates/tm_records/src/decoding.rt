@@ -23,8 +23,10 @@ fn read_flags(flags: &[u8], erased: &mut [bool])
 // Reads a record into a word.
 fn read_record(coding: &Coding, octets: &[u8], word: &mut ErasedWord)
     requires { length octets.now ≡ record_size coding.now }
-    ensures symbols { numbers (take coding.now.params.n word.new.symbols) ≡ map (element_of coding.now.basis) (take coding.now.params.n octets.now) }
-    ensures erased { take coding.now.params.n word.new.erased ≡ map (λ flag. not (flag == 0)) (drop coding.now.params.n octets.now) }
+    ensures symbols { numbers (take coding.now.params.n word.new.symbols)
+        ≡ map (element_of coding.now.basis) (take coding.now.params.n octets.now) }
+    ensures erased { take coding.now.params.n word.new.erased
+        ≡ map (λ flag. not (flag == 0)) (drop coding.now.params.n octets.now) }
 {
     let n = coding.params.n() as usize;
     let basis = coding.basis;

@@ -1,5 +1,5 @@
 // The command `erased`: words with erased symbols, and the nearest codeword of each.
-ghost use Rattle.std.specs.Prelude.{◌≡◌, ◌⊎◌, ℕ, ◌+◌, ◌*◌, ◌<◌, ◌≤◌, ◌||◌, Bool, List, [], ◌++◌, length, Option, true, false, OnOk, OnErr, IfOk};
+ghost use Rattle.std.specs.Prelude.{◌≡◌, ◌≢◌, ◌⊎◌, ℕ, ◌+◌, ◌*◌, ◌<◌, ◌≤◌, ◌||◌, Bool, List, [], ◌++◌, length, Option, true, false, OnOk, OnErr, IfOk};
 ghost use Rattle.std.specs.List.{list_any};
 ghost use Rattle.tm_base.specs.Outside.{HasCause};
 ghost use Rattle.tm_base.specs.Written.{Gave, Wrote, WroteFront};
@@ -19,16 +19,15 @@ use crate::records::Records;
 use std::alloc::Global;
 use std::thread::Threads;
 use tm_base::{Failed, NoMemory, Sink, Source};
-use tm_config::Config;
+use tm_config::{Config, OuterCode};
 use tm_driver::{Ending, Feed, Line, Outcome, Stop, drive, tell_rest};
-use tm_dual::Basis;
 use tm_rs_code::Params;
 use tm_rs_solve::ErasedAnswer;
 use tm_workers::OpenGate;
 
 // Writes what became of a record, and the octets of its codeword.
 fn erased_line<O: Sink>(out: &mut O, answer: ErasedAnswer, octets: &[u8]) -> Result<(), Failed>
-    requires { length octets.now ≤ 255 }
+    requires { length octets.now ≤ LONGEST_WORD }
     ensures ok { OnOk result (Wrote (O.taken out.old) (O.taken out.new) (erased_text answer octets.now)) }
     ensures err { OnErr result (WroteFront (O.taken out.old) (O.taken out.new) (erased_text answer octets.now)) }
     ensures cause { HasCause (O.faults out.old) (O.faults out.new) (O.is_last out.new) result }
@@ -61,7 +60,7 @@ fn is_beyond(answer: ErasedAnswer) -> bool
 
 // Writes a line for each record that was decoded, and answers whether a word is beyond repair.
 fn tell_records<O: Sink>(records: &Records, out: &mut O) -> Result<bool, Failed>
-    ensures short { records.now.coding.params.n ≤ 255 }
+    ensures short { records.now.coding.params.n ≤ LONGEST_WORD }
     ensures ok { IfOk result (λ beyond. Wrote (O.taken out.old) (O.taken out.new)
         (nearest_lines records.now.coding.basis records.now.nearest)
         × (beyond ≡ list_any is_beyond records.now.nearest)) }
@@ -86,7 +85,7 @@ fn tell_batch<R: Threads + Sync, O: Sink>(
     records: &mut Records,
     out: &mut O,
 ) -> Result<bool, Failed>
-    ensures short { records.old.coding.params.n ≤ 255 }
+    ensures short { records.old.coding.params.n ≤ LONGEST_WORD }
     ensures coding { records.new.coding ≡ records.old.coding }
     ensures octets { records.new.octets ≡ records.old.octets }
     ensures nearest { AreNearest records.old.coding records.old.octets records.new.nearest }
@@ -261,12 +260,12 @@ impl<'a, 'b, 'c, 'd, R: Threads + Sync, O: Sink, N: Sink> Feed
 
 // Room for a batch of records that are decoded as the configuration says, and by its workers.
 fn records_by(alloc: Global, config: &Config) -> Result<Records, NoMemory>
-    requires { 0 < config.now.code }
+    requires { config.now.code ≢ OuterCode.Uncoded }
     ensures { IfOk result (λ records. records ≡ opened (coding_of config.now) config.now.workers) }
 {
     let coding = Coding {
         params: Params::new(config.code(), config.word_length()).unwrap(),
-        basis: Basis::numbered(config.basis()),
+        basis: config.values().basis,
         repair: config.repair() as u8,
     };
     Records::open(alloc, coding, config.workers() as u8)
@@ -286,7 +285,7 @@ pub fn erased<R: Threads + Sync, S: Source, O: Sink, N: Sink>(
     out: &mut O,
     notes: &mut N,
 ) -> Result<Ending, NoMemory>
-    requires { 0 < config.now.code }
+    requires { config.now.code ≢ OuterCode.Uncoded }
     ensures ends { IfOk result (λ ending. (octets : List ℕ)
         × Gave (S.given source.old) (S.given source.new) (S.left source.old) (S.left source.new) octets
         × (length octets ≤ config.now.limit + 1) × Ends ending (erased_meaning config.now) config.now.limit octets

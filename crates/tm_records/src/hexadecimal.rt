@@ -8,7 +8,7 @@ use tm_driver::Line;
 
 /// Adds the octets of a word, two lower-case digits for each.
 pub fn add_octets(line: &mut Line, octets: &[u8])
-    requires few { length octets.now ≤ 255 }
+    requires few { length octets.now ≤ LONGEST_WORD }
     requires room { length line.old + 2 * length octets.now ≤ 560 }
     ensures text { line.new ≡ line.old ++ encode_lower octets.now }
     ensures length { length line.new ≡ length line.old + 2 * length octets.now }

@@ -18,9 +18,10 @@ use tm_workers::{ErasedWord, Gate};
 /// How many records a batch has.
 pub const BATCH: usize = 256;
 
-/// A batch of records of received words. A record has the octets of the n symbols of a word, in a basis, and behind them n flags,
-/// 0 for a symbol that is good and any other for one that is erased. A batch takes octets in pieces until it has 256 records; then, or
-/// at the end of the octets, its records are decoded at once, and it is cleared for the next ones. It takes its memory at `open`.
+/// A batch of records of received words. A record has the octets of the n symbols of a word, in a basis, and behind
+/// them n flags, 0 for a symbol that is good and any other for one that is erased. A batch takes octets in pieces until
+/// it has 256 records; then, or at the end of the octets, its records are decoded at once, and it is cleared for the
+/// next ones. It takes its memory at `open`.
 #[derive(Drop)]
 pub struct Records {
     coding: Coding,
@@ -71,8 +72,8 @@ fn room(alloc: Global, size: usize) -> Result<(Vec<u8>, Vec<ErasedWord>), AllocE
 }
 
 impl Records {
-    /// Room for a batch of records of words that are decoded so, by so many workers, at least one and at most 64. It fails only where
-    /// there isn't enough memory.
+    /// Room for a batch of records of words that are decoded so, by so many workers, at least one and at most 64. It
+    /// fails only where there isn't enough memory.
     pub fn open(alloc: Global, coding: Coding, workers: u8) -> Result<Records, NoMemory>
         requires bound { coding.repair ≤ coding.params.e }
         requires workers { (0 < workers) × (workers ≤ 64) }
@@ -118,7 +119,8 @@ impl Records {
         self.taken == self.octets.len()
     }
 
-    /// Decodes the records of the batch that are whole. Before a worker decodes the record of number i it calls `gate.enter(i)`.
+    /// Decodes the records of the batch that are whole. Before a worker decodes the record of number i it calls
+    /// `gate.enter(i)`.
     pub fn decode<R: Threads + Sync, G: Gate + Sync>(&mut self, rt: &R, gate: &G)
         ensures nearest { AreNearest self.old.coding self.old.octets self.new.nearest }
         ensures octets { self.new.octets ≡ self.old.octets }
@@ -154,7 +156,8 @@ impl Records {
         self.decoded
     }
 
-    /// What became of a record that was decoded. Where a codeword is near it writes the codeword's octets, of which `octets` has as many.
+    /// What became of a record that was decoded. Where a codeword is near it writes the codeword's octets, of which
+    /// `octets` has as many.
     pub fn answer(&self, index: usize, octets: &mut [u8]) -> ErasedAnswer
         requires within { index < length self.now.nearest }
         requires size { length octets.old ≡ self.now.coding.params.n }

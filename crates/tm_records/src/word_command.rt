@@ -1,13 +1,14 @@
 // The command `word`: one word, from hexadecimal to the nearest codeword in hexadecimal.
-ghost use Rattle.std.specs.Prelude.{◌≡◌, ◌⊎◌, ◌*◌, ◌<◌, ◌≤◌, ℕ, List, [], length, map, Option, None, true, OnOk, OnErr};
+ghost use Rattle.std.specs.Prelude.{◌≡◌, ◌≢◌, ◌⊎◌, ◌*◌, ◌<◌, ◌≤◌, ℕ, List, [], length, map, Option, None, true, OnOk, OnErr};
 ghost use Rattle.std.specs.List.{list_all};
 ghost use Rattle.hex.specs.Hex.{is_hex_digit};
 ghost use Rattle.tm_base.specs.Outside.{HasCause};
 ghost use Rattle.tm_base.specs.Written.{Wrote, WroteFront};
+ghost use Rattle.tm_config.specs.Configuration.{correctable};
 ghost use Rattle.tm_driver.specs.Courses.{SinkCourse, sink_state};
 ghost use Rattle.tm_driver.specs.Meaning.{Ends, taken_by};
 ghost use Rattle.tm_driver.specs.Statuses.{is_sink_fault};
-ghost use Rattle.tm_dual.specs.Octet.{basis_of, sent_octet, element_of};
+ghost use Rattle.tm_dual.specs.Octet.{sent_octet, element_of};
 ghost use Rattle.tm_gf256.specs.Poly.{numbers};
 ghost use Rattle.tm_rs_code.specs.Nearest.{IsNearest};
 ghost use Rattle.tm_rs_solve.specs.Answers.{found};
@@ -19,9 +20,8 @@ use hex::decode_to_slice;
 use std::marker::Brand;
 use std::sync::ledger::{Blank, Ledger};
 use tm_base::{Failed, Sink};
-use tm_config::Config;
+use tm_config::{Config, OuterCode};
 use tm_driver::{Ending, Line};
-use tm_dual::Basis;
 use tm_gf256::Gf;
 use tm_rs_code::Params;
 use tm_rs_locator::Steps;
@@ -69,7 +69,7 @@ fn read_octets(text: &[u8], octets: &mut [u8]) -> bool
 pub fn test_word(config: &Config, text: &[u8]) -> Option<WordRefusal>
     ensures { result ≡ word_refusal config.now text.now }
 {
-    if config.code() == 0 {
+    if config.values().code.is_uncoded() {
         return Some(WordRefusal::Code);
     }
     let count = text.len() / 2;
@@ -99,17 +99,17 @@ fn decode_counted<L: Ledger>(blank: Blank, params: &Params, repair: u8, word: &m
 
 // Makes the octets of a word those of the nearest codeword, where one is within the repair bound.
 fn repair(config: &Config, octets: &mut [u8]) -> Answer
-    requires code { 0 < config.now.code }
-    requires some { 2 * config.now.code < length octets.old }
-    requires fits { length octets.old ≤ 255 }
+    requires code { config.now.code ≢ OuterCode.Uncoded }
+    requires some { 2 * correctable config.now.code < length octets.old }
+    requires fits { length octets.old ≤ LONGEST_WORD }
     ensures nearest { (codeword : List ℕ)
-        × IsNearest config.now.code config.now.repair (map (element_of (basis_of config.now.basis)) octets.old)
+        × IsNearest (correctable config.now.code) config.now.repair (map (element_of config.now.basis) octets.old)
         (found result codeword)
-        × (octets.new ≡ map (sent_octet (basis_of config.now.basis)) codeword) }
+        × (octets.new ≡ map (sent_octet config.now.basis) codeword) }
     ensures size { length octets.new ≡ length octets.old }
 {
     let params = Params::new(config.code(), octets.len() as u64).unwrap();
-    let basis = Basis::numbered(config.basis());
+    let basis = config.values().basis;
     let mut room = [Gf(0); LONGEST_WORD];
     let word = &mut room[..octets.len()];
     basis.octets_to_elements(octets, word);
@@ -120,7 +120,7 @@ fn repair(config: &Config, octets: &mut [u8]) -> Answer
 
 // Writes what became of a word, and the octets of the codeword.
 fn word_line<O: Sink>(out: &mut O, answer: Answer, octets: &[u8]) -> Result<(), Failed>
-    requires { length octets.now ≤ 255 }
+    requires { length octets.now ≤ LONGEST_WORD }
     ensures ok { OnOk result (Wrote (O.taken out.old) (O.taken out.new) (word_text answer octets.now)) }
     ensures err { OnErr result (WroteFront (O.taken out.old) (O.taken out.new) (word_text answer octets.now)) }
     ensures cause { HasCause (O.faults out.old) (O.faults out.new) (O.is_last out.new) result }
@@ -140,8 +140,8 @@ fn word_line<O: Sink>(out: &mut O, answer: Answer, octets: &[u8]) -> Result<(), 
 }
 
 /// Writes the codeword that is nearest to a word within the repair bound, after its distance from the word:
-/// `fixed D HEX`. Where there is none it writes `beyond`, and answers `Bad`. The text has two hexadecimal digits for each
-/// octet of the word, as it is received. `SinkFault` comes only where the sink's count of faults rose. It takes no
+/// `fixed D HEX`. Where there is none it writes `beyond`, and answers `Bad`. The text has two hexadecimal digits for
+/// each octet of the word, as it is received. `SinkFault` comes only where the sink's count of faults rose. It takes no
 /// memory.
 pub fn word<O: Sink>(config: &Config, text: &[u8], out: &mut O) -> Ending
     requires { word_refusal config.now text.now ≡ None }

@@ -1,11 +1,11 @@
-use Rattle.std.proofs.Common.{◌∙◌, Ok, sym, ap}
+use Rattle.std.proofs.Common.{rules, ◌∙◌, Ok, sym, ap}
 use Rattle.tm_base.specs.declared.outside.NoMemory.{NoMemory}
 use Rattle.tm_driver.specs.Courses.{sink_state}
 use Rattle.tm_driver.specs.Meaning.{taken_by}
 use Rattle.tm_words.specs.declared.job.JobKind.{JobKind}
 use Rattle.tm_cli.specs.Command.{command_by, command_of}
-use Rattle.tm_cli.specs.Command.Command.{Encode, Decode, Report, Trace, Word, Soak, Erased, Certify, Check}
-use Rattle.tm_cli.proofs.Answering.{as-command, without-notes, without-input, one-sink}
+use Rattle.tm_cli.specs.Command.Command.{Encode, Decode, Report, Trace, Word, Soak, Erased, Certify, Check, Bits}
+use Rattle.tm_cli.proofs.Answering.{erased-coded, check-rate, as-command, without-notes, without-input, one-sink}
 use Rattle.tm_cli.proofs.obey.obey.Goals as goal
 
 pub returns-in-Encode-clause-ends : goal.returns-in-Encode-clause-ends
@@ -31,6 +31,12 @@ returns-in-Check-clause-ends g c =
     as-command c.check.result (g.S.Source.given c.args.source.now) (g.S.Source.given c.check.new.source) (g.S.Source.left c.args.source.now) (g.S.Source.left c.check.new.source)
     (command_of c.args.job.now) Check c.args.config.now (taken_by (g.O.Sink.taken c.args.out.now) (g.O.Sink.taken c.check.new.out) (g.N.Sink.taken c.args.notes.now) (g.N.Sink.taken c.check.new.notes))
     (ap (λ (k : JobKind). command_by k c.args.job.now) c.in-Check.is) c.check.ensures.ends
+
+pub returns-in-Bits-clause-ends : goal.returns-in-Bits-clause-ends
+returns-in-Bits-clause-ends g c =
+    as-command c.bits.result (g.S.Source.given c.args.source.now) (g.S.Source.given c.bits.new.source) (g.S.Source.left c.args.source.now) (g.S.Source.left c.bits.new.source)
+    (command_of c.args.job.now) Bits c.args.config.now (taken_by (g.O.Sink.taken c.args.out.now) (g.O.Sink.taken c.bits.new.out) (g.N.Sink.taken c.args.notes.now) (g.N.Sink.taken c.bits.new.notes))
+    (ap (λ (k : JobKind). command_by k c.args.job.now) c.in-Bits.is) c.bits.ensures.ends
 
 pub returns-in-Report-clause-ends : goal.returns-in-Report-clause-ends
 returns-in-Report-clause-ends g c =
@@ -84,3 +90,9 @@ pub returns-in-Word-clause-sinks : goal.returns-in-Word-clause-sinks
 returns-in-Word-clause-sinks g c =
     one-sink {E = NoMemory} (Ok c.word.result) (sink_state (g.O.Sink.taken c.args.out.now) (g.O.Sink.faults c.args.out.now)) (sink_state (g.O.Sink.taken c.word.new.out) (g.O.Sink.faults c.word.new.out)) (g.O.Sink.is_last c.word.new.out)
     (sink_state (g.N.Sink.taken c.args.notes.now) (g.N.Sink.faults c.args.notes.now)) (g.N.Sink.is_last c.args.notes.now) c.word.ensures.sink
+
+pub erased-requires : goal.erased-requires
+erased-requires g c = (search rules, erased-coded c.args.config.now c.args.job.now c.in-Erased.is c.requires)
+
+pub check-requires : goal.check-requires
+check-requires g c = check-rate c.args.config.now c.args.job.now c.in-Check.is c.requires

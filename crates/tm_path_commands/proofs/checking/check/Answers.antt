@@ -1,6 +1,5 @@
 use Rattle.std.proofs.Common.{rules, ◌≡◌, ◌+◌, ◌≤◌, ℕ, true, length, refl, subst}
 use Rattle.tm_driver.specs.Meaning.{Ends, taken_by}
-use Rattle.tm_inner.specs.Symbols.{rate_of}
 use Rattle.tm_path_commands.specs.Check.{ReadAt, check_meaning}
 use Rattle.tm_path_commands.specs.declared.checking.Checking.{Checking}
 use Rattle.tm_path_commands.proofs.CheckEndings.{ReadOnce, driven-ends}
@@ -19,7 +18,7 @@ returns-clause-ends g c =
       longer =
           c.read_law.ensures.longer;
     } in
-    let rules_are : ReadAt (λ k. c.in-Ok.reader.rules ≡ k) (rate_of config.inner) config = search rules in
+    let rules_are : ReadAt (λ k. c.in-Ok.reader.rules ≡ k) config.inner config = search rules in
     let done : Ends c.drive-ending.result (check_meaning config) config.limit h.0
     (taken_by (g.O.Sink.taken c.args.out.now) (g.O.Sink.taken now.out.now) (g.N.Sink.taken c.args.notes.now)
     (g.N.Sink.taken now.notes.now)) =

@@ -1,0 +1,552 @@
+-- What `bits` has written, from what waited, and how it ends.
+use Rattle.std.proofs.Common.{◌≡◌, ◌⊎◌, inl, inr, ℕ, ◌+◌, ◌%◌, ◌^◌, ◌<◌, ◌≤◌, Bool, List, [], ◌++◌, length, take, Option, Some, None, refl, sym, ap, ◌∙◌, subst, arith, append_assoc, length-append, length-take}
+use Rattle.std.proofs.lemmas.List.{append-nil, drop_all, take_all}
+use Rattle.tm_base.specs.Bits.{bits_of, octets_of}
+use Rattle.tm_base.specs.Handed.{Handed, items_of}
+use Rattle.tm_base.specs.Written.{Wrote, WroteFront}
+use Rattle.tm_base.proofs.Packing.{AreOctets-octets_of, length-bits_of, octets_of-append, octets_of-bits_of}
+use Rattle.tm_config.specs.Accepted.{IsAccepted}
+use Rattle.tm_config.specs.Configuration.{Configuration}
+use Rattle.tm_conv.specs.declared.rates.Rate.{Rate}
+use Rattle.tm_phase.specs.declared.choosing.Chosen.{Chosen}
+use Rattle.tm_viterbi.specs.WindowBlock.{WindowBlock}
+use Rattle.tm_inner.specs.Inner.{AreInnerBlocks, AreInnerDue, bits_at, inner_bits}
+use Rattle.tm_inner.specs.Phase.{in_turn, skip_of}
+use Rattle.tm_inner.specs.Receiving.{InnerReceiving, StandsFor}
+use Rattle.tm_inner.specs.Handing.{AreHanded, AreHandedDue}
+use Rattle.tm_inner.proofs.DueBits.{StandFirst, StayClosed, bits-first}
+use Rattle.tm_inner.proofs.InTurn.{HasPhase, OnePhase, choice-stays, in_turn-exists, one-choice}
+use Rattle.tm_inner.proofs.InnerBits.{HasBlocks, has_blocks}
+use Rattle.tm_inner.proofs.PhasePieces.{PhaseStays, items_of-in_turn}
+use Rattle.tm_driver.specs.Driven.{DrivenTo}
+use Rattle.tm_driver.specs.Meaning.{Ends, Output, WroteEarly, WrotePrefixes, taken_by}
+use Rattle.tm_driver.specs.declared.ending.Ending.{Ending}
+use Rattle.tm_driver.specs.declared.ending.Ending.TheVariants.{Done, Bad, BadWindow, LeftOver, SourceFault, SinkFault, PastLimit}
+use Rattle.tm_driver.specs.declared.ending.Outcome.{Outcome}
+use Rattle.tm_driver.specs.declared.ending.Outcome.TheVariants as outcome
+use Rattle.tm_driver.specs.declared.ending.Stop.{Stop}
+use Rattle.tm_driver.specs.declared.ending.Stop.TheVariants as stop
+use Rattle.tm_driver.proofs.SinkTexts.{front-of, wrote-front, wrote-nothing, wrote-then, wrote-then_front}
+use Rattle.tm_path_commands.specs.Bits.{CutsWriting, EndsWriting, FailsWriting, Gathers, GathersLast, IsEmptied, Packing, Writes, WritesAll, WritesAllPart, WritesMore, WritesPart, WrotePart, WroteWaiting, AreBitsInOrder, IsBits, bits_meaning, bits_of_handed, end_line, fill, filled_octets, line_of, open_bits, phase_line}
+use Rattle.tm_path_commands.specs.Lines.{trace_end_text}
+use Rattle.tm_path_commands.proofs.TraceEndings.{stands-new}
+use Rattle.tm_path_commands.proofs.BitsGathered.{bits-unsettled, line-append, line-in_turn}
+use Rattle.tm_path_commands.proofs.PackedBits.{few-open, octets-more, octets-none, split-open}
+
+-- ---- parts of what is written
+
+front-nothing : (before now : Option (List ℕ)) → WroteFront before now [] → Wrote before now []
+front-nothing before now wrote = subst (Wrote before now) (take_all wrote.0 [] (omega arith)) wrote.1
+
+-- of nothing and of anything
+no-part : (before now : Option (List ℕ)) (text : List ℕ) → Wrote before now [] → WroteFront before now text
+no-part before now text wrote = (0, wrote)
+
+-- a part behind what was written before
+part-behind : (start out out_now noted notes notes_now : Option (List ℕ)) (before octets told line : List ℕ)
+    → Wrote start out before → Wrote noted notes told
+    → (line ≡ []) ⊎ (before ≡ []) → WrotePart line octets out out_now notes notes_now
+    → WrotePart (told ++ line) (before ++ octets) start out_now noted notes_now
+part-behind start out out_now noted notes notes_now before octets told line wrote wrote_line first (inr part) =
+    inr (
+      wrote-then_front start out out_now before octets wrote part.0,
+      wrote-then noted notes notes_now told line
+          wrote_line part.1,
+    )
+part-behind start out out_now noted notes notes_now before octets told line wrote wrote_line (inr none) (inl part) =
+    inl (
+      subst (Wrote start out_now) (append-nil before ∙ none) (wrote-then start out out_now before [] wrote part.0),
+      wrote-then_front noted notes notes_now told line wrote_line part.1,
+    )
+part-behind start out out_now noted notes notes_now before octets told line wrote wrote_line (inl none) (inl part) =
+    let same : Wrote start out_now before = subst (Wrote start out_now) (append-nil before)
+    (wrote-then start out out_now before [] wrote part.0) in
+    let nothing : Wrote notes notes_now line = subst (Wrote notes notes_now) (sym none)
+    (front-nothing notes notes_now (subst (WroteFront notes notes_now) none part.1)) in
+    inr (
+      front-of start out_now before octets (wrote-front start out_now before same),
+      wrote-then noted notes
+          notes_now told line wrote_line nothing,
+    )
+
+-- ---- pieces
+
+few-before : (given octets : List ℕ) → length (given ++ octets) < 2 ^ 44 → length given < 2 ^ 44
+few-before given octets few = omega (arith, few, length-append given octets)
+
+-- what waits behind whole octets comes to the octets of all
+all-octets : (written waiting all : List Bool) → length written % 8 ≡ 0 → written ++ waiting ≡ all
+    → octets_of written ++ octets_of waiting ≡ octets_of all
+all-octets written waiting all whole are = sym (octets_of-append written waiting whole) ∙ ap octets_of are
+
+module _ (receiver now : InnerReceiving) (packing packed : Packing) (octets : List ℕ)
+    (out out_now notes notes_now : Option (List ℕ)) (h : Gathers receiver now packing packed octets) where
+  pub writes-more : (emptied : Packing) → IsEmptied packed emptied → WroteWaiting packed out out_now notes notes_now
+      → WritesMore receiver packing out notes now emptied out_now notes_now octets
+  writes-more emptied is wrote c start noted given accepted was within =
+      let p = was (few-before given octets within) in
+      let g = h.holds c p.written given p.handed accepted within p.holds p.is_written in
+      let front : List Bool = bits_of (octets_of packed.bits) in
+      let size = length-append p.written front in
+      let left : emptied.bits ≡ open_bits packed.bits = ap (λ (q : Packing). q.bits) is in
+      let whole_octets : octets_of front ≡ octets_of packed.bits = octets_of-bits_of (octets_of packed.bits)
+      (AreOctets-octets_of packed.bits) in
+      record {
+        handed = p.handed ++ h.more;
+        written = p.written ++ front;
+        holds = record {
+          config = g.0.config;
+          stands = g.0.stands;
+          room = ap (λ (q : Packing). q.room) is ∙ g.0.room;
+          bits = ap (λ l. (p.written ++ front) ++ l) left ∙ append_assoc p.written front (open_bits packed.bits)
+              ∙ ap (λ l. p.written ++ l) (split-open packed.bits) ∙ g.0.bits;
+          windows = ap (λ (q : Packing). q.windows) is ∙ g.0.windows;
+        };
+        is_written = record {
+          few = subst (λ (l : List Bool). length l < 8) (sym left) (few-open packed.bits);
+          no_phase = ap (λ (q : Packing). q.phase) is;
+        };
+        whole = omega (arith, size, p.whole, length-bits_of (octets_of packed.bits));
+        out = subst (Wrote start out_now)
+            (sym (octets_of-append p.written front p.whole ∙ ap (λ l. octets_of p.written ++ l) whole_octets))
+            (wrote-then start out out_now (octets_of p.written) (octets_of packed.bits) p.out wrote.1);
+        notes = subst (Wrote noted notes_now) (ap (λ l. phase_line p.handed ++ l) g.1.line
+            ∙ sym (line-append p.handed h.more))
+            (wrote-then noted notes notes_now (phase_line p.handed) (line_of packed.phase) p.notes wrote.0);
+      }
+
+  pub fails-more : WrotePart (line_of packed.phase) (octets_of packed.bits) out out_now notes notes_now
+      → FailsWriting receiver packing out notes out_now notes_now octets
+  fails-more part c start noted given accepted was within =
+      let p = was (few-before given octets within) in
+      let g = h.holds c p.written given p.handed accepted within p.holds p.is_written in
+      let handed : List (Handed WindowBlock) = p.handed ++ h.more in
+      let line : phase_line p.handed ++ line_of packed.phase ≡ phase_line handed = ap (λ l. phase_line p.handed ++ l)
+      g.1.line ∙ sym (line-append p.handed h.more) in
+      let all = all-octets p.written packed.bits (bits_of_handed c (given ++ octets) handed) p.whole g.0.bits in
+      let first : (line_of packed.phase ≡ [])
+      ⊎ (octets_of p.written ≡ []) = elim g.1.first as (λ _. (line_of packed.phase ≡ [])
+      ⊎ (octets_of p.written ≡ [])) [
+        | inl none ↦ inl (g.1.line ∙ none)
+        | inr none ↦ inr (ap octets_of none)
+      ] in
+      record {
+        handed = handed;
+        are_due = subst (λ (k : Configuration). AreHandedDue k (given ++ octets) handed) g.0.config g.0.stands.1;
+        part = subst (λ (l : List ℕ). WrotePart l (octets_of (bits_of_handed c (given ++ octets) handed)) start
+            out_now noted notes_now) line
+            (subst (λ (l : List ℕ). WrotePart (phase_line p.handed ++ line_of packed.phase) l start out_now noted
+            notes_now) all
+            (part-behind start out out_now noted notes notes_now (octets_of p.written) (octets_of packed.bits)
+            (phase_line p.handed) (line_of packed.phase)
+            p.out p.notes first part));
+      }
+
+-- ---- the end
+
+module _ (receiver : InnerReceiving) (packing packed : Packing) (count left : ℕ) (out out_now notes : Option (List ℕ))
+    (h : GathersLast receiver packing packed count left) where
+  -- the line behind the bits
+  end-is : (c : Configuration) (octets : List ℕ) (handed : List (Handed WindowBlock)) (windows : ℕ)
+      → windows ≡ length (items_of handed) → count ≡ length (bits_of_handed c octets handed)
+      → trace_end_text windows count left ≡ end_line c octets handed left
+  end-is c octets handed windows is counted = λ i. trace_end_text (is i) (counted i) left
+
+  -- all octets, and the line of the phase
+  module _ (c : Configuration) (start noted : Option (List ℕ)) (octets : List ℕ) (accepted : IsAccepted c)
+      (p : Writes c receiver packing start out noted notes octets) where
+    all-of-them : octets_of p.written ++ octets_of packed.bits ≡ filled_octets
+        (bits_of_handed c octets (p.handed ++ h.last))
+    all-of-them =
+        let g = h.holds c p.written octets p.handed accepted p.holds p.is_written in
+        all-octets p.written packed.bits (bits_of_handed c octets (p.handed ++ h.last) ++ fill) p.whole g.0.bits
+
+    the-line : phase_line p.handed ++ line_of packed.phase ≡ phase_line (p.handed ++ h.last)
+    the-line =
+        let g = h.holds c p.written octets p.handed accepted p.holds p.is_written in
+        ap (λ l. phase_line p.handed ++ l) g.1.line ∙ sym (line-append p.handed h.last)
+
+    out-all : Wrote out out_now (octets_of packed.bits)
+        → Wrote start out_now (filled_octets (bits_of_handed c octets (p.handed ++ h.last)))
+    out-all wrote = subst (Wrote start out_now) all-of-them
+        (wrote-then start out out_now (octets_of p.written) (octets_of packed.bits) p.out wrote)
+
+    line-all : (middle : Option (List ℕ)) → Wrote notes middle (line_of packed.phase)
+        → Wrote noted middle (phase_line (p.handed ++ h.last))
+    line-all middle wrote = subst (Wrote noted middle) the-line
+        (wrote-then noted notes middle (phase_line p.handed) (line_of packed.phase) p.notes wrote)
+
+    last-line : (emptied : Packing) → IsEmptied packed emptied
+        → trace_end_text emptied.windows count left ≡ end_line c octets (p.handed ++ h.last) left
+    last-line emptied is =
+        let g = h.holds c p.written octets p.handed accepted p.holds p.is_written in
+        end-is c octets (p.handed ++ h.last) emptied.windows (ap (λ (q : Packing). q.windows) is ∙ g.0.windows)
+        g.0.counted
+
+  pub ends-all : (emptied : Packing) (middle notes_now : Option (List ℕ)) → IsEmptied packed emptied
+      → WroteWaiting packed out out_now notes middle
+      → Wrote middle notes_now (trace_end_text emptied.windows count left)
+      → EndsWriting receiver packing out notes out_now notes_now
+  ends-all emptied middle notes_now is wrote line c start noted octets accepted p =
+      let all : List (Handed WindowBlock) = p.handed ++ h.last in
+      record {
+        handed = all;
+        left = left;
+        are_handed = (h.holds c p.written octets p.handed accepted p.holds p.is_written).0.are_handed;
+        out = out-all c start noted octets accepted p wrote.1;
+        notes = wrote-then noted middle notes_now (phase_line all) (end_line c octets all left)
+            (line-all c start noted octets accepted p middle wrote.0)
+            (subst (Wrote middle notes_now) (last-line c start noted octets accepted p emptied is) line);
+      }
+
+  -- a sink failed in the line of the phase or in the octets
+  pub cuts-waiting : (notes_now : Option (List ℕ)) → WrotePart (line_of packed.phase) (octets_of packed.bits) out
+      out_now notes notes_now → CutsWriting receiver packing out notes out_now notes_now
+  cuts-waiting notes_now part c start noted octets accepted p =
+      let all : List (Handed WindowBlock) = p.handed ++ h.last in
+      let g = h.holds c p.written octets p.handed accepted p.holds p.is_written in
+      let first : (line_of packed.phase ≡ [])
+      ⊎ (octets_of p.written ≡ []) = elim g.1.first as (λ _. (line_of packed.phase ≡ [])
+      ⊎ (octets_of p.written ≡ [])) [
+        | inl none ↦ inl (g.1.line ∙ none)
+        | inr none ↦ inr (ap octets_of none)
+      ] in
+      record {
+        handed = all;
+        left = left;
+        are_handed = g.0.are_handed;
+        part = inl (subst (λ (l : List ℕ). WrotePart l (filled_octets (bits_of_handed c octets all)) start out_now
+            noted notes_now) (the-line c start noted octets accepted p)
+            (subst (λ (l : List ℕ). WrotePart (phase_line p.handed ++ line_of packed.phase) l start out_now noted
+            notes_now) (all-of-them c start noted octets accepted p)
+            (part-behind start out out_now noted notes notes_now (octets_of p.written) (octets_of packed.bits)
+            (phase_line p.handed) (line_of packed.phase)
+            p.out p.notes first part)));
+      }
+
+  -- or in the last line
+  pub cuts-line : (emptied : Packing) (middle notes_now : Option (List ℕ)) → IsEmptied packed emptied
+      → WroteWaiting packed out out_now notes middle
+      → WroteFront middle notes_now (trace_end_text emptied.windows count left)
+      → CutsWriting receiver packing out notes out_now notes_now
+  cuts-line emptied middle notes_now is wrote line c start noted octets accepted p =
+      let all : List (Handed WindowBlock) = p.handed ++ h.last in
+      record {
+        handed = all;
+        left = left;
+        are_handed = (h.holds c p.written octets p.handed accepted p.holds p.is_written).0.are_handed;
+        part = inr (
+          out-all c start noted octets accepted p wrote.1,
+          wrote-then_front noted middle notes_now (phase_line all) (end_line c octets all left)
+              (line-all c start noted octets accepted p middle wrote.0)
+              (subst (WroteFront middle notes_now) (last-line c start noted octets accepted p emptied is) line),
+        );
+      }
+
+-- ---- how it ends
+
+-- all that is written of octets
+abbrev output-of : (c : Configuration) (octets : List ℕ) (handed : List (Handed WindowBlock)) → ℕ → Output
+output-of c octets handed left = record {
+  out = filled_octets (bits_of_handed c octets handed);
+  notes = phase_line handed ++ end_line c octets handed left;
+}
+
+is-bits : (c : Configuration) (octets : List ℕ) (handed : List (Handed WindowBlock)) (left : ℕ)
+    → AreHanded c octets handed left → IsBits c octets (output-of c octets handed left)
+is-bits c octets handed left are = record { handed = handed; left = left; are_handed = are; out = refl; notes = refl }
+
+ends-done : (c : Configuration) (octets : List ℕ) (taken taken_now noted noted_now : Option (List ℕ))
+    → WritesAll c taken taken_now noted noted_now octets → length octets ≤ c.limit
+    → Ends Done (bits_meaning c) c.limit octets (taken_by taken taken_now noted noted_now)
+ends-done c octets taken taken_now noted noted_now w within = (
+  (
+    output-of c octets w.handed w.left,
+    is-bits c octets w.handed w.left w.are_handed,
+    record
+        { out = w.out; notes = w.notes },
+  ),
+  within,
+  λ none. none,
+  λ none. none,
+)
+
+ends-part : (c : Configuration) (octets : List ℕ) (taken taken_now noted noted_now : Option (List ℕ))
+    → WritesAllPart c taken taken_now noted noted_now (take c.limit octets)
+    → Ends SinkFault (bits_meaning c) c.limit octets (taken_by taken taken_now noted noted_now)
+ends-part c octets taken taken_now noted noted_now w =
+    let read = take c.limit octets in
+    let handed = w.handed in
+    let line = phase_line handed in
+    let end = end_line c read handed w.left in
+    let all = filled_octets (bits_of_handed c read handed) in (
+      output-of c read handed w.left,
+      is-bits c read handed w.left w.are_handed,
+      elim w.part as (λ _. WrotePrefixes (output-of c read handed w.left) (taken_by taken taken_now noted noted_now)) [
+        | inl (inl p) ↦ record { out = no-part taken taken_now all p.0; notes = front-of noted noted_now line end p.1 }
+        | inl (inr p) ↦ record {
+          out = p.0;
+          notes = front-of noted noted_now line end
+              (wrote-front noted noted_now line p.1);
+        }
+        | inr p ↦ record { out = wrote-front taken taken_now all p.0; notes = p.1 }
+      ],
+      (
+        handed,
+        w.left,
+        w.are_handed,
+        (elim w.part as (λ _. AreBitsInOrder line (output-of c read handed w.left)
+            (taken_by taken taken_now noted noted_now)) [
+              | inl (inl p) ↦ inl p
+              | inl (inr p) ↦ inr (inl p.1)
+              | inr p ↦ inr (inr p.0)
+            ]),
+      ),
+    )
+
+ends-cut : (c : Configuration) (octets : List ℕ) (taken taken_now noted noted_now : Option (List ℕ))
+    → WritesAllPart c taken taken_now noted noted_now octets → length octets ≤ c.limit
+    → Ends SinkFault (bits_meaning c) c.limit octets (taken_by taken taken_now noted noted_now)
+ends-cut c octets taken taken_now noted noted_now w within =
+    ends-part c octets taken taken_now noted noted_now
+    (subst (WritesAllPart c taken taken_now noted noted_now) (sym (take_all c.limit octets within)) w)
+
+module _ (exists : HasBlocks) (stands : StandFirst) (phase : HasPhase) (one : OnePhase) (stay : StayClosed)
+    (stays : PhaseStays) where
+  -- all that is handed over of octets
+  handed-all : (c : Configuration) (octets : List ℕ) → IsAccepted c → (handed : List (Handed WindowBlock))
+      × (left : ℕ) × AreHanded c octets handed left
+  handed-all c octets accepted =
+      let all = in_turn-exists (λ n blocks. (left : ℕ) × AreInnerBlocks c n octets blocks left) phase c octets
+      (λ n. let b = has_blocks exists c n octets accepted in (b.0, (b.1, b.2))) in
+      let h = all.1 in (
+        all.0,
+        h.are_items.0,
+        record {
+          chosen = h.chosen;
+          choice = h.choice;
+          items = h.items;
+          are_items =
+              h.are_items.1;
+          are = h.are;
+        },
+      )
+
+  -- The bits that are due stand first in those of all. The phase is that of all, or nothing is due.
+  record Later (c : Configuration) (octets longer : List ℕ) (due all : List (Handed WindowBlock)) : Type 0 where
+    rest : List Bool
+    bits : bits_of_handed c longer all ≡ bits_of_handed c octets due ++ rest
+    line : ((phase_line due ≡ []) × (bits_of_handed c octets due ≡ [])) ⊎ (phase_line due ≡ phase_line all)
+
+  turn-items : (chosen : Option Chosen) (items : List WindowBlock) (handed : List (Handed WindowBlock))
+      → handed ≡ in_turn chosen items → items_of handed ≡ items
+  turn-items chosen items handed are = ap items_of are ∙ items_of-in_turn chosen items
+
+  later : (c : Configuration) (octets more : List ℕ) (due all : List (Handed WindowBlock)) (left : ℕ)
+      → AreHandedDue c octets due → AreHanded c (octets ++ more) all left → Later c octets (octets ++ more) due all
+  later c octets more due all left (inl p) q =
+      let none : bits_of_handed c octets due ≡ [] = ap (λ (l : List (Handed WindowBlock)). bits_of_handed c octets l)
+      p.1 ∙ bits-unsettled c.inner c octets refl p.0 in
+      record {
+        rest = bits_of_handed c (octets ++ more) all;
+        bits = ap (λ l. l ++ bits_of_handed c (octets ++ more) all) (sym none);
+        line = inl (ap phase_line p.1, none);
+      }
+  later c octets more due all left (inr p) q =
+      let t = p.1 in
+      let same : t.chosen ≡ q.chosen = one-choice one c (octets ++ more) t.chosen q.chosen
+      (choice-stays stays c octets more t.chosen p.0 t.choice) q.choice in
+      let first = bits-first stay stands c (skip_of q.chosen) octets more t.items q.items left
+      (subst (λ (o : Option Chosen). AreInnerDue c (skip_of o) octets t.items) same t.are_items) q.are_items in
+      record {
+        rest = first.0;
+        bits = ap (inner_bits c (octets ++ more)) (turn-items q.chosen q.items all q.are) ∙ first.1
+            ∙ ap (λ (l : List WindowBlock). inner_bits c octets l ++ first.0)
+            (sym (turn-items t.chosen t.items due t.are));
+        line = inr (ap phase_line t.are ∙ line-in_turn t.chosen t.items ∙ ap line_of same
+            ∙ sym (line-in_turn q.chosen q.items) ∙ sym (ap phase_line q.are));
+      }
+
+  -- a prefix of what is due is one of all
+  due-octets : (c : Configuration) (octets longer : List ℕ) (due all : List (Handed WindowBlock))
+      → Later c octets longer due all → (before now : Option (List ℕ))
+      → WroteFront before now (octets_of (bits_of_handed c octets due))
+      → WroteFront before now (filled_octets (bits_of_handed c longer all))
+  due-octets c octets longer due all l before now wrote =
+      let r = octets-more (bits_of_handed c octets due) (l.rest ++ fill) in
+      let same : filled_octets (bits_of_handed c longer all) ≡ octets_of (bits_of_handed c octets due) ++ r.0 =
+      ap filled_octets l.bits ∙ ap octets_of (append_assoc (bits_of_handed c octets due) l.rest fill) ∙ r.1 in
+      subst (WroteFront before now) (sym same) (front-of before now (octets_of (bits_of_handed c octets due)) r.0 wrote)
+
+  due-part : (c : Configuration) (octets longer : List ℕ) (due all : List (Handed WindowBlock))
+      → Later c octets longer due all → (taken taken_now noted noted_now : Option (List ℕ))
+      → WrotePart (phase_line due) (octets_of (bits_of_handed c octets due)) taken taken_now noted noted_now
+      → WrotePart (phase_line all) (filled_octets (bits_of_handed c longer all)) taken taken_now noted noted_now
+  due-part c octets longer due all l taken taken_now noted noted_now part = elim l.line as
+      (λ _. WrotePart (phase_line all) (filled_octets (bits_of_handed c longer all)) taken taken_now noted noted_now) [
+        | inl none ↦ inl (
+          (elim part as (λ _. Wrote taken taken_now []) [
+            | inl p ↦ p.0
+            | inr p ↦ front-nothing taken taken_now (subst (λ (b : List Bool). WroteFront taken taken_now (octets_of b))
+                none.1 p.0)
+          ]),
+          no-part noted noted_now (phase_line all) (elim part as (λ _. Wrote noted noted_now []) [
+            | inl p ↦ front-nothing noted noted_now (subst (WroteFront noted noted_now) none.0 p.1)
+            | inr p ↦ subst (Wrote noted noted_now) none.0 p.1
+          ]),
+        )
+        | inr same ↦ (elim part as (λ _. WrotePart (phase_line all) (filled_octets (bits_of_handed c longer all)) taken
+            taken_now noted noted_now) [
+              | inl p ↦ inl (p.0, subst (WroteFront noted noted_now) same p.1)
+              | inr p ↦ inr (
+                due-octets c octets longer due all l taken taken_now p.0,
+                subst (Wrote noted noted_now) same p.1,
+              )
+            ])
+      ]
+
+  fails-all : (c : Configuration) (octets : List ℕ) (taken taken_now noted noted_now : Option (List ℕ)) → IsAccepted c
+      → WritesPart c taken taken_now noted noted_now octets
+      → WritesAllPart c taken taken_now noted noted_now octets
+  fails-all c octets taken taken_now noted noted_now accepted w =
+      let all = handed-all c octets accepted in
+      let l : Later c octets octets w.handed all.0 = subst (λ (k : List ℕ). Later c octets k w.handed all.0)
+      (append-nil octets)
+      (later c octets [] w.handed all.0 all.1 w.are_due
+      (subst (λ (k : List ℕ). AreHanded c k all.0 all.1) (sym (append-nil octets)) all.2)) in
+      record {
+        handed = all.0;
+        left = all.1;
+        are_handed = all.2;
+        part = inl (due-part c octets octets w.handed all.0 l taken taken_now noted noted_now w.part);
+      }
+
+  ends-early : (c : Configuration) (receiver : InnerReceiving) (packing : Packing) (octets : List ℕ)
+      (taken taken_now noted noted_now : Option (List ℕ)) → IsAccepted c
+      → Writes c receiver packing taken taken_now noted noted_now octets
+      → WroteEarly (bits_meaning c) octets (taken_by taken taken_now noted noted_now)
+  ends-early c receiver packing octets taken taken_now noted noted_now accepted w =
+      let handed = w.handed in
+      let bits = bits_of_handed c octets handed in
+      let due : AreHandedDue c octets handed = subst (λ (k : Configuration). AreHandedDue k octets handed)
+      w.holds.config w.holds.stands.1 in
+      let out : Wrote taken taken_now (octets_of bits) = subst (Wrote taken taken_now)
+      (sym (append-nil (octets_of w.written))
+      ∙ ap (λ l. octets_of w.written ++ l) (sym (octets-none packing.bits w.is_written.few))
+      ∙ all-octets w.written packing.bits bits w.whole w.holds.bits) w.out in (
+        (
+          record { out = octets_of bits; notes = phase_line handed },
+          record { handed = handed; are_due = due; out = refl; notes = refl },
+          record { out = out; notes = w.notes },
+        ),
+        λ more.
+            let longer : List ℕ = octets ++ more in
+            let all = handed-all c longer accepted in
+            let l = later c octets more handed all.0 all.1 due all.2 in
+            let end = end_line c longer all.0 all.1 in (
+              output-of c longer all.0 all.1,
+              is-bits c longer all.0 all.1 all.2,
+              record {
+                out = due-octets c octets longer handed all.0 l taken taken_now
+                    (wrote-front taken taken_now (octets_of bits) out);
+                notes = elim l.line as (λ _. WroteFront noted noted_now (phase_line all.0 ++ end)) [
+                  | inl none ↦ no-part noted noted_now (phase_line all.0 ++ end)
+                      (subst (Wrote noted noted_now) none.0 w.notes)
+                  | inr same ↦ front-of noted noted_now (phase_line all.0) end
+                      (wrote-front noted noted_now (phase_line all.0) (subst (Wrote noted noted_now) same w.notes))
+                ];
+              },
+            ),
+      )
+
+  -- the relations of what is fed, over the receiver, what waits, and what the sinks of a value have taken
+  module _ {F : Type 0} (receiver : F → InnerReceiving) (waiting : F → Packing) (out notes : F → Option (List ℕ)) where
+    abbrev pub Fed : F → F → List ℕ → Type 0
+    Fed a b octets = WritesMore (receiver a) (waiting a) (out a) (notes a) (receiver b) (waiting b) (out b) (notes b)
+        octets
+
+    abbrev pub Stopped : F → F → List ℕ → Stop → Type 0
+    Stopped a b octets why = (why ≡ stop.SinkFault) × FailsWriting (receiver a) (waiting a) (out a) (notes a) (out b)
+        (notes b) octets
+
+    abbrev pub Ended : F → F → Outcome → Type 0
+    Ended a b by = (by ≡ outcome.Done) × EndsWriting (receiver a) (waiting a) (out a) (notes a) (out b) (notes b)
+
+    abbrev pub Failed : F → F → Type 0
+    Failed a b = CutsWriting (receiver a) (waiting a) (out a) (notes a) (out b) (notes b)
+
+    -- nothing was given before
+    module _ (c : Configuration) (before now : F) (accepted : IsAccepted c)
+        (fresh : Writes c (receiver before) (waiting before) (out before) (out before) (notes before) (notes before)
+        []) where
+      of-fed : (b : F) (octets : List ℕ) → length octets ≤ c.limit → Fed before b octets
+          → Writes c (receiver b) (waiting b) (out before) (out b) (notes before) (notes b) octets
+      of-fed b octets within p = let most = accepted.limit in p c (out before) (notes before) [] accepted (λ _. fresh)
+          (omega arith)
+
+      up-to : (octets : List ℕ) → length (take c.limit octets) ≤ c.limit
+      up-to octets = omega (arith, length-take c.limit octets)
+
+      early-by : (octets : List ℕ) → length octets ≤ c.limit → Fed before now octets
+          → WroteEarly (bits_meaning c) octets (taken_by (out before) (out now) (notes before) (notes now))
+      early-by octets within p = ends-early c (receiver now) (waiting now) octets (out before) (out now)
+          (notes before) (notes now) accepted (of-fed now octets within p)
+
+      ended-by : (ending : Ending) (octets : List ℕ) (ended unended : Type 0)
+          → DrivenTo Fed Stopped Ended Failed c.limit before now ended unended ending octets
+          → Ends ending (bits_meaning c) c.limit octets (taken_by (out before) (out now) (notes before) (notes now))
+      ended-by Done octets ended unended p =
+          ends-done c octets (out before) (out now) (notes before) (notes now)
+          (p.at_end.1 c (out before) (notes before) octets accepted (of-fed p.middle octets p.within p.were_fed))
+          p.within
+      ended-by Bad octets ended unended p = let no = p.at_end.0 in cc no
+      ended-by LeftOver octets ended unended p = let no = p.at_end.0 in cc no
+      ended-by BadWindow octets ended unended p = let no = p.0 in cc no
+      ended-by SourceFault octets ended unended p = (early-by octets p.1 p.0, p.1)
+      ended-by SinkFault octets ended unended (inl p) =
+          let most = accepted.limit in
+          let within = up-to octets in
+          ends-part c octets (out before) (out now) (notes before) (notes now)
+          (fails-all c (take c.limit octets) (out before) (out now) (notes before) (notes now) accepted
+          (p.0.1 c (out before) (notes before) [] accepted (λ _. fresh) (omega arith)))
+      ended-by SinkFault octets ended unended (inr p) =
+          let w = p.0 in
+          ends-cut c octets (out before) (out now) (notes before) (notes now)
+          (w.at_end c (out before) (notes before) octets accepted (of-fed w.middle octets w.within w.were_fed)) w.within
+      ended-by PastLimit octets ended unended p = (early-by (take c.limit octets) (up-to octets) p.0, p.1)
+
+      pub driven-ends : (limit : ℕ) → limit ≡ c.limit → (ending : Ending) (octets : List ℕ) (ended unended : Type 0)
+          → DrivenTo Fed Stopped Ended Failed limit before now ended unended ending octets
+          → Ends ending (bits_meaning c) c.limit octets (taken_by (out before) (out now) (notes before) (notes now))
+      driven-ends limit is ending octets ended unended p =
+          ended-by ending octets ended unended (subst
+          (λ (n : ℕ). DrivenTo Fed Stopped Ended Failed n before now ended unended ending octets) is p)
+
+-- before the first octets
+pub writes-new : (c : Configuration) (receiver : InnerReceiving) (packing : Packing) (out notes : Option (List ℕ))
+    → IsAccepted c → receiver.config ≡ c → StandsFor receiver [] []
+    → packing ≡ record { bits = []; room = c.keep + c.ahead + 4096; phase = None; windows = 0 }
+    → Writes c receiver packing out out notes notes []
+writes-new c receiver packing out notes accepted same stands new = record {
+  handed = [];
+  written = [];
+  holds = record {
+    config = same;
+    stands = stands-new c receiver accepted same stands;
+    room = ap (λ (p : Packing). p.room) new;
+    bits = ap (λ (p : Packing). p.bits) new ∙ sym (bits-none c.inner c);
+    windows = ap (λ (p : Packing). p.windows) new;
+  };
+  is_written = record {
+    few = omega (arith, ap (λ (p : Packing). length p.bits) new);
+    no_phase = ap
+        (λ (p : Packing). p.phase) new;
+  };
+  whole = refl;
+  out = wrote-nothing out;
+  notes = wrote-nothing notes;
+}
+  where
+    bits-none : (rate : Option Rate) (c : Configuration) → bits_at rate c [] [] ≡ []
+    bits-none None c = drop_all c.skip [] (omega arith)
+    bits-none (Some rate) c = refl

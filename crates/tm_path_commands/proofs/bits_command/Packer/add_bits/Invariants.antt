@@ -1,0 +1,6 @@
+use Rattle.std.proofs.Common.{◌==◌, take, map}
+use Rattle.tm_path_commands.specs.Bits.{Adds}
+use Rattle.tm_path_commands.proofs.bits_command.Packer.add_bits.Given as goal
+
+abbrev pub invariant-loop-k : goal.invariant-loop-k
+invariant-loop-k l = Adds l.fn.self (map (λ bit. bit == 1) (take l.k l.bits)) l.self
