@@ -1,0 +1,139 @@
+"""tmchan again, to be read beside CCSDS 131.0-B and docs/FORMAT.md: plain, slow, the standard
+library alone. It takes the program's command line and answers as the program does:
+
+    python3 docs/reference decode --depth 5 < symbols > frames
+
+How a fault of reading or writing shows (statuses 3 and 4) and want of memory (5) are left out."""
+import os
+import sys
+
+from certificate import Ends, certificate, checked_windows
+from inner import received, symbols
+from options import Refused, read_words
+from outer import bits_of, cadu, elements, nearest_codeword, octets_from, octets_of
+from receiver import items, last_line
+
+BLOCK = "block {} steps {} kept {} metric {}".format
+
+def lines(texts):
+    return "".join(text + "\n" for text in texts).encode()
+
+# Each command that reads answers output, notes and status for the octets of its input. Where the
+# input goes on behind these, past the limit (`ended` is False), it answers what is due for them.
+
+def encode(data, ended, c):
+    frames = [data[at:at + c.length] for at in range(0, len(data) - c.length + 1, c.length)]
+    units = b"".join(cadu(frame, c) for frame in frames)
+    output = units if c.inner == "none" else symbols(bits_of(units), c)
+    left = len(data) % c.length
+    return output, lines([f"left over {left}"] if ended and left else []), 6 if left else 0
+
+def decode(data, ended, c):
+    r = received(data, ended, c)
+    found = items(r.bits, c)
+    found = found if ended else found[:len(found) // 32 * 32]
+    told = r.head + [line for _, line, _ in found] + [last_line(found, r.bits)] * ended
+    frames = [frame for frame, _, _ in found if frame is not None]
+    return b"".join(frames), lines(told), 1 if len(frames) < len(found) else 0
+
+def report(data, ended, c):
+    _, notes, status = decode(data, ended, c)
+    return notes, b"", status
+
+def trace(data, ended, c):
+    r = received(data, ended, c)
+    told = [BLOCK(k, len(w.soft), w.kept, w.metric) for k, w in enumerate(r.windows)]
+    return lines(r.head + told + [r.end] * ended), b"", 0
+
+def bits(data, ended, c):
+    r = received(data, ended, c)
+    whole = r.bits + [0] * (-len(r.bits) % 8) if ended else r.bits[:len(r.bits) // 8 * 8]
+    return octets_of(whole), lines(r.head + [r.end] * ended), 0
+
+def certify(data, ended, c):
+    return b"".join(certificate(w) for w in received(data, ended, c).windows), b"", 0
+
+def check(data, ended, c):
+    output, told, count, status = b"", [], 0, 0
+    try:
+        for steps, kept, metric, soft in checked_windows(data, c):
+            output, count = output + soft, count + kept
+            told.append(BLOCK(len(told), steps, kept, metric))
+        last = f"blocks {len(told)} bits {count} leftover 0"
+    except Refused as reason:
+        return output, lines(told + [f"bad {len(told)} {reason}"]), 1
+    except Ends:
+        last, status = f"cut at block {len(told)}", 6
+    return output, lines(told + [last] * ended), status
+
+def nearest_line(octets, lost, c):
+    nearest = nearest_codeword(elements(octets, c), lost or [], c.E, c.repair)
+    if not nearest:
+        return "beyond"
+    counts = nearest[1] if lost is None else f"{nearest[1]} {nearest[2]}"
+    return f"fixed {counts} {octets_from(nearest[0], c).hex()}"
+
+def erased(data, ended, c):
+    n, told = c.codeword, []
+    for at in range(0, len(data) - 2 * n + 1, 2 * n):
+        lost = [i for i in range(n) if data[at + n + i]]
+        told.append(nearest_line(data[at:at + n], lost, c))
+    told = told if ended else told[:len(told) // 256 * 256]
+    left = len(data) % (2 * n)
+    notes = [f"left over {left}"] if ended and left else []
+    return lines(told), lines(notes), 6 if left else 1 if "beyond" in told else 0
+
+def word(c):
+    line = nearest_line(c.word, None, c)
+    return lines([line]), b"", 1 if line == "beyond" else 0
+
+def draws(seed):
+    """PCG-XSH-RR of the seed, on stream 0: 64 bits of state, words of 32 bits."""
+    state = (seed + 1) * 6364136223846793005 + 1
+    while True:
+        state %= 2 ** 64
+        x, turn = (state >> 18 ^ state) >> 27 & 0xFFFFFFFF, state >> 59
+        yield (x >> turn | x << (32 - turn)) & 0xFFFFFFFF
+        state = state * 6364136223846793005 + 1
+
+def soak(c):
+    draw, units = draws(c.seed), bytearray()
+    for _ in range(c.frames):
+        unit = bytearray(cadu(bytes(next(draw) & 255 for _ in range(c.length)), c))
+        for i in range(c.depth):
+            a = next(draw)
+            for k in range(c.hits):
+                unit[4 + (a + k) % c.codeword * c.depth + i] ^= 1 + next(draw) % 255
+        units += unit
+    r = received(units if c.inner == "none" else symbols(bits_of(units), c), True, c)
+    found = items(r.bits, c)
+    bad = any(frame is None for frame, _, _ in found)
+    return lines([last_line(found, r.bits)]), b"", 1 if bad else 0
+
+def run(words, read):
+    """Output, notes and status for the words behind the program's name. `read` gives the input,
+    up to a number of octets."""
+    try:
+        command, c = read_words([os.fsencode(text).decode() for text in words])
+    except UnicodeDecodeError:
+        return b"", b"", 8
+    except Refused as reason:
+        return b"", lines([f"refused: {reason}"]), 2
+    answer = globals()[command]
+    if command in ("word", "soak"):
+        return answer(c)
+    data = read(c.limit + 1)
+    output, notes, status = answer(data[:c.limit], len(data) <= c.limit, c)
+    seen = command == "check" and status == 1
+    return output, notes, status if seen or len(data) <= c.limit else 7
+
+def read_standard_input(most, data=b""):
+    while len(data) < most and (piece := sys.stdin.buffer.read(min(4096, most - len(data)))):
+        data += piece
+    return data
+
+if __name__ == "__main__":
+    OUTPUT, NOTES, STATUS = run(sys.argv[1:], read_standard_input)
+    sys.stdout.buffer.write(OUTPUT)
+    sys.stderr.buffer.write(NOTES)
+    sys.exit(STATUS)

@@ -1,0 +1,115 @@
+"""The inner code: CCSDS 131.0-B, "Convolutional coding" (constraint length 7), and its decoder."""
+from types import SimpleNamespace
+
+from outer import bits_of
+
+# For each step of a rate's period, whether the first sum is sent, and whether the second.
+PATTERNS = {rate: [(x == "1", y == "1") for x, y in zip(first, second)] for rate, first, second in (
+    ("1/2", "1", "1"), ("2/3", "10", "11"), ("3/4", "101", "110"), ("5/6", "10101", "11010"),
+    ("7/8", "1000101", "1111010"))}
+
+def sent(t, c):
+    """Which sums step t of the stream sends."""
+    return PATTERNS[c.inner][t % len(PATTERNS[c.inner])]
+
+def sums(register, bit):
+    """2 c1 + c2 for u[t] = bit; the register's six bits are u[t-1] (most significant) to u[t-6]."""
+    u = [bit] + [register >> (6 - k) & 1 for k in range(1, 7)]  # u[k] is u[t-k]
+    return 2 * (u[0] ^ u[1] ^ u[2] ^ u[3] ^ u[6]) + (u[0] ^ u[2] ^ u[3] ^ u[5] ^ u[6])
+
+def next_register(register, bit):
+    return bit << 5 | register >> 1
+
+def soft_form(octets, c):
+    """Octets turned from the unsigned form to that of --soft, or back."""
+    return bytes(octet ^ 128 for octet in octets) if c.signed else bytes(octets)
+
+def symbols(bits, c):
+    """The symbols of a stream's bits, one octet each."""
+    register, octets = 0, bytearray()
+    for t, bit in enumerate(bits):
+        (first, second), both = sent(t, c), sums(register, bit) ^ c.invert
+        octets += bytes([255 * (both >> 1)] * first + [255 * (both & 1)] * second)
+        register = next_register(register, bit)
+    return soft_form(octets, c)
+
+# The soft decoder (Viterbi), by whole windows.
+def cut_steps(octets, c):
+    """The soft octets of each whole step, and how many octets are left over."""
+    steps, at = [], 0
+    while at + sum(sent(len(steps), c)) <= len(octets):
+        size = sum(sent(len(steps), c))
+        steps.append(octets[at:at + size])
+        at += size
+    return steps, len(octets) - at
+
+def branch_metrics(soft, t, c):
+    """What step t of the stream costs for each 2 c1 + c2."""
+    first, second = sent(t, c)
+    one = (soft[0], 255 - soft[0]) if first else (0, 0)
+    two = (soft[-1], 255 - soft[-1]) if second else (0, 0)
+    return [one[c1] + two[c2 ^ c.invert] for c1 in (0, 1) for c2 in (0, 1)]
+
+# Of each register the two before it, that with u[t-6] = 0 first, with 2 c1 + c2 of the branch.
+TRELLIS = [[(2 * register % 64 + lost, sums(2 * register % 64 + lost, register >> 5))
+            for lost in (0, 1)] for register in range(64)]
+
+def path_metrics(steps, first, starts, c):
+    """The path metrics of all registers before the first of the steps, which is step `first` of
+    the stream, and behind each. A path from a register that is not in `starts` costs 2^30 more."""
+    columns = [[0 if register in starts else 2 ** 30 for register in range(64)]]
+    for t, soft in enumerate(steps, first):
+        cost, before = branch_metrics(soft, t, c), columns[-1]
+        columns.append([min(before[a] + cost[x], before[b] + cost[y])
+                        for (a, x), (b, y) in TRELLIS])
+    return columns
+
+def traceback(columns, steps, first, c):
+    """The registers that the best path passes. Of equal paths the one whose bits, read from the
+    last one back, come first: the one with the least last register, then with u[t-6] = 0."""
+    passed = [columns[-1].index(min(columns[-1]))]
+    for k in range(len(steps) - 1, -1, -1):
+        cost = branch_metrics(steps[k], first + k, c)
+        (a, x), (b, _) = TRELLIS[passed[0]]
+        passed.insert(0, a if columns[k][a] + cost[x] == columns[k + 1][passed[0]] else b)
+    return passed
+
+def windows(octets, ended, c):
+    """The windows, without the last one where the octets go on; and how many are left over."""
+    steps, leftover = cut_steps(octets, c)
+    found, first, starts = [], 0, range(64) if c.start_any else (0,)
+    while len(steps) - first > (0 if ended else c.keep + c.ahead):
+        w = SimpleNamespace(soft=steps[first:first + c.keep + c.ahead])
+        w.kept = c.keep if len(steps) - first > c.keep + c.ahead else len(w.soft)
+        w.columns = path_metrics(w.soft, first, starts, c)
+        w.passed = traceback(w.columns, w.soft, first, c)
+        w.metric, w.bits = min(w.columns[-1]), [register >> 5 for register in w.passed[1:]]
+        first, starts = first + w.kept, (w.passed[w.kept],)
+        found.append(w)
+    return found, leftover
+
+def symbol_phase(octets, ended, c):
+    """The phase and what the best path costs from there; None while it can't be chosen."""
+    period = sum(map(sum, PATTERNS[c.inner]))
+    whole = len(cut_steps(octets[:max(0, len(octets) - (period - 1))], c)[0])
+    if whole < c.keep + c.ahead and not ended:
+        return None
+    count = min(whole, c.keep + c.ahead)
+    costs = [min(path_metrics(cut_steps(octets[k:], c)[0][:count], 0, range(64), c)[-1])
+             for k in range(period)]
+    return costs.index(min(costs)), min(costs)
+
+def received(data, ended, c):
+    """The windows and bits of an input, or where it goes on those that are due, and the lines
+    that come first and last where they are told."""
+    r = SimpleNamespace(phase=(0, 0), windows=[], bits=bits_of(data)[c.skip:], leftover=0)
+    if c.inner != "none":
+        octets = soft_form(data, c)[c.skip:]
+        if c.find_phase:
+            r.phase = symbol_phase(octets, ended, c)
+        if r.phase:
+            r.windows, r.leftover = windows(octets[r.phase[0]:], ended, c)
+        r.bits = [bit for w in r.windows for bit in w.bits[:w.kept]]
+    r.head = [f"phase {r.phase[0]} cost {r.phase[1]}"] if c.find_phase and r.phase else []
+    r.end = f"blocks {len(r.windows)} bits {len(r.bits)} leftover {r.leftover}"
+    return r
