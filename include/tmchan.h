@@ -75,6 +75,7 @@ extern "C" {
 #define TMCHAN_BAD_AHEAD (-31)
 #define TMCHAN_BAD_PHASE (-32)
 #define TMCHAN_BAD_POLARITY (-33)
+#define TMCHAN_BAD_BATCH (-34)
 
 /* The version of the library that is linked. */
 uint32_t tmchan_version(void);
@@ -166,6 +167,7 @@ typedef struct {
     uint64_t ahead;     /* steps behind these: 0 to 4,096, default 256 */
     uint64_t phase;     /* the symbol phase is given: 0 (default), or to be found: 1 */
     uint64_t polarity;  /* the polarity of the bits is given: 0 (default), or to be found: 1 */
+    uint64_t batch;     /* how many codeblocks a receiver repairs and hands over at once: 1 to 32 (default) */
 } tmchan_config;
 
 /* Fills in the defaults. */

@@ -2,7 +2,7 @@
 ghost use Rattle.std.specs.Prelude.{◌≡◌, ◌≢◌, ℕ, ◌+◌, ◌-◌, ◌*◌, ◌<◌, ◌≤◌, ◌++◌, length, true, false};
 ghost use Rattle.tm_config.specs.Accepted.{IsAccepted};
 ghost use Rattle.tm_config.specs.Configuration.{correctable, word_length, codeblock_length};
-ghost use Rattle.tm_config.specs.declared.ranges.TheConstants.{LONGEST_CODEBLOCK};
+ghost use Rattle.tm_config.specs.Bounds.{longest_codeblock};
 ghost use Rattle.tm_interleave.specs.Column.{column};
 ghost use Rattle.tm_codeblock.specs.Cadu.{coded_octets, coded_column, codeblock_of, cadu};
 
@@ -152,7 +152,7 @@ pub fn params_of(config: &Config) -> Params
 /// The octets of a codeblock, at most 2,040. Its CADU has four more.
 pub fn codeblock_size(config: &Config) -> usize
     ensures value { result ≡ codeblock_length config.now }
-    ensures most { result ≤ LONGEST_CODEBLOCK }
+    ensures most { result ≤ longest_codeblock }
 {
     (config.depth() * config.word_length()) as usize
 }

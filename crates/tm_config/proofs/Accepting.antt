@@ -3,7 +3,7 @@ use Rattle.std.proofs.Common.{◌≡◌, ◌⊎◌, inl, inr, ℕ, ◌*◌, ◌/
 use Rattle.std.proofs.Common.{◌==◌, ◌&&◌, nat_le, unwrap_or, if◌then◌else◌, ◌≢◌}
 use Rattle.std.proofs.lemmas.Bool.Decides.{nat_tests}
 use Rattle.std.proofs.Math.Nat.{mul-div_cancel_left}
-use Rattle.tm_config.specs.declared.ranges.TheConstants.{LONGEST_CODEBLOCK, DEEPEST, MOST_TOLERANCE, MOST_SKIP, MOST_WORKERS, MOST_LIMIT, MOST_FLY, LEAST_KEEP, MOST_KEEP, MOST_AHEAD}
+use Rattle.tm_config.specs.Bounds.{longest_codeblock, deepest, most_tolerance, most_skip, most_workers, most_limit, most_fly, least_keep, most_keep, most_ahead, most_batch}
 use Rattle.tm_config.specs.declared.values.Raw.{Raw}
 use Rattle.tm_config.specs.declared.values.OuterCode.{OuterCode}
 use Rattle.tm_config.specs.declared.values.OuterCode.TheVariants.{Rs16, Rs8, Uncoded}
@@ -35,18 +35,19 @@ pub record AllPass (raw : Raw) : Type 0 where
   pub inner : is_number number_of_rate all_rates raw.inner ≡ true
   pub switches : (fits_if_given switch_fits raw.invert ≡ true) × (switch_fits raw.randomize ≡ true)
   pub basis : is_number number_of_basis all_bases raw.basis ≡ true
-  pub tolerance : nat_le raw.tolerance MOST_TOLERANCE ≡ true
+  pub tolerance : nat_le raw.tolerance most_tolerance ≡ true
   pub repair : repair_fits raw ≡ true
   pub soft : is_number number_of_form all_forms raw.soft ≡ true
   pub start : is_number number_of_start all_starts raw.start ≡ true
-  pub skip : nat_le raw.skip MOST_SKIP ≡ true
-  pub workers : is_within 1 MOST_WORKERS raw.workers ≡ true
-  pub limit : is_within 1 MOST_LIMIT raw.limit ≡ true
-  pub fly : nat_le raw.fly MOST_FLY ≡ true
-  pub keep : is_within LEAST_KEEP MOST_KEEP raw.keep ≡ true
-  pub ahead : nat_le raw.ahead MOST_AHEAD ≡ true
+  pub skip : nat_le raw.skip most_skip ≡ true
+  pub workers : is_within 1 most_workers raw.workers ≡ true
+  pub limit : is_within 1 most_limit raw.limit ≡ true
+  pub fly : nat_le raw.fly most_fly ≡ true
+  pub keep : is_within least_keep most_keep raw.keep ≡ true
+  pub ahead : nat_le raw.ahead most_ahead ≡ true
   pub phase : sought_fits raw.phase ≡ true
   pub polarity : sought_fits raw.polarity ≡ true
+  pub batch : is_within 1 most_batch raw.batch ≡ true
 
 pub all_pass : (raw : Raw) → refusal_of raw ≡ None → AllPass raw
 unfolding refusal_of
@@ -69,6 +70,7 @@ all_pass raw none =
     let p16 = p15.1 in
     let p17 = p16.1 in
     let p18 = p17.1 in
+    let p19 = p18.1 in
     record {
       code = p1.0;
       depth = p2.0;
@@ -88,12 +90,13 @@ all_pass raw none =
       ahead = p16.0;
       phase = p17.0;
       polarity = p18.0;
+      batch = p19.0;
     }
 
 within : (least most value : ℕ) → is_within least most value ≡ true → (least ≤ value) × (value ≤ most)
 within least most value fits = (grind (arith, nat_tests), grind (arith, nat_tests))
 
-depth_listed : (depth : ℕ) → is_listed depth (1 ∷ 2 ∷ 3 ∷ 4 ∷ 5 ∷ DEEPEST ∷ []) ≡ true → (1 ≤ depth) × (depth ≤ DEEPEST)
+depth_listed : (depth : ℕ) → is_listed depth (1 ∷ 2 ∷ 3 ∷ 4 ∷ 5 ∷ deepest ∷ []) ≡ true → (1 ≤ depth) × (depth ≤ deepest)
 depth_listed depth fits = (grind (arith, nat_tests), grind (arith, nat_tests))
 
 by_code : (P : Bool → Type 0) (none some : Bool) (code : OuterCode) → P (if is_uncoded code then none else some)
@@ -106,7 +109,7 @@ by_code P none some code fits = elim (uncoded_tells code) [
 same_number : (value wanted : ℕ) → (value == wanted) ≡ true → value ≡ wanted
 same_number value wanted same = grind (arith, nat_tests)
 
-pub depth_within : (raw : Raw) → depth_fits raw ≡ true → (1 ≤ raw.depth) × (raw.depth ≤ DEEPEST)
+pub depth_within : (raw : Raw) → depth_fits raw ≡ true → (1 ≤ raw.depth) × (raw.depth ≤ deepest)
 depth_within raw fits = elim (by_code (λ b. b ≡ true) _ _ (code_of raw.code) fits) [
   | inl none ↦ let one = same_number raw.depth 1 none.1 in (omega arith, omega arith)
   | inr some ↦ depth_listed raw.depth some.1
@@ -118,7 +121,7 @@ no_depth raw fits no_code = elim (by_code (λ b. b ≡ true) _ _ (code_of raw.co
   | inr some ↦ absurd (some.0 no_code)
 ]
 
-pub most_data-le : (code : OuterCode) → most_data code ≤ LONGEST_CODEBLOCK
+pub most_data-le : (code : OuterCode) → most_data code ≤ longest_codeblock
 most_data-le Rs16 = omega arith
 most_data-le Rs8 = omega arith
 most_data-le Uncoded = omega arith
@@ -177,15 +180,17 @@ configuration_is_accepted raw none =
       whole = frame.whole;
       some_data = frame.some_data;
       data_fits = frame.data_fits;
-      tolerance = at_most raw.tolerance MOST_TOLERANCE pass.tolerance;
+      tolerance = at_most raw.tolerance most_tolerance pass.tolerance;
       repair = repair_within (correctable code) raw.repair pass.repair;
-      skip = at_most raw.skip MOST_SKIP pass.skip;
-      some_workers = (within 1 MOST_WORKERS raw.workers pass.workers).0;
-      workers = (within 1 MOST_WORKERS raw.workers pass.workers).1;
-      some_limit = (within 1 MOST_LIMIT raw.limit pass.limit).0;
-      limit = (within 1 MOST_LIMIT raw.limit pass.limit).1;
-      fly = at_most raw.fly MOST_FLY pass.fly;
-      some_keep = (within LEAST_KEEP MOST_KEEP raw.keep pass.keep).0;
-      keep = (within LEAST_KEEP MOST_KEEP raw.keep pass.keep).1;
-      ahead = at_most raw.ahead MOST_AHEAD pass.ahead;
+      skip = at_most raw.skip most_skip pass.skip;
+      some_workers = (within 1 most_workers raw.workers pass.workers).0;
+      workers = (within 1 most_workers raw.workers pass.workers).1;
+      some_limit = (within 1 most_limit raw.limit pass.limit).0;
+      limit = (within 1 most_limit raw.limit pass.limit).1;
+      fly = at_most raw.fly most_fly pass.fly;
+      some_keep = (within least_keep most_keep raw.keep pass.keep).0;
+      keep = (within least_keep most_keep raw.keep pass.keep).1;
+      ahead = at_most raw.ahead most_ahead pass.ahead;
+      some_batch = (within 1 most_batch raw.batch pass.batch).0;
+      batch = (within 1 most_batch raw.batch pass.batch).1;
     }

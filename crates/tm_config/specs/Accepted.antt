@@ -2,8 +2,8 @@
 use Rattle.std.specs.Prelude.{◌≡◌, ℕ, ◌*◌, ◌/◌, ◌%◌, ◌≤◌, ◌==◌, ◌&&◌, Bool, true, false, nat_le}
 use Rattle.std.specs.Prelude.{List, [], ◌∷◌, Option, Some, None, codes, if◌then◌else◌}
 use Rattle.std.specs.List.{list_any}
-use Rattle.tm_config.specs.declared.ranges.TheConstants.{DEEPEST, MOST_TOLERANCE, MOST_SKIP, MOST_WORKERS}
-use Rattle.tm_config.specs.declared.ranges.TheConstants.{MOST_LIMIT, MOST_FLY, LEAST_KEEP, MOST_KEEP, MOST_AHEAD}
+use Rattle.tm_config.specs.Bounds.{deepest, most_tolerance, most_skip, most_workers, most_limit}
+use Rattle.tm_config.specs.Bounds.{most_fly, least_keep, most_keep, most_ahead, most_batch}
 use Rattle.tm_config.specs.Configuration.{Configuration, data_length, most_data}
 use Rattle.tm_config.specs.Configuration.{correctable, is_uncoded, all_codes, code_of}
 use Rattle.tm_config.specs.Configuration.{number_of_rate, all_rates, number_of_switch, all_switches}
@@ -12,28 +12,32 @@ use Rattle.tm_config.specs.Configuration.{number_of_start, all_starts, number_of
 use Rattle.tm_config.specs.declared.values.Raw.{Raw}
 use Rattle.tm_config.specs.declared.values.OuterCode.TheVariants.{Uncoded}
 use Rattle.tm_config.specs.declared.error.ConfigError.{ConfigError}
-use Rattle.tm_config.specs.declared.error.ConfigError.TheVariants.{Code, Depth, Length, Inner, Switch, Basis, Tolerance, Repair, Soft, Start, Skip, Workers, Limit, Fly, Keep, Ahead, Phase, Polarity}
+use Rattle.tm_config.specs.declared.error.ConfigError.TheVariants.{Code, Depth, Length, Inner, Switch, Basis, Tolerance}
+use Rattle.tm_config.specs.declared.error.ConfigError.TheVariants.{Repair, Soft, Start, Skip, Workers, Limit, Fly}
+use Rattle.tm_config.specs.declared.error.ConfigError.TheVariants.{Keep, Ahead, Phase, Polarity, Batch}
 
 -- each value is within its range; the others are choices, and any of them is accepted
 pub record IsAccepted (c : Configuration) : Type 0 where
   pub some_depth : 1 ≤ c.depth
-  pub depth : c.depth ≤ DEEPEST
+  pub depth : c.depth ≤ deepest
   pub no_depth : c.code ≡ Uncoded → c.depth ≡ 1
   -- the frame is whole columns of data
   pub whole : c.frame_length ≡ c.depth * data_length c
   pub some_data : 1 ≤ data_length c
   pub data_fits : data_length c ≤ most_data c.code
-  pub tolerance : c.tolerance ≤ MOST_TOLERANCE
+  pub tolerance : c.tolerance ≤ most_tolerance
   pub repair : c.repair ≤ correctable c.code
-  pub skip : c.skip ≤ MOST_SKIP
+  pub skip : c.skip ≤ most_skip
   pub some_workers : 1 ≤ c.workers
-  pub workers : c.workers ≤ MOST_WORKERS
+  pub workers : c.workers ≤ most_workers
   pub some_limit : 1 ≤ c.limit
-  pub limit : c.limit ≤ MOST_LIMIT
-  pub fly : c.fly ≤ MOST_FLY
-  pub some_keep : LEAST_KEEP ≤ c.keep
-  pub keep : c.keep ≤ MOST_KEEP
-  pub ahead : c.ahead ≤ MOST_AHEAD
+  pub limit : c.limit ≤ most_limit
+  pub fly : c.fly ≤ most_fly
+  pub some_keep : least_keep ≤ c.keep
+  pub keep : c.keep ≤ most_keep
+  pub ahead : c.ahead ≤ most_ahead
+  pub some_batch : 1 ≤ c.batch
+  pub batch : c.batch ≤ most_batch
 
 -- the value is one of a list
 abbrev pub is_listed : ℕ → List ℕ → Bool
@@ -58,7 +62,7 @@ abbrev pub depth_fits : Raw → Bool
 depth_fits raw =
     if is_uncoded (code_of raw.code)
     then raw.depth == 1
-    else is_listed raw.depth (1 ∷ 2 ∷ 3 ∷ 4 ∷ 5 ∷ DEEPEST ∷ [])
+    else is_listed raw.depth (1 ∷ 2 ∷ 3 ∷ 4 ∷ 5 ∷ deepest ∷ [])
 
 -- the frame fills as many codewords as the depth says, each with at least one data octet and no
 -- more than it holds
@@ -89,18 +93,19 @@ tests raw =
     ∷ (is_number number_of_rate all_rates raw.inner, Inner)
     ∷ (switches_fit raw, Switch)
     ∷ (is_number number_of_basis all_bases raw.basis, Basis)
-    ∷ (nat_le raw.tolerance MOST_TOLERANCE, Tolerance)
+    ∷ (nat_le raw.tolerance most_tolerance, Tolerance)
     ∷ (repair_fits raw, Repair)
     ∷ (is_number number_of_form all_forms raw.soft, Soft)
     ∷ (is_number number_of_start all_starts raw.start, Start)
-    ∷ (nat_le raw.skip MOST_SKIP, Skip)
-    ∷ (is_within 1 MOST_WORKERS raw.workers, Workers)
-    ∷ (is_within 1 MOST_LIMIT raw.limit, Limit)
-    ∷ (nat_le raw.fly MOST_FLY, Fly)
-    ∷ (is_within LEAST_KEEP MOST_KEEP raw.keep, Keep)
-    ∷ (nat_le raw.ahead MOST_AHEAD, Ahead)
+    ∷ (nat_le raw.skip most_skip, Skip)
+    ∷ (is_within 1 most_workers raw.workers, Workers)
+    ∷ (is_within 1 most_limit raw.limit, Limit)
+    ∷ (nat_le raw.fly most_fly, Fly)
+    ∷ (is_within least_keep most_keep raw.keep, Keep)
+    ∷ (nat_le raw.ahead most_ahead, Ahead)
     ∷ (sought_fits raw.phase, Phase)
     ∷ (sought_fits raw.polarity, Polarity)
+    ∷ (is_within 1 most_batch raw.batch, Batch)
     ∷ []
 
 -- the error of the first test that fails
@@ -133,6 +138,7 @@ name_of Keep = codes "keep"
 name_of Ahead = codes "ahead"
 name_of Phase = codes "phase"
 name_of Polarity = codes "polarity"
+name_of Batch = codes "batch"
 
 -- their places in the order of the tests
 abbrev pub place_of : ConfigError → ℕ
@@ -154,3 +160,4 @@ place_of Keep = 14
 place_of Ahead = 15
 place_of Phase = 16
 place_of Polarity = 17
+place_of Batch = 18

@@ -8,7 +8,7 @@ use Rattle.tm_dual.specs.declared.basis.Basis.{Basis}
 use Rattle.tm_dual.specs.declared.basis.Basis.TheVariants.{Dual, Poly}
 use Rattle.tm_viterbi.specs.declared.block.Start.{Start}
 use Rattle.tm_viterbi.specs.declared.block.Start.TheVariants.{Zero, Any}
-use Rattle.tm_config.specs.declared.ranges.TheConstants.{LONGEST_WORD, LONGEST_CODEBLOCK}
+use Rattle.tm_config.specs.Bounds.{longest_word, longest_codeblock}
 use Rattle.tm_config.specs.declared.values.Raw.{Raw}
 use Rattle.tm_config.specs.declared.values.Values.{Values}
 use Rattle.tm_config.specs.declared.values.OuterCode.{OuterCode}
@@ -45,6 +45,7 @@ default_raw = record {
   ahead = 256;
   phase = 0;
   polarity = 0;
+  batch = 32;
 }
 
 -- the first of these values that has the number, or another where none has
@@ -149,7 +150,7 @@ is_sought Find = true
 -- Reed-Solomon Coding); the longest codeblock where there is no code
 abbrev pub most_data : OuterCode → ℕ
 most_data code =
-    if is_uncoded code then LONGEST_CODEBLOCK else LONGEST_WORD - 2 * correctable code
+    if is_uncoded code then longest_codeblock else longest_word - 2 * correctable code
 
 -- the values that were given; a frame not given is as long as it can be, a bound of repair not
 -- given is E
@@ -174,6 +175,7 @@ configuration_of raw = record {
   ahead = raw.ahead;
   phase = sought_of raw.phase;
   polarity = sought_of raw.polarity;
+  batch = raw.batch;
 }
 
 -- each choice has the number that was given for it

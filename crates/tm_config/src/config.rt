@@ -2,7 +2,7 @@
 ghost use Rattle.std.specs.Prelude.{◌≡◌, ◌≢◌, ◌⊎◌, ◌*◌, ◌<◌, ◌≤◌, None, Some, OnOk, IfOk, IfErr, option_map};
 ghost use Rattle.tm_config.specs.Configuration.{HaveNumbers, configuration_of, word_length, correctable, number_of_rate, number_of_switch, number_of_basis, number_of_form, number_of_start, number_of_sought};
 ghost use Rattle.tm_config.specs.Accepted.{IsAccepted, refusal_of};
-ghost use Rattle.tm_config.specs.declared.ranges.TheConstants.{LONGEST_WORD};
+ghost use Rattle.tm_config.specs.Bounds.{longest_word};
 
 use crate::ranges::{frame_length, refusal};
 use crate::values::{
@@ -43,7 +43,7 @@ impl Config {
     /// - `Inner`: 0, 12, 23, 34, 56 or 78. `Switch`: `invert` `None`, 0 or 1, and `randomize` 0 or 1. `Basis`: 0 or 1.
     /// - `Tolerance`: 0 to 8. `Repair`: `None`, or 0 to E. `Soft`, `Start`: 0 or 1. `Skip`: 0 to 15.
     /// - `Workers`: 1 to 64. `Limit`: 1 to 2^40. `Fly`: 0 to 15. `Keep`: 64 to 65,536. `Ahead`: 0 to 4,096.
-    /// - `Phase`, `Polarity`: 0 or 1.
+    /// - `Phase`, `Polarity`: 0 or 1. `Batch`: 1 to 32.
     pub fn check(raw: &Raw) -> Result<Config, ConfigError>
         ensures ok { OnOk result (refusal_of raw.now ≡ None) }
         ensures config { IfOk result (λ config. config ≡ configuration_of raw.now) }
@@ -71,7 +71,7 @@ impl Config {
     pub fn word_length(&self) -> u64
         ensures value { result ≡ word_length self.now }
         ensures fits { self.now.code ≢ OuterCode.Uncoded
-            → (2 * correctable self.now.code < result) × (result ≤ LONGEST_WORD) }
+            → (2 * correctable self.now.code < result) × (result ≤ longest_word) }
         ensures accepted { IsAccepted self.now }
     {
         self.values.frame_length / self.values.depth + 2 * self.values.code.correctable()
@@ -249,6 +249,14 @@ impl Config {
     {
         number_of_sought(self.values.polarity)
     }
+
+    /// How many codeblocks are repaired and handed over at once.
+    pub fn batch(&self) -> u64
+        ensures value { result ≡ self.now.batch }
+        ensures accepted { IsAccepted self.now }
+    {
+        self.values.batch
+    }
 }
 
 // The values, with those that were not given.
@@ -277,5 +285,6 @@ fn resolved(raw: &Raw) -> Values
         ahead: raw.ahead,
         phase: sought_of(raw.phase),
         polarity: sought_of(raw.polarity),
+        batch: raw.batch,
     }
 }

@@ -26,6 +26,7 @@ pub enum ConfigError {
     Ahead,
     Phase,
     Polarity,
+    Batch,
 }
 
 impl ConfigError {
@@ -53,6 +54,7 @@ impl ConfigError {
             ConfigError::Ahead => "ahead",
             ConfigError::Phase => "phase",
             ConfigError::Polarity => "polarity",
+            ConfigError::Batch => "batch",
         }
     }
 

@@ -31,6 +31,8 @@ pub const MOST_KEEP: u64 = 65_536;
 
 pub const MOST_AHEAD: u64 = 4096;
 
+pub const MOST_BATCH: u64 = 32;
+
 // The most data octets of a codeword, or of a frame where there is no code.
 fn most_data(code: OuterCode) -> u64
     ensures { result ≡ most_data code }
@@ -147,6 +149,10 @@ pub fn refusal(raw: &Raw) -> Option<ConfigError>
         (raw.ahead <= MOST_AHEAD, ConfigError::Ahead),
         (is_choice(raw.phase), ConfigError::Phase),
         (is_choice(raw.polarity), ConfigError::Polarity),
+        (
+            is_within(1, MOST_BATCH, raw.batch),
+            ConfigError::Batch,
+        ),
     ])
 }
 

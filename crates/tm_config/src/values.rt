@@ -47,6 +47,8 @@ pub struct Raw {
     pub phase: u64,
     /// The polarity of the symbols: 0 where it is given, 1 where it is to be found.
     pub polarity: u64,
+    /// How many codeblocks are repaired and handed over at once: 1 to 32.
+    pub batch: u64,
 }
 
 /// The values that hold where an option is not given.
@@ -74,6 +76,7 @@ impl Default for Raw {
             ahead: 256,
             phase: 0,
             polarity: 0,
+            batch: 32,
         }
     }
 }
@@ -141,6 +144,8 @@ pub struct Values {
     pub ahead: u64,
     pub phase: Sought,
     pub polarity: Sought,
+    /// How many codeblocks are repaired and handed over at once.
+    pub batch: u64,
 }
 
 impl OuterCode {

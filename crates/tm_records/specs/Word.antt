@@ -12,14 +12,14 @@ use Rattle.tm_rs_code.specs.Nearest.Nearest.{Beyond as BeyondWord}
 use Rattle.tm_rs_solve.specs.Answers.{found}
 use Rattle.tm_rs_solve.specs.declared.answers.Answer.{Answer}
 use Rattle.tm_rs_solve.specs.declared.answers.Answer.TheVariants.{Fixed, Beyond}
-use Rattle.tm_records.specs.declared.coding.TheConstants.{LONGEST_WORD}
+use Rattle.tm_config.specs.Bounds.{longest_word}
 use Rattle.tm_records.specs.declared.word_command.WordRefusal.{WordRefusal}
 use Rattle.tm_records.specs.declared.word_command.WordRefusal.TheVariants.{Code, Word, Hex}
 
 -- the bytes are two for each symbol of a word of a length that the code has
 abbrev pub fits_code : ℕ → ℕ → Bool
 fits_code e bytes =
-    (bytes % 2 == 0) && (nat_le (2 * e + 1) (bytes / 2) && nat_le (bytes / 2) LONGEST_WORD)
+    (bytes % 2 == 0) && (nat_le (2 * e + 1) (bytes / 2) && nat_le (bytes / 2) longest_word)
 
 -- the first reason to refuse the text of a word, or none: no outer code, another number of bytes
 -- than that of a word, or a byte that is no hexadecimal digit

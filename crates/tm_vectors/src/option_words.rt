@@ -30,10 +30,11 @@ static LINES: [(&str, Raw); 2] = [
             ahead: 256,
             phase: 0,
             polarity: 0,
+            batch: 32,
         },
     ),
     (
-        "tmchan encode --code rs8 --depth 4 --length 956 --inner 7/8 --invert off --randomize off --basis poly --tolerance 8 --repair 7 --soft i8 --start any --skip 15 --workers 64 --limit 1099511627776 --fly 14 --keep 65536 --ahead 4096 --phase find --polarity find",
+        "tmchan encode --code rs8 --depth 4 --length 956 --inner 7/8 --invert off --randomize off --basis poly --tolerance 8 --repair 7 --soft i8 --start any --skip 15 --workers 64 --limit 1099511627776 --fly 14 --keep 65536 --ahead 4096 --phase find --polarity find --batch 7",
         Raw {
             code: 8,
             depth: 4,
@@ -54,6 +55,7 @@ static LINES: [(&str, Raw); 2] = [
             ahead: 4_096,
             phase: 1,
             polarity: 1,
+            batch: 7,
         },
     ),
 ];

@@ -71,6 +71,7 @@ options =
     ∷ (codes "ahead", [])
     ∷ (codes "phase", sought_words)
     ∷ (codes "polarity", sought_words)
+    ∷ (codes "batch", [])
     ∷ []
 
 -- the options that `soak` has besides
@@ -115,4 +116,5 @@ raw_of rows = record {
   ahead = unwrap_or (number_given (codes "ahead") rows) default_raw.ahead;
   phase = unwrap_or (number_given (codes "phase") rows) default_raw.phase;
   polarity = unwrap_or (number_given (codes "polarity") rows) default_raw.polarity;
+  batch = unwrap_or (number_given (codes "batch") rows) default_raw.batch;
 }

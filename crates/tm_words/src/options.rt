@@ -13,7 +13,7 @@ const NO_NUMBER: u64 = u64::MAX;
 pub type OptionRow<'a> = (&'a str, &'a [(&'a str, u64)]);
 
 // The options of every command.
-pub static OPTIONS: [OptionRow<'static>; 19] = [
+pub static OPTIONS: [OptionRow<'static>; 20] = [
     ("code", &[("rs16", 16), ("rs8", 8), ("none", 0)]),
     ("depth", &[]),
     ("length", &[]),
@@ -43,6 +43,7 @@ pub static OPTIONS: [OptionRow<'static>; 19] = [
     ("ahead", &[]),
     ("phase", &[("given", 0), ("find", 1)]),
     ("polarity", &[("given", 0), ("find", 1)]),
+    ("batch", &[]),
 ];
 
 // The options that `soak` has besides.
@@ -165,5 +166,6 @@ pub fn raw(matches: &ArgMatches) -> Raw
         ahead: number_or(matches, "ahead", default.ahead),
         phase: number_or(matches, "phase", default.phase),
         polarity: number_or(matches, "polarity", default.polarity),
+        batch: number_or(matches, "batch", default.batch),
     }
 }

@@ -40,7 +40,9 @@ keep=63|keep\n\
 keep=65537 ahead=4097|keep\n\
 ahead=4097|ahead\n\
 phase=2 polarity=2|phase\n\
-polarity=2|polarity\n";
+polarity=2 batch=0|polarity\n\
+batch=0|batch\n\
+batch=33|batch\n";
 
 fn check_refused(rt: &impl Abort, alloc: Global) -> Result<(), AllocError> {
     for row in REFUSED.lines() {
@@ -59,7 +61,7 @@ fn check_refused(rt: &impl Abort, alloc: Global) -> Result<(), AllocError> {
 
 #[test]
 fn refuses_the_first_value_out_of_range(rt: HostRuntime) -> Result<(), Fail> {
-    assert_eq!(rt; REFUSED.lines().count(), 27);
+    assert_eq!(rt; REFUSED.lines().count(), 29);
     check_refused(&rt, rt.alloc())?;
     Ok(())
 }
@@ -135,6 +137,7 @@ fn tells_each_value(rt: HostRuntime) {
         ahead: 4096,
         phase: 1,
         polarity: 1,
+        batch: 31,
     };
     match Config::check(&raw) {
         Ok(config) => {
@@ -166,7 +169,7 @@ fn tells_each_value(rt: HostRuntime) {
                 ],
                 [1, 1, 15, 64]
             );
-            assert_eq!(rt; [config.limit(), config.fly()], [1_099_511_627_776, 15]);
+            assert_eq!(rt; [config.limit(), config.fly(), config.batch()], [1_099_511_627_776, 15, 31]);
             assert_eq!(rt;
                 [
                     config.keep(),

@@ -34,6 +34,7 @@ fn with(raw: Raw, name: &str, number: u64) -> Option<Raw> {
         "ahead" => raw.ahead = number,
         "phase" => raw.phase = number,
         "polarity" => raw.polarity = number,
+        "batch" => raw.batch = number,
         _ => return None,
     }
     Some(raw)

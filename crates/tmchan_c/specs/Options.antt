@@ -29,6 +29,7 @@ raw_of options = record {
   ahead = options.ahead;
   phase = options.phase;
   polarity = options.polarity;
+  batch = options.batch;
 }
 
 -- the configuration that they give

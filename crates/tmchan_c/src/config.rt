@@ -36,6 +36,7 @@ pub struct Options {
     pub ahead: u64,
     pub phase: u64,
     pub polarity: u64,
+    pub batch: u64,
 }
 
 /// Fills in the values that hold where an option is not given.
@@ -64,6 +65,7 @@ pub extern "C" fn tmchan_config_defaults(options: &mut Options)
         ahead: raw.ahead,
         phase: raw.phase,
         polarity: raw.polarity,
+        batch: raw.batch,
     };
 }
 
@@ -121,5 +123,6 @@ pub fn raw(options: &Options) -> Raw
         ahead: options.ahead,
         phase: options.phase,
         polarity: options.polarity,
+        batch: options.batch,
     }
 }
