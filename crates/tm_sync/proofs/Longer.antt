@@ -1,5 +1,5 @@
 -- The places of a list that goes on.
-use Rattle.std.proofs.Common.{◌≡◌, ℕ, zero, suc, ◌+◌, ◌<◌, ◌≤◌, Bool, true, false, cond, nat_lt, List, [], ◌∷◌, ◌++◌, length, drop, refl, sym, ap, ◌∙◌, subst, arith, Option, Some, None, length-append, ◌⊎◌, inl, inr}
+use Rattle.std.proofs.Common.{◌≡◌, ℕ, zero, suc, ◌+◌, ◌-◌, ◌*◌, ◌<◌, ◌≤◌, Bool, true, false, cond, nat_lt, List, [], ◌∷◌, ◌++◌, length, drop, refl, sym, ap, ◌∙◌, subst, arith, Option, Some, None, length-append, mul-le-mul_right, ◌⊎◌, inl, inr}
 use Rattle.std.specs.List.{AllByRecursion}
 use Rattle.std.proofs.lemmas.Bool.{cases_lt}
 use Rattle.tm_sync.specs.declared.found.Found.{Found}
@@ -80,36 +80,68 @@ places_from-start rules at zero before (b ∷ bits) = here (λ skip behind. late
         let s = place_at-stands rules at before (b ∷ bits) f e in
         subst (λ (fs : List Found). AllByRecursion (λ f. at ≤ f.place) fs) (sym (places_from-one rules at before b bits f e)) (omega (arith, s.place), next (31 + rules.block_bits) (Some (before_next before f)))
 
--- the longer list's places are first those of the shorter one, and the codeblocks of the others end behind it
-pub record GoesOn (rules : Rules) (end : ℕ) (all first : List Found) : Type 0 where
+-- ---- each place takes the bits of a marker and of a codeblock
+
+places_from-room : (rules : Rules) (at skip : ℕ) (before : Option Before) (bits : List Bool) → length (places_from rules at skip before bits) * (32 + rules.block_bits) ≤ length bits - skip
+places_from-room rules at skip before [] = subst (λ (fs : List Found). length fs * (32 + rules.block_bits) ≤ 0 - skip) (sym (places_from-nil rules at skip before)) (omega arith)
+places_from-room rules at (suc skip) before (b ∷ bits) =
+    let more = places_from-room rules (at + 1) skip before bits in
+    subst (λ (fs : List Found). length fs * (32 + rules.block_bits) ≤ suc (length bits) - suc skip) (sym (places_from-inside rules at skip before b bits)) (omega (arith, more))
+places_from-room rules at zero before (b ∷ bits) = here (λ skip behind. places_from-room rules (at + 1) skip behind bits) (seen (place_at rules at before (b ∷ bits)))
+  where
+    here : ((skip : ℕ) (before : Option Before) → length (places_from rules (at + 1) skip before bits) * (32 + rules.block_bits) ≤ length bits - skip)
+        → Seen (place_at rules at before (b ∷ bits)) → length (places_from rules at 0 before (b ∷ bits)) * (32 + rules.block_bits) ≤ suc (length bits) - 0
+    here next (none e) =
+        let more = next 0 None in
+        subst (λ (fs : List Found). length fs * (32 + rules.block_bits) ≤ suc (length bits) - 0) (sym (places_from-miss rules at before b bits e)) (omega (arith, more))
+    here next (some f e) =
+        let s = place_at-stands rules at before (b ∷ bits) f e in
+        let more = next (31 + rules.block_bits) (Some (before_next before f)) in
+        subst (λ (fs : List Found). length fs * (32 + rules.block_bits) ≤ suc (length bits) - 0) (sym (places_from-one rules at before b bits f e)) (omega (arith, more, s.room))
+
+pub places-room : (rules : Rules) (bits : List Bool) → length (places rules bits) * (32 + rules.block_bits) ≤ length bits
+places-room rules bits = omega (arith, places_from-room rules 0 0 None bits)
+
+pub places-count : (rules : Rules) (bits : List Bool) → length (places rules bits) ≤ length bits
+places-count rules bits = omega (arith, places-room rules bits)
+
+-- ---- a longer list
+
+-- Its places are first those of the shorter one. The codeblocks of the others end behind that, and so many more bits
+-- have few of them.
+pub record GoesOn (rules : Rules) (end more : ℕ) (all first : List Found) : Type 0 where
   pub rest : List Found
   pub is : all ≡ first ++ rest
   pub past : AllByRecursion (λ f. end < f.place + 32 + rules.block_bits) rest
+  pub few : length rest * (32 + rules.block_bits) < 32 + rules.block_bits + more
 
 pub places_from-append : (rules : Rules) (at skip : ℕ) (before : Option Before) (bits more : List Bool)
-    → GoesOn rules (at + length bits) (places_from rules at skip before (bits ++ more)) (places_from rules at skip before bits)
+    → GoesOn rules (at + length bits) (length more) (places_from rules at skip before (bits ++ more)) (places_from rules at skip before bits)
 places_from-append rules at skip before [] more = record {
   rest = places_from rules at skip before more;
   is = ap (λ l. l ++ places_from rules at skip before more) (sym (places_from-nil rules at skip before));
   past = past-of rules (at + 0) at (places_from rules at skip before more) (omega arith) (places_from-start rules at skip before more);
+  few = omega (arith, places_from-room rules at skip before more);
 }
 places_from-append rules at (suc skip) before (b ∷ bits) more =
     let go = places_from-append rules (at + 1) skip before bits more in record {
       rest = go.rest;
       is = places_from-inside rules at skip before b (bits ++ more) ∙ go.is ∙ ap (λ l. l ++ go.rest) (sym (places_from-inside rules at skip before b bits));
       past = past-same rules (at + 1 + length bits) (at + suc (length bits)) go.rest (omega arith) go.past;
+      few = go.few;
     }
 places_from-append rules at zero before (b ∷ bits) more =
     roomy (λ skip behind. places_from-append rules (at + 1) skip behind bits more) (cases_lt (length (b ∷ bits)) (32 + rules.block_bits))
   where
-    here : ((skip : ℕ) (before : Option Before) → GoesOn rules (at + 1 + length bits) (places_from rules (at + 1) skip before (bits ++ more)) (places_from rules (at + 1) skip before bits))
+    here : ((skip : ℕ) (before : Option Before) → GoesOn rules (at + 1 + length bits) (length more) (places_from rules (at + 1) skip before (bits ++ more)) (places_from rules (at + 1) skip before bits))
         → place_at rules at before (b ∷ (bits ++ more)) ≡ place_at rules at before (b ∷ bits) → Seen (place_at rules at before (b ∷ bits))
-        → GoesOn rules (at + length (b ∷ bits)) (places_from rules at 0 before ((b ∷ bits) ++ more)) (places_from rules at 0 before (b ∷ bits))
+        → GoesOn rules (at + length (b ∷ bits)) (length more) (places_from rules at 0 before ((b ∷ bits) ++ more)) (places_from rules at 0 before (b ∷ bits))
     here next same (none e) =
         let go = next 0 None in record {
           rest = go.rest;
           is = places_from-miss rules at before b (bits ++ more) (same ∙ e) ∙ go.is ∙ ap (λ l. l ++ go.rest) (sym (places_from-miss rules at before b bits e));
           past = past-same rules (at + 1 + length bits) (at + suc (length bits)) go.rest (omega arith) go.past;
+          few = go.few;
         }
     here next same (some f e) =
         let go = next (31 + rules.block_bits) (Some (before_next before f)) in record {
@@ -117,22 +149,24 @@ places_from-append rules at zero before (b ∷ bits) more =
           is = places_from-one rules at before b (bits ++ more) f (same ∙ e) ∙ ap (λ l. f ∷ l) go.is
               ∙ ap (λ l. l ++ go.rest) (sym (places_from-one rules at before b bits f e));
           past = past-same rules (at + 1 + length bits) (at + suc (length bits)) go.rest (omega arith) go.past;
+          few = go.few;
         }
 
-    roomy : ((skip : ℕ) (before : Option Before) → GoesOn rules (at + 1 + length bits) (places_from rules (at + 1) skip before (bits ++ more)) (places_from rules (at + 1) skip before bits))
+    roomy : ((skip : ℕ) (before : Option Before) → GoesOn rules (at + 1 + length bits) (length more) (places_from rules (at + 1) skip before (bits ++ more)) (places_from rules (at + 1) skip before bits))
         → (length (b ∷ bits) < 32 + rules.block_bits) ⊎ (32 + rules.block_bits ≤ length (b ∷ bits))
-        → GoesOn rules (at + length (b ∷ bits)) (places_from rules at 0 before ((b ∷ bits) ++ more)) (places_from rules at 0 before (b ∷ bits))
+        → GoesOn rules (at + length (b ∷ bits)) (length more) (places_from rules at 0 before ((b ∷ bits) ++ more)) (places_from rules at 0 before (b ∷ bits))
     roomy next (inl short) = record {
       rest = places_from rules at 0 before ((b ∷ bits) ++ more);
       is = ap (λ l. l ++ places_from rules at 0 before ((b ∷ bits) ++ more)) (sym (places_from-short rules at before (b ∷ bits) short));
       past = past-of rules (at + length (b ∷ bits)) at (places_from rules at 0 before ((b ∷ bits) ++ more)) (omega arith) (places_from-start rules at 0 before ((b ∷ bits) ++ more));
+      few = omega (arith, short, places_from-room rules at 0 before ((b ∷ bits) ++ more), length-append (b ∷ bits) more);
     }
     roomy next (inr room) = here next (place_at-append rules at before (b ∷ bits) more room) (seen (place_at rules at before (b ∷ bits)))
 
-pub places-append : (rules : Rules) (bits more : List Bool) → GoesOn rules (length bits) (places rules (bits ++ more)) (places rules bits)
+pub places-append : (rules : Rules) (bits more : List Bool) → GoesOn rules (length bits) (length more) (places rules (bits ++ more)) (places rules bits)
 places-append rules bits more =
     let go = places_from-append rules 0 0 None bits more in
-    record { rest = go.rest; is = go.is; past = past-same rules (0 + length bits) (length bits) go.rest (omega arith) go.past }
+    record { rest = go.rest; is = go.is; past = past-same rules (0 + length bits) (length bits) go.rest (omega arith) go.past; few = go.few }
 
 -- the codeblock of a place ends before `end`
 abbrev pub EndBefore : Rules → ℕ → List Found → Type 0
@@ -163,25 +197,19 @@ places_from-end rules at zero before (b ∷ bits) = here (λ skip behind. places
 pub places-end : (rules : Rules) (bits : List Bool) → EndBefore rules (length bits) (places rules bits)
 places-end rules bits = subst (λ (n : ℕ). EndBefore rules n (places rules bits)) (omega arith) (places_from-end rules 0 0 None bits)
 
--- ---- how many places there may be
-pub places_from-count : (rules : Rules) (at skip : ℕ) (before : Option Before) (bits : List Bool) → length (places_from rules at skip before bits) ≤ length bits
-places_from-count rules at skip before [] = subst (λ (fs : List Found). length fs ≤ 0) (sym (places_from-nil rules at skip before)) (omega arith)
-places_from-count rules at (suc skip) before (b ∷ bits) =
-    let more = places_from-count rules (at + 1) skip before bits in
-    subst (λ (fs : List Found). length fs ≤ suc (length bits)) (sym (places_from-inside rules at skip before b bits)) (omega arith)
-places_from-count rules at zero before (b ∷ bits) = here (λ skip behind. places_from-count rules (at + 1) skip behind bits) (seen (place_at rules at before (b ∷ bits)))
-  where
-    here : ((skip : ℕ) (before : Option Before) → length (places_from rules (at + 1) skip before bits) ≤ length bits)
-        → Seen (place_at rules at before (b ∷ bits)) → length (places_from rules at 0 before (b ∷ bits)) ≤ suc (length bits)
-    here next (none e) =
-        let more = next 0 None in
-        subst (λ (fs : List Found). length fs ≤ suc (length bits)) (sym (places_from-miss rules at before b bits e)) (omega arith)
-    here next (some f e) =
-        let more = next (31 + rules.block_bits) (Some (before_next before f)) in
-        subst (λ (fs : List Found). length fs ≤ suc (length bits)) (sym (places_from-one rules at before b bits f e)) (omega arith)
-
-pub places-count : (rules : Rules) (bits : List Bool) → length (places rules bits) ≤ length bits
-places-count rules bits = places_from-count rules 0 0 None bits
+-- so many codeblocks' bits more have as many places more at most
+pub places-few : (rules : Rules) (bits more : List Bool) (count : ℕ) → length more ≤ count * (32 + rules.block_bits) → length (places rules (bits ++ more)) ≤ length (places rules bits) + count
+places-few rules bits more count short =
+    let go = places-append rules bits more in
+    let all : length (places rules (bits ++ more)) ≡ length (places rules bits) + length go.rest = ap length go.is ∙ length-append (places rules bits) go.rest in
+    let few : length go.rest ≤ count = elim (cases_lt count (length go.rest)) as (λ _. length go.rest ≤ count) [
+      | inl many ↦ (
+          let one : count + 1 ≤ length go.rest = omega (arith, many) in
+          absurd (omega (arith, mul-le-mul_right (32 + rules.block_bits) one, go.few, short))
+          )
+      | inr there ↦ there
+    ] in
+    omega (arith, all, few)
 
 -- ---- what stands behind the places of a front
 drop-front : (front rest : List Found) → drop (length front) (front ++ rest) ≡ rest

@@ -1,5 +1,5 @@
 // Laws of the places in a list of bits.
-ghost use Rattle.std.specs.Prelude.{◌≡◌, ◌≢◌, ◌≤◌, ◌<◌, ◌+◌, ℕ, Bool, true, false, List, [], ◌++◌, length, drop, map, Some, None};
+ghost use Rattle.std.specs.Prelude.{◌≡◌, ◌≢◌, ◌≤◌, ◌<◌, ◌+◌, ◌*◌, ℕ, Bool, true, false, List, [], ◌++◌, length, drop, map, Some, None};
 ghost use Rattle.std.specs.List.{AllByRecursion};
 ghost use Rattle.tm_sync.specs.Bits.{complement};
 ghost use Rattle.tm_sync.specs.Places.{Rules, wrong_bits, places, turned_place};
@@ -46,4 +46,14 @@ pub fn longer_law()
     ensures behind { (rules : Rules) (bits more : List Bool)
         → AllByRecursion (λ f. length bits < f.place + 32 + rules.block_bits)
         (drop (length (places rules bits)) (places rules (bits ++ more))) }
+{}
+
+/// Each place takes the bits of a marker and of a codeblock, so bits have only so many places, and bits that come behind
+/// them bring only so many more.
+pub fn few_places_law()
+    ensures all { (rules : Rules) (bits : List Bool)
+        → length (places rules bits) * (32 + rules.block_bits) ≤ length bits }
+    ensures more { (rules : Rules) (bits more : List Bool) (count : ℕ)
+        → length more ≤ count * (32 + rules.block_bits)
+        → length (places rules (bits ++ more)) ≤ length (places rules bits) + count }
 {}

@@ -8,5 +8,5 @@ mod laws;
 mod search;
 
 pub use found::{Awaited, Before, Found, Paused};
-pub use laws::{clean_law, longer_law, marked_law, one_polarity_law, polarity_law};
+pub use laws::{clean_law, few_places_law, longer_law, marked_law, one_polarity_law, polarity_law};
 pub use search::Search;
