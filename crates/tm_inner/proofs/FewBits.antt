@@ -1,7 +1,8 @@
 -- Octets come to no more bits than they have.
-use Rattle.std.proofs.Common.{ℕ, ◌≡◌, ◌+◌, ◌-◌, ◌*◌, ◌≤◌, ◌<◌, ◌==◌, ◌∙◌, refl, Bool, List, [], ◌∷◌, ◌++◌, length, take, ap, sym, subst, arith, inl, inr, Option, Some, None, length-append, length-drop, length-take}
+use Rattle.std.proofs.Common.{ℕ, ◌≡◌, ◌+◌, ◌-◌, ◌*◌, ◌≤◌, ◌<◌, ◌==◌, ◌∙◌, refl, Bool, List, [], ◌∷◌, ◌++◌, length, take, ap, subst, arith, inl, inr, Option, Some, None, length-append, length-drop, length-take}
 use Rattle.std.proofs.lemmas.List.{length-map}
 use Rattle.std.proofs.lemmas.Bool.{cases_lt}
+use Rattle.std.proofs.lemmas.Bool.Decides.{nat_tests}
 use Rattle.tm_base.specs.Bits.{bits_of}
 use Rattle.tm_base.proofs.Packing.{length-bits_of}
 use Rattle.tm_config.specs.Configuration.{Configuration}
@@ -9,6 +10,7 @@ use Rattle.tm_conv.specs.declared.rates.Rate.{Rate}
 use Rattle.tm_conv.specs.Path.{steps_size}
 use Rattle.tm_conv.proofs.Sizes.{steps_size_ge, steps_size-add}
 use Rattle.tm_viterbi.specs.WindowBlock.{WindowBlock}
+use Rattle.tm_viterbi.specs.Blocks.{kept_steps}
 use Rattle.tm_viterbi.specs.Clean.{kept_bits}
 use Rattle.tm_viterbi.specs.Due.{Place, Closed, behind, first_place}
 use Rattle.tm_viterbi.specs.Starts.{first_start}
@@ -16,7 +18,6 @@ use Rattle.tm_viterbi.proofs.CleanBlocks.{steps-mono}
 use Rattle.tm_inner.specs.Inner.{settings_of, soft_octets, BlocksAt, DueAt, bits_at, AreInnerBlocks, AreInnerDue, inner_bits}
 use Rattle.tm_inner.specs.Receiving.{FirstAt, AreInnerFirst}
 use Rattle.tm_inner.proofs.ReceivedBits.{block-bits, kept-le, kept-count, length-soft}
-use Rattle.tm_inner.proofs.DueBits.{kept-append}
 
 pub closed-few : (rate : Rate) (invert : Bool) (keep ahead : ℕ) (from to : Place) (blocks : List WindowBlock) → Closed rate invert keep ahead from blocks to
     → length (kept_bits blocks) ≤ length from.octets
@@ -99,12 +100,6 @@ closed-taken rate invert keep ahead from to (b ∷ blocks) closed =
     }
 
 -- so many steps further are as many octets at least
-reach : (rate : Rate) (t n m k : ℕ) → steps_size rate t (n + m) < steps_size rate t n + steps_size rate (t + n) (k + 1) → m ≤ k
-reach rate t n m k less = elim (cases_lt k m) as (λ _. m ≤ k) [
-  | inl more ↦ absurd (omega (arith, less, steps_size-add rate t n m, steps-mono rate (t + n) (k + 1) m (omega (arith, more))))
-  | inr there ↦ there
-]
-
 reach_with : (rate : Rate) (t n m k count : ℕ) → steps_size rate t (n + m) < steps_size rate t n + steps_size rate (t + n) (k + 1) + count → m ≤ k + count
 reach_with rate t n m k count less = elim (cases_lt (k + count) m) as (λ _. m ≤ k + count) [
   | inl more ↦ (
@@ -114,55 +109,81 @@ reach_with rate t n m k count less = elim (cases_lt (k + count) m) as (λ _. m �
   | inr there ↦ there
 ]
 
-more-at : (rate : Rate) (c : Configuration) (phase : ℕ) (given octets : List ℕ) (done more : List WindowBlock) → DueAt (Some rate) c phase given done → FirstAt (Some rate) c phase (given ++ octets) (done ++ more)
-    → length (kept_bits more) ≤ c.keep + c.ahead + length octets
-more-at rate c phase given octets done more due first =
-    let s = settings_of c rate in
-    let was = closed-taken rate s.invert s.keep s.ahead (first_place s (soft_octets c phase given)) due.to done due.closed in
-    let now = closed-taken rate s.invert s.keep s.ahead (first_place s (soft_octets c phase (given ++ octets))) first.0 (done ++ more) first.1 in
-    let n : ℕ = length (kept_bits done) in
-    let m : ℕ = length (kept_bits more) in
-    let all : length (kept_bits (done ++ more)) ≡ n + m = ap length (kept-append done more) ∙ length-append (kept_bits done) (kept_bits more) in
-    let few : length due.to.octets < steps_size rate (0 + n) (c.keep + c.ahead + 1) = subst (λ (t : ℕ). length due.to.octets < steps_size rate t (c.keep + c.ahead + 1)) was.step due.few in
-    reach_with rate 0 n m (c.keep + c.ahead) (length octets)
-    (omega (arith, was.octets, now.octets, few, length-soft c phase given, length-soft c phase (given ++ octets), length-append given octets, ap (steps_size rate 0) all))
+past_with : (rate : Rate) (n all k count : ℕ) → steps_size rate 0 all < steps_size rate 0 n + steps_size rate (0 + n) (k + 1) + count → all ≤ n + k + count
+past_with rate n all k count less = elim (cases_lt n all) as (λ _. all ≤ n + k + count) [
+  | inl more ↦ (
+      let split : all ≡ n + (all - n) = omega (arith, more) in
+      omega (arith, more, reach_with rate 0 n (all - n) k count (omega (arith, less, ap (steps_size rate 0) split)))
+      )
+  | inr there ↦ omega (arith, there)
+]
 
-last-at : (rate : Rate) (c : Configuration) (phase : ℕ) (given : List ℕ) (done last : List WindowBlock) (left : ℕ) → DueAt (Some rate) c phase given done → BlocksAt (Some rate) c phase given (done ++ last) left
-    → length (kept_bits last) ≤ c.keep + c.ahead
-last-at rate c phase given done last left due are =
+more-at : (rate : Rate) (c : Configuration) (phase : ℕ) (given octets : List ℕ) (done all : List WindowBlock) → DueAt (Some rate) c phase given done → FirstAt (Some rate) c phase (given ++ octets) all
+    → length (kept_bits all) ≤ length (kept_bits done) + c.keep + c.ahead + length octets
+more-at rate c phase given octets done all due first =
     let s = settings_of c rate in
     let was = closed-taken rate s.invert s.keep s.ahead (first_place s (soft_octets c phase given)) due.to done due.closed in
-    let n : ℕ = length (kept_bits done) in
-    let m : ℕ = length (kept_bits last) in
-    let all : n + m ≡ are.count = sym (ap length (kept-append done last) ∙ length-append (kept_bits done) (kept_bits last))
-    ∙ kept-count rate s.invert s.keep s.ahead (first_start s.start) 0 are.count (soft_octets c phase given) (done ++ last) are.steps.whole are.are in
-    let few : length due.to.octets < steps_size rate (0 + n) (c.keep + c.ahead + 1) = subst (λ (t : ℕ). length due.to.octets < steps_size rate t (c.keep + c.ahead + 1)) was.step due.few in
-    reach rate 0 n m (c.keep + c.ahead) (omega (arith, was.octets, few, are.steps.whole, ap (steps_size rate 0) all))
+    let now = closed-taken rate s.invert s.keep s.ahead (first_place s (soft_octets c phase (given ++ octets))) first.0 all first.1 in
+    let few : length due.to.octets < steps_size rate (0 + length (kept_bits done)) (c.keep + c.ahead + 1) = subst (λ (t : ℕ). length due.to.octets < steps_size rate t (c.keep + c.ahead + 1)) was.step due.few in
+    omega (
+      arith,
+      past_with rate (length (kept_bits done)) (length (kept_bits all)) (c.keep + c.ahead) (length octets)
+          (omega (arith, was.octets, now.octets, few, length-soft c phase given, length-soft c phase (given ++ octets), length-append given octets)),
+    )
+
+last-at : (rate : Rate) (c : Configuration) (phase : ℕ) (given : List ℕ) (done all : List WindowBlock) (left : ℕ) → DueAt (Some rate) c phase given done → BlocksAt (Some rate) c phase given all left
+    → length (kept_bits all) ≤ length (kept_bits done) + c.keep + c.ahead
+last-at rate c phase given done all left due are =
+    let s = settings_of c rate in
+    let was = closed-taken rate s.invert s.keep s.ahead (first_place s (soft_octets c phase given)) due.to done due.closed in
+    let same : length (kept_bits all) ≡ are.count = kept-count rate s.invert s.keep s.ahead (first_start s.start) 0 are.count (soft_octets c phase given) all are.steps.whole are.are in
+    let few : length due.to.octets < steps_size rate (0 + length (kept_bits done)) (c.keep + c.ahead + 1) = subst (λ (t : ℕ). length due.to.octets < steps_size rate t (c.keep + c.ahead + 1)) was.step due.few in
+    omega (arith, past_with rate (length (kept_bits done)) (length (kept_bits all)) (c.keep + c.ahead) 0 (omega (arith, was.octets, few, are.steps.whole, ap (steps_size rate 0) same)))
 
 abbrev with_rate : (P : Option Rate → Type 0) → P None → ((rate : Rate) → P (Some rate)) → (rate : Option Rate) → P rate
 with_rate P none some None = none
 with_rate P none some (Some rate) = some rate
 
--- the blocks of octets, behind those that are due
-pub more-few : (c : Configuration) (phase : ℕ) (given octets : List ℕ) (done more : List WindowBlock) → AreInnerDue c phase given done → AreInnerFirst c phase (given ++ octets) (done ++ more)
-    → length (kept_bits more) ≤ c.keep + c.ahead + length octets
-more-few c phase given octets done more =
-    with_rate (λ rate. DueAt rate c phase given done → FirstAt rate c phase (given ++ octets) (done ++ more) → length (kept_bits more) ≤ c.keep + c.ahead + length octets)
-    (λ due first. none done more first) (λ rate. more-at rate c phase given octets done more) c.inner
-  where
-    none : (xs ys : List WindowBlock) → xs ++ ys ≡ [] → length (kept_bits ys) ≤ c.keep + c.ahead + length octets
-    none [] ys is = omega (arith, ap (λ (l : List WindowBlock). length (kept_bits l)) is)
-    none (x ∷ xs) ys is = absurd cc
+-- blocks of further octets keep few bits more than those that are due
+pub more-few : (c : Configuration) (phase : ℕ) (given octets : List ℕ) (done all : List WindowBlock) → AreInnerDue c phase given done → AreInnerFirst c phase (given ++ octets) all
+    → length (kept_bits all) ≤ length (kept_bits done) + c.keep + c.ahead + length octets
+more-few c phase given octets done all =
+    with_rate (λ rate. DueAt rate c phase given done → FirstAt rate c phase (given ++ octets) all → length (kept_bits all) ≤ length (kept_bits done) + c.keep + c.ahead + length octets)
+    (λ due first. omega (arith, ap (λ (l : List WindowBlock). length (kept_bits l)) first)) (λ rate. more-at rate c phase given octets done all) c.inner
 
--- the blocks of the end
-pub last-few : (c : Configuration) (phase : ℕ) (given : List ℕ) (done last : List WindowBlock) (left : ℕ) → AreInnerDue c phase given done → AreInnerBlocks c phase given (done ++ last) left
-    → length (kept_bits last) ≤ c.keep + c.ahead
-last-few c phase given done last left =
-    with_rate (λ rate. DueAt rate c phase given done → BlocksAt rate c phase given (done ++ last) left → length (kept_bits last) ≤ c.keep + c.ahead)
-    (λ due are. none done last are.0) (λ rate. last-at rate c phase given done last left) c.inner
+-- and so do all blocks
+pub last-few : (c : Configuration) (phase : ℕ) (given : List ℕ) (done all : List WindowBlock) (left : ℕ) → AreInnerDue c phase given done → AreInnerBlocks c phase given all left
+    → length (kept_bits all) ≤ length (kept_bits done) + c.keep + c.ahead
+last-few c phase given done all left =
+    with_rate (λ rate. DueAt rate c phase given done → BlocksAt rate c phase given all left → length (kept_bits all) ≤ length (kept_bits done) + c.keep + c.ahead)
+    (λ due are. omega (arith, ap (λ (l : List WindowBlock). length (kept_bits l)) are.0)) (λ rate. last-at rate c phase given done all left) c.inner
+
+-- ---- how many bits closed windows keep
+
+keeps : (keep ahead : ℕ) → kept_steps keep ahead (keep + ahead + 1) ≡ keep
+keeps keep ahead = grind (arith, nat_tests)
+
+closed-kept : (rate : Rate) (invert : Bool) (keep ahead : ℕ) (from to : Place) (front blocks : List WindowBlock) → Closed rate invert keep ahead from (front ++ blocks) to
+    → length (kept_bits blocks) ≡ length blocks * keep
+closed-kept rate invert keep ahead from to (b ∷ front) blocks closed = closed-kept rate invert keep ahead (behind rate from b) to front blocks closed.1
+closed-kept rate invert keep ahead from to [] [] closed = omega arith
+closed-kept rate invert keep ahead from to [] (b ∷ blocks) closed =
+    let n : ℕ = keep + ahead + 1 in
+    let is = closed.0.is_block in
+    let less : b.kept ≤ b.steps = omega (arith, is.kept, is.steps, kept-le keep ahead n) in
+    let front : length (take b.kept b.bits) ≡ b.kept =
+    omega (arith, length-take b.kept b.bits, block-bits rate invert keep ahead from.starts from.t n from.octets b closed.0.room is) in
+    let rest = closed-kept rate invert keep ahead (behind rate from b) to [] blocks closed.1 in
+    omega (arith, length-append (take b.kept b.bits) (kept_bits blocks), front, is.kept ∙ keeps keep ahead, rest)
+
+-- the last of the blocks that are due
+pub due-kept : (c : Configuration) (phase : ℕ) (given : List ℕ) (done more : List WindowBlock) → AreInnerDue c phase given (done ++ more) → length (kept_bits more) ≡ length more * c.keep
+due-kept c phase given done more =
+    with_rate (λ rate. DueAt rate c phase given (done ++ more) → length (kept_bits more) ≡ length more * c.keep) (none done more)
+    (λ rate due. (let s = settings_of c rate in closed-kept rate s.invert s.keep s.ahead (first_place s (soft_octets c phase given)) due.to done more due.closed)) c.inner
   where
-    none : (xs ys : List WindowBlock) → xs ++ ys ≡ [] → length (kept_bits ys) ≤ c.keep + c.ahead
-    none [] ys is = omega (arith, ap (λ (l : List WindowBlock). length (kept_bits l)) is)
+    none : (xs ys : List WindowBlock) → xs ++ ys ≡ [] → length (kept_bits ys) ≡ length ys * c.keep
+    none [] ys is = omega (arith, ap (λ (l : List WindowBlock). length (kept_bits l)) is, ap (λ (l : List WindowBlock). length l * c.keep) is)
     none (x ∷ xs) ys is = absurd cc
 
 -- no octets have no blocks that are due

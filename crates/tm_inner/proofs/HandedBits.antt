@@ -1,9 +1,9 @@
 -- What is handed over behind the choice of the phase comes to few bits.
-use Rattle.std.proofs.Common.{◌⊎◌, ℕ, ◌≡◌, ◌+◌, ◌-◌, ◌*◌, ◌≤◌, ◌<◌, ◌∙◌, refl, List, [], ◌++◌, length, drop, ap, sym, subst, arith, inl, inr, Option, Some, None, length-append, length-drop, min, ◌/◌, ◌%◌}
-use Rattle.std.proofs.lemmas.List.{length-map}
+use Rattle.std.proofs.Common.{◌⊎◌, ℕ, ◌≡◌, ◌+◌, ◌-◌, ◌*◌, ◌≤◌, ◌<◌, ◌∙◌, refl, List, [], ◌∷◌, ◌++◌, length, drop, map, ap, sym, subst, arith, inl, inr, Option, Some, None, length-append, length-drop, min, ◌/◌, ◌%◌}
+use Rattle.std.proofs.lemmas.List.{append-nil, length-map}
 use Rattle.std.proofs.lemmas.Bool.{cases_lt}
-use Rattle.tm_base.specs.Handed.{Handed, items_of}
-use Rattle.tm_base.proofs.HandedItems.{items_of-append}
+use Rattle.tm_base.specs.Handed.{Handed, Item, items_of}
+use Rattle.tm_base.proofs.HandedItems.{items_of-append, items_of-items}
 use Rattle.tm_config.specs.Configuration.{Configuration}
 use Rattle.tm_config.specs.declared.values.Sought.TheVariants.{Given, Find}
 use Rattle.tm_config.proofs.Choices.{given_or_find, never_both}
@@ -17,15 +17,16 @@ use Rattle.tm_viterbi.specs.Due.{first_place}
 use Rattle.tm_viterbi.specs.Starts.{first_start}
 use Rattle.tm_phase.specs.declared.choosing.Chosen.{Chosen}
 use Rattle.tm_phase.specs.Phase.{period_size}
-use Rattle.tm_inner.specs.Inner.{settings_of, soft_value, soft_octets, BlocksAt, AreInnerBlocks}
+use Rattle.tm_inner.specs.Inner.{settings_of, soft_value, soft_octets, BlocksAt, AreInnerBlocks, AreInnerDue}
 use Rattle.tm_inner.specs.Phase.{IsChosenBy, IsSettled, needed_at, skipped_at, phase_octets, skip_of, in_turn}
 use Rattle.tm_inner.specs.Receiving.{FirstAt, AreInnerFirst}
 use Rattle.tm_inner.specs.Handing.{AreHanded, AreHandedDue}
+use Rattle.tm_inner.proofs.DueBits.{kept-append}
 use Rattle.tm_inner.proofs.ReceivedBits.{kept-count, length-soft}
 use Rattle.tm_inner.proofs.PhasePieces.{items_of-in_turn}
 use Rattle.tm_inner.proofs.InTurn.{settled-stays}
 use Rattle.tm_inner.proofs.HandedPieces.{needed-some}
-use Rattle.tm_inner.proofs.FewBits.{closed-few, due-none, first-of-due, more-few, last-few}
+use Rattle.tm_inner.proofs.FewBits.{closed-few, due-kept, due-none, first-of-due, more-few, last-few}
 
 -- ---- the phase needs few octets
 
@@ -78,59 +79,85 @@ whole-bits (Some rate) c phase octets blocks left are =
     let kept = kept-count rate s.invert s.keep s.ahead (first_start s.start) 0 are.count (soft_octets c phase octets) blocks are.steps.whole are.are in
     omega (arith, kept, are.steps.whole, steps_size_ge rate 0 are.count, length-soft c phase octets)
 
--- two lists of which one goes on from the other begin with the same phase, and so their items go on
-record GoOn (chosen other : Option Chosen) (items more all : List WindowBlock) : Type 0 where
-  skip : skip_of chosen ≡ skip_of other
-  are : all ≡ items ++ more
+-- what was handed over, and blocks or anything else behind it
+items-of : (chosen : Option Chosen) (items : List WindowBlock) (done more : List (Handed WindowBlock)) → done ++ more ≡ in_turn chosen items → items_of done ++ items_of more ≡ items
+items-of chosen items done more are = sym (items_of-append done more) ∙ ap items_of are ∙ items_of-in_turn chosen items
 
-same-skip : (c : Configuration) (soft soft_now : List ℕ) (chosen other : Option Chosen) (items all : List WindowBlock) (more : List (Handed WindowBlock))
-    → IsChosenBy c soft chosen → IsChosenBy c soft_now other → in_turn chosen items ++ more ≡ in_turn other all → skip_of chosen ≡ skip_of other
-same-skip c soft soft_now None None items all more is now same = refl
-same-skip c soft soft_now None (Some b) items all more is now same = absurd (never_both c.phase is now.0)
-same-skip c soft soft_now (Some a) None items all more is now same = absurd (never_both c.phase now is.0)
-same-skip c soft soft_now (Some a) (Some b) items all more is now same = cc
+nothing : (done more : List (Handed WindowBlock)) → done ++ more ≡ [] → (done ≡ []) × (more ≡ [])
+nothing [] more none = (refl, none)
+nothing (x ∷ done) more none = absurd cc
 
-go-on : (c : Configuration) (soft soft_now : List ℕ) (chosen other : Option Chosen) (items all : List WindowBlock) (done more : List (Handed WindowBlock))
-    → IsChosenBy c soft chosen → IsChosenBy c soft_now other → done ≡ in_turn chosen items → done ++ more ≡ in_turn other all → GoOn chosen other items (items_of more) all
-go-on c soft soft_now chosen other items all done more is now are whole =
-    let same : in_turn chosen items ++ more ≡ in_turn other all = ap (λ l. l ++ more) (sym are) ∙ whole in record {
-      skip = same-skip c soft soft_now chosen other items all more is now same;
-      are = sym (items_of-in_turn other all) ∙ ap items_of (sym same) ∙ items_of-append (in_turn chosen items) more ∙ ap (λ l. l ++ items_of more) (items_of-in_turn chosen items);
-    }
+-- where blocks wait behind what was handed over, it begins with the phase that it goes on with
+same-skip : (c : Configuration) (soft soft_now : List ℕ) (chosen other : Option Chosen) (waiting items all : List WindowBlock) (done more : List (Handed WindowBlock))
+    → IsChosenBy c soft chosen → IsChosenBy c soft_now other → done ++ map Item waiting ≡ in_turn chosen items → done ++ more ≡ in_turn other all → skip_of chosen ≡ skip_of other
+same-skip c soft soft_now None None waiting items all done more is now are whole = refl
+same-skip c soft soft_now None (Some b) waiting items all done more is now are whole = absurd (never_both c.phase is now.0)
+same-skip c soft soft_now (Some a) None waiting items all done more is now are whole = absurd (never_both c.phase now is.0)
+same-skip c soft soft_now (Some a) (Some b) [] items all [] more is now are whole = absurd cc
+same-skip c soft soft_now (Some a) (Some b) (w ∷ waiting) items all [] more is now are whole = absurd cc
+same-skip c soft soft_now (Some a) (Some b) waiting items all (x ∷ done) more is now are whole = cc
 
--- the blocks of octets, behind those that are due
-pub handed-more-few : (c : Configuration) (given octets : List ℕ) (done more : List (Handed WindowBlock)) → AreHandedDue c given done → AreHandedDue c (given ++ octets) (done ++ more)
-    → length (kept_bits (items_of more)) ≤ needed_at c.inner c + c.keep + c.ahead + length octets
-handed-more-few c given octets done more (inl before) (inl now) = omega (arith, ap (λ l. length (kept_bits (items_of l))) (ap (λ l. l ++ more) (sym before.1) ∙ now.1))
-handed-more-few c given octets done more (inr before) (inl now) = absurd (now.0 (settled-stays c given octets before.0))
-handed-more-few c given octets done more (inl before) (inr now) =
+length-kept : (xs ys all : List WindowBlock) → xs ++ ys ≡ all → length (kept_bits all) ≡ length (kept_bits xs) + length (kept_bits ys)
+length-kept xs ys all is = sym (ap (λ (l : List WindowBlock). length (kept_bits l)) is) ∙ ap length (kept-append xs ys) ∙ length-append (kept_bits xs) (kept_bits ys)
+
+-- further blocks, where some wait
+pub waiting-more-few : (c : Configuration) (given octets : List ℕ) (done : List (Handed WindowBlock)) (waiting : List WindowBlock) (more : List (Handed WindowBlock))
+    → AreHandedDue c given (done ++ map Item waiting) → AreHandedDue c (given ++ octets) (done ++ more)
+    → length (kept_bits (items_of more)) ≤ length (kept_bits waiting) + needed_at c.inner c + c.keep + c.ahead + length octets
+waiting-more-few c given octets done waiting more (inl before) (inl now) = omega (arith, ap (λ (l : List (Handed WindowBlock)). length (kept_bits (items_of l))) (nothing done more now.1).1)
+waiting-more-few c given octets done waiting more (inr before) (inl now) = absurd (now.0 (settled-stays c given octets before.0))
+waiting-more-few c given octets done waiting more (inl before) (inr now) =
     let h = now.1 in
-    let items : items_of more ≡ h.items = ap (λ l. items_of (l ++ more)) (sym before.1) ∙ ap items_of h.are ∙ items_of-in_turn h.chosen h.items in
+    let all = length-kept (items_of done) (items_of more) h.items (items-of h.chosen h.items done more h.are) in
     let first = first-bits c.inner c (skip_of h.chosen) (given ++ octets) h.items (first-of-due c (skip_of h.chosen) (given ++ octets) h.items h.are_items) in
-    omega (arith, ap (λ l. length (kept_bits l)) items, first, length-append given octets, length-phase c given, unsettled-few c given before.0)
-handed-more-few c given octets done more (inr before) (inr now) =
+    omega (arith, all, first, length-append given octets, length-phase c given, unsettled-few c given before.0)
+waiting-more-few c given octets done waiting more (inr before) (inr now) =
     let g = before.1 in
     let h = now.1 in
-    let on = go-on c (phase_octets c given) (phase_octets c (given ++ octets)) g.chosen h.chosen g.items h.items done more g.choice h.choice g.are h.are in
-    let all : AreInnerFirst c (skip_of g.chosen) (given ++ octets) (g.items ++ items_of more) =
-    subst (λ (n : ℕ). AreInnerFirst c n (given ++ octets) (g.items ++ items_of more)) (sym on.skip)
-    (subst (AreInnerFirst c (skip_of h.chosen) (given ++ octets)) on.are (first-of-due c (skip_of h.chosen) (given ++ octets) h.items h.are_items)) in
-    omega (arith, more-few c (skip_of g.chosen) given octets g.items (items_of more) g.are_items all)
+    let skip = same-skip c (phase_octets c given) (phase_octets c (given ++ octets)) g.chosen h.chosen waiting g.items h.items done more g.choice h.choice g.are h.are in
+    let first : AreInnerFirst c (skip_of g.chosen) (given ++ octets) h.items =
+    subst (λ (n : ℕ). AreInnerFirst c n (given ++ octets) h.items) (sym skip) (first-of-due c (skip_of h.chosen) (given ++ octets) h.items h.are_items) in
+    let was = length-kept (items_of done) (items_of (map Item waiting)) g.items (items-of g.chosen g.items done (map Item waiting) g.are) in
+    let all = length-kept (items_of done) (items_of more) h.items (items-of h.chosen h.items done more h.are) in
+    omega (arith, more-few c (skip_of g.chosen) given octets g.items h.items g.are_items first, was, all, ap (λ (l : List WindowBlock). length (kept_bits l)) (items_of-items waiting))
 
 -- the blocks of the end
+pub waiting-last-few : (c : Configuration) (given : List ℕ) (done : List (Handed WindowBlock)) (waiting : List WindowBlock) (last : List (Handed WindowBlock)) (left : ℕ)
+    → AreHandedDue c given (done ++ map Item waiting) → AreHanded c given (done ++ last) left
+    → length (kept_bits (items_of last)) ≤ length (kept_bits waiting) + needed_at c.inner c + c.keep + c.ahead
+waiting-last-few c given done waiting last left (inl before) h =
+    let all = length-kept (items_of done) (items_of last) h.items (items-of h.chosen h.items done last h.are) in
+    let whole = whole-bits c.inner c (skip_of h.chosen) given h.items left h.are_items in
+    omega (arith, all, whole, length-phase c given, unsettled-few c given before.0)
+waiting-last-few c given done waiting last left (inr before) h =
+    let g = before.1 in
+    let skip = same-skip c (phase_octets c given) (phase_octets c given) g.chosen h.chosen waiting g.items h.items done last g.choice h.choice g.are h.are in
+    let whole : AreInnerBlocks c (skip_of g.chosen) given h.items left = subst (λ (n : ℕ). AreInnerBlocks c n given h.items left) (sym skip) h.are_items in
+    let was = length-kept (items_of done) (items_of (map Item waiting)) g.items (items-of g.chosen g.items done (map Item waiting) g.are) in
+    let all = length-kept (items_of done) (items_of last) h.items (items-of h.chosen h.items done last h.are) in
+    omega (arith, last-few c (skip_of g.chosen) given g.items h.items left g.are_items whole, was, all, ap (λ (l : List WindowBlock). length (kept_bits l)) (items_of-items waiting))
+
+-- the same where none waits
+pub handed-more-few : (c : Configuration) (given octets : List ℕ) (done more : List (Handed WindowBlock)) → AreHandedDue c given done → AreHandedDue c (given ++ octets) (done ++ more)
+    → length (kept_bits (items_of more)) ≤ needed_at c.inner c + c.keep + c.ahead + length octets
+handed-more-few c given octets done more due now = omega (arith, waiting-more-few c given octets done [] more (subst (AreHandedDue c given) (sym (append-nil done)) due) now)
+
 pub handed-last-few : (c : Configuration) (given : List ℕ) (done last : List (Handed WindowBlock)) (left : ℕ) → AreHandedDue c given done → AreHanded c given (done ++ last) left
     → length (kept_bits (items_of last)) ≤ needed_at c.inner c + c.keep + c.ahead
-handed-last-few c given done last left (inl before) h =
-    let items : items_of last ≡ h.items = ap (λ l. items_of (l ++ last)) (sym before.1) ∙ ap items_of h.are ∙ items_of-in_turn h.chosen h.items in
-    let whole = whole-bits c.inner c (skip_of h.chosen) given h.items left h.are_items in
-    omega (arith, ap (λ l. length (kept_bits l)) items, whole, length-phase c given, unsettled-few c given before.0)
-handed-last-few c given done last left (inr before) h =
-    let g = before.1 in
-    let on = go-on c (phase_octets c given) (phase_octets c given) g.chosen h.chosen g.items h.items done last g.choice h.choice g.are h.are in
-    let all : AreInnerBlocks c (skip_of g.chosen) given (g.items ++ items_of last) left =
-    subst (λ (n : ℕ). AreInnerBlocks c n given (g.items ++ items_of last) left) (sym on.skip)
-    (subst (λ (l : List WindowBlock). AreInnerBlocks c (skip_of h.chosen) given l left) on.are h.are_items) in
-    omega (arith, last-few c (skip_of g.chosen) given g.items (items_of last) left g.are_items all)
+handed-last-few c given done last left due h = omega (arith, waiting-last-few c given done [] last left (subst (AreHandedDue c given) (sym (append-nil done)) due) h)
+
+-- blocks that wait keep `keep` bits each, no more than there are octets
+pub waiting-kept : (c : Configuration) (given : List ℕ) (done : List (Handed WindowBlock)) (waiting : List WindowBlock) → AreHandedDue c given (done ++ map Item waiting)
+    → (length (kept_bits waiting) ≡ length waiting * c.keep) × (length (kept_bits waiting) ≤ length given)
+waiting-kept c given done [] due = (omega arith, omega arith)
+waiting-kept c given done (w ∷ waiting) (inl none) = absurd (let is = (nothing done (Item w ∷ map Item waiting) none.1).1 in cc)
+waiting-kept c given done (w ∷ waiting) (inr due) =
+    let h = due.1 in
+    let is : items_of done ++ (w ∷ waiting) ≡ h.items = ap (λ (l : List WindowBlock). items_of done ++ l) (sym (items_of-items (w ∷ waiting))) ∙ items-of h.chosen h.items done (map Item (w ∷ waiting)) h.are in
+    let first = first-bits c.inner c (skip_of h.chosen) given h.items (first-of-due c (skip_of h.chosen) given h.items h.are_items) in (
+      due-kept c (skip_of h.chosen) given (items_of done) (w ∷ waiting) (subst (AreInnerDue c (skip_of h.chosen) given) (sym is) h.are_items),
+      omega (arith, first, length-kept (items_of done) (w ∷ waiting) h.items is),
+    )
 
 -- no octets have nothing that is due
 pub handed-due-none : (c : Configuration) → 1 ≤ c.keep → AreHandedDue c [] []

@@ -6,6 +6,7 @@ ghost use Rattle.tm_base.specs.Handed.{Handed, Item, items_of, on_handed};
 ghost use Rattle.tm_base.specs.Outside.{Rose};
 ghost use Rattle.tm_base.specs.Takers.{HandedOver, HandedPart};
 ghost use Rattle.tm_viterbi.specs.WindowBlock.{WindowBlock};
+ghost use Rattle.tm_viterbi.specs.Clean.{kept_bits};
 ghost use Rattle.tm_inner.specs.Inner.{inner_bits};
 ghost use Rattle.tm_inner.specs.Phase.{IsChosen, IsChosenSoFar, phase_octets, skipped_at};
 ghost use Rattle.tm_inner.specs.InnerDecoding.{HasWorkers};
@@ -231,6 +232,15 @@ impl InnerReceiver {
             × AreHandedDue self.now.config given (done ++ map Item more) }
     {
         self.phased.count_due()
+    }
+
+    /// How many bits these blocks keep.
+    pub fn bits_due(&self) -> u64
+        ensures { (given : List ℕ) (done : List (Handed WindowBlock)) → StandsFor self.now given done
+            → (more : List WindowBlock) × (length (kept_bits more) ≡ result)
+            × AreHandedDue self.now.config given (done ++ map Item more) }
+    {
+        (self.count_due() as u64).saturating_mul(self.config.keep())
     }
 
     /// Hands over what is left: the symbol phase, where it is to be found and was not chosen yet, and the last blocks.
