@@ -238,7 +238,7 @@ int32_t tmchan_decoder_phase(tmchan_stream *stream, tmchan_phase *phase);
 int64_t tmchan_decoder_finish(tmchan_stream *stream, uint8_t *bits, size_t bits_length, tmchan_phase *phase);
 
 /* The receiver: received soft octets (or octets that hold the bits, with no inner code) in pieces of any length; the frames of the codeblocks
- * that are found in them, and a report of each. Codeblocks come 32 at a time, and what is left at the finish. */
+ * that are found in them, and a report of each. Codeblocks come in whole batches, of as many as `batch` says, and what is left at the finish. */
 
 typedef struct {
     uint64_t place;        /* how many received bits stand before its marker */

@@ -35,6 +35,8 @@ accepted = record {
   some_keep = omega arith;
   keep = omega arith;
   ahead = omega arith;
+  some_batch = omega arith;
+  batch = omega arith;
 }
 
 pub phase-given : IsChosen link octets None

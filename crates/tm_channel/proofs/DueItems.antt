@@ -11,7 +11,7 @@ use Rattle.tm_sync.proofs.Longer.{places-end, places-goes_on}
 use Rattle.tm_viterbi.specs.WindowBlock.{WindowBlock}
 use Rattle.tm_codeblock.specs.ReceivedCodeblock.{rules_of, codeblock_in, codeblock_at}
 use Rattle.tm_channel.specs.Items.{ItemValue, IsItem, AreItemsOf, AreItems}
-use Rattle.tm_channel.specs.Due.{in_batches}
+use Rattle.tm_channel.specs.Due.{due_count}
 use Rattle.tm_channel.specs.Receive.{Receive, ReceiveDue}
 use Rattle.tm_channel.proofs.OnlyItems.{items-same}
 
@@ -82,5 +82,5 @@ pub due-first : DueBits → (c : Configuration) (phase : ℕ) (octets more : Lis
 due-first bits_first c phase octets more due items ok first all =
     let front = inner_bits c octets first.blocks in
     let bits = bits_first c phase octets more first.blocks all.inner.blocks all.inner.left first.are_due all.inner.are_blocks in
-    first-items c front bits.0 (in_batches (length (places (rules_of c) front))) due items ok first.are_items
+    first-items c front bits.0 (due_count c front) due items ok first.are_items
     (subst (λ (l : List Bool). AreItems c l items) (all.inner.are_bits ∙ bits.1) all.are_items)

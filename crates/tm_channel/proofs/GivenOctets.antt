@@ -164,17 +164,17 @@ piece-joined done count octets =
     ap (λ (n : ℕ). take done octets ++ take n (drop done octets)) same ∙ sym (take-add done count octets)
 
 -- those that were due, and those that further bits make due
-due-further : (c : Configuration) (bits piece : List Bool) (done items : List ItemValue) → AreItemsOf c bits (due (rules_of c) bits) done → AreFurther c bits piece items
-    → AreItemsOf c (bits ++ piece) (due (rules_of c) (bits ++ piece)) (done ++ items)
+due-further : (c : Configuration) (bits piece : List Bool) (done items : List ItemValue) → AreItemsOf c bits (due c bits) done → AreFurther c bits piece items
+    → AreItemsOf c (bits ++ piece) (due c (bits ++ piece)) (done ++ items)
 due-further c bits piece done items are also =
-    subst (λ (fs : List Found). AreItemsOf c (bits ++ piece) fs (done ++ items)) (beyond-nil c (due (rules_of c) (bits ++ piece)))
-    (items-then c [] bits piece done items (subst (λ (fs : List Found). AreItemsOf c bits fs done) (sym (beyond-nil c (due (rules_of c) bits))) are) also)
+    subst (λ (fs : List Found). AreItemsOf c (bits ++ piece) fs (done ++ items)) (beyond-nil c (due c (bits ++ piece)))
+    (items-then c [] bits piece done items (subst (λ (fs : List Found). AreItemsOf c bits fs done) (sym (beyond-nil c (due c bits))) are) also)
 
-first-of-more : (c : Configuration) (bits piece : List Bool) (done items : List ItemValue) → AreItemsOf c bits (due (rules_of c) bits) done → AreFirstFurther c bits piece items
+first-of-more : (c : Configuration) (bits piece : List Bool) (done items : List ItemValue) → AreItemsOf c bits (due c bits) done → AreFirstFurther c bits piece items
     → AreFirstItemsOf c (bits ++ piece) (places (rules_of c) (bits ++ piece)) (done ++ items)
 first-of-more c bits piece done items are also =
     few-items c (bits ++ piece) (done ++ items)
-    (first-then c [] bits piece done items (subst (λ (fs : List Found). AreItemsOf c bits fs done) (sym (beyond-nil c (due (rules_of c) bits))) are) also)
+    (first-then c [] bits piece done items (subst (λ (fs : List Found). AreItemsOf c bits fs done) (sym (beyond-nil c (due c bits))) are) also)
 
 -- first items of a front of the bits are first items of all
 first-beyond : (c : Configuration) (bits rest : List Bool) (items : List ItemValue) → AreFirstItemsOf c bits (places (rules_of c) bits) items
@@ -231,22 +231,22 @@ nil-first c bits (item ∷ items) are = absurd are
 unsettled-bits : (c : Configuration) (given : List ℕ) (handed : List (Handed WindowBlock)) → (IsSettled c given → ⊥) → handed ≡ [] → inner_bits c given (items_of handed) ≡ []
 unsettled-bits c given handed unsettled none = ap (λ (l : List (Handed WindowBlock)). inner_bits c given (items_of l)) none ∙ unsettled-none c given unsettled
 
-due-none-items : (c : Configuration) (bits : List Bool) (items : List ItemValue) → bits ≡ [] → AreItemsOf c bits (due (rules_of c) bits) items → items ≡ []
+due-none-items : (c : Configuration) (bits : List Bool) (items : List ItemValue) → bits ≡ [] → AreItemsOf c bits (due c bits) items → items ≡ []
 due-none-items c bits items none are =
-    nil-items c bits items (subst (λ (fs : List Found). AreItemsOf c bits fs items) (ap (due (rules_of c)) none ∙ due-nil c) are)
+    nil-items c bits items (subst (λ (fs : List Found). AreItemsOf c bits fs items) (ap (due c) none ∙ due-nil c) are)
 
 first-none-items : (c : Configuration) (bits piece : List Bool) (items : List ItemValue) → bits ++ piece ≡ [] → AreFirstFurther c bits piece items → items ≡ []
 first-none-items c bits piece items none are =
-    let nothing : beyond (due (rules_of c) bits) (due (rules_of c) (bits ++ piece)) ≡ [] =
-    ap (λ (l : List Bool). beyond (due (rules_of c) bits) (due (rules_of c) l)) none ∙ ap (beyond (due (rules_of c) bits)) (due-nil c)
-    ∙ drop_all (length (due (rules_of c) bits)) [] (omega arith) in
+    let nothing : beyond (due c bits) (due c (bits ++ piece)) ≡ [] =
+    ap (λ (l : List Bool). beyond (due c bits) (due c l)) none ∙ ap (beyond (due c bits)) (due-nil c)
+    ∙ drop_all (length (due c bits)) [] (omega arith) in
     nil-first c (bits ++ piece) items (subst (λ (fs : List Found). AreFirstItemsOf c (bits ++ piece) fs items) nothing are)
 
 -- ---- what is handed over in turn
 
 turn-more : (c : Configuration) (given : List ℕ) (handed more : List (Handed WindowBlock)) (done : List (Handed ItemValue)) (items others : List ItemValue) (phase : Option Chosen)
     → AreHandedDue c given handed
-    → AreItemsOf c (inner_bits c given (items_of handed)) (due (rules_of c) (inner_bits c given (items_of handed))) items
+    → AreItemsOf c (inner_bits c given (items_of handed)) (due c (inner_bits c given (items_of handed))) items
     → done ≡ in_turn (phase_of handed) items → (IsSettled c given → phase_of more ≡ None) → phase ≡ phase_of more
     → done ++ (in_turn phase [] ++ map Item others) ≡ in_turn (phase_of (handed ++ more)) (items ++ others)
 turn-more c given handed more done items others phase (inl before) are_items are once is =
@@ -328,7 +328,7 @@ stages-more took s now middle taker_now octets phase piece of same grows p given
     let handed = stood.handed ++ f.more in
     let bits = inner_bits c given (items_of stood.handed) in
     let more = subst (λ (k : Configuration). AreFurther k bits piece p.items) of (p.due bits f.few stood.bits) in
-    let items = subst (λ (l : List Bool). AreItemsOf c l (due (rules_of c) l) (stood.items ++ p.items)) (sym f.is) (due-further c bits piece stood.items p.items stood.are_items more) in
+    let items = subst (λ (l : List Bool). AreItemsOf c l (due c l) (stood.items ++ p.items)) (sym f.is) (due-further c bits piece stood.items p.items stood.are_items more) in
     let stands = subst (StandsForBits now.bits) (sym f.is) (p.stands bits f.few stood.bits) in
     record {
       handed = handed;
@@ -336,7 +336,7 @@ stages-more took s now middle taker_now octets phase piece of same grows p given
       are_due = subst (λ (k : Configuration). AreHandedDue k (given ++ octets) handed) (sym same) f.due;
       bits = subst (λ (k : Configuration). StandsForBits now.bits (inner_bits k (given ++ octets) (items_of handed))) (sym same) stands;
       items = stood.items ++ p.items;
-      are_items = subst (λ (k : Configuration). AreItemsOf k (inner_bits k (given ++ octets) (items_of handed)) (due (rules_of k) (inner_bits k (given ++ octets) (items_of handed))) (stood.items ++ p.items))
+      are_items = subst (λ (k : Configuration). AreItemsOf k (inner_bits k (given ++ octets) (items_of handed)) (due k (inner_bits k (given ++ octets) (items_of handed))) (stood.items ++ p.items))
           (sym same) items;
       are = turn-more c given stood.handed f.more done stood.items p.items phase stood.are_due stood.are_items stood.are
           (once-due c given octets stood.handed f.more stood.are_due f.due) f.is_phase;
@@ -552,10 +552,10 @@ ends took s bits_now taker middle now phase piece count of ended_with p q given 
     let bits = inner_bits c given (items_of stood.handed) in
     let more = subst (λ (k : Configuration). AreFurther k bits piece p.items) of (p.due bits e.few stood.bits) in
     let due_items = due-further c bits piece stood.items p.items stood.are_items more in
-    let last = subst (λ (k : Configuration). AreItemsOf k (bits ++ piece) (beyond (due (rules_of k) (bits ++ piece)) (places (rules_of k) (bits ++ piece))) q.items)
+    let last = subst (λ (k : Configuration). AreItemsOf k (bits ++ piece) (beyond (due k (bits ++ piece)) (places (rules_of k) (bits ++ piece))) q.items)
     (p.config ∙ of) (q.last (bits ++ piece) (p.stands bits e.few stood.bits)) in
     let items = all-items c (bits ++ piece) (stood.items ++ p.items) q.items
-    (subst (λ (fs : List Found). AreItemsOf c (bits ++ piece) fs (stood.items ++ p.items)) (sym (beyond-nil c (due (rules_of c) (bits ++ piece)))) due_items) last in
+    (subst (λ (fs : List Found). AreItemsOf c (bits ++ piece) fs (stood.items ++ p.items)) (sym (beyond-nil c (due c (bits ++ piece)))) due_items) last in
     record {
       chosen = e.chosen;
       choice = e.choice;
@@ -622,10 +622,10 @@ ends-front took broke s bits_now taker middle now phase piece count of ended_wit
     let bits = inner_bits c given (items_of stood.handed) in
     let more = subst (λ (k : Configuration). AreFurther k bits piece p.items) of (p.due bits e.few stood.bits) in
     let due_items = due-further c bits piece stood.items p.items stood.are_items more in
-    let last = subst (λ (k : Configuration). AreFirstItemsOf k (bits ++ piece) (beyond (due (rules_of k) (bits ++ piece)) (places (rules_of k) (bits ++ piece))) q.tried)
+    let last = subst (λ (k : Configuration). AreFirstItemsOf k (bits ++ piece) (beyond (due k (bits ++ piece)) (places (rules_of k) (bits ++ piece))) q.tried)
     (p.config ∙ of) (q.first (bits ++ piece) (p.stands bits e.few stood.bits)) in
     let items = some-items c (bits ++ piece) (stood.items ++ p.items) q.tried
-    (subst (λ (fs : List Found). AreItemsOf c (bits ++ piece) fs (stood.items ++ p.items)) (sym (beyond-nil c (due (rules_of c) (bits ++ piece)))) due_items) last in
+    (subst (λ (fs : List Found). AreItemsOf c (bits ++ piece) fs (stood.items ++ p.items)) (sym (beyond-nil c (due c (bits ++ piece)))) due_items) last in
     ends-first s phase piece count given done stood e (p.items ++ q.tried)
     (subst (AreFirstItemsOf c (bits ++ piece) (places (rules_of c) (bits ++ piece))) (append_assoc stood.items p.items q.tried) items)
 
@@ -645,7 +645,7 @@ stands-fresh s some inner bits =
       are_due = handed-due-none c some;
       bits = subst (StandsForBits s.bits) (sym none) bits;
       items = [];
-      are_items = subst (λ (l : List Bool). AreItemsOf c l (due (rules_of c) l) []) (sym none)
+      are_items = subst (λ (l : List Bool). AreItemsOf c l (due c l) []) (sym none)
           (subst (λ (fs : List Found). AreItemsOf c [] fs []) (sym (due-nil c)) tt);
       are = refl;
     }

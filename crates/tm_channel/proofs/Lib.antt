@@ -15,6 +15,7 @@ pub mod FirstItems
 pub mod WorkedItems
 pub mod HandedItems
 pub mod Handing
+pub mod Batches
 pub mod Streaming
 pub mod Stepping
 pub mod Pieces

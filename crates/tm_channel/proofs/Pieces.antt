@@ -1,7 +1,6 @@
 -- A piece of the bits, and then another.
 use Rattle.std.proofs.Common.{◌<◌, ◌^◌, Bool, List, ◌++◌, length, subst, arith, append_assoc, length-append}
 use Rattle.tm_config.specs.Configuration.{Configuration}
-use Rattle.tm_codeblock.specs.ReceivedCodeblock.{rules_of}
 use Rattle.tm_channel.specs.Items.{ItemValue, AreItemsOf, AreFirstItemsOf}
 use Rattle.tm_channel.specs.Due.{due}
 use Rattle.tm_channel.specs.Receiving.{beyond, AreDue, AreFirstDue, GoesOn}
@@ -21,16 +20,16 @@ goes-then Stood Stands Ends piece more first second bits few h =
 pub due-then : (c : Configuration) (Stood Stands : List Bool → Type 0) (piece more : List Bool) (items others : List ItemValue) → GoesOn Stood Stands piece
     → AreDue c Stood piece items → AreDue c Stands more others → AreDue c Stood (piece ++ more) (items ++ others)
 due-then c Stood Stands piece more items others goes are also bits few h =
-    subst (λ (l : List Bool). AreItemsOf c l (beyond (due (rules_of c) bits) (due (rules_of c) l)) (items ++ others)) (append_assoc bits piece more)
+    subst (λ (l : List Bool). AreItemsOf c l (beyond (due c bits) (due c l)) (items ++ others)) (append_assoc bits piece more)
     (items-then c bits piece more items others (are bits (front-few bits piece more few) h) (also (bits ++ piece) (all-few bits piece more few) (goes bits (front-few bits piece more few) h)))
 
 pub first-due-then : (c : Configuration) (Stood Stands : List Bool → Type 0) (piece more : List Bool) (items others : List ItemValue) → GoesOn Stood Stands piece
     → AreDue c Stood piece items → AreFirstDue c Stands more others → AreFirstDue c Stood (piece ++ more) (items ++ others)
 first-due-then c Stood Stands piece more items others goes are also bits few h =
-    subst (λ (l : List Bool). AreFirstItemsOf c l (beyond (due (rules_of c) bits) (due (rules_of c) l)) (items ++ others)) (append_assoc bits piece more)
+    subst (λ (l : List Bool). AreFirstItemsOf c l (beyond (due c bits) (due c l)) (items ++ others)) (append_assoc bits piece more)
     (first-then c bits piece more items others (are bits (front-few bits piece more few) h) (also (bits ++ piece) (all-few bits piece more few) (goes bits (front-few bits piece more few) h)))
 
 pub first-due-all : (c : Configuration) (Stood : List Bool → Type 0) (piece more : List Bool) (items : List ItemValue) → AreFirstDue c Stood piece items → AreFirstDue c Stood (piece ++ more) items
 first-due-all c Stood piece more items are bits few h =
-    subst (λ (l : List Bool). AreFirstItemsOf c l (beyond (due (rules_of c) bits) (due (rules_of c) l)) items) (append_assoc bits piece more)
+    subst (λ (l : List Bool). AreFirstItemsOf c l (beyond (due c bits) (due c l)) items) (append_assoc bits piece more)
     (first-of-all c bits piece more items (are bits (front-few bits piece more few) h))

@@ -6,14 +6,12 @@ use Rattle.tm_base.specs.Takers.{HandedOver, HandedPart}
 use Rattle.tm_base.proofs.Handing.{HandedOver-append, HandedPart-after}
 use Rattle.tm_config.specs.Configuration.{Configuration}
 use Rattle.tm_sync.specs.declared.found.Found.{Found}
-use Rattle.tm_sync.specs.Places.{places}
 use Rattle.tm_sync.specs.Searching.{Searching, StandsFor as SearchStandsFor}
 use Rattle.tm_viterbi.specs.WindowBlock.{WindowBlock}
 use Rattle.tm_viterbi.specs.Clean.{kept_bits}
 use Rattle.tm_inner.proofs.DueBits.{kept-append}
-use Rattle.tm_codeblock.specs.ReceivedCodeblock.{rules_of}
 use Rattle.tm_channel.specs.Items.{ItemValue, AreItemsOf}
-use Rattle.tm_channel.specs.Due.{due, in_batches}
+use Rattle.tm_channel.specs.Due.{due, due_count}
 use Rattle.tm_channel.specs.Receiving.{beyond, AreDue, AreFirstDue, AreFirstFurther, AreFurther, AreItemsFor, Batching, GoesOn, Holding, Holds, IsHanded, Stands}
 use Rattle.tm_channel.specs.OctetReceiving.{BitReceiving, StandsForBits, Received, ReceivedPart}
 use Rattle.tm_channel.proofs.Streaming.{turn-broke, turn-items, turn-stands}
@@ -27,33 +25,33 @@ received-none took s taker = record {
   items = [];
   handed = refl;
   due = λ bits few stood. subst (λ (fs : List Found). AreItemsOf s.batch.config (bits ++ []) fs [])
-      (sym (ap (λ (l : List Bool). beyond (due (rules_of s.batch.config) bits) (due (rules_of s.batch.config) l)) (append-nil bits) ∙ drop-length (due (rules_of s.batch.config) bits))) tt;
+      (sym (ap (λ (l : List Bool). beyond (due s.batch.config bits) (due s.batch.config l)) (append-nil bits) ∙ drop-length (due s.batch.config bits))) tt;
 }
 
 -- the same search and batch, of which other codeblocks are kept
 stands-same : (s s' : Searching) (b b' : Batching) (bits : List Bool) → s' ≡ s → b'.config ≡ b.config → b'.part ≡ b.part
-    → Holding b.config (SearchStandsFor s) b.part b'.kept (in_batches (length (places (rules_of b.config) bits))) bits
+    → Holding b.config (SearchStandsFor s) b.part b'.kept (due_count b.config bits) bits
     → Stands s' b' bits
 stands-same s s' b b' bits same config part h =
     subst (λ (v : Searching). Holding b'.config (SearchStandsFor v) b'.part b'.kept
-    (in_batches (length (places (rules_of b'.config) bits))) bits)
+    (due_count b'.config bits) bits)
     (sym same)
     (subst (λ (l : List Bool). Holding b'.config (SearchStandsFor s) l b'.kept
-    (in_batches (length (places (rules_of b'.config) bits))) bits)
+    (due_count b'.config bits) bits)
     (sym part)
     (subst (λ (c : Configuration). Holding c (SearchStandsFor s) b.part b'.kept
-    (in_batches (length (places (rules_of c) bits))) bits)
+    (due_count c bits) bits)
     (sym config) h))
 
 -- what a search and a batch hold once bits were taken, where they stood before
 held-then : (a b : BitReceiving) (piece bits : List Bool) → b.batch.config ≡ a.batch.config
     → ((handed : ℕ) → GoesOn (Holds a.search a.batch handed) (Holds b.search b.batch handed) piece)
     → length (bits ++ piece) < 2 ^ 63 → StandsForBits a bits
-    → Holds b.search b.batch (in_batches (length (places (rules_of b.batch.config) bits))) (bits ++ piece)
+    → Holds b.search b.batch (due_count b.batch.config bits) (bits ++ piece)
 held-then a b piece bits config goes few stood =
-    subst (λ (c : Configuration). Holds b.search b.batch (in_batches (length (places (rules_of c) bits)))
+    subst (λ (c : Configuration). Holds b.search b.batch (due_count c bits)
     (bits ++ piece)) (sym config)
-    (goes (in_batches (length (places (rules_of a.batch.config) bits))) bits few stood)
+    (goes (due_count a.batch.config bits) bits few stood)
 
 -- bits were taken, and then the batch was handed over where it is full
 pub received-turn : {T : Type 0} (took : T → ItemValue → T
@@ -83,7 +81,7 @@ pub part-turn : {T : Type 0} (took broke : T → ItemValue → T
     → Type 0) (a b c : BitReceiving) (taker now : T) (piece : List Bool)
     (count : ℕ) (items : List ItemValue) → b.batch.config ≡ a.batch.config
     → ((handed : ℕ) → GoesOn (Holds a.search a.batch handed) (Holds b.search b.batch handed) piece)
-    → c.batch.config ≡ b.batch.config → length b.batch.kept ≡ 32
+    → c.batch.config ≡ b.batch.config → length b.batch.kept ≡ b.batch.config.batch
     → AreItemsFor b.batch.config (take count b.batch.kept) items
     → HandedPart took broke taker items now → ReceivedPart took broke a c taker now piece
 part-turn took broke a b c taker now piece count items config goes same_config many are handed = record {

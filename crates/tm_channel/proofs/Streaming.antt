@@ -1,8 +1,8 @@
 -- What a receiver keeps and has handed over, one bit on.
 use Rattle.std.proofs.Common.{◌≡◌, ℕ, zero, suc, ◌+◌, ◌-◌, ◌<◌, ◌≤◌, Bool, List, [], ◌∷◌, ◌++◌, length, take, drop, map, refl, sym, ap, ◌∙◌, subst, arith, append_assoc, length-append, length-drop, take-append-drop, Option, None, Some, unwrap_or, inl, inr}
 use Rattle.std.specs.List.{AllByRecursion}
-use Rattle.std.proofs.lemmas.List.{length-map, take-append-le, drop-append-le, drop_at, append-nil, length-take-le, map-append}
-use Rattle.std.proofs.Math.Seq.{drop-length, take-length, drop-append_seam}
+use Rattle.std.proofs.lemmas.List.{length-map, take-append-le, drop-append-le, drop_at, append-nil, map-append}
+use Rattle.std.proofs.Math.Seq.{drop-length, drop-nil, take-length, drop-append_seam}
 use Rattle.tm_sync.specs.declared.found.Found.{Found}
 use Rattle.tm_sync.specs.Places.{places}
 use Rattle.tm_sync.specs.Searching.{Searching, StandsFor, inside_of}
@@ -11,8 +11,9 @@ use Rattle.tm_sync.proofs.Longer.{EndBefore, places-end, places-append}
 use Rattle.tm_config.specs.Configuration.{Configuration}
 use Rattle.tm_codeblock.specs.ReceivedCodeblock.{rules_of, codeblock_at}
 use Rattle.tm_channel.specs.Items.{ItemValue, IsItem, AreItemsOf, AreFirstItemsOf}
-use Rattle.tm_channel.specs.Due.{in_batches, due}
+use Rattle.tm_channel.specs.Due.{in_batches, due_count, due}
 use Rattle.tm_channel.specs.Receiving.{Kept, kept_of, kept_at, beyond, AreItemsFor, Holding, HoldingMore, IsHanded}
+use Rattle.tm_channel.proofs.Batches.{batches-le, batches-more, full, length-due, not_full}
 
 -- ---- codeblocks stay as the bits go on
 block-same : (c : Configuration) (bits more : List Bool) (f : Found) → f.place + 32 + (rules_of c).block_bits ≤ length bits → kept_at c (bits ++ more) f ≡ kept_at c bits f
@@ -121,14 +122,6 @@ first-of c bits (suc count) [] (item ∷ items) are = absurd are
 first-of c bits (suc count) (f ∷ fs) (item ∷ items) are = (are.0, first-of c bits count fs items are.1)
 
 -- ---- a batch that is full, or not
-batches-le : (n : ℕ) → in_batches n ≤ n
-batches-le n = omega arith
-
-not_full : (m n : ℕ) → in_batches m ≤ n → n - in_batches m < 32 → in_batches n ≡ in_batches m
-not_full m n least few = omega arith
-
-full : (m n : ℕ) → in_batches m ≤ n → n - in_batches m ≡ 32 → in_batches n ≡ n
-full m n least all = omega arith
 
 -- how many codeblocks wait
 waiting-count : (c : Configuration) (stands : List Bool → List Found → Type 0) (part : List Bool) (kept : List Kept)
@@ -140,52 +133,48 @@ waiting-count c stands part kept handed bits h =
 
 -- what stands behind the places of a front that are due
 behind-due : (c : Configuration) (bits : List Bool) (fs : List Found)
-    → beyond (due (rules_of c) bits) fs ≡ drop (in_batches (length (places (rules_of c) bits))) fs
+    → beyond (due c bits) fs ≡ drop (due_count c bits) fs
 behind-due c bits fs =
-    let n = length (places (rules_of c) bits) in
-    ap (λ k. drop k fs) (length-take-le (in_batches n) (places (rules_of c) bits) (batches-le n))
+    ap (λ k. drop k fs) (length-due c bits)
 
 -- where the batch is not full nothing more is due
 due-none : (c : Configuration) (bits all : List Bool)
-    → in_batches (length (places (rules_of c) all)) ≡ in_batches (length (places (rules_of c) bits))
-    → beyond (due (rules_of c) bits) (due (rules_of c) all) ≡ []
+    → due_count c all ≡ due_count c bits
+    → beyond (due c bits) (due c all) ≡ []
 due-none c bits all same =
-    let n = length (places (rules_of c) all) in
-    let long : length (take (in_batches n) (places (rules_of c) all)) ≡ in_batches n =
-    length-take-le (in_batches n) (places (rules_of c) all) (batches-le n) in
-    behind-due c bits (due (rules_of c) all)
-    ∙ ap (λ k. drop k (due (rules_of c) all)) (sym same ∙ sym long)
-    ∙ drop-length (due (rules_of c) all)
+    behind-due c bits (due c all)
+    ∙ ap (λ k. drop k (due c all)) (sym same ∙ sym (length-due c all))
+    ∙ drop-length (due c all)
 
 -- where it is full all places are due
 due-all : (c : Configuration) (bits all : List Bool)
-    → in_batches (length (places (rules_of c) all)) ≡ length (places (rules_of c) all)
-    → beyond (due (rules_of c) bits) (due (rules_of c) all)
-    ≡ drop (in_batches (length (places (rules_of c) bits))) (places (rules_of c) all)
+    → due_count c all ≡ length (places (rules_of c) all)
+    → beyond (due c bits) (due c all)
+    ≡ drop (due_count c bits) (places (rules_of c) all)
 due-all c bits all whole =
-    behind-due c bits (due (rules_of c) all)
-    ∙ ap (drop (in_batches (length (places (rules_of c) bits))))
+    behind-due c bits (due c all)
+    ∙ ap (drop (due_count c bits))
     (ap (λ k. take k (places (rules_of c) all)) whole ∙ take-length (places (rules_of c) all))
 
 -- what was due of `bits` was handed over, then `all` bits were taken, and the batch was handed over where it is full
 pub turn-stands : (c : Configuration) (stands : List Bool → List Found
     → Type 0) (part : List Bool) (kept kept' : List Kept)
     (bits all : List Bool) (items : List ItemValue)
-    → Holding c stands part kept (in_batches (length (places (rules_of c) bits))) all → IsHanded c kept kept' items
-    → Holding c stands part kept' (in_batches (length (places (rules_of c) all))) all
+    → Holding c stands part kept (due_count c bits) all → IsHanded c kept kept' items
+    → Holding c stands part kept' (due_count c all) all
 turn-stands c stands part kept kept' bits all items h (inl (few, same, none)) =
-    let count = waiting-count c stands part kept (in_batches (length (places (rules_of c) bits))) all h in
-    let still = not_full (length (places (rules_of c) bits)) (length (places (rules_of c) all)) h.within
-    (subst (λ n. n < 32) count few) in
-    subst (λ (l : List Kept). Holding c stands part l (in_batches (length (places (rules_of c) all))) all) (sym same)
+    let count = waiting-count c stands part kept (due_count c bits) all h in
+    let still = not_full c.batch (length (places (rules_of c) bits)) (length (places (rules_of c) all)) h.within
+    (subst (λ n. n < c.batch) count few) in
+    subst (λ (l : List Kept). Holding c stands part l (due_count c all) all) (sym same)
     (subst (λ n. Holding c stands part kept n all) (sym still) h)
 turn-stands c stands part kept kept' bits all items h (inr (many, nothing, are)) =
     let fs : List Found = places (rules_of c) all in
-    let count = waiting-count c stands part kept (in_batches (length (places (rules_of c) bits))) all h in
-    let whole = full (length (places (rules_of c) bits)) (length fs) h.within (sym count ∙ many) in
+    let count = waiting-count c stands part kept (due_count c bits) all h in
+    let whole = full c.batch (length (places (rules_of c) bits)) (length fs) h.within (sym count ∙ many) in
     record {
       search = h.search;
-      within = batches-le (length fs);
+      within = batches-le c.batch (length fs);
       waiting = nothing ∙ ap (map (kept_at c all)) (sym (ap (λ n. drop n fs) whole ∙ drop-length fs));
       front = h.front;
       parts = h.parts;
@@ -194,33 +183,33 @@ turn-stands c stands part kept kept' bits all items h (inr (many, nothing, are))
 pub turn-items : (c : Configuration) (stands : List Bool → List Found
     → Type 0) (part : List Bool) (kept kept' : List Kept)
     (bits all : List Bool) (items : List ItemValue)
-    → Holding c stands part kept (in_batches (length (places (rules_of c) bits))) all → IsHanded c kept kept' items
-    → AreItemsOf c all (beyond (due (rules_of c) bits) (due (rules_of c) all)) items
+    → Holding c stands part kept (due_count c bits) all → IsHanded c kept kept' items
+    → AreItemsOf c all (beyond (due c bits) (due c all)) items
 turn-items c stands part kept kept' bits all items h (inl (few, same, none)) =
-    let count = waiting-count c stands part kept (in_batches (length (places (rules_of c) bits))) all h in
-    let still = not_full (length (places (rules_of c) bits)) (length (places (rules_of c) all)) h.within
-    (subst (λ n. n < 32) count few) in
+    let count = waiting-count c stands part kept (due_count c bits) all h in
+    let still = not_full c.batch (length (places (rules_of c) bits)) (length (places (rules_of c) all)) h.within
+    (subst (λ n. n < c.batch) count few) in
     subst (λ (fs : List Found). AreItemsOf c all fs items) (sym (due-none c bits all still))
     (subst (λ (is : List ItemValue). AreItemsOf c all [] is) (sym none) tt)
 turn-items c stands part kept kept' bits all items h (inr (many, nothing, are)) =
-    let count = waiting-count c stands part kept (in_batches (length (places (rules_of c) bits))) all h in
-    let whole = full (length (places (rules_of c) bits)) (length (places (rules_of c) all)) h.within (sym count
+    let count = waiting-count c stands part kept (due_count c bits) all h in
+    let whole = full c.batch (length (places (rules_of c) bits)) (length (places (rules_of c) all)) h.within (sym count
     ∙ many) in
     subst (λ (fs : List Found). AreItemsOf c all fs items) (sym (due-all c bits all whole))
-    (items-of c all (drop (in_batches (length (places (rules_of c) bits))) (places (rules_of c) all)) items
+    (items-of c all (drop (due_count c bits) (places (rules_of c) all)) items
     (subst (λ (ks : List Kept). AreItemsFor c ks items) h.waiting are))
 
 -- the taker failed at an item of a full batch
 pub turn-broke : (c : Configuration) (stands : List Bool → List Found → Type 0) (part : List Bool) (kept : List Kept)
     (bits all : List Bool) (count : ℕ) (items : List ItemValue)
-    → Holding c stands part kept (in_batches (length (places (rules_of c) bits))) all → length kept ≡ 32
+    → Holding c stands part kept (due_count c bits) all → length kept ≡ c.batch
     → AreItemsFor c (take count kept) items
-    → AreFirstItemsOf c all (beyond (due (rules_of c) bits) (due (rules_of c) all)) items
+    → AreFirstItemsOf c all (beyond (due c bits) (due c all)) items
 turn-broke c stands part kept bits all count items h many are =
-    let wait = waiting-count c stands part kept (in_batches (length (places (rules_of c) bits))) all h in
-    let whole = full (length (places (rules_of c) bits)) (length (places (rules_of c) all)) h.within (sym wait
+    let wait = waiting-count c stands part kept (due_count c bits) all h in
+    let whole = full c.batch (length (places (rules_of c) bits)) (length (places (rules_of c) all)) h.within (sym wait
     ∙ many) in
-    let waiting : List Found = drop (in_batches (length (places (rules_of c) bits))) (places (rules_of c) all) in
+    let waiting : List Found = drop (due_count c bits) (places (rules_of c) all) in
     subst (λ (fs : List Found). AreFirstItemsOf c all fs items) (sym (due-all c bits all whole))
     (first-of c all count waiting items (items-of c all (take count waiting) items
     (subst (λ (ks : List Kept). AreItemsFor c ks items)
@@ -269,26 +258,22 @@ take-all P zero xs all = tt
 take-all P (suc count) [] all = tt
 take-all P (suc count) (x ∷ xs) all = (all.0, take-all P count xs all.1)
 
-pub due-end : (c : Configuration) (bits : List Bool) (count : ℕ) → EndBefore (rules_of c) (length bits) (drop count (due (rules_of c) bits))
+pub due-end : (c : Configuration) (bits : List Bool) (count : ℕ) → EndBefore (rules_of c) (length bits) (drop count (due c bits))
 due-end c bits count =
     let P : Found → Type 0 = λ f. f.place + 32 + (rules_of c).block_bits ≤ length bits in
-    drop-all P count (due (rules_of c) bits) (take-all P (in_batches (length (places (rules_of c) bits))) (places (rules_of c) bits) (places-end (rules_of c) bits))
+    drop-all P count (due c bits) (take-all P (due_count c bits) (places (rules_of c) bits) (places-end (rules_of c) bits))
 
-batches-more : (m n : ℕ) → in_batches m ≤ in_batches (m + n)
-batches-more m n = omega arith
-
-pub due-more : (c : Configuration) (bits more : List Bool) → due (rules_of c) (bits ++ more) ≡ due (rules_of c) bits ++ beyond (due (rules_of c) bits) (due (rules_of c) (bits ++ more))
+pub due-more : (c : Configuration) (bits more : List Bool) → due c (bits ++ more) ≡ due c bits ++ beyond (due c bits) (due c (bits ++ more))
 due-more c bits more =
     let go = places-append (rules_of c) bits more in
     let fs = places (rules_of c) bits in
-    let a : ℕ = in_batches (length fs) in
-    let b : ℕ = in_batches (length (places (rules_of c) (bits ++ more))) in
+    let a : ℕ = due_count c bits in
+    let b : ℕ = due_count c (bits ++ more) in
     let le : a ≤ b = let grows : length (places (rules_of c) (bits ++ more)) ≡ length fs + length go.rest = ap length go.is ∙ length-append fs go.rest in
-    subst (λ (n : ℕ). a ≤ in_batches n) (sym grows) (batches-more (length fs) (length go.rest)) in
-    let first : take a (due (rules_of c) (bits ++ more)) ≡ due (rules_of c) bits =
-    take-take a b (places (rules_of c) (bits ++ more)) le ∙ ap (take a) go.is ∙ take-append-le a fs go.rest (batches-le (length fs)) in
-    let long : length (due (rules_of c) bits) ≡ a = length-take-le a fs (batches-le (length fs)) in
-    sym (take-append-drop a (due (rules_of c) (bits ++ more))) ∙ (λ i. first i ++ drop (sym long i) (due (rules_of c) (bits ++ more)))
+    subst (λ (n : ℕ). a ≤ in_batches c.batch n) (sym grows) (batches-more c.batch (length fs) (length go.rest)) in
+    let first : take a (due c (bits ++ more)) ≡ due c bits =
+    take-take a b (places (rules_of c) (bits ++ more)) le ∙ ap (take a) go.is ∙ take-append-le a fs go.rest (batches-le c.batch (length fs)) in
+    sym (take-append-drop a (due c (bits ++ more))) ∙ (λ i. first i ++ drop (sym (length-due c bits) i) (due c (bits ++ more)))
   where
     take-take : (a c : ℕ) (xs : List Found) → a ≤ c → take a (take c xs) ≡ take a xs
     take-take zero c xs le = refl
@@ -301,71 +286,72 @@ beyond-twice : (xs ys zs : List Found) → ys ≡ xs ++ beyond xs ys → zs ≡ 
 beyond-twice xs ys zs first second =
     ap (drop (length xs)) (second ∙ ap (λ l. l ++ beyond ys zs) first ∙ append_assoc xs (beyond xs ys) (beyond ys zs)) ∙ drop-append_seam xs (beyond xs ys ++ beyond ys zs)
 
-pub due-twice : (c : Configuration) (bits more rest : List Bool) → beyond (due (rules_of c) bits) (due (rules_of c) ((bits ++ more) ++ rest))
-    ≡ beyond (due (rules_of c) bits) (due (rules_of c) (bits ++ more)) ++ beyond (due (rules_of c) (bits ++ more)) (due (rules_of c) ((bits ++ more) ++ rest))
-due-twice c bits more rest = beyond-twice (due (rules_of c) bits) (due (rules_of c) (bits ++ more)) (due (rules_of c) ((bits ++ more) ++ rest)) (due-more c bits more) (due-more c (bits ++ more) rest)
+pub due-twice : (c : Configuration) (bits more rest : List Bool) → beyond (due c bits) (due c ((bits ++ more) ++ rest))
+    ≡ beyond (due c bits) (due c (bits ++ more)) ++ beyond (due c (bits ++ more)) (due c ((bits ++ more) ++ rest))
+due-twice c bits more rest = beyond-twice (due c bits) (due c (bits ++ more)) (due c ((bits ++ more) ++ rest)) (due-more c bits more) (due-more c (bits ++ more) rest)
 
 -- a piece, and then another
 pub items-then : (c : Configuration) (bits more rest : List Bool) (items others : List ItemValue)
-    → AreItemsOf c (bits ++ more) (beyond (due (rules_of c) bits) (due (rules_of c) (bits ++ more))) items
-    → AreItemsOf c ((bits ++ more) ++ rest) (beyond (due (rules_of c) (bits ++ more)) (due (rules_of c) ((bits ++ more) ++ rest))) others
-    → AreItemsOf c ((bits ++ more) ++ rest) (beyond (due (rules_of c) bits) (due (rules_of c) ((bits ++ more) ++ rest))) (items ++ others)
+    → AreItemsOf c (bits ++ more) (beyond (due c bits) (due c (bits ++ more))) items
+    → AreItemsOf c ((bits ++ more) ++ rest) (beyond (due c (bits ++ more)) (due c ((bits ++ more) ++ rest))) others
+    → AreItemsOf c ((bits ++ more) ++ rest) (beyond (due c bits) (due c ((bits ++ more) ++ rest))) (items ++ others)
 items-then c bits more rest items others are also =
-    let first : List Found = beyond (due (rules_of c) bits) (due (rules_of c) (bits ++ more)) in
-    let second : List Found = beyond (due (rules_of c) (bits ++ more)) (due (rules_of c) ((bits ++ more) ++ rest)) in
+    let first : List Found = beyond (due c bits) (due c (bits ++ more)) in
+    let second : List Found = beyond (due c (bits ++ more)) (due c ((bits ++ more) ++ rest)) in
     subst (λ (fs : List Found). AreItemsOf c ((bits ++ more) ++ rest) fs (items ++ others)) (sym (due-twice c bits more rest))
     (items-append c ((bits ++ more) ++ rest) first second items others
-    (items-more c (bits ++ more) rest first items (due-end c (bits ++ more) (length (due (rules_of c) bits))) are) also)
+    (items-more c (bits ++ more) rest first items (due-end c (bits ++ more) (length (due c bits))) are) also)
 
 pub first-then : (c : Configuration) (bits more rest : List Bool) (items others : List ItemValue)
-    → AreItemsOf c (bits ++ more) (beyond (due (rules_of c) bits) (due (rules_of c) (bits ++ more))) items
-    → AreFirstItemsOf c ((bits ++ more) ++ rest) (beyond (due (rules_of c) (bits ++ more)) (due (rules_of c) ((bits ++ more) ++ rest))) others
-    → AreFirstItemsOf c ((bits ++ more) ++ rest) (beyond (due (rules_of c) bits) (due (rules_of c) ((bits ++ more) ++ rest))) (items ++ others)
+    → AreItemsOf c (bits ++ more) (beyond (due c bits) (due c (bits ++ more))) items
+    → AreFirstItemsOf c ((bits ++ more) ++ rest) (beyond (due c (bits ++ more)) (due c ((bits ++ more) ++ rest))) others
+    → AreFirstItemsOf c ((bits ++ more) ++ rest) (beyond (due c bits) (due c ((bits ++ more) ++ rest))) (items ++ others)
 first-then c bits more rest items others are also =
-    let first : List Found = beyond (due (rules_of c) bits) (due (rules_of c) (bits ++ more)) in
-    let second : List Found = beyond (due (rules_of c) (bits ++ more)) (due (rules_of c) ((bits ++ more) ++ rest)) in
+    let first : List Found = beyond (due c bits) (due c (bits ++ more)) in
+    let second : List Found = beyond (due c (bits ++ more)) (due c ((bits ++ more) ++ rest)) in
     subst (λ (fs : List Found). AreFirstItemsOf c ((bits ++ more) ++ rest) fs (items ++ others)) (sym (due-twice c bits more rest))
     (first-append c ((bits ++ more) ++ rest) first second items others
-    (items-more c (bits ++ more) rest first items (due-end c (bits ++ more) (length (due (rules_of c) bits))) are) also)
+    (items-more c (bits ++ more) rest first items (due-end c (bits ++ more) (length (due c bits))) are) also)
 
 -- what was due of a front is first of what is due of all
 pub first-of-all : (c : Configuration) (bits more rest : List Bool) (items : List ItemValue)
-    → AreFirstItemsOf c (bits ++ more) (beyond (due (rules_of c) bits) (due (rules_of c) (bits ++ more))) items
-    → AreFirstItemsOf c ((bits ++ more) ++ rest) (beyond (due (rules_of c) bits) (due (rules_of c) ((bits ++ more) ++ rest))) items
+    → AreFirstItemsOf c (bits ++ more) (beyond (due c bits) (due c (bits ++ more))) items
+    → AreFirstItemsOf c ((bits ++ more) ++ rest) (beyond (due c bits) (due c ((bits ++ more) ++ rest))) items
 first-of-all c bits more rest items are =
-    let first : List Found = beyond (due (rules_of c) bits) (due (rules_of c) (bits ++ more)) in
-    let second : List Found = beyond (due (rules_of c) (bits ++ more)) (due (rules_of c) ((bits ++ more) ++ rest)) in
+    let first : List Found = beyond (due c bits) (due c (bits ++ more)) in
+    let second : List Found = beyond (due c (bits ++ more)) (due c ((bits ++ more) ++ rest)) in
     subst (λ (fs : List Found). AreFirstItemsOf c ((bits ++ more) ++ rest) fs items) (sym (due-twice c bits more rest))
     (first-longer c ((bits ++ more) ++ rest) first second items
-    (first-more c (bits ++ more) rest first items (due-end c (bits ++ more) (length (due (rules_of c) bits))) are))
+    (first-more c (bits ++ more) rest first items (due-end c (bits ++ more) (length (due c bits))) are))
 
 -- ---- the end
 pub items-last : (c : Configuration) (stands : List Bool → List Found → Type 0) (part : List Bool) (kept : List Kept) (bits : List Bool) (items : List ItemValue)
-    → Holding c stands part kept (in_batches (length (places (rules_of c) bits))) bits → AreItemsFor c kept items
-    → AreItemsOf c bits (beyond (due (rules_of c) bits) (places (rules_of c) bits)) items
+    → Holding c stands part kept (due_count c bits) bits → AreItemsFor c kept items
+    → AreItemsOf c bits (beyond (due c bits) (places (rules_of c) bits)) items
 items-last c stands part kept bits items h are =
-    let waiting : List Found = drop (in_batches (length (places (rules_of c) bits))) (places (rules_of c) bits) in
+    let waiting : List Found = drop (due_count c bits) (places (rules_of c) bits) in
     subst (λ (fs : List Found). AreItemsOf c bits fs items) (sym (behind-due c bits (places (rules_of c) bits)))
     (items-of c bits waiting items (subst (λ (ks : List Kept). AreItemsFor c ks items) h.waiting are))
 
 pub first-last : (c : Configuration) (stands : List Bool → List Found → Type 0) (part : List Bool) (kept : List Kept) (bits : List Bool) (count : ℕ) (items : List ItemValue)
-    → Holding c stands part kept (in_batches (length (places (rules_of c) bits))) bits
+    → Holding c stands part kept (due_count c bits) bits
     → AreItemsFor c (take count kept) items
-    → AreFirstItemsOf c bits (beyond (due (rules_of c) bits) (places (rules_of c) bits)) items
+    → AreFirstItemsOf c bits (beyond (due c bits) (places (rules_of c) bits)) items
 first-last c stands part kept bits count items h are =
-    let waiting : List Found = drop (in_batches (length (places (rules_of c) bits))) (places (rules_of c) bits) in
+    let waiting : List Found = drop (due_count c bits) (places (rules_of c) bits) in
     subst (λ (fs : List Found). AreFirstItemsOf c bits fs items) (sym (behind-due c bits (places (rules_of c) bits)))
     (first-of c bits count waiting items (items-of c bits (take count waiting) items
     (subst (λ (ks : List Kept). AreItemsFor c ks items) (ap (take count) h.waiting ∙ take-map' (kept_at c bits) count waiting) are)))
 
 pub stands-new : (c : Configuration) (stands : List Bool → List Found → Type 0) (part : List Bool) (kept : List Kept)
     → stands [] [] → part ≡ [] → kept ≡ []
-    → Holding c stands part kept (in_batches (length (places (rules_of c) []))) []
+    → Holding c stands part kept (due_count c []) []
 stands-new c stands part kept told none nothing =
     let no : places (rules_of c) [] ≡ [] = places_from-nil (rules_of c) 0 0 None in record {
       search = subst (λ (fs : List Found). stands [] fs) (sym no) told;
-      within = batches-le (length (places (rules_of c) []));
-      waiting = nothing ∙ ap (λ (fs : List Found). map (kept_at c []) (drop (in_batches (length fs)) fs)) (sym no);
+      within = batches-le c.batch (length (places (rules_of c) []));
+      waiting = nothing ∙ ap (map (kept_at c [])) (sym (drop-nil (in_batches c.batch 0)))
+          ∙ ap (λ (fs : List Found). map (kept_at c []) (drop (in_batches c.batch (length fs)) fs)) (sym no);
       front = [];
       parts = sym none;
     }

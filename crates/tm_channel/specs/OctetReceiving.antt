@@ -13,7 +13,6 @@ use Rattle.tm_inner.specs.Inner.{inner_bits}
 use Rattle.tm_inner.specs.Phase.{IsChosen, IsChosenSoFar, in_turn}
 use Rattle.tm_inner.specs.Handing.{AreHanded, AreHandedDue}
 use Rattle.tm_inner.specs.Receiving.{InnerReceiving, StandsFor as InnerStandsFor}
-use Rattle.tm_codeblock.specs.ReceivedCodeblock.{rules_of}
 use Rattle.tm_channel.specs.Items.{ItemValue, AreItemsOf}
 use Rattle.tm_channel.specs.Due.{due}
 use Rattle.tm_channel.specs.Handing.{phase_of, AreReceived, AreReceivedDue, AreReceivedFirst, AreReceivedFront}
@@ -44,7 +43,7 @@ pub record StagesFor (s : Stages) (given : List ℕ) (done : List (Handed ItemVa
   pub bits : StandsForBits s.bits (inner_bits s.inner.config given (items_of handed))
   pub items : List ItemValue
   pub are_items : AreItemsOf s.inner.config (inner_bits s.inner.config given (items_of handed))
-      (due (rules_of s.inner.config) (inner_bits s.inner.config given (items_of handed))) items
+      (due s.inner.config (inner_bits s.inner.config given (items_of handed))) items
   pub are : done ≡ in_turn (phase_of handed) items
 
 -- the first of what is handed over of these octets, whatever octets come, and the phase that is

@@ -22,7 +22,7 @@ pub record ReceiveDue (c : Configuration) (phase : ℕ) (octets : List ℕ) (ite
   pub blocks : List WindowBlock
   pub are_due : AreInnerDue c phase octets blocks
   pub are_items : AreItemsOf c (inner_bits c octets blocks)
-      (due (rules_of c) (inner_bits c octets blocks)) items
+      (due c (inner_bits c octets blocks)) items
 
 -- These are items of the first places in the bits of first blocks of received octets, or with no
 -- inner code in the bits.

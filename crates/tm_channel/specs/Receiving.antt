@@ -7,7 +7,7 @@ use Rattle.tm_sync.specs.Places.{places}
 use Rattle.tm_sync.specs.Searching.{Searching, StandsFor, inside_of, is_pending}
 use Rattle.tm_codeblock.specs.ReceivedCodeblock.{rules_of, codeblock_in}
 use Rattle.tm_channel.specs.Items.{ItemValue, IsItem, AreItemsOf, AreFirstItemsOf}
-use Rattle.tm_channel.specs.Due.{in_batches, due}
+use Rattle.tm_channel.specs.Due.{due_count, due}
 
 -- ---- when an item is handed over
 
@@ -18,12 +18,12 @@ beyond front all = drop (length front) all
 -- these items are due once `piece` follows the bits, and were not due before
 abbrev pub AreFurther : Configuration → List Bool → List Bool → List ItemValue → Type 0
 AreFurther c bits piece items = AreItemsOf c (bits ++ piece)
-    (beyond (due (rules_of c) bits) (due (rules_of c) (bits ++ piece))) items
+    (beyond (due c bits) (due c (bits ++ piece))) items
 
 -- the same of the first ones
 abbrev pub AreFirstFurther : Configuration → List Bool → List Bool → List ItemValue → Type 0
 AreFirstFurther c bits piece items = AreFirstItemsOf c (bits ++ piece)
-    (beyond (due (rules_of c) bits) (due (rules_of c) (bits ++ piece))) items
+    (beyond (due c bits) (due c (bits ++ piece))) items
 
 -- whatever bits the receiver stood for, these are the items that are due with the piece and were
 -- not due before
@@ -40,12 +40,12 @@ AreFirstDue c Stood piece items = (bits : List Bool) → length (bits ++ piece) 
 -- bits was known
 abbrev pub AreLast : Configuration → (List Bool → Type 0) → List ItemValue → Type 0
 AreLast c Stood items = (bits : List Bool) → Stood bits
-    → AreItemsOf c bits (beyond (due (rules_of c) bits) (places (rules_of c) bits)) items
+    → AreItemsOf c bits (beyond (due c bits) (places (rules_of c) bits)) items
 
 -- the same of the first ones
 abbrev pub AreFirstLast : Configuration → (List Bool → Type 0) → List ItemValue → Type 0
 AreFirstLast c Stood items = (bits : List Bool) → Stood bits
-    → AreFirstItemsOf c bits (beyond (due (rules_of c) bits) (places (rules_of c) bits)) items
+    → AreFirstItemsOf c bits (beyond (due c bits) (places (rules_of c) bits)) items
 
 -- whatever bits the receiver stood for, it stands for these and the piece
 abbrev pub GoesOn : (List Bool → Type 0) → (List Bool → Type 0) → List Bool → Type 0
@@ -83,8 +83,8 @@ AreItemsFor c kept items = ⊥
 -- was.
 abbrev pub IsHanded : Configuration → List Kept → List Kept → List ItemValue → Type 0
 IsHanded c before kept items =
-    ((length before < 32) × (kept ≡ before) × (items ≡ []))
-    ⊎ ((length before ≡ 32) × (kept ≡ []) × AreItemsFor c before items)
+    ((length before < c.batch) × (kept ≡ before) × (items ≡ []))
+    ⊎ ((length before ≡ c.batch) × (kept ≡ []) × AreItemsFor c before items)
 
 -- What is kept of these bits where the items of the first `handed` places were handed over: the
 -- search was told all of their places, the codeblocks of the other places wait, and the codeblock
@@ -127,7 +127,7 @@ HoldsMore s b handed bits more = HoldingMore b.config (StandsFor s) b.part b.kep
 
 -- these bits were given to a search and a batch, which was handed over whenever it was full
 abbrev pub Stands : Searching → Batching → List Bool → Type 0
-Stands s b bits = Holds s b (in_batches (length (places (rules_of b.config) bits))) bits
+Stands s b bits = Holds s b (due_count b.config bits) bits
 
 -- a search and a batch agree, whatever bits were given, and a codeblock may be whole
 pub record Agree (s : Searching) (b : Batching) : Type 0 where
@@ -139,13 +139,13 @@ pub record Agree (s : Searching) (b : Batching) : Type 0 where
 pub record IsFree (s : Searching) (b : Batching) : Type 0 where
   pub agree : Agree s b
   pub free : is_pending s ≡ false
-  pub most : length b.kept ≤ 32
+  pub most : length b.kept ≤ b.config.batch
 
 -- and the batch is not full
 pub record IsReady (s : Searching) (b : Batching) : Type 0 where
   pub agree : Agree s b
   pub free : is_pending s ≡ false
-  pub few : length b.kept < 32
+  pub few : length b.kept < b.config.batch
 
 -- ---- bits that are taken
 

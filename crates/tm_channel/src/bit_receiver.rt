@@ -10,7 +10,7 @@ ghost use Rattle.tm_channel.specs.Receiving.{Agree, AreFirstLast, AreItemsFor, A
 ghost use Rattle.tm_channel.specs.OctetReceiving.{Received, ReceivedPart};
 
 use crate::item::ItemTaker;
-use crate::store::{BATCH, Codeblocks};
+use crate::store::Codeblocks;
 use crate::workers::Workers;
 use tm_base::Failed;
 use tm_codeblock::bits_of_octet;
@@ -52,6 +52,7 @@ impl BitReceiver {
         requires stands { StandsFor search [] [] }
         requires part { batch.part ≡ [] }
         requires kept { batch.kept ≡ [] }
+        requires some { 0 < batch.config.batch }
         ensures ready { IsReady result.search result.batch }
         ensures config { result.batch.config ≡ batch.config }
         ensures stands { Stands result.search result.batch [] }
@@ -112,7 +113,7 @@ impl BitReceiver {
         while at < 8 * octets.len() {
             at += self.push(octets, at);
             self.keep_whole();
-            if self.batch.count() == BATCH {
+            if self.batch.count() == self.batch.room() {
                 return at;
             }
         }
@@ -207,7 +208,7 @@ impl BitReceiver {
     // Keeps the codeblock that is whole with the last bits, if one is.
     fn keep_whole(&mut self)
         requires agree { Agree self.old.search self.old.batch }
-        requires few { length self.old.batch.kept < 32 }
+        requires few { length self.old.batch.kept < self.old.batch.config.batch }
         ensures free { IsFree self.new.search self.new.batch }
         ensures config { self.new.batch.config ≡ self.old.batch.config }
         ensures holds { (handed : ℕ) (bits more : List Bool) → HoldsMore self.old.search self.old.batch handed bits more
@@ -232,11 +233,11 @@ impl BitReceiver {
             × HandedOver T.took taker.old items taker.new) }
         ensures broke { OnErr result ((count : ℕ) × (items : List ItemValue)
             × AreItemsFor self.old.batch.config (take count self.old.batch.kept) items
-            × (length self.old.batch.kept ≡ 32)
+            × (length self.old.batch.kept ≡ self.old.batch.config.batch)
             × HandedPart T.took T.broke taker.old items taker.new) }
         ensures cause { HasCause (T.faults taker.old) (T.faults taker.new) (T.is_last taker.new) result }
     {
-        if self.batch.count() < BATCH {
+        if self.batch.count() < self.batch.room() {
             return Ok(());
         }
         match self.hand_all(by, taker) {

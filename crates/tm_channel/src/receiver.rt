@@ -44,8 +44,9 @@ pub enum RecvError {
 }
 
 /// Turns received octets into what is said of each codeblock that is found in them, piece by piece (CCSDS 131.0-B,
-/// Convolutional Coding, Frame Synchronization, Pseudo-Randomizer and Reed-Solomon Coding). Codeblocks are repaired 32
-/// at a time, by the workers of its configuration or by the caller alone. It takes all its memory at `open`.
+/// Convolutional Coding, Frame Synchronization, Pseudo-Randomizer and Reed-Solomon Coding). Codeblocks are repaired in
+/// batches as large as its configuration says, by its workers or by the caller alone. It takes all its memory at
+/// `open`.
 #[derive(Drop)]
 pub struct Receiver {
     config: Config,
@@ -105,9 +106,10 @@ impl Receiver {
     }
 
     /// Takes the next octets, and hands over the items that are due: those of the codeblocks that lie whole in the bits
-    /// received, 32 of them at a time. With an inner code these are the bits of all windows that are closed. Where the
-    /// symbol phase is to be found nothing is due until it is chosen: once all steps of a window can be compared, or
-    /// with no inner code at the first octet. Then it is handed over, once, before any item.
+    /// received, in whole batches as large as the configuration says. With an inner code these are the bits of all
+    /// windows that are closed. Where the symbol phase is to be found nothing is due until it is chosen: once all steps
+    /// of a window can be compared, or with no inner code at the first octet. Then it is handed over, once, before any
+    /// item.
     ///
     /// `Taker` comes where `taker` fails; a front of what is due was then handed over. `Stopped` comes where an earlier
     /// call answered `Taker` or the receiver was finished; nothing is handed over then.

@@ -25,7 +25,7 @@ pub fn repair<P: Workers>(
     requires workers { P.is_ready by.now }
     requires count { count ≤ length slots.old }
     requires slots { length slots.old ≤ 32 }
-    requires words { length words.old ≡ 32 * column_count config.now }
+    requires words { length words.old ≡ length slots.old * column_count config.now }
     ensures kept { map (kept_in (codeblock_length config.now)) (take count slots.new)
         ≡ map (kept_in (codeblock_length config.now)) (take count slots.old) }
     ensures items { AreItemsFor config.now (map (kept_in (codeblock_length config.now)) (take count slots.old))

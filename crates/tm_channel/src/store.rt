@@ -16,10 +16,8 @@ use tm_gf256::Gf;
 use tm_sync::Found;
 use tm_workers::Word;
 
-/// How many codeblocks a batch has.
-pub const BATCH: usize = 32;
-
-/// Room for the codeblock under way and for a batch of whole ones, which are repaired at once.
+/// Room for the codeblock under way and for a batch of whole ones, which are repaired at once. A batch has as many as
+/// the configuration says.
 #[derive(Drop)]
 pub struct Codeblocks {
     config: Config,
@@ -34,7 +32,7 @@ pub struct Codeblocks {
 }
 
 impl Model for Codeblocks {
-    ghost use Rattle.std.specs.Prelude.{◌≡◌, ◌≤◌, ◌*◌, take, map, length};
+    ghost use Rattle.std.specs.Prelude.{◌≡◌, ◌<◌, ◌≤◌, ◌*◌, take, map, length};
     ghost use Rattle.tm_config.specs.Configuration.{codeblock_length};
     ghost use Rattle.tm_channel.specs.Receiving.{Batching};
     ghost use Rattle.tm_channel.specs.Storing.{column_count, item_in, kept_in};
@@ -48,8 +46,9 @@ impl Model for Codeblocks {
       items = map (item_in s.config) (take s.count s.slots.items);
     } };
 
-    ghost invariant = { λ s. (s.size ≡ codeblock_length s.config) × (s.size ≤ 2040) × (length s.slots.items ≡ 32) × (s.count ≤ 32)
-        × (length s.words.items ≡ 32 * column_count s.config) };
+    ghost invariant = { λ s. (s.size ≡ codeblock_length s.config) × (s.size ≤ 2040) × (length s.slots.items ≡ s.config.batch)
+        × (length s.words.items ≡ s.config.batch * column_count s.config) × (s.count ≤ s.config.batch)
+        × (0 < s.config.batch) × (s.config.batch ≤ 32) };
 }
 
 impl Codeblocks {
@@ -62,14 +61,15 @@ impl Codeblocks {
             symbols: [Gf(0); 255],
             answer: None,
         };
+        let room = config.batch() as usize;
         Ok(Codeblocks {
             config,
             alloc,
             size: codeblock_size(&config),
             gathering: Gathering::new(),
-            slots: vec![in alloc; Slot::empty(); BATCH]?,
+            slots: vec![in alloc; Slot::empty(); room]?,
             count: 0,
-            words: vec![in alloc; word; BATCH * column_count(&config)]?,
+            words: vec![in alloc; word; room * column_count(&config)]?,
         })
     }
 
@@ -107,7 +107,7 @@ impl Codeblocks {
 
     /// Keeps the codeblock under way, which is whole, as that of this place.
     pub fn keep(&mut self, found: Found)
-        requires room { length self.old.kept < 32 }
+        requires room { length self.old.kept < self.old.config.batch }
         requires whole { length self.old.part ≡ 8 * codeblock_length self.old.config }
         ensures config { self.new.config ≡ self.old.config }
         ensures part { self.new.part ≡ [] }
@@ -126,6 +126,14 @@ impl Codeblocks {
         ensures { length self.now.part + result ≡ 8 * codeblock_length self.now.config }
     {
         8 * self.size - self.gathering.count()
+    }
+
+    /// How many codeblocks a batch has.
+    pub fn room(&self) -> usize
+        ensures value { result ≡ self.now.config.batch }
+        ensures some { 0 < result }
+    {
+        self.slots.len()
     }
 
     /// How many codeblocks are kept.

@@ -39,6 +39,7 @@ impl BitStream {
         requires stands { SearchStandsFor search [] [] }
         requires part { batch.part ≡ [] }
         requires kept { batch.kept ≡ [] }
+        requires some { 0 < batch.config.batch }
         ensures config { result.batch.config ≡ batch.config }
         ensures stands { StandsForBits result [] }
     {

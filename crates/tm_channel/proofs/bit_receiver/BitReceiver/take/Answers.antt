@@ -3,8 +3,8 @@ use Rattle.tm_channel.specs.Receiving.{Holds, bits_between}
 use Rattle.tm_channel.proofs.Between.{goes-between}
 use Rattle.tm_channel.proofs.bit_receiver.BitReceiver.take.Goals as goal
 
-pub returns-then-count-eq-BATCH-clause-holds : goal.returns-then-count-eq-BATCH-clause-holds
-returns-then-count-eq-BATCH-clause-holds c = λ handed.
+pub returns-then-count-room-clause-holds : goal.returns-then-count-room-clause-holds
+returns-then-count-room-clause-holds c = λ handed.
     let octets = c.args.octets.now in
     let at = c.loop-at.at in
     let to = at + c.push-at.result in
@@ -33,7 +33,7 @@ loop-at-preserved c =
         agree = free.agree;
         free = free.free;
         few = omega
-            (arith, most, c.count.ensures, c.if-count-eq-BATCH.false);
+            (arith, most, c.count.ensures, c.room.ensures.value, c.if-count-room.false);
       };
       config = c.keep_whole.ensures.config ∙ c.push-at.ensures.config ∙ i.config;
       holds = λ handed.

@@ -1,0 +1,36 @@
+-- How many items are due: those in whole batches.
+use Rattle.std.proofs.Common.{◌≡◌, ◌+◌, ◌-◌, ◌*◌, ◌/◌, ◌%◌, ◌<◌, ◌≤◌, ℕ, zero, suc, Bool, List, length, ap, ◌∙◌, arith}
+use Rattle.std.proofs.Math.Nat.{div-add-mod, div-mul-le_self, mul-div-le, mul-le-mul_left, mul-mod_right, mul-suc, mul_comm}
+use Rattle.std.proofs.lemmas.List.{length-take-le}
+use Rattle.std.proofs.lemmas.Nat.{div-mul-add, le-div}
+use Rattle.tm_config.specs.Configuration.{Configuration}
+use Rattle.tm_sync.specs.Places.{places}
+use Rattle.tm_codeblock.specs.ReceivedCodeblock.{rules_of}
+use Rattle.tm_channel.specs.Due.{in_batches, due_count, due}
+
+pub batches-le : (size n : ℕ) → in_batches size n ≤ n
+batches-le size n = mul-div-le n size
+
+-- behind whole batches stand fewer than one
+pub not_full : (size m n : ℕ) → in_batches size m ≤ n → n - in_batches size m < size → in_batches size n ≡ in_batches size m
+not_full size m n least few =
+    let count = m / size in
+    let parts : n ≡ count * size + (n - size * count) = omega (arith, least, mul_comm count size) in
+    ap (λ k. size * k) (ap (λ k. k / size) parts ∙ div-mul-add count size (n - size * count) few)
+
+-- just one
+pub full : (size m n : ℕ) → in_batches size m ≤ n → n - in_batches size m ≡ size → in_batches size n ≡ n
+full size m n least all =
+    let parts : n ≡ size * suc (m / size) = omega (arith, least, all, mul-suc size (m / size)) in
+    let none : n % size ≡ 0 = ap (λ k. k % size) parts ∙ mul-mod_right size (suc (m / size)) in
+    omega (arith, none, div-add-mod n size)
+
+pub batches-more : (size m n : ℕ) → in_batches size m ≤ in_batches size (m + n)
+batches-more zero m n = omega arith
+batches-more (suc size) m n =
+    let before = div-mul-le_self m (suc size) in
+    mul-le-mul_left (suc size) (le-div (m / suc size) (m + n) (suc size) (omega arith) (omega (arith, before)))
+
+pub length-due : (c : Configuration) (bits : List Bool) → length (due c bits) ≡ due_count c bits
+length-due c bits =
+    let all = places (rules_of c) bits in length-take-le (due_count c bits) all (batches-le c.batch (length all))
