@@ -1,14 +1,15 @@
 -- A receiver that is given octets: the phase and the blocks of its first stage, the bits of these, and the items that are due of them.
-use Rattle.std.proofs.Common.{◌≡◌, ◌==◌, ◌<◌, ◌≤◌, ◌+◌, ◌-◌, ◌*◌, ◌^◌, ℕ, inl, inr, Bool, true, false, List, [], ◌∷◌, ◌++◌, length, take, drop, map, refl, sym, ap, ◌∙◌, subst, arith, append_assoc, length-append, length-drop, Option, Some, None}
+use Rattle.std.proofs.Common.{◌≡◌, ◌==◌, ◌<◌, ◌≤◌, ◌+◌, ◌-◌, ◌*◌, ◌^◌, ℕ, inl, inr, Bool, true, false, List, [], ◌∷◌, ◌++◌, length, take, drop, map, refl, sym, ap, ◌∙◌, subst, arith, append_assoc, length-append, length-drop, length-take, mul-le-mul_right, take-append-drop, Option, Some, None}
 use Rattle.std.specs.Option.{is_some}
-use Rattle.std.proofs.lemmas.List.{append-nil, drop_all, length-map}
-use Rattle.std.proofs.Math.Seq.{take-add}
+use Rattle.std.proofs.lemmas.List.{append-nil, drop_all, length-map, take-append-le, take_all}
+use Rattle.std.proofs.Math.Seq.{drop-length, take-add}
+use Rattle.std.proofs.lemmas.Bool.{cases_lt}
 use Rattle.tm_base.specs.Bits.{bits_of}
 use Rattle.tm_base.specs.Handed.{Handed, Phase, Item, on_handed, items_of}
 use Rattle.tm_base.specs.Takers.{HandedOver, HandedPart}
 use Rattle.tm_base.proofs.Packing.{length-bits_of, bits_of-append}
 use Rattle.tm_base.proofs.Handing.{HandedOver-append, HandedPart-after}
-use Rattle.tm_base.proofs.HandedItems.{HandedOver-items, HandedPart-items, items_of-append}
+use Rattle.tm_base.proofs.HandedItems.{HandedOver-items, HandedPart-items, items_of-append, items_of-items}
 use Rattle.tm_config.specs.Configuration.{Configuration}
 use Rattle.tm_config.proofs.Choices.{never_both}
 use Rattle.tm_conv.specs.declared.rates.Rate.{Rate}
@@ -26,20 +27,21 @@ use Rattle.tm_inner.proofs.PhasePieces.{PhaseStays, StayClosed, items_of-in_turn
 use Rattle.tm_inner.proofs.HandedPieces.{stands-so-far}
 use Rattle.tm_inner.proofs.InTurn.{choice-stays, settled-stays, so_far-stays}
 use Rattle.tm_inner.proofs.FewBits.{first-few, first-of-due, whole-few}
-use Rattle.tm_inner.proofs.HandedBits.{handed-due-none, handed-last-few, handed-more-few, needed-few}
+use Rattle.tm_inner.proofs.HandedBits.{handed-due-none, needed-few, waiting-last-few, waiting-more-few}
 use Rattle.tm_sync.specs.declared.found.Found.{Found}
 use Rattle.tm_sync.specs.Places.{places}
-use Rattle.tm_sync.proofs.Longer.{places-end, places-goes_on}
+use Rattle.tm_sync.proofs.Longer.{places-end, places-few, places-goes_on}
 use Rattle.tm_codeblock.specs.ReceivedCodeblock.{rules_of}
 use Rattle.tm_channel.specs.Items.{ItemValue, AreItemsOf, AreFirstItemsOf, AreItems}
-use Rattle.tm_channel.specs.Due.{due}
+use Rattle.tm_channel.specs.Due.{due, due_count}
 use Rattle.tm_channel.specs.Handing.{phase_from, phase_of, AreReceived, AreReceivedDue, AreReceivedFirst, AreReceivedFront}
-use Rattle.tm_channel.specs.Receiving.{beyond, AreFurther, AreFirstFurther, AreFirstDue}
-use Rattle.tm_channel.specs.OctetReceiving.{BitReceiving, OctetReceiving, StandsFor, FirstWith, StandsForBits, Stages, StagesFor, Keeping, Keeps, KeepsPhase, Grows, Ends, Received, ReceivedPart, ReceivedLast, ReceivedLastPart, bits_found, received_bits}
+use Rattle.tm_channel.specs.Receiving.{beyond, kept_at, most_spare, spare_of, AreFurther, AreFirstFurther, AreFirstDue}
+use Rattle.tm_channel.specs.OctetReceiving.{BitReceiving, OctetReceiving, StandsFor, FirstWith, StandsForBits, Stages, StagesFor, Keeping, Keeps, KeepsPhase, AreWaiting, HasRoom, Gathers, Grows, Ends, Received, ReceivedPart, ReceivedLast, ReceivedLastPart, bits_found, received_bits}
 use Rattle.tm_channel.proofs.Streaming.{first-longer, first-more, first-then, items-then}
 use Rattle.tm_channel.proofs.AllBits.{beyond-nil, all-items, some-items, few-items, due-nil}
 use Rattle.tm_channel.proofs.ReceivedPieces.{all_bits, all_bits-append}
-use Rattle.tm_channel.proofs.Turns.{front-nil, in_turn-split, part-some, phase_from-append, phase_of-behind, phase_of-in_turn, turn-further}
+use Rattle.tm_channel.proofs.Batches.{not_full}
+use Rattle.tm_channel.proofs.Turns.{front-nil, in_turn-split, none-behind, part-some, phase_from-append, phase_from-items, phase_of-in_turn, turn-further}
 
 -- ---- the phase and the bits that are kept
 
@@ -94,14 +96,14 @@ further-at (Some rate) c given octets blocks more kept skip is same =
 
 -- the first stage was given octets, and its phase and its bits were kept
 pub grows-kept : (inner now : InnerReceiving) (room kept : Keeping) (octets : List ℕ) (more : List (Handed WindowBlock)) → HandedOver (on_handed KeepsPhase Keeps) room more kept
-    → room.bits ≡ [] → room.phase ≡ None → 3 * (inner.config.keep + inner.config.ahead) + 7 + length octets ≤ room.size
+    → room.bits ≡ [] → room.phase ≡ None
     → ((given : List ℕ) (done : List (Handed WindowBlock)) → length given + length octets < 2 ^ 60 → InnerStandsFor inner given done
     → InnerStandsFor now (given ++ octets) (done ++ more) × AreHandedDue inner.config (given ++ octets) (done ++ more))
-    → Grows inner now octets kept.phase (received_bits inner kept.bits octets)
-grows-kept inner now room kept octets more handed none fresh fits stands given done few stood due =
+    → Grows inner now room.size octets kept.phase (received_bits inner kept.bits octets)
+grows-kept inner now room kept octets more handed none fresh stands given done waiting few fits stood due =
     let c = inner.config in
     let there = stands given done few stood in
-    let most = handed-more-few c given octets done more due there.1 in
+    let most = waiting-more-few c given octets done waiting more due there.1 in
     let same : kept.bits ≡ kept_bits (items_of more) = kept-alone room kept more handed none
     (omega (arith, most, needed-few c.inner c, fits)) in
     record {
@@ -113,6 +115,34 @@ grows-kept inner now room kept octets more handed none fresh fits stands given d
           ∙ further-at c.inner c given octets (items_of done) (items_of more) kept.bits (c.skip - 8 * inner.count)
           (omega (arith, stood.count)) same;
     }
+
+-- the first octets were gathered, and then it was given the others
+pub gathered-fed : (inner middle now : InnerReceiving) (octets : List ℕ) (taken : ℕ) (more : List (Handed WindowBlock)) → middle.config ≡ inner.config → taken ≤ length octets
+    → ((given : List ℕ) (done : List (Handed WindowBlock)) → length given + taken < 2 ^ 60 → InnerStandsFor inner given done → InnerStandsFor middle (given ++ take taken octets) done)
+    → ((given : List ℕ) (done : List (Handed WindowBlock)) → length given + length (drop taken octets) < 2 ^ 60 → InnerStandsFor middle given done
+    → InnerStandsFor now (given ++ drop taken octets) (done ++ more) × AreHandedDue middle.config (given ++ drop taken octets) (done ++ more))
+    → (given : List ℕ) (done : List (Handed WindowBlock)) → length given + length octets < 2 ^ 60 → InnerStandsFor inner given done
+    → InnerStandsFor now (given ++ octets) (done ++ more) × AreHandedDue inner.config (given ++ octets) (done ++ more)
+gathered-fed inner middle now octets taken more same within gathered fed given done few stood =
+    let front = take taken octets in
+    let there = fed (given ++ front) done (omega (arith, few, within, length-append given front, length-take taken octets, length-drop taken octets)) (gathered given done (omega (arith, few, within)) stood) in
+    let whole : (given ++ front) ++ drop taken octets ≡ given ++ octets = append_assoc given front (drop taken octets) ∙ ap (λ l. given ++ l) (take-append-drop taken octets) in (
+      subst (λ (l : List ℕ). InnerStandsFor now l (done ++ more)) whole there.0,
+      subst (λ (k : Configuration). AreHandedDue k (given ++ octets) (done ++ more)) same (subst (λ (l : List ℕ). AreHandedDue middle.config l (done ++ more)) whole there.1),
+    )
+
+-- all octets were gathered
+pub gathered-all : (inner now : InnerReceiving) (octets : List ℕ) (taken due most : ℕ) → now.config ≡ inner.config → taken ≡ length octets → due ≤ most
+    → ((given : List ℕ) (done : List (Handed WindowBlock)) → length given + taken < 2 ^ 60 → InnerStandsFor inner given done → InnerStandsFor now (given ++ take taken octets) done)
+    → ((given : List ℕ) (done : List (Handed WindowBlock)) → InnerStandsFor now given done
+    → (more : List WindowBlock) × (length (kept_bits more) ≡ due) × AreHandedDue now.config given (done ++ map Item more))
+    → Gathers inner now octets most
+gathered-all inner now octets taken due most same all few_due gathered counted given done few stood =
+    let there = subst (λ (l : List ℕ). InnerStandsFor now (given ++ l) done) (take_all taken octets (omega (arith, all))) (gathered given done (omega (arith, few, all)) stood) in
+    let h = counted (given ++ octets) done there in (
+      there,
+      (h.0, omega (arith, h.1, few_due), subst (λ (k : Configuration). AreHandedDue k (given ++ octets) (done ++ map Item h.0)) same h.2),
+    )
 
 last-at : (rate : Option Rate) (c : Configuration) (phase : ℕ) (given : List ℕ) (blocks last : List WindowBlock) (left : ℕ) → BlocksAt rate c phase given (blocks ++ last) left
     → bits_at rate c given (blocks ++ last) ≡ bits_at rate c given blocks ++ all_bits last
@@ -136,14 +166,14 @@ bits-last c given done last left h =
 
 -- the first stage ended, and its phase and its bits were kept
 pub ends-kept : (inner : InnerReceiving) (room kept : Keeping) (count : ℕ) (last : List (Handed WindowBlock)) (left : ℕ) → HandedOver (on_handed KeepsPhase Keeps) room last kept
-    → room.bits ≡ [] → room.phase ≡ None → 3 * (inner.config.keep + inner.config.ahead) + 7 ≤ room.size
+    → room.bits ≡ [] → room.phase ≡ None
     → ((given : List ℕ) (done : List (Handed WindowBlock)) → InnerStandsFor inner given done
     → AreHanded inner.config given (done ++ last) left × (count ≡ length (inner_bits inner.config given (items_of (done ++ last)))))
-    → Ends inner kept.phase (map (λ bit. bit == 1) kept.bits) count
-ends-kept inner room kept count last left handed none fresh fits stands given done stood due =
+    → Ends inner room.size kept.phase (map (λ bit. bit == 1) kept.bits) count
+ends-kept inner room kept count last left handed none fresh stands given done waiting fits stood due =
     let c = inner.config in
     let there = stands given done stood in
-    let most = handed-last-few c given done last left due there.0 in
+    let most = waiting-last-few c given done waiting last left due there.0 in
     let same : kept.bits ≡ kept_bits (items_of last) = kept-alone room kept last handed none
     (omega (arith, most, needed-few c.inner c, fits)) in
     record {
@@ -186,29 +216,32 @@ first-beyond c bits rest items are =
 
 -- ---- the phase comes once
 
-once : (c : Configuration) (soft soft_now : List ℕ) (chosen other : Option Chosen) (blocks all : List WindowBlock) (more : List (Handed WindowBlock))
-    → IsChosenBy c soft chosen → IsChosenBy c soft_now other → in_turn chosen blocks ++ more ≡ in_turn other all → phase_of more ≡ None
-once c soft soft_now None None blocks all more is now same = sym (phase_of-behind blocks more) ∙ ap phase_of same ∙ phase_of-in_turn None all
-once c soft soft_now None (Some b) blocks all more is now same = absurd (never_both c.phase is now.0)
-once c soft soft_now (Some a) None blocks all more is now same = absurd (never_both c.phase now is.0)
-once c soft soft_now (Some a) (Some b) blocks all more is now same =
-    sym (phase_of-behind blocks more) ∙ ap (λ l. phase_of (drop 1 l)) same ∙ phase_of-in_turn None all
+-- where blocks wait behind what was handed over, no further phase comes
+once : (c : Configuration) (soft soft_now : List ℕ) (chosen other : Option Chosen) (blocks waiting all : List WindowBlock) (handed more : List (Handed WindowBlock))
+    → IsChosenBy c soft chosen → IsChosenBy c soft_now other → handed ++ map Item waiting ≡ in_turn chosen blocks → handed ++ more ≡ in_turn other all → phase_of more ≡ None
+once c soft soft_now None None blocks waiting all handed more is now are same = none-behind None handed more (ap phase_of same ∙ phase_of-in_turn None all)
+once c soft soft_now None (Some b) blocks waiting all handed more is now are same = absurd (never_both c.phase is now.0)
+once c soft soft_now (Some a) None blocks waiting all handed more is now are same = absurd (never_both c.phase now is.0)
+once c soft soft_now (Some a) (Some b) blocks [] all [] more is now are same = absurd cc
+once c soft soft_now (Some a) (Some b) blocks (w ∷ waiting) all [] more is now are same = absurd cc
+once c soft soft_now (Some a) (Some b) blocks waiting all (h ∷ handed) more is now are same =
+    none-behind None handed more (ap (λ l. phase_of (drop 1 l)) same ∙ phase_of-in_turn None all)
 
-once-due : (c : Configuration) (given octets : List ℕ) (done more : List (Handed WindowBlock)) → AreHandedDue c given done → AreHandedDue c (given ++ octets) (done ++ more)
-    → IsSettled c given → phase_of more ≡ None
-once-due c given octets done more (inl before) now settled = absurd (before.0 settled)
-once-due c given octets done more (inr before) (inl now) settled = ap phase_of (front-nil done more now.1).1
-once-due c given octets done more (inr before) (inr now) settled =
+once-due : (c : Configuration) (given octets : List ℕ) (done : List (Handed WindowBlock)) (waiting : List WindowBlock) (more : List (Handed WindowBlock)) → AreWaiting c given done waiting
+    → AreHandedDue c (given ++ octets) (done ++ more) → IsSettled c given → phase_of more ≡ None
+once-due c given octets done waiting more (inl before) now settled = absurd (before.0 settled)
+once-due c given octets done waiting more (inr before) (inl now) settled = ap phase_of (front-nil done more now.1).1
+once-due c given octets done waiting more (inr before) (inr now) settled =
     let g = before.1 in
     let h = now.1 in
-    once c (phase_octets c given) (phase_octets c (given ++ octets)) g.chosen h.chosen g.items h.items more g.choice h.choice (ap (λ l. l ++ more) (sym g.are) ∙ h.are)
+    once c (phase_octets c given) (phase_octets c (given ++ octets)) g.chosen h.chosen g.items waiting h.items done more g.choice h.choice g.are h.are
 
-once-last : (c : Configuration) (given : List ℕ) (done last : List (Handed WindowBlock)) (left : ℕ) → AreHandedDue c given done → AreHanded c given (done ++ last) left
-    → IsSettled c given → phase_of last ≡ None
-once-last c given done last left (inl before) h settled = absurd (before.0 settled)
-once-last c given done last left (inr before) h settled =
+once-last : (c : Configuration) (given : List ℕ) (done : List (Handed WindowBlock)) (waiting : List WindowBlock) (last : List (Handed WindowBlock)) (left : ℕ) → AreWaiting c given done waiting
+    → AreHanded c given (done ++ last) left → IsSettled c given → phase_of last ≡ None
+once-last c given done waiting last left (inl before) h settled = absurd (before.0 settled)
+once-last c given done waiting last left (inr before) h settled =
     let g = before.1 in
-    once c (phase_octets c given) (phase_octets c given) g.chosen h.chosen g.items h.items last g.choice h.choice (ap (λ l. l ++ last) (sym g.are) ∙ h.are)
+    once c (phase_octets c given) (phase_octets c given) g.chosen h.chosen g.items waiting h.items done last g.choice h.choice g.are h.are
 
 -- ---- before the choice there are no bits and no items
 
@@ -244,20 +277,21 @@ first-none-items c bits piece items none are =
 
 -- ---- what is handed over in turn
 
-turn-more : (c : Configuration) (given : List ℕ) (handed more : List (Handed WindowBlock)) (done : List (Handed ItemValue)) (items others : List ItemValue) (phase : Option Chosen)
-    → AreHandedDue c given handed
+turn-more : (c : Configuration) (given : List ℕ) (handed : List (Handed WindowBlock)) (waiting : List WindowBlock) (more : List (Handed WindowBlock)) (done : List (Handed ItemValue)) (items others : List ItemValue) (phase : Option Chosen)
+    → AreWaiting c given handed waiting
     → AreItemsOf c (inner_bits c given (items_of handed)) (due c (inner_bits c given (items_of handed))) items
     → done ≡ in_turn (phase_of handed) items → (IsSettled c given → phase_of more ≡ None) → phase ≡ phase_of more
     → done ++ (in_turn phase [] ++ map Item others) ≡ in_turn (phase_of (handed ++ more)) (items ++ others)
-turn-more c given handed more done items others phase (inl before) are_items are once is =
-    let none = due-none-items c (inner_bits c given (items_of handed)) items (unsettled-bits c given handed before.0 before.1) are_items in
-    let start : done ≡ [] = are ∙ ap (λ (l : List (Handed WindowBlock)). in_turn (phase_of l) items) before.1 ∙ ap (in_turn None) none in
+turn-more c given handed waiting more done items others phase (inl before) are_items are once is =
+    let handed_none = (front-nil handed (map Item waiting) before.1).0 in
+    let none = due-none-items c (inner_bits c given (items_of handed)) items (unsettled-bits c given handed before.0 handed_none) are_items in
+    let start : done ≡ [] = are ∙ ap (λ (l : List (Handed WindowBlock)). in_turn (phase_of l) items) handed_none ∙ ap (in_turn None) none in
     ap (λ l. l ++ (in_turn phase [] ++ map Item others)) start
     ∙ ap (λ (o : Option Chosen). in_turn o [] ++ map Item others) is
     ∙ sym (in_turn-split (phase_of more) others)
-    ∙ ap (λ (l : List (Handed WindowBlock)). in_turn (phase_of (l ++ more)) others) (sym before.1)
+    ∙ ap (λ (l : List (Handed WindowBlock)). in_turn (phase_of (l ++ more)) others) (sym handed_none)
     ∙ ap (λ l. in_turn (phase_of (handed ++ more)) (l ++ others)) (sym none)
-turn-more c given handed more done items others phase (inr before) are_items are once is =
+turn-more c given handed waiting more done items others phase (inr before) are_items are once is =
     ap (λ (o : Option Chosen). done ++ (in_turn o [] ++ map Item others)) is
     ∙ turn-further (phase_of handed) more done items others (once before.0) are
     ∙ ap (λ (o : Option Chosen). in_turn o (items ++ others)) (sym (phase_from-append None handed more))
@@ -302,11 +336,24 @@ record Onward (s : Stages) (now : InnerReceiving) (given octets : List ℕ) (han
   is : inner_bits s.inner.config (given ++ octets) (items_of (handed ++ more)) ≡ inner_bits s.inner.config given (items_of handed) ++ piece
   few : length (inner_bits s.inner.config given (items_of handed) ++ piece) < 2 ^ 63
 
-onward : (s : Stages) (now : InnerReceiving) (octets : List ℕ) (phase : Option Chosen) (piece : List Bool) → Grows s.inner now octets phase piece
+-- there is room for the bits of the blocks that wait, and of so many octets
+abbrev pub IsRoomy : Stages → ℕ → ℕ → Type 0
+IsRoomy s count room = most_spare s.inner.config + 3 * (s.inner.config.keep + s.inner.config.ahead) + 7 + count ≤ room
+
+waiting-fit : (s : Stages) (given : List ℕ) (done : List (Handed ItemValue)) (count room : ℕ) → IsOf s → IsRoomy s count room → (stood : StagesFor s given done)
+    → HasRoom s.inner.config stood.waiting count room
+waiting-fit s given done count room of roomy stood =
+    let b = s.bits.batch in
+    let less : b.config.batch - 1 - length b.kept ≤ b.config.batch - 1 = omega arith in
+    let most : spare_of b ≤ most_spare b.config = mul-le-mul_right (32 + (rules_of b.config).block_bits) less in
+    let same : most_spare b.config ≡ most_spare s.inner.config = ap most_spare of in
+    omega (arith, stood.few, most, same, roomy)
+
+onward : (s : Stages) (now : InnerReceiving) (room : ℕ) (octets : List ℕ) (phase : Option Chosen) (piece : List Bool) → IsOf s → IsRoomy s (length octets) room → Grows s.inner now room octets phase piece
     → (given : List ℕ) (done : List (Handed ItemValue)) → length given + length octets < 2 ^ 60 → (stood : StagesFor s given done) → Onward s now given octets stood.handed phase piece
-onward s now octets phase piece grows given done few stood =
+onward s now room octets phase piece of roomy grows given done few stood =
     let c = s.inner.config in
-    let f = grows given stood.handed few stood.inner stood.are_due in
+    let f = grows given stood.handed stood.waiting few (waiting-fit s given done (length octets) room of roomy stood) stood.inner stood.are_due in
     record {
       more = f.more;
       stands = f.stands;
@@ -318,13 +365,13 @@ onward s now octets phase piece grows given done few stood =
     }
 
 -- all that is due with the octets was handed over
-stages-more : {T : Type 0} (took : T → ItemValue → T → Type 0) (s now : Stages) (middle taker_now : T) (octets : List ℕ) (phase : Option Chosen) (piece : List Bool)
-    → IsOf s → now.inner.config ≡ s.inner.config → Grows s.inner now.inner octets phase piece → (p : Received took s.bits now.bits middle taker_now piece)
+stages-more : {T : Type 0} (took : T → ItemValue → T → Type 0) (s now : Stages) (middle taker_now : T) (room : ℕ) (octets : List ℕ) (phase : Option Chosen) (piece : List Bool)
+    → IsOf s → IsRoomy s (length octets) room → now.inner.config ≡ s.inner.config → Grows s.inner now.inner room octets phase piece → (p : Received took s.bits now.bits middle taker_now piece)
     → (given : List ℕ) (done : List (Handed ItemValue)) → length given + length octets < 2 ^ 60 → StagesFor s given done
     → StagesFor now (given ++ octets) (done ++ (in_turn phase [] ++ map Item p.items))
-stages-more took s now middle taker_now octets phase piece of same grows p given done few stood =
+stages-more took s now middle taker_now room octets phase piece of roomy same grows p given done few stood =
     let c = s.inner.config in
-    let f = onward s now.inner octets phase piece grows given done few stood in
+    let f = onward s now.inner room octets phase piece of roomy grows given done few stood in
     let handed = stood.handed ++ f.more in
     let bits = inner_bits c given (items_of stood.handed) in
     let more = subst (λ (k : Configuration). AreFurther k bits piece p.items) of (p.due bits f.few stood.bits) in
@@ -333,24 +380,61 @@ stages-more took s now middle taker_now octets phase piece of same grows p given
     record {
       handed = handed;
       inner = f.stands;
-      are_due = subst (λ (k : Configuration). AreHandedDue k (given ++ octets) handed) (sym same) f.due;
+      waiting = [];
+      are_due = subst (λ (k : Configuration). AreWaiting k (given ++ octets) handed []) (sym same) (subst (AreHandedDue c (given ++ octets)) (sym (append-nil handed)) f.due);
+      few = omega arith;
       bits = subst (λ (k : Configuration). StandsForBits now.bits (inner_bits k (given ++ octets) (items_of handed))) (sym same) stands;
       items = stood.items ++ p.items;
       are_items = subst (λ (k : Configuration). AreItemsOf k (inner_bits k (given ++ octets) (items_of handed)) (due k (inner_bits k (given ++ octets) (items_of handed))) (stood.items ++ p.items))
           (sym same) items;
-      are = turn-more c given stood.handed f.more done stood.items p.items phase stood.are_due stood.are_items stood.are
-          (once-due c given octets stood.handed f.more stood.are_due f.due) f.is_phase;
+      are = turn-more c given stood.handed stood.waiting f.more done stood.items p.items phase stood.are_due stood.are_items stood.are
+          (once-due c given octets stood.handed stood.waiting f.more stood.are_due f.due) f.is_phase;
     }
 
+-- the octets wait in the first stage
+kept-coded : (rate : Option Rate) (c : Configuration) (given octets : List ℕ) (blocks : List WindowBlock) → is_some rate ≡ true → bits_at rate c (given ++ octets) blocks ≡ bits_at rate c given blocks
+kept-coded None c given octets blocks coded = absurd cc
+kept-coded (Some rate) c given octets blocks coded = refl
+
+stages-wait : (s : Stages) (now : InnerReceiving) (octets : List ℕ) → IsOf s → now.config ≡ s.inner.config → is_some s.inner.config.inner ≡ true → Gathers s.inner now octets (spare_of s.bits.batch)
+    → (given : List ℕ) (done : List (Handed ItemValue)) → length given + length octets < 2 ^ 60 → StagesFor s given done
+    → StagesFor (record { inner = now; bits = s.bits }) (given ++ octets) (done ++ [])
+stages-wait s now octets of same coded gathers given done few stood =
+    let c = s.inner.config in
+    let f = gathers given stood.handed few stood.inner in
+    let is = kept-coded c.inner c given octets (items_of stood.handed) coded in
+    let items = subst (λ (l : List Bool). AreItemsOf c l (due c l) stood.items) (sym is) stood.are_items in
+    record {
+      handed = stood.handed;
+      inner = f.0;
+      waiting = f.1.0;
+      are_due = subst (λ (k : Configuration). AreWaiting k (given ++ octets) stood.handed f.1.0) (sym same) f.1.2;
+      few = f.1.1;
+      bits = subst (λ (k : Configuration). StandsForBits s.bits (inner_bits k (given ++ octets) (items_of stood.handed))) (sym same) (subst (StandsForBits s.bits) (sym is) stood.bits);
+      items = stood.items;
+      are_items = subst (λ (k : Configuration). AreItemsOf k (inner_bits k (given ++ octets) (items_of stood.handed)) (due k (inner_bits k (given ++ octets) (items_of stood.handed))) stood.items)
+          (sym same) items;
+      are = append-nil done ∙ stood.are;
+    }
+
+pub hands-wait : {T : Type 0} (took : T → Handed ItemValue → T → Type 0) (s : Stages) (now : InnerReceiving) (taker : T) (octets : List ℕ) (spare : ℕ)
+    → IsOf s → now.config ≡ s.inner.config → is_some s.inner.config.inner ≡ true → spare ≡ spare_of s.bits.batch → Gathers s.inner now octets spare
+    → Hands took StagesFor s (record { inner = now; bits = s.bits }) taker taker octets
+hands-wait took s now taker octets spare of same coded is gathers = record {
+  more = [];
+  handed = refl;
+  stands = stages-wait s now octets of same coded (subst (Gathers s.inner now octets) is gathers);
+}
+
 -- a part of it was
-stages-front : (s : Stages) (now : InnerReceiving) (octets : List ℕ) (phase : Option Chosen) (piece : List Bool) (tried : List ItemValue)
-    → IsOf s → Grows s.inner now octets phase piece → AreFirstDue s.bits.batch.config (StandsForBits s.bits) piece tried
+stages-front : (s : Stages) (now : InnerReceiving) (room : ℕ) (octets : List ℕ) (phase : Option Chosen) (piece : List Bool) (tried : List ItemValue)
+    → IsOf s → IsRoomy s (length octets) room → Grows s.inner now room octets phase piece → AreFirstDue s.bits.batch.config (StandsForBits s.bits) piece tried
     → (in_turn phase [] ++ map Item tried ≡ [] → ⊥)
     → (given : List ℕ) (done : List (Handed ItemValue)) → length given + length octets < 2 ^ 60 → StagesFor s given done
     → AreReceivedFirst s.inner.config (given ++ octets) (done ++ (in_turn phase [] ++ map Item tried))
-stages-front s now octets phase piece tried of grows first some given done few stood =
+stages-front s now room octets phase piece tried of roomy grows first some given done few stood =
     let c = s.inner.config in
-    let f = onward s now octets phase piece grows given done few stood in
+    let f = onward s now room octets phase piece of roomy grows given done few stood in
     let handed = stood.handed ++ f.more in
     let bits = inner_bits c given (items_of stood.handed) in
     let more = subst (λ (k : Configuration). AreFirstFurther k bits piece tried) of (first bits f.few stood.bits) in
@@ -374,75 +458,129 @@ stages-front s now octets phase piece tried of grows first some given done few s
                 are_first = subst (AreInnerFirst c (skip_of h.chosen) (given ++ octets)) (sym blocks) (first-of-due c (skip_of h.chosen) (given ++ octets) h.items h.are_items);
                 are_items = subst (λ (l : List Bool). AreFirstItemsOf c l (places (rules_of c) l) (stood.items ++ tried)) (sym f.is) (first-of-more c bits piece stood.items tried stood.are_items more);
               };
-              are = turn-more c given stood.handed f.more done stood.items tried phase stood.are_due stood.are_items stood.are
-                  (once-due c given octets stood.handed f.more stood.are_due f.due) f.is_phase
+              are = turn-more c given stood.handed stood.waiting f.more done stood.items tried phase stood.are_due stood.are_items stood.are
+                  (once-due c given octets stood.handed stood.waiting f.more stood.are_due f.due) f.is_phase
                   ∙ ap (λ (o : Option Chosen). in_turn o (stood.items ++ tried)) chosen;
             },
           )
           )
     ]
 
-pub hands-due : {T : Type 0} (took_phase : T → ℕ → ℕ → T → Type 0) (took : T → ItemValue → T → Type 0) (s now : Stages) (taker middle taker_now : T) (octets : List ℕ) (phase : Option Chosen) (piece : List Bool)
-    → IsOf s → now.inner.config ≡ s.inner.config → Grows s.inner now.inner octets phase piece → HandedOver (on_handed took_phase took) taker (in_turn phase []) middle
+pub hands-due : {T : Type 0} (took_phase : T → ℕ → ℕ → T → Type 0) (took : T → ItemValue → T → Type 0) (s now : Stages) (taker middle taker_now : T) (room : ℕ) (octets : List ℕ) (phase : Option Chosen) (piece : List Bool)
+    → IsOf s → IsRoomy s (length octets) room → now.inner.config ≡ s.inner.config → Grows s.inner now.inner room octets phase piece → HandedOver (on_handed took_phase took) taker (in_turn phase []) middle
     → Received took s.bits now.bits middle taker_now piece → Hands (on_handed took_phase took) StagesFor s now taker taker_now octets
-hands-due took_phase took s now taker middle taker_now octets phase piece of same grows first p = record {
+hands-due took_phase took s now taker middle taker_now room octets phase piece of roomy same grows first p = record {
   more = in_turn phase [] ++ map Item p.items;
   handed = HandedOver-append (on_handed took_phase took) taker middle taker_now (in_turn phase []) (map Item p.items) first
       (HandedOver-items took_phase took middle taker_now p.items p.handed);
-  stands = stages-more took s now middle taker_now octets phase piece of same grows p;
+  stands = stages-more took s now middle taker_now room octets phase piece of roomy same grows p;
 }
 
 -- the taker failed at the phase
-pub front-phase : {T : Type 0} (took_phase broke_phase : T → ℕ → ℕ → T → Type 0) (took broke : T → ItemValue → T → Type 0) (s : Stages) (now : InnerReceiving) (taker taker_now : T) (octets : List ℕ)
-    (phase : Option Chosen) (piece : List Bool) → IsOf s → Grows s.inner now octets phase piece
+pub front-phase : {T : Type 0} (took_phase broke_phase : T → ℕ → ℕ → T → Type 0) (took broke : T → ItemValue → T → Type 0) (s : Stages) (now : InnerReceiving) (taker taker_now : T) (room : ℕ) (octets : List ℕ)
+    (phase : Option Chosen) (piece : List Bool) → IsOf s → IsRoomy s (length octets) room → Grows s.inner now room octets phase piece
     → HandedPart (on_handed took_phase took) (on_handed broke_phase broke) taker (in_turn phase []) taker_now
     → HandsFront (on_handed took_phase took) (on_handed broke_phase broke) StagesFor (AreReceivedFirst s.inner.config) s taker taker_now octets
-front-phase took_phase broke_phase took broke s now taker taker_now octets phase piece of grows part =
+front-phase took_phase broke_phase took broke s now taker taker_now room octets phase piece of roomy grows part =
     let all = append-nil (in_turn {I = ItemValue} phase []) in
     record {
       tried = in_turn phase [];
       handed = part;
       first = λ given done few stood. subst (λ (l : List (Handed ItemValue)). AreReceivedFirst s.inner.config (given ++ octets) (done ++ l)) all
-          (stages-front s now octets phase piece [] of grows (λ bits _ _. tt)
+          (stages-front s now room octets phase piece [] of roomy grows (λ bits _ _. tt)
           (λ none. part-some (on_handed took_phase took) (on_handed broke_phase broke) taker taker_now (in_turn phase []) part (sym all ∙ none)) given done few stood);
     }
 
 -- it failed at an item behind it
 pub front-due : {T : Type 0} (took_phase broke_phase : T → ℕ → ℕ → T → Type 0) (took broke : T → ItemValue → T → Type 0) (s : Stages) (now : InnerReceiving) (bits_now : BitReceiving)
-    (taker middle taker_now : T) (octets : List ℕ) (phase : Option Chosen) (piece : List Bool) → IsOf s → Grows s.inner now octets phase piece
+    (taker middle taker_now : T) (room : ℕ) (octets : List ℕ) (phase : Option Chosen) (piece : List Bool) → IsOf s → IsRoomy s (length octets) room → Grows s.inner now room octets phase piece
     → HandedOver (on_handed took_phase took) taker (in_turn phase []) middle → ReceivedPart took broke s.bits bits_now middle taker_now piece
     → HandsFront (on_handed took_phase took) (on_handed broke_phase broke) StagesFor (AreReceivedFirst s.inner.config) s taker taker_now octets
-front-due took_phase broke_phase took broke s now bits_now taker middle taker_now octets phase piece of grows first p =
+front-due took_phase broke_phase took broke s now bits_now taker middle taker_now room octets phase piece of roomy grows first p =
     let part = HandedPart-after (on_handed took_phase took) (on_handed broke_phase broke) taker middle taker_now (in_turn phase []) (map Item p.tried) first
     (HandedPart-items took_phase broke_phase took broke middle taker_now p.tried p.handed) in
     record {
       tried = in_turn phase [] ++ map Item p.tried;
       handed = part;
-      first = stages-front s now octets phase piece p.tried of grows p.first
+      first = stages-front s now room octets phase piece p.tried of roomy grows p.first
           (part-some (on_handed took_phase took) (on_handed broke_phase broke) taker taker_now (in_turn phase [] ++ map Item p.tried) part);
     }
 
+-- further bits that fill no batch make no item due
+none-further : (c : Configuration) (bits more : List Bool) → length more ≤ 0 → due c (bits ++ more) ≡ due c bits
+none-further c bits [] none = ap (due c) (append-nil bits)
+none-further c bits (bit ∷ more) none = absurd (omega (arith, none))
+
+spare-due : (s : BitReceiving) (bits more : List Bool) → StandsForBits s bits → length more ≤ spare_of s.batch → due s.batch.config (bits ++ more) ≡ due s.batch.config bits
+spare-due s bits more stood few =
+    let c = s.batch.config in
+    let rules = rules_of c in
+    let left : ℕ = c.batch - 1 - length s.batch.kept in
+    elim (cases_lt (length s.batch.kept) c.batch) as (λ _. due c (bits ++ more) ≡ due c bits) [
+      | inl some ↦ (
+          let all = places rules bits in
+          let count = due_count c bits in
+          let longer = places rules (bits ++ more) in
+          let goes_on = places-goes_on rules bits more in
+          let waiting : length s.batch.kept ≡ length all - count = ap length stood.waiting ∙ length-map (drop count all) (kept_at c bits) ∙ length-drop count all in
+          let most : length longer ≡ length all + length (drop (length all) longer) = ap length goes_on ∙ length-append all (drop (length all) longer) in
+          let same : due_count c (bits ++ more) ≡ count = not_full c.batch (length all) (length longer) (omega (arith, stood.within, most))
+          (omega (arith, places-few rules bits more left few, waiting, stood.within, some)) in
+          ap (λ n. take n longer) same ∙ ap (take count) goes_on ∙ take-append-le count all (drop (length all) longer) stood.within
+          )
+      | inr full ↦ (
+          let none : left ≡ 0 = omega (arith, full) in
+          none-further c bits more (omega (arith, few, ap (λ n. n * (32 + rules.block_bits)) none))
+          )
+    ]
+
+-- the items that are due with the bits of blocks that wait too
+waiting-items : (s : BitReceiving) (c : Configuration) (bits more : List Bool) (items : List ItemValue) → s.batch.config ≡ c → StandsForBits s bits
+    → length more ≤ spare_of s.batch → AreItemsOf c bits (due c bits) items → AreItemsOf c (bits ++ more) (due c (bits ++ more)) items
+waiting-items s c bits more items of stood few are =
+    let same : due c (bits ++ more) ≡ due c bits = subst (λ (k : Configuration). due k (bits ++ more) ≡ due k bits) of (spare-due s bits more stood few) in
+    let nothing : AreFurther c bits more [] =
+    subst (λ (fs : List Found). AreItemsOf c (bits ++ more) fs []) (sym (ap (beyond (due c bits)) same ∙ drop-length (due c bits))) tt in
+    subst (AreItemsOf c (bits ++ more) (due c (bits ++ more))) (append-nil items) (due-further c bits more items [] are nothing)
+
+-- the bits of blocks that wait too
+with-waiting : (rate : Option Rate) (c : Configuration) (given : List ℕ) (blocks waiting : List WindowBlock)
+    → (more : List Bool) × (bits_at rate c given (blocks ++ waiting) ≡ bits_at rate c given blocks ++ more) × (length more ≤ length (kept_bits waiting))
+with-waiting None c given blocks waiting = ([], sym (append-nil (drop c.skip (bits_of given))), omega arith)
+with-waiting (Some rate) c given blocks waiting = (all_bits waiting, all_bits-append blocks waiting, omega (arith, length-map (kept_bits waiting) (λ bit. bit == 1)))
+
 -- what both stages have handed over is due
-pub received-due : (s : Stages) (given : List ℕ) (done : List (Handed ItemValue)) → StagesFor s given done → AreReceivedDue s.inner.config given done
-received-due s given done stood =
+pub received-due : (s : Stages) (given : List ℕ) (done : List (Handed ItemValue)) → IsOf s → StagesFor s given done
+    → AreReceivedDue s.inner.config given done
+received-due s given done of stood =
     let c = s.inner.config in
     let handed = stood.handed in
+    let waiting = stood.waiting in
+    let bits = inner_bits c given (items_of handed) in
     elim stood.are_due as (λ _. AreReceivedDue c given done) [
       | inl w ↦ (
-          let none = due-none-items c (inner_bits c given (items_of handed)) stood.items (unsettled-bits c given handed w.0 w.1) stood.are_items in
-          inl (w.0, stood.are ∙ ap (λ (l : List (Handed WindowBlock)). in_turn (phase_of l) stood.items) w.1 ∙ ap (in_turn None) none)
+          let handed_none = (front-nil handed (map Item waiting) w.1).0 in
+          let none = due-none-items c bits stood.items (unsettled-bits c given handed w.0 handed_none) stood.are_items in
+          inl (w.0, stood.are ∙ ap (λ (l : List (Handed WindowBlock)). in_turn (phase_of l) stood.items) handed_none ∙ ap (in_turn None) none)
           )
       | inr g ↦ (
           let h = g.1 in
-          let blocks = turn-items h.chosen h.items handed h.are in
-          let chosen : phase_of handed ≡ h.chosen = ap phase_of h.are ∙ phase_of-in_turn h.chosen h.items in
+          let blocks : items_of handed ++ waiting ≡ h.items = ap (λ (l : List WindowBlock). items_of handed ++ l) (sym (items_of-items waiting)) ∙ sym (items_of-append handed (map Item waiting))
+          ∙ turn-items h.chosen h.items (handed ++ map Item waiting) h.are in
+          let chosen : phase_of handed ≡ h.chosen = sym (phase_from-append None handed (map Item waiting) ∙ phase_from-items (phase_of handed) waiting) ∙ ap phase_of h.are ∙ phase_of-in_turn h.chosen h.items in
+          let more = with-waiting c.inner c given (items_of handed) waiting in
+          let items = waiting-items s.bits c bits more.0 stood.items of stood.bits (omega (arith, more.2, stood.few)) stood.are_items in
           inr (
             g.0,
             record {
               chosen = h.chosen;
               choice = h.choice;
               items = stood.items;
-              are_items = record { blocks = items_of handed; are_due = subst (AreInnerDue c (skip_of h.chosen) given) (sym blocks) h.are_items; are_items = stood.are_items };
+              are_items = record {
+                blocks = items_of handed ++ waiting;
+                are_due = subst (AreInnerDue c (skip_of h.chosen) given) (sym blocks) h.are_items;
+                are_items = subst (λ (l : List Bool). AreItemsOf c l (due c l) stood.items) (sym more.1) items;
+              };
               are = stood.are ∙ ap (λ (o : Option Chosen). in_turn o stood.items) chosen;
             },
           )
@@ -482,15 +620,15 @@ first-stays stays closed c octets more handed h =
     )
 
 -- the phase that is chosen with these octets too
-pub first-chosen : {T : Type 0} (took broke : T → Handed ItemValue → T → Type 0) (s : Stages) (now : InnerReceiving) (taker taker_now : T) (octets : List ℕ)
-    (phase : Option Chosen) (piece : List Bool) → now.config ≡ s.inner.config → Grows s.inner now octets phase piece
+pub first-chosen : {T : Type 0} (took broke : T → Handed ItemValue → T → Type 0) (s : Stages) (now : InnerReceiving) (taker taker_now : T) (room : ℕ) (octets : List ℕ)
+    (phase : Option Chosen) (piece : List Bool) → IsOf s → IsRoomy s (length octets) room → now.config ≡ s.inner.config → Grows s.inner now room octets phase piece
     → HandsFront took broke StagesFor (AreReceivedFirst s.inner.config) s taker taker_now octets
     → HandsFront took broke StagesFor (FirstWith s.inner.config now.phased.chosen) s taker taker_now octets
-first-chosen took broke s now taker taker_now octets phase piece same grows p = record {
+first-chosen took broke s now taker taker_now room octets phase piece of roomy same grows p = record {
   tried = p.tried;
   handed = p.handed;
   first = λ given done few stood.
-      let f = grows given stood.handed few stood.inner stood.are_due in (
+      let f = onward s now room octets phase piece of roomy grows given done few stood in (
         p.first given done few stood,
         subst (λ (k : Configuration). IsChosenSoFar k (given ++ octets) now.phased.chosen) same (stands-so-far now (given ++ octets) (stood.handed ++ f.more) f.stands),
       );
@@ -520,11 +658,11 @@ record Ended (s : Stages) (given : List ℕ) (done : List (Handed ItemValue)) (s
   counted : count ≡ length bits
   turn : (others : List ItemValue) → done ++ (in_turn phase [] ++ map Item others) ≡ in_turn chosen (stood.items ++ others)
 
-ended : (s : Stages) (given : List ℕ) (done : List (Handed ItemValue)) (stood : StagesFor s given done) (phase : Option Chosen) (piece : List Bool) (count : ℕ) → Ends s.inner phase piece count
+ended : (s : Stages) (given : List ℕ) (done : List (Handed ItemValue)) (stood : StagesFor s given done) (room : ℕ) (phase : Option Chosen) (piece : List Bool) (count : ℕ) → IsOf s → IsRoomy s 0 room → Ends s.inner room phase piece count
     → Ended s given done stood phase piece count
-ended s given done stood phase piece count ends =
+ended s given done stood room phase piece count of roomy ends =
     let c = s.inner.config in
-    let e = ends given stood.handed stood.inner stood.are_due in
+    let e = ends given stood.handed stood.waiting (waiting-fit s given done 0 room of roomy stood) stood.inner stood.are_due in
     let h = e.are_handed in
     let handed = stood.handed ++ e.last in
     let blocks = turn-items h.chosen h.items handed h.are in
@@ -538,17 +676,17 @@ ended s given done stood phase piece count ends =
       is = e.bits;
       few = omega (arith, ap length e.bits, whole-few c (skip_of h.chosen) given (items_of handed) e.left here, stood.inner.few);
       counted = e.counted;
-      turn = λ others. turn-more c given stood.handed e.last done stood.items others phase stood.are_due stood.are_items stood.are
-          (once-last c given stood.handed e.last e.left stood.are_due h) e.is_phase ∙ ap (λ (o : Option Chosen). in_turn o (stood.items ++ others)) chosen;
+      turn = λ others. turn-more c given stood.handed stood.waiting e.last done stood.items others phase stood.are_due stood.are_items stood.are
+          (once-last c given stood.handed stood.waiting e.last e.left stood.are_due h) e.is_phase ∙ ap (λ (o : Option Chosen). in_turn o (stood.items ++ others)) chosen;
     }
 
-pub ends : {T : Type 0} (took : T → ItemValue → T → Type 0) (s : Stages) (bits_now : BitReceiving) (taker middle now : T) (phase : Option Chosen) (piece : List Bool) (count : ℕ)
-    → IsOf s → Ends s.inner phase piece count → (p : Received took s.bits bits_now taker middle piece) (q : ReceivedLast took bits_now middle now)
+pub ends : {T : Type 0} (took : T → ItemValue → T → Type 0) (s : Stages) (bits_now : BitReceiving) (taker middle now : T) (room : ℕ) (phase : Option Chosen) (piece : List Bool) (count : ℕ)
+    → IsOf s → IsRoomy s 0 room → Ends s.inner room phase piece count → (p : Received took s.bits bits_now taker middle piece) (q : ReceivedLast took bits_now middle now)
     → (given : List ℕ) (done : List (Handed ItemValue)) → StagesFor s given done
     → AreReceived s.inner.config given (done ++ (in_turn phase [] ++ map Item (p.items ++ q.items))) count
-ends took s bits_now taker middle now phase piece count of ended_with p q given done stood =
+ends took s bits_now taker middle now room phase piece count of roomy ended_with p q given done stood =
     let c = s.inner.config in
-    let e = ended s given done stood phase piece count ended_with in
+    let e = ended s given done stood room phase piece count of roomy ended_with in
     let bits = inner_bits c given (items_of stood.handed) in
     let more = subst (λ (k : Configuration). AreFurther k bits piece p.items) of (p.due bits e.few stood.bits) in
     let due_items = due-further c bits piece stood.items p.items stood.are_items more in
@@ -590,35 +728,35 @@ ends-first s phase piece count given done stood e tried first =
     }
 
 -- the taker failed at the phase
-pub ends-phase : (s : Stages) (phase : Option Chosen) (piece : List Bool) (count : ℕ) → IsOf s → Ends s.inner phase piece count
+pub ends-phase : (s : Stages) (room : ℕ) (phase : Option Chosen) (piece : List Bool) (count : ℕ) → IsOf s → IsRoomy s 0 room → Ends s.inner room phase piece count
     → (given : List ℕ) (done : List (Handed ItemValue)) → StagesFor s given done → AreReceivedFront s.inner.config given (done ++ in_turn phase [])
-ends-phase s phase piece count of ended_with given done stood =
+ends-phase s room phase piece count of roomy ended_with given done stood =
     let c = s.inner.config in
-    let e = ended s given done stood phase piece count ended_with in
+    let e = ended s given done stood room phase piece count of roomy ended_with in
     let bits = inner_bits c given (items_of stood.handed) in
     subst (λ (l : List (Handed ItemValue)). AreReceivedFront c given (done ++ l)) (append-nil (in_turn phase []))
     (ends-first s phase piece count given done stood e [] (first-of-more c bits piece stood.items [] stood.are_items tt))
 
 -- it failed at one of the items that are due with the last bits
-pub ends-part : {T : Type 0} (took broke : T → ItemValue → T → Type 0) (s : Stages) (bits_now : BitReceiving) (taker now : T) (phase : Option Chosen) (piece : List Bool) (count : ℕ)
-    → IsOf s → Ends s.inner phase piece count → (p : ReceivedPart took broke s.bits bits_now taker now piece)
+pub ends-part : {T : Type 0} (took broke : T → ItemValue → T → Type 0) (s : Stages) (bits_now : BitReceiving) (taker now : T) (room : ℕ) (phase : Option Chosen) (piece : List Bool) (count : ℕ)
+    → IsOf s → IsRoomy s 0 room → Ends s.inner room phase piece count → (p : ReceivedPart took broke s.bits bits_now taker now piece)
     → (given : List ℕ) (done : List (Handed ItemValue)) → StagesFor s given done
     → AreReceivedFront s.inner.config given (done ++ (in_turn phase [] ++ map Item p.tried))
-ends-part took broke s bits_now taker now phase piece count of ended_with p given done stood =
+ends-part took broke s bits_now taker now room phase piece count of roomy ended_with p given done stood =
     let c = s.inner.config in
-    let e = ended s given done stood phase piece count ended_with in
+    let e = ended s given done stood room phase piece count of roomy ended_with in
     let bits = inner_bits c given (items_of stood.handed) in
     let more = subst (λ (k : Configuration). AreFirstFurther k bits piece p.tried) of (p.first bits e.few stood.bits) in
     ends-first s phase piece count given done stood e p.tried (first-of-more c bits piece stood.items p.tried stood.are_items more)
 
 -- it failed at one of the last items
-pub ends-front : {T : Type 0} (took broke : T → ItemValue → T → Type 0) (s : Stages) (bits_now : BitReceiving) (taker middle now : T) (phase : Option Chosen) (piece : List Bool) (count : ℕ)
-    → IsOf s → Ends s.inner phase piece count → (p : Received took s.bits bits_now taker middle piece) (q : ReceivedLastPart took broke bits_now middle now)
+pub ends-front : {T : Type 0} (took broke : T → ItemValue → T → Type 0) (s : Stages) (bits_now : BitReceiving) (taker middle now : T) (room : ℕ) (phase : Option Chosen) (piece : List Bool) (count : ℕ)
+    → IsOf s → IsRoomy s 0 room → Ends s.inner room phase piece count → (p : Received took s.bits bits_now taker middle piece) (q : ReceivedLastPart took broke bits_now middle now)
     → (given : List ℕ) (done : List (Handed ItemValue)) → StagesFor s given done
     → AreReceivedFront s.inner.config given (done ++ (in_turn phase [] ++ map Item (p.items ++ q.tried)))
-ends-front took broke s bits_now taker middle now phase piece count of ended_with p q given done stood =
+ends-front took broke s bits_now taker middle now room phase piece count of roomy ended_with p q given done stood =
     let c = s.inner.config in
-    let e = ended s given done stood phase piece count ended_with in
+    let e = ended s given done stood room phase piece count of roomy ended_with in
     let bits = inner_bits c given (items_of stood.handed) in
     let more = subst (λ (k : Configuration). AreFurther k bits piece p.items) of (p.due bits e.few stood.bits) in
     let due_items = due-further c bits piece stood.items p.items stood.are_items more in
@@ -642,7 +780,9 @@ stands-fresh s some inner bits =
     record {
       handed = [];
       inner = inner;
+      waiting = [];
       are_due = handed-due-none c some;
+      few = omega arith;
       bits = subst (StandsForBits s.bits) (sym none) bits;
       items = [];
       are_items = subst (λ (l : List Bool). AreItemsOf c l (due c l) []) (sym none)

@@ -14,7 +14,7 @@ phase_from-append before [] ys = refl
 phase_from-append before (Phase skip cost ∷ xs) ys = phase_from-append (Some (record { skip = skip; cost = cost })) xs ys
 phase_from-append before (Item item ∷ xs) ys = phase_from-append before xs ys
 
-phase_from-items : {I : Type 0} (before : Option Chosen) (items : List I) → phase_from before (map Item items) ≡ before
+pub phase_from-items : {I : Type 0} (before : Option Chosen) (items : List I) → phase_from before (map Item items) ≡ before
 phase_from-items before [] = refl
 phase_from-items before (item ∷ items) = phase_from-items before items
 
@@ -22,14 +22,17 @@ pub phase_of-in_turn : {I : Type 0} (chosen : Option Chosen) (items : List I) �
 phase_of-in_turn None items = phase_from-items None items
 phase_of-in_turn (Some chosen) items = phase_from-items (Some chosen) items
 
--- behind items alone it is the phase of the rest
-pub phase_of-behind : {I : Type 0} (items : List I) (more : List (Handed I)) → phase_of (map Item items ++ more) ≡ phase_of more
-phase_of-behind items more = phase_from-append None (map Item items) more ∙ ap (λ (o : Option Chosen). phase_from o more) (phase_from-items None items)
-
 phase_from-some : {I : Type 0} (before : Chosen) (handed : List (Handed I)) → phase_from (Some before) handed ≡ None → ⊥
 phase_from-some before [] none = absurd cc
 phase_from-some before (Phase skip cost ∷ handed) none = phase_from-some (record { skip = skip; cost = cost }) handed none
 phase_from-some before (Item item ∷ handed) none = phase_from-some before handed none
+
+-- where none is handed over in all, none is at the end
+pub none-behind : {I : Type 0} (before : Option Chosen) (handed more : List (Handed I)) → phase_from before (handed ++ more) ≡ None → phase_of more ≡ None
+none-behind None [] more none = none
+none-behind (Some chosen) [] more none = absurd (phase_from-some chosen more none)
+none-behind before (Phase skip cost ∷ handed) more none = none-behind (Some (record { skip = skip; cost = cost })) handed more none
+none-behind before (Item item ∷ handed) more none = none-behind before handed more none
 
 -- where none is handed over, it stays
 phase_from-none : {I : Type 0} (before : Option Chosen) (handed : List (Handed I)) → phase_of handed ≡ None → phase_from before handed ≡ before

@@ -2,11 +2,12 @@
 -- it stands.
 use Rattle.std.specs.Prelude.{◌≡◌, false, ◌==◌, ◌+◌, ◌-◌, ◌*◌, ◌^◌, ◌<◌, ◌≤◌, ℕ, Bool, List, ◌++◌, length, take, drop, map, Option, Some, None}
 use Rattle.tm_base.specs.Bits.{bits_of}
-use Rattle.tm_base.specs.Handed.{Handed, items_of}
+use Rattle.tm_base.specs.Handed.{Handed, Item, items_of}
 use Rattle.tm_base.specs.Takers.{HandedOver, HandedPart}
 use Rattle.tm_config.specs.Configuration.{Configuration}
 use Rattle.tm_sync.specs.Searching.{Searching}
 use Rattle.tm_viterbi.specs.WindowBlock.{WindowBlock}
+use Rattle.tm_viterbi.specs.Clean.{kept_bits}
 use Rattle.tm_conv.specs.declared.rates.Rate.{Rate}
 use Rattle.tm_phase.specs.declared.choosing.Chosen.{Chosen}
 use Rattle.tm_inner.specs.Inner.{inner_bits}
@@ -16,7 +17,7 @@ use Rattle.tm_inner.specs.Receiving.{InnerReceiving, StandsFor as InnerStandsFor
 use Rattle.tm_channel.specs.Items.{ItemValue, AreItemsOf}
 use Rattle.tm_channel.specs.Due.{due}
 use Rattle.tm_channel.specs.Handing.{phase_of, AreReceived, AreReceivedDue, AreReceivedFirst, AreReceivedFront}
-use Rattle.tm_channel.specs.Receiving.{Batching, Stands, GoesOn, AreDue, AreFirstDue, AreLast, AreFirstLast}
+use Rattle.tm_channel.specs.Receiving.{Batching, Stands, spare_of, GoesOn, AreDue, AreFirstDue, AreLast, AreFirstLast}
 
 -- what contracts see of a receiver of bits
 pub record BitReceiving : Type 0 where
@@ -33,13 +34,16 @@ pub record Stages : Type 0 where
   pub inner : InnerReceiving
   pub bits : BitReceiving
 
--- Stages that were given these octets and no others, fewer than 2^60, and have handed over this:
--- the first stage has handed over what is due of the octets, the bits of its blocks were searched,
--- and the phase, where it is chosen, and the items that are due went to the taker.
+-- Stages that were given these octets and no others, fewer than 2^60, and have handed over this: of
+-- the blocks that are due some may wait in the first stage, whose bits fill no batch; the bits of
+-- the others were searched, and the phase, where it is chosen, and the items that are due went to
+-- the taker.
 pub record StagesFor (s : Stages) (given : List ℕ) (done : List (Handed ItemValue)) : Type 0 where
   pub handed : List (Handed WindowBlock)
   pub inner : InnerStandsFor s.inner given handed
-  pub are_due : AreHandedDue s.inner.config given handed
+  pub waiting : List WindowBlock
+  pub are_due : AreHandedDue s.inner.config given (handed ++ map Item waiting)
+  pub few : length (kept_bits waiting) ≤ spare_of s.bits.batch
   pub bits : StandsForBits s.bits (inner_bits s.inner.config given (items_of handed))
   pub items : List ItemValue
   pub are_items : AreItemsOf s.inner.config (inner_bits s.inner.config given (items_of handed))
@@ -186,12 +190,36 @@ pub record Further (inner inner_now : InnerReceiving) (given octets : List ℕ) 
   pub bits : inner_bits inner.config (given ++ octets) (items_of (done ++ more))
       ≡ inner_bits inner.config given (items_of done) ++ piece
 
--- whatever octets the first stage was given, fewer than 2^60 with these, it goes on to these, to
--- this phase and this piece of bits
-abbrev pub Grows : InnerReceiving → InnerReceiving → List ℕ → Option Chosen → List Bool → Type 0
-Grows inner inner_now octets phase piece =
+-- blocks that are due and were not handed over yet
+abbrev pub AreWaiting : Configuration → List ℕ → List (Handed WindowBlock) → List WindowBlock
+    → Type 0
+AreWaiting c given done waiting = AreHandedDue c given (done ++ map Item waiting)
+
+-- there is room for the bits that these blocks keep, and those of the octets that wait for the
+-- phase, of a window and of so many octets
+abbrev pub HasRoom : Configuration → List WindowBlock → ℕ → ℕ → Type 0
+HasRoom c waiting count room =
+    length (kept_bits waiting) + 3 * (c.keep + c.ahead) + 7 + count ≤ room
+
+-- whatever octets the first stage was given, fewer than 2^60 with these, it took these too, and
+-- the blocks that wait now keep at most so many bits
+abbrev pub Gathers : InnerReceiving → InnerReceiving → List ℕ → ℕ → Type 0
+Gathers inner inner_now octets most =
     (given : List ℕ) (done : List (Handed WindowBlock)) → length given + length octets < 2 ^ 60
-    → InnerStandsFor inner given done → AreHandedDue inner.config given done
+    → InnerStandsFor inner given done
+    → InnerStandsFor inner_now (given ++ octets) done
+    × ((waiting : List WindowBlock) × (length (kept_bits waiting) ≤ most)
+    × AreWaiting inner.config (given ++ octets) done waiting)
+
+-- whatever octets the first stage was given, fewer than 2^60 with these, and whichever blocks
+-- waited, it goes on to these, to this phase and this piece of bits, for all of which there is
+-- this room
+abbrev pub Grows : InnerReceiving → InnerReceiving → ℕ → List ℕ → Option Chosen → List Bool
+    → Type 0
+Grows inner inner_now room octets phase piece =
+    (given : List ℕ) (done : List (Handed WindowBlock)) (waiting : List WindowBlock)
+    → length given + length octets < 2 ^ 60 → HasRoom inner.config waiting (length octets) room
+    → InnerStandsFor inner given done → AreWaiting inner.config given done waiting
     → Further inner inner_now given octets done phase piece
 
 -- the end of the octets adds this phase and these bits, and so many bits were received
@@ -204,9 +232,11 @@ pub record EndsWith (inner : InnerReceiving) (given : List ℕ) (done : List (Ha
       ≡ inner_bits inner.config given (items_of done) ++ piece
   pub counted : count ≡ length (inner_bits inner.config given (items_of (done ++ last)))
 
--- whatever octets the first stage was given, it ends with this phase and these bits, and so many
--- bits were received
-abbrev pub Ends : InnerReceiving → Option Chosen → List Bool → ℕ → Type 0
-Ends inner phase piece count = (given : List ℕ) (done : List (Handed WindowBlock))
-    → InnerStandsFor inner given done → AreHandedDue inner.config given done
+-- whatever octets the first stage was given, and whichever blocks waited, it ends with this phase
+-- and these bits, for which there is this room, and so many bits were received
+abbrev pub Ends : InnerReceiving → ℕ → Option Chosen → List Bool → ℕ → Type 0
+Ends inner room phase piece count =
+    (given : List ℕ) (done : List (Handed WindowBlock)) (waiting : List WindowBlock)
+    → HasRoom inner.config waiting 0 room
+    → InnerStandsFor inner given done → AreWaiting inner.config given done waiting
     → EndsWith inner given done phase piece count

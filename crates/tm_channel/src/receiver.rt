@@ -17,7 +17,7 @@ use crate::packed::take_bits;
 use crate::store::Codeblocks;
 use crate::stream::BitStream;
 use crate::taking::{PIECE, end, hand_phase, take};
-use crate::workers::{Called, InOrder, Workers};
+use crate::workers::{InOrder, SideBySide, Workers};
 use std::alloc::Global;
 use std::marker::Model;
 use std::thread::Threads;
@@ -51,7 +51,8 @@ pub enum RecvError {
 pub struct Receiver {
     config: Config,
     inner: InnerReceiver,
-    // Room for the bits of a window of the inner code, of the octets that wait for the phase and of a piece of octets.
+    // Room for the bits that fill no batch, and for those of a window of the inner code, of the octets that wait for
+    // the phase and of a piece of octets.
     kept: KeptBits,
     stream: BitStream,
     has_stopped: bool,
@@ -59,6 +60,7 @@ pub struct Receiver {
 
 impl Model for Receiver {
     ghost use Rattle.std.specs.Prelude.{◌≡◌, ◌≤◌, ◌+◌, ◌*◌, false};
+    ghost use Rattle.tm_channel.specs.Receiving.{most_spare};
     ghost use Rattle.tm_channel.specs.OctetReceiving.{OctetReceiving};
 
     ghost Value = { OctetReceiving };
@@ -70,7 +72,7 @@ impl Model for Receiver {
     } };
 
     ghost invariant = { λ r. (r.inner.config ≡ r.config) × (r.stream.batch.config ≡ r.config) × (r.has_stopped ≡ false → r.inner.has_stopped ≡ false)
-        × (3 * (r.inner.config.keep + r.inner.config.ahead) + 7 + 4096 ≤ r.kept.size) };
+        × (most_spare r.inner.config + 3 * (r.inner.config.keep + r.inner.config.ahead) + 7 + 4096 ≤ r.kept.size) };
 }
 
 impl Receiver {
@@ -80,14 +82,15 @@ impl Receiver {
         ensures fresh { IfOk result (λ r. r.has_stopped ≡ false) }
         ensures stands { IfOk result (λ r. StandsFor r [] []) }
     {
-        let Ok(inner) = InnerReceiver::open(alloc, &config) else {
-            return Err(NoMemory);
-        };
-        let window = (config.keep() + config.ahead()) as usize;
-        let Ok(kept) = KeptBits::open(alloc, 3 * window + 7 + PIECE) else {
+        let Ok(inner) = InnerReceiver::open_for(alloc, &config, config.workers() as u8) else {
             return Err(NoMemory);
         };
         let Ok(batch) = Codeblocks::open(alloc, config) else {
+            return Err(NoMemory);
+        };
+        let window = (config.keep() + config.ahead()) as usize;
+        let room = batch.spare() as usize + 3 * window + 7 + PIECE;
+        let Ok(kept) = KeptBits::open(alloc, room) else {
             return Err(NoMemory);
         };
         let search = Search::new(
@@ -142,7 +145,7 @@ impl Receiver {
                 × ((0 < workers) × (workers ≤ 64)) }
             ensures { EachBecomes (Decodes params.now repair) words.old words.new }
         { decode_batch(rt, alloc, params, repair, words, workers, gate) };
-        self.feed_by(&Called { decode }, octets, taker)
+        self.feed_by(&SideBySide { rt, decode }, octets, taker)
     }
 
     /// Does what `feed` does with no thread but the caller's: words are decoded one after another, and the workers of
@@ -242,7 +245,7 @@ impl Receiver {
                 × ((0 < workers) × (workers ≤ 64)) }
             ensures { EachBecomes (Decodes params.now repair) words.old words.new }
         { decode_batch(rt, alloc, params, repair, words, workers, gate) };
-        self.finish_by(&Called { decode }, taker)
+        self.finish_by(&SideBySide { rt, decode }, taker)
     }
 
     /// Does what `finish` does with no thread but the caller's, whichever calls were before.
@@ -289,7 +292,7 @@ impl Receiver {
             return Err(RecvError::Stopped);
         }
         self.has_stopped = true;
-        let count = end(&mut self.inner, &mut self.kept);
+        let count = end(by, &mut self.inner, &mut self.kept);
         match hand_phase(&self.kept, taker) {
             Ok(()) => {}
             Err(Failed) => return Err(RecvError::Taker),

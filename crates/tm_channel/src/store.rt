@@ -2,7 +2,7 @@
 ghost use Rattle.std.specs.Prelude.{◌≡◌, ◌<◌, ◌≤◌, ◌+◌, ◌*◌, [], ◌∷◌, ◌++◌, IfOk, length};
 ghost use Rattle.tm_base.specs.Bits.{bits_of, low_bits};
 ghost use Rattle.tm_config.specs.Configuration.{codeblock_length};
-ghost use Rattle.tm_channel.specs.Receiving.{AreItemsFor, IsItemAt, kept_of};
+ghost use Rattle.tm_channel.specs.Receiving.{AreItemsFor, IsItemAt, kept_of, spare_of};
 
 use crate::item::Item;
 use crate::repair::repair;
@@ -141,6 +141,15 @@ impl Codeblocks {
         ensures { result ≡ length self.now.kept }
     {
         self.count
+    }
+
+    /// How many further bits bring no codeblock that fills the batch, whatever they are.
+    pub fn spare(&self) -> u64
+        ensures value { result ≡ spare_of self.now }
+        ensures most { result ≤ 31 * 16352 }
+    {
+        let left = (self.slots.len() - self.count).saturating_sub(1);
+        (left * (32 + 8 * self.size)) as u64
     }
 
     /// Repairs all codeblocks that are kept, by these workers, and writes their items.

@@ -4,6 +4,7 @@ ghost use Rattle.tm_base.specs.Bits.{bits_of};
 ghost use Rattle.tm_base.specs.Outside.{HasCause};
 ghost use Rattle.tm_sync.specs.Searching.{StandsFor as SearchStandsFor, inside_of};
 ghost use Rattle.tm_codeblock.specs.ReceivedCodeblock.{rules_of};
+ghost use Rattle.tm_channel.specs.Receiving.{spare_of};
 ghost use Rattle.tm_channel.specs.OctetReceiving.{StandsForBits, Received, ReceivedPart, ReceivedLast, ReceivedLastPart};
 
 use crate::bit_receiver::BitReceiver;
@@ -71,6 +72,13 @@ impl BitStream {
             Ok(()) => Ok(()),
             Err(Failed) => Err(Failed),
         }
+    }
+
+    /// How many further bits make no item due, whatever they are.
+    pub fn spare(&self) -> u64
+        ensures { result ≡ spare_of self.now.batch }
+    {
+        self.receiver.batch.spare()
     }
 
     /// Hands over the items that were not due before the end of the bits was known.

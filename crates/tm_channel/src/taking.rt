@@ -1,5 +1,5 @@
 // Octets through both stages of a receiver: the inner code, and the search for codeblocks in its bits.
-ghost use Rattle.std.specs.Prelude.{◌≡◌, ◌+◌, ◌*◌, ◌≤◌, ◌==◌, ℕ, List, [], false, drop, length, map, OnOk, OnErr};
+ghost use Rattle.std.specs.Prelude.{◌≡◌, ◌+◌, ◌*◌, ◌≤◌, ◌==◌, ℕ, List, [], true, false, drop, length, map, IsTrue, OnOk, OnErr};
 ghost use Rattle.std.specs.Option.{is_some};
 ghost use Rattle.tm_base.specs.Bits.{bits_of};
 ghost use Rattle.tm_base.specs.Handed.{Handed, on_handed};
@@ -8,7 +8,8 @@ ghost use Rattle.tm_base.specs.Takers.{HandedOver, HandedPart};
 ghost use Rattle.tm_inner.specs.Phase.{IsChosen, in_turn};
 ghost use Rattle.tm_inner.specs.Receiving.{Hands, HandsFront, StandsFor as InnerStandsFor};
 ghost use Rattle.tm_viterbi.specs.WindowBlock.{WindowBlock};
-ghost use Rattle.tm_channel.specs.OctetReceiving.{Ends, FirstWith, Grows, Received, ReceivedPart, StagesFor, received_bits};
+ghost use Rattle.tm_channel.specs.Receiving.{most_spare};
+ghost use Rattle.tm_channel.specs.OctetReceiving.{Ends, FirstWith, Gathers, Grows, Received, ReceivedPart, StagesFor, received_bits};
 
 use crate::item::ItemTaker;
 use crate::kept::KeptBits;
@@ -24,7 +25,8 @@ use tm_viterbi::closed_windows_law;
 pub const PIECE: usize = 4096;
 
 /// Takes the next octets, and hands over what is due with them: the symbol phase, where it is chosen with them, and
-/// items. There is to be room for the bits of a window, of the octets that wait for the phase and of `PIECE` octets.
+/// items. There is to be room for the bits that fill no batch, and for those of a window, of the octets that wait for
+/// the phase and of `PIECE` octets.
 pub fn take<P: Workers, T: ItemTaker>(
     inner: &mut InnerReceiver,
     kept: &mut KeptBits,
@@ -36,7 +38,8 @@ pub fn take<P: Workers, T: ItemTaker>(
     requires workers { P.is_ready by.now }
     requires fresh { inner.old.has_stopped ≡ false }
     requires of { stream.old.batch.config ≡ inner.old.config }
-    requires room { 3 * (inner.old.config.keep + inner.old.config.ahead) + 7 + 4096 ≤ kept.old.size }
+    requires room { most_spare inner.old.config + 3 * (inner.old.config.keep + inner.old.config.ahead)
+        + 7 + 4096 ≤ kept.old.size }
     ensures inner { inner.new.config ≡ inner.old.config }
     ensures fresh { inner.new.has_stopped ≡ false }
     ensures room { kept.new.size ≡ kept.old.size }
@@ -76,7 +79,8 @@ fn take_piece<P: Workers, T: ItemTaker>(
     requires fresh { inner.old.has_stopped ≡ false }
     requires of { stream.old.batch.config ≡ inner.old.config }
     requires most { length octets.now ≤ 4096 }
-    requires room { 3 * (inner.old.config.keep + inner.old.config.ahead) + 7 + length octets.now ≤ kept.old.size }
+    requires room { most_spare inner.old.config + 3 * (inner.old.config.keep + inner.old.config.ahead)
+        + 7 + length octets.now ≤ kept.old.size }
     ensures inner { inner.new.config ≡ inner.old.config }
     ensures fresh { inner.new.has_stopped ≡ false }
     ensures room { kept.new.size ≡ kept.old.size }
@@ -90,7 +94,10 @@ fn take_piece<P: Workers, T: ItemTaker>(
     ensures cause { HasCause (T.faults taker.old) (T.faults taker.new) (T.is_last taker.new) result }
 {
     let skip = inner.bits_to_skip();
-    decode(inner, kept, octets);
+    let waits = hold_or_decode(by, inner, kept, stream.spare(), octets);
+    if waits {
+        return Ok(());
+    }
     match hand_phase(kept, taker) {
         Ok(()) => {}
         Err(Failed) => return Err(Failed),
@@ -108,21 +115,32 @@ fn take_piece<P: Workers, T: ItemTaker>(
     }
 }
 
-// Gives octets to the first stage, and keeps the phase and the bits of its blocks.
-fn decode(inner: &mut InnerReceiver, kept: &mut KeptBits, octets: &[u8])
+// Gives octets to the first stage. Answers whether they wait there, which they may where the blocks that wait keep at
+// most so many bits. Else it keeps the phase and the bits of all blocks that are due.
+fn hold_or_decode<P: Workers>(
+    by: &P,
+    inner: &mut InnerReceiver,
+    kept: &mut KeptBits,
+    spare: u64,
+    octets: &[u8],
+) -> bool
+    requires workers { P.is_ready by.now }
     requires fresh { inner.old.has_stopped ≡ false }
-    requires room { 3 * (inner.old.config.keep + inner.old.config.ahead) + 7 + length octets.now ≤ kept.old.size }
     ensures inner { inner.new.config ≡ inner.old.config }
     ensures fresh { inner.new.has_stopped ≡ false }
     ensures room { kept.new.size ≡ kept.old.size }
-    ensures grows { Grows inner.old inner.new octets.now kept.new.phase
+    ensures waits { IsTrue result → (is_some inner.old.config.inner ≡ true)
+        × Gathers inner.old inner.new octets.now spare }
+    ensures grows { result ≡ false → Grows inner.old inner.new kept.old.size octets.now kept.new.phase
         (received_bits inner.old kept.new.bits octets.now) }
 {
-    kept.clear();
-    match inner.feed(octets, kept) {
-        Ok(()) => {}
-        Err(_) => {}
+    let taken = by.gather(inner, octets);
+    if taken == octets.len() && inner.has_inner_code() && inner.bits_due() <= spare {
+        return true;
     }
+    kept.clear();
+    by.feed(inner, &octets[taken..], kept);
+    false
 }
 
 /// Hands over the symbol phase, where the first stage has handed it over.
@@ -139,22 +157,19 @@ pub fn hand_phase<T: ItemTaker>(kept: &KeptBits, taker: &mut T) -> Result<(), Fa
     }
 }
 
-// Ends the first stage, keeps the phase and the bits of its last blocks, and answers how many bits were received in
-// all.
-pub fn end(inner: &mut InnerReceiver, kept: &mut KeptBits) -> u64
+/// Ends the first stage, keeps the phase and the bits of its last blocks, and answers how many bits were received in
+/// all.
+pub fn end<P: Workers>(by: &P, inner: &mut InnerReceiver, kept: &mut KeptBits) -> u64
+    requires workers { P.is_ready by.now }
     requires fresh { inner.old.has_stopped ≡ false }
-    requires room { 3 * (inner.old.config.keep + inner.old.config.ahead) + 7 ≤ kept.old.size }
     ensures inner { inner.new.config ≡ inner.old.config }
     ensures room { kept.new.size ≡ kept.old.size }
-    ensures ends { Ends inner.old kept.new.phase (map (λ bit. bit == 1) kept.new.bits) result }
+    ensures ends { Ends inner.old kept.old.size kept.new.phase (map (λ bit. bit == 1) kept.new.bits) result }
     ensures chosen { (given : List ℕ) (done : List (Handed WindowBlock)) → InnerStandsFor inner.old given done
         → IsChosen inner.old.config given inner.new.phased.chosen }
 {
     kept.clear();
-    match inner.finish(kept) {
-        Ok(end) => end.bits,
-        Err(_) => 0,
-    }
+    by.finish(inner, kept)
 }
 
 // Gives the bits of octets behind the first `skip` ones to the second stage.

@@ -1,17 +1,63 @@
-// Who decodes the words of a batch: workers side by side, or the caller alone.
-ghost use Rattle.std.specs.Prelude.{◌<◌, ◌≤◌, ◌^◌, length};
+// Who decodes windows and words: workers side by side, or the caller alone.
+ghost use Rattle.std.specs.Prelude.{◌≡◌, ◌<◌, ◌≤◌, ◌+◌, ◌^◌, ◌++◌, ℕ, List, length, take, false};
+ghost use Rattle.tm_base.specs.Handed.{Handed, items_of, on_handed};
+ghost use Rattle.tm_base.specs.Takers.{HandedOver};
+ghost use Rattle.tm_viterbi.specs.WindowBlock.{WindowBlock};
+ghost use Rattle.tm_inner.specs.Inner.{inner_bits};
+ghost use Rattle.tm_inner.specs.Phase.{IsChosen};
+ghost use Rattle.tm_inner.specs.Handing.{AreHanded, AreHandedDue};
+ghost use Rattle.tm_inner.specs.Receiving.{StandsFor};
 ghost use Rattle.tm_workers.specs.Batch.{EachBecomes};
 ghost use Rattle.tm_workers.specs.Words.{Decodes};
+ghost use Rattle.tm_channel.specs.OctetReceiving.{Keeps, KeepsPhase};
 
+use crate::kept::KeptBits;
 use std::alloc::Global;
 use std::thread::Threads;
+use tm_inner::InnerReceiver;
 use tm_rs_code::Params;
-use tm_workers::{Gate, Word, decode_batch, decode_in_order};
+use tm_workers::{Word, decode_in_order};
 
-/// Who decodes the words of a batch.
+/// Who decodes the windows of the first stage, and the words of a batch.
 pub trait Workers {
     /// What a call needs to be known of them.
     ghost is_ready: { Self → Type 0 };
+
+    /// Lets the first stage take of the next octets the first ones, as many as it can hold, and decodes none. Answers
+    /// how many these are.
+    fn gather(&self, inner: &mut InnerReceiver, octets: &[u8]) -> usize
+        ensures config { inner.new.config ≡ inner.old.config }
+        ensures stopped { inner.new.has_stopped ≡ inner.old.has_stopped }
+        ensures most { result ≤ length octets.now }
+        ensures gathered { (given : List ℕ) (done : List (Handed WindowBlock)) → length given + result < 2 ^ 60
+            → StandsFor inner.old given done → StandsFor inner.new (given ++ take result octets.now) done };
+
+    /// Gives it the next octets, and keeps the phase and the bits of its blocks, where there is room for them.
+    fn feed(&self, inner: &mut InnerReceiver, octets: &[u8], kept: &mut KeptBits)
+        requires ready { is_ready self.now }
+        requires fresh { inner.old.has_stopped ≡ false }
+        ensures config { inner.new.config ≡ inner.old.config }
+        ensures fresh { inner.new.has_stopped ≡ false }
+        ensures handed { (more : List (Handed WindowBlock))
+            × HandedOver (on_handed KeepsPhase Keeps) kept.old more kept.new
+            × ((given : List ℕ) (done : List (Handed WindowBlock)) → length given + length octets.now < 2 ^ 60
+            → StandsFor inner.old given done
+            → StandsFor inner.new (given ++ octets.now) (done ++ more)
+            × AreHandedDue inner.old.config (given ++ octets.now) (done ++ more)) };
+
+    /// Ends it, and keeps the phase and the bits of its last blocks, where there is room for them. Answers how many
+    /// bits were received in all.
+    fn finish(&self, inner: &mut InnerReceiver, kept: &mut KeptBits) -> u64
+        requires ready { is_ready self.now }
+        requires fresh { inner.old.has_stopped ≡ false }
+        ensures config { inner.new.config ≡ inner.old.config }
+        ensures chosen { (given : List ℕ) (done : List (Handed WindowBlock)) → StandsFor inner.old given done
+            → IsChosen inner.old.config given inner.new.phased.chosen }
+        ensures handed { (last : List (Handed WindowBlock)) × (left : ℕ)
+            × HandedOver (on_handed KeepsPhase Keeps) kept.old last kept.new
+            × ((given : List ℕ) (done : List (Handed WindowBlock)) → StandsFor inner.old given done
+            → AreHanded inner.old.config given (done ++ last) left
+            × (result ≡ length (inner_bits inner.old.config given (items_of (done ++ last))))) };
 
     /// Decodes each word in its place, as `decode_batch` does, by at most so many workers.
     fn decode(&self, alloc: Global, params: &Params, repair: u8, words: &mut [Word], workers: u8)
@@ -22,29 +68,68 @@ pub trait Workers {
         ensures { EachBecomes (Decodes params.now repair) words.old words.new };
 }
 
-/// A function that decodes them, as one that has workers in threads.
+/// Workers in threads, and a function that has them decode words.
 #[derive(Drop)]
-pub struct Called<F> {
+pub struct SideBySide<'a, R: Threads + Sync, F> {
+    pub rt: &'a R,
     pub decode: F,
 }
 
-impl<F: Fn(Global, &Params, u8, &mut [Word], u8)> Workers for Called<F> {
+impl<'a, R: Threads + Sync, F: Fn(Global, &Params, u8, &mut [Word], u8)> Workers
+    for SideBySide<'a, R, F> {
+    ghost use Rattle.std.specs.Thread.{IsSync};
     ghost use Rattle.tm_channel.specs.Workers.{DecodesWords};
 
-    ghost is_ready = { λ w. DecodesWords F.Fn w.decode };
+    ghost is_ready = { λ w. IsSync R.row × DecodesWords F.Fn w.decode };
+
+    fn gather(&self, inner: &mut InnerReceiver, octets: &[u8]) -> usize {
+        inner.gather(octets)
+    }
+
+    fn feed(&self, inner: &mut InnerReceiver, octets: &[u8], kept: &mut KeptBits) {
+        match inner.feed_with(self.rt, octets, kept) {
+            Ok(()) => {}
+            Err(_) => {}
+        }
+    }
+
+    fn finish(&self, inner: &mut InnerReceiver, kept: &mut KeptBits) -> u64 {
+        match inner.finish_with(self.rt, kept) {
+            Ok(end) => end.bits,
+            Err(_) => 0,
+        }
+    }
 
     fn decode(&self, alloc: Global, params: &Params, repair: u8, words: &mut [Word], workers: u8) {
         (self.decode)(alloc, params, repair, words, workers);
     }
 }
 
-/// The caller alone, who decodes one word after another and starts no thread.
+/// The caller alone, who decodes one window and one word after another and starts no thread. So none has to wait.
 pub struct InOrder;
 
 impl Workers for InOrder {
     ghost use Rattle.std.specs.Prelude.{⊤};
 
-    ghost is_ready = { λ w. ⊤ };
+    ghost is_ready = { λ by. ⊤ };
+
+    fn gather(&self, _inner: &mut InnerReceiver, _octets: &[u8]) -> usize {
+        0
+    }
+
+    fn feed(&self, inner: &mut InnerReceiver, octets: &[u8], kept: &mut KeptBits) {
+        match inner.feed(octets, kept) {
+            Ok(()) => {}
+            Err(_) => {}
+        }
+    }
+
+    fn finish(&self, inner: &mut InnerReceiver, kept: &mut KeptBits) -> u64 {
+        match inner.finish(kept) {
+            Ok(end) => end.bits,
+            Err(_) => 0,
+        }
+    }
 
     fn decode(
         &self,

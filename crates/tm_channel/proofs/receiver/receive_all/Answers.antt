@@ -1,4 +1,5 @@
-use Rattle.std.proofs.Common.{◌++◌, ◌∙◌, inl, inr, [], subst, refl, arith, Err, IsErrOf, IsTrue}
+use Rattle.std.proofs.Common.{◌++◌, ◌∙◌, ℕ, inl, inr, [], subst, refl, arith, Err, IsErrOf, IsTrue}
+use Rattle.tm_base.specs.Outside.{Rose}
 use Rattle.tm_base.proofs.Handing.{HandedOver-append, HandedPart-after}
 use Rattle.tm_config.specs.Configuration.{Configuration}
 use Rattle.tm_channel.specs.Handing.{AreReceived, AreReceivedFirst, AreReceivedFront}
@@ -45,3 +46,9 @@ returns-clause-front g c = λ _.
           let stands = (fed.2 [] [] (omega (arith, few)) c.in-Ok.ensures.stands).0 in
           inr (subst (λ (k : Configuration). AreReceivedFront k octets (fed.0 ++ last.0)) (c.feed.ensures.config ∙ c.in-Ok.ensures.config) (last.2 octets fed.0 stands)),
     )
+
+pub returns-clause-rose : goal.returns-clause-rose
+returns-clause-rose g c = λ _.
+    let none : IsTrue c.feed.new.self.has_stopped → ⊥ = λ stopped. c.in-Ok-feed.ensures.stops.0 stopped in
+    let rose = c.in-Err.ensures.rose (taker_alone c.in-Err.field-0 (λ is. none (c.in-Err.ensures.stopped.0 is))) in
+    subst (λ (n : ℕ). Rose n (g.T.ItemTaker.faults c.finish.new.taker) (g.T.ItemTaker.is_last c.finish.new.taker)) (c.in-Ok-feed.ensures.same (λ e. absurd cc)) rose

@@ -4,84 +4,104 @@ use Rattle.tm_base.specs.Bits.{bits_of}
 use Rattle.tm_base.specs.Handed.{on_handed}
 use Rattle.tm_config.specs.Configuration.{Configuration}
 use Rattle.tm_channel.specs.OctetReceiving.{Grows, Stages, received_bits}
-use Rattle.tm_channel.proofs.GivenOctets.{first-chosen, found-none, found-some, front-due, front-phase, hands-due}
+use Rattle.tm_channel.proofs.GivenOctets.{first-chosen, found-none, found-some, front-due, front-phase, hands-due, hands-wait}
 use Rattle.tm_channel.proofs.taking.take_piece.Goals as goal
+
+-- the octets wait
+pub returns-then-waits-clause-handed : goal.returns-then-waits-clause-handed
+returns-then-waits-clause-handed g c =
+    let before : Stages = record { inner = c.args.inner.now; bits = c.args.stream.now } in
+    let d = c.hold_or_decode-waits in
+    let held = d.ensures.waits c.if-waits.true in
+    hands-wait (on_handed g.T.ItemTaker.took_phase g.T.ItemTaker.took) before d.new.inner c.args.taker.now c.args.octets.now c.spare.result
+    c.requires.of d.ensures.inner held.0 c.spare.ensures held.1
 
 -- the taker failed at the phase
 pub returns-in-Err-clause-front : goal.returns-in-Err-clause-front
 returns-in-Err-clause-front g c =
     let before : Stages = record { inner = c.args.inner.now; bits = c.args.stream.now } in
-    let kept = c.decode.new.kept in
+    let d = c.hold_or_decode-waits in
+    let kept = d.new.kept in
     let octets = c.args.octets.now in
+    let room = c.args.kept.now.size in
     let bits = received_bits c.args.inner.now kept.bits octets in
-    first-chosen (on_handed g.T.ItemTaker.took_phase g.T.ItemTaker.took) (on_handed g.T.ItemTaker.broke_phase g.T.ItemTaker.broke) before c.decode.new.inner
-    c.args.taker.now c.hand_phase.new.taker octets kept.phase bits c.decode.ensures.inner c.decode.ensures.grows
-    (front-phase g.T.ItemTaker.took_phase g.T.ItemTaker.broke_phase g.T.ItemTaker.took g.T.ItemTaker.broke before c.decode.new.inner c.args.taker.now c.hand_phase.new.taker octets
-    kept.phase bits c.requires.of c.decode.ensures.grows c.in-Err.ensures.front)
+    let grows = d.ensures.grows c.if-waits.false in
+    first-chosen (on_handed g.T.ItemTaker.took_phase g.T.ItemTaker.took) (on_handed g.T.ItemTaker.broke_phase g.T.ItemTaker.broke) before d.new.inner
+    c.args.taker.now c.hand_phase.new.taker room octets kept.phase bits c.requires.of c.requires.room d.ensures.inner grows
+    (front-phase g.T.ItemTaker.took_phase g.T.ItemTaker.broke_phase g.T.ItemTaker.took g.T.ItemTaker.broke before d.new.inner c.args.taker.now c.hand_phase.new.taker room octets
+    kept.phase bits c.requires.of c.requires.room grows c.in-Err.ensures.front)
 
 pub returns-in-Err-take_bits-clause-front : goal.returns-in-Err-take_bits-clause-front
 returns-in-Err-take_bits-clause-front g c =
     let inner = c.args.inner.now in
     let before : Stages = record { inner = inner; bits = c.args.stream.now } in
-    let kept = c.decode.new.kept in
+    let d = c.hold_or_decode-waits in
+    let kept = d.new.kept in
     let octets = c.args.octets.now in
+    let room = c.args.kept.now.size in
     let is : is_some inner.config.inner ≡ true =
-    ap (λ (k : Configuration). is_some k.inner) (sym c.decode.ensures.inner) ∙ sym c.has_inner_code.ensures
+    ap (λ (k : Configuration). is_some k.inner) (sym d.ensures.inner) ∙ sym c.has_inner_code.ensures
     ∙ c.if-has_inner_code.true in
     let same = found-some inner.config.inner (inner.config.skip - 8 * inner.count) kept.bits octets is
     ∙ ap (map (λ bit. bit == 1)) (sym c.bits.ensures) in
-    let grows = subst (Grows inner c.decode.new.inner octets kept.phase) same c.decode.ensures.grows in
-    first-chosen (on_handed g.T.ItemTaker.took_phase g.T.ItemTaker.took) (on_handed g.T.ItemTaker.broke_phase g.T.ItemTaker.broke) before c.decode.new.inner
-    c.args.taker.now c.take_bits.new.taker octets kept.phase (map (λ bit. bit == 1) c.bits.result.now) c.decode.ensures.inner grows
+    let grows = subst (Grows inner d.new.inner room octets kept.phase) same (d.ensures.grows c.if-waits.false) in
+    first-chosen (on_handed g.T.ItemTaker.took_phase g.T.ItemTaker.took) (on_handed g.T.ItemTaker.broke_phase g.T.ItemTaker.broke) before d.new.inner
+    c.args.taker.now c.take_bits.new.taker room octets kept.phase (map (λ bit. bit == 1) c.bits.result.now) c.requires.of c.requires.room d.ensures.inner grows
     (front-due g.T.ItemTaker.took_phase g.T.ItemTaker.broke_phase g.T.ItemTaker.took g.T.ItemTaker.broke before
-    c.decode.new.inner c.take_bits.new.stream
-    c.args.taker.now c.hand_phase.new.taker c.take_bits.new.taker octets kept.phase (map (λ bit. bit == 1) c.bits.result.now) c.requires.of
+    d.new.inner c.take_bits.new.stream
+    c.args.taker.now c.hand_phase.new.taker c.take_bits.new.taker room octets kept.phase (map (λ bit. bit == 1) c.bits.result.now) c.requires.of c.requires.room
     grows c.in-Ok.ensures.handed c.in-Err-take_bits.ensures.part)
 
 pub returns-in-Err-take_behind-clause-front : goal.returns-in-Err-take_behind-clause-front
 returns-in-Err-take_behind-clause-front g c =
     let inner = c.args.inner.now in
     let before : Stages = record { inner = inner; bits = c.args.stream.now } in
-    let kept = c.decode.new.kept in
+    let d = c.hold_or_decode-waits in
+    let kept = d.new.kept in
     let octets = c.args.octets.now in
+    let room = c.args.kept.now.size in
     let is : is_some inner.config.inner ≡ false =
-    ap (λ (k : Configuration). is_some k.inner) (sym c.decode.ensures.inner) ∙ sym c.has_inner_code.ensures
+    ap (λ (k : Configuration). is_some k.inner) (sym d.ensures.inner) ∙ sym c.has_inner_code.ensures
     ∙ c.if-has_inner_code.false in
     let same = found-none inner.config.inner (inner.config.skip - 8 * inner.count) kept.bits octets is
     ∙ ap (λ n. drop n (bits_of octets)) (sym c.bits_to_skip-skip.ensures.value) in
-    let grows = subst (Grows inner c.decode.new.inner octets kept.phase) same c.decode.ensures.grows in
-    first-chosen (on_handed g.T.ItemTaker.took_phase g.T.ItemTaker.took) (on_handed g.T.ItemTaker.broke_phase g.T.ItemTaker.broke) before c.decode.new.inner
-    c.args.taker.now c.take_behind.new.taker octets kept.phase (drop c.bits_to_skip-skip.result (bits_of octets)) c.decode.ensures.inner grows
-    (front-due g.T.ItemTaker.took_phase g.T.ItemTaker.broke_phase g.T.ItemTaker.took g.T.ItemTaker.broke before c.decode.new.inner c.take_behind.new.stream
-    c.args.taker.now c.hand_phase.new.taker c.take_behind.new.taker octets kept.phase (drop c.bits_to_skip-skip.result (bits_of octets)) c.requires.of
+    let grows = subst (Grows inner d.new.inner room octets kept.phase) same (d.ensures.grows c.if-waits.false) in
+    first-chosen (on_handed g.T.ItemTaker.took_phase g.T.ItemTaker.took) (on_handed g.T.ItemTaker.broke_phase g.T.ItemTaker.broke) before d.new.inner
+    c.args.taker.now c.take_behind.new.taker room octets kept.phase (drop c.bits_to_skip-skip.result (bits_of octets)) c.requires.of c.requires.room d.ensures.inner grows
+    (front-due g.T.ItemTaker.took_phase g.T.ItemTaker.broke_phase g.T.ItemTaker.took g.T.ItemTaker.broke before d.new.inner c.take_behind.new.stream
+    c.args.taker.now c.hand_phase.new.taker c.take_behind.new.taker room octets kept.phase (drop c.bits_to_skip-skip.result (bits_of octets)) c.requires.of c.requires.room
     grows c.in-Ok.ensures.handed c.in-Err-take_behind.ensures.part)
 
 pub returns-in-Ok-take_bits-clause-handed : goal.returns-in-Ok-take_bits-clause-handed
 returns-in-Ok-take_bits-clause-handed g c =
     let inner = c.args.inner.now in
+    let d = c.hold_or_decode-waits in
     let before : Stages = record { inner = inner; bits = c.args.stream.now } in
-    let now : Stages = record { inner = c.decode.new.inner; bits = c.take_bits.new.stream } in
-    let kept = c.decode.new.kept in
+    let now : Stages = record { inner = d.new.inner; bits = c.take_bits.new.stream } in
+    let kept = d.new.kept in
     let octets = c.args.octets.now in
+    let room = c.args.kept.now.size in
     let is : is_some inner.config.inner ≡ true =
-    ap (λ (k : Configuration). is_some k.inner) (sym c.decode.ensures.inner) ∙ sym c.has_inner_code.ensures
+    ap (λ (k : Configuration). is_some k.inner) (sym d.ensures.inner) ∙ sym c.has_inner_code.ensures
     ∙ c.if-has_inner_code.true in
     let same = found-some inner.config.inner (inner.config.skip - 8 * inner.count) kept.bits octets is
     ∙ ap (map (λ bit. bit == 1)) (sym c.bits.ensures) in
-    hands-due g.T.ItemTaker.took_phase g.T.ItemTaker.took before now c.args.taker.now c.hand_phase.new.taker c.take_bits.new.taker octets kept.phase (map (λ bit. bit == 1) c.bits.result.now)
-    c.requires.of c.decode.ensures.inner (subst (Grows inner c.decode.new.inner octets kept.phase) same c.decode.ensures.grows) c.in-Ok.ensures.handed c.in-Ok-take_bits.ensures.handed
+    hands-due g.T.ItemTaker.took_phase g.T.ItemTaker.took before now c.args.taker.now c.hand_phase.new.taker c.take_bits.new.taker room octets kept.phase (map (λ bit. bit == 1) c.bits.result.now)
+    c.requires.of c.requires.room d.ensures.inner (subst (Grows inner d.new.inner room octets kept.phase) same (d.ensures.grows c.if-waits.false)) c.in-Ok.ensures.handed c.in-Ok-take_bits.ensures.handed
 
 pub returns-in-Ok-take_behind-clause-handed : goal.returns-in-Ok-take_behind-clause-handed
 returns-in-Ok-take_behind-clause-handed g c =
     let inner = c.args.inner.now in
+    let d = c.hold_or_decode-waits in
     let before : Stages = record { inner = inner; bits = c.args.stream.now } in
-    let now : Stages = record { inner = c.decode.new.inner; bits = c.take_behind.new.stream } in
-    let kept = c.decode.new.kept in
+    let now : Stages = record { inner = d.new.inner; bits = c.take_behind.new.stream } in
+    let kept = d.new.kept in
     let octets = c.args.octets.now in
+    let room = c.args.kept.now.size in
     let is : is_some inner.config.inner ≡ false =
-    ap (λ (k : Configuration). is_some k.inner) (sym c.decode.ensures.inner) ∙ sym c.has_inner_code.ensures
+    ap (λ (k : Configuration). is_some k.inner) (sym d.ensures.inner) ∙ sym c.has_inner_code.ensures
     ∙ c.if-has_inner_code.false in
     let same = found-none inner.config.inner (inner.config.skip - 8 * inner.count) kept.bits octets is
     ∙ ap (λ n. drop n (bits_of octets)) (sym c.bits_to_skip-skip.ensures.value) in
-    hands-due g.T.ItemTaker.took_phase g.T.ItemTaker.took before now c.args.taker.now c.hand_phase.new.taker c.take_behind.new.taker octets kept.phase (drop c.bits_to_skip-skip.result (bits_of octets))
-    c.requires.of c.decode.ensures.inner (subst (Grows inner c.decode.new.inner octets kept.phase) same c.decode.ensures.grows) c.in-Ok.ensures.handed c.in-Ok-take_behind.ensures.handed
+    hands-due g.T.ItemTaker.took_phase g.T.ItemTaker.took before now c.args.taker.now c.hand_phase.new.taker c.take_behind.new.taker room octets kept.phase (drop c.bits_to_skip-skip.result (bits_of octets))
+    c.requires.of c.requires.room d.ensures.inner (subst (Grows inner d.new.inner room octets kept.phase) same (d.ensures.grows c.if-waits.false)) c.in-Ok.ensures.handed c.in-Ok-take_behind.ensures.handed

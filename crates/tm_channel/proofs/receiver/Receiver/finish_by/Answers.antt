@@ -1,4 +1,4 @@
-use Rattle.std.proofs.Common.{◌==◌, ◌++◌, ◌∙◌, ℕ, List, [], map, sym, subst, Result, Ok, Err, IfOk, IsErrOf}
+use Rattle.std.proofs.Common.{◌==◌, ◌++◌, ◌+◌, ◌*◌, ◌≤◌, ◌∙◌, arith, ℕ, List, [], map, sym, subst, Result, Ok, Err, IfOk, IsErrOf}
 use Rattle.tm_base.specs.Handed.{Handed, Item, on_handed}
 use Rattle.tm_base.specs.Takers.{HandedOver, HandedPart}
 use Rattle.tm_base.proofs.Handing.{HandedOver-append, HandedPart-after}
@@ -7,12 +7,17 @@ use Rattle.tm_config.specs.Configuration.{Configuration}
 use Rattle.tm_inner.specs.Phase.{in_turn}
 use Rattle.tm_channel.specs.Items.{ItemValue}
 use Rattle.tm_channel.specs.Handing.{AreReceived, AreReceivedFront}
+use Rattle.tm_channel.specs.Receiving.{most_spare}
 use Rattle.tm_channel.specs.OctetReceiving.{OctetReceiving, StandsFor, Stages, Ends}
 use Rattle.tm_channel.specs.declared.receiver.RecvError.{RecvError}
 use Rattle.tm_channel.specs.declared.receiver.RecvError.TheVariants.{Taker}
 use Rattle.tm_channel.proofs.GivenOctets.{chosen-at_end, ends, ends-front, ends-part, ends-phase}
 use Rattle.tm_channel.proofs.receiver.Receiver.finish_by.Goals as goal
 use Rattle.tm_channel.proofs.receiver.Receiver.finish_by.Goals.{in-Ok-hand_last, in-Err-hand_last}
+
+-- there is room for the end, which has no further octets
+roomy : (room spare window : ℕ) → spare + 3 * window + 7 + 4096 ≤ room → spare + 3 * window + 7 + 0 ≤ room
+roomy room spare window most = omega arith
 
 -- the taker failed at the phase
 pub returns-in-Err-clause-front : goal.returns-in-Err-clause-front
@@ -27,7 +32,7 @@ returns-in-Err-clause-front g c = λ _.
       in_turn kept.phase [],
       c.in-Err.ensures.front,
       λ given done stood. subst (λ (k : Configuration). AreReceivedFront k given (done ++ in_turn kept.phase [])) c.self.invariant.0
-          (ends-phase stages kept.phase (map (λ bit. bit == 1) kept.bits) c.end-count.result (c.self.invariant.1 ∙ sym c.self.invariant.0) c.end-count.ensures.ends given done stood),
+          (ends-phase stages s.kept.size kept.phase (map (λ bit. bit == 1) kept.bits) c.end-count.result (c.self.invariant.1 ∙ sym c.self.invariant.0) (roomy s.kept.size (most_spare s.inner.config) (s.inner.config.keep + s.inner.config.ahead) c.self.invariant.3) c.end-count.ensures.ends given done stood),
     )
 
 -- it failed at an item that is due with the last bits
@@ -43,7 +48,7 @@ returns-in-Err-take_bits-clause-front g c = λ _.
     let phase = c.end-count.new.kept.phase in
     let piece = map (λ bit. bit == 1) c.bits.result.now in
     let count = c.end-count.result in
-    let over = subst (λ (l : List ℕ). Ends s.inner phase (map (λ bit. bit == 1) l) count) (sym c.bits.ensures) c.end-count.ensures.ends in
+    let over = subst (λ (l : List ℕ). Ends s.inner s.kept.size phase (map (λ bit. bit == 1) l) count) (sym c.bits.ensures) c.end-count.ensures.ends in
     let p = c.in-Err-take_bits.ensures.part in
     let tried = in_turn phase [] ++ map Item p.tried in
     subst (λ (r : OctetReceiving). (tried : List (Handed ItemValue)) × HandedPart took broke start tried middle
@@ -52,8 +57,8 @@ returns-in-Err-take_bits-clause-front g c = λ _.
       HandedPart-after took broke start first middle (in_turn phase []) (map Item p.tried) c.in-Ok.ensures.handed
           (HandedPart-items g.T.ItemTaker.took_phase g.T.ItemTaker.broke_phase g.T.ItemTaker.took g.T.ItemTaker.broke first middle p.tried p.handed),
       λ given done stood. subst (λ (k : Configuration). AreReceivedFront k given (done ++ tried)) c.self.invariant.0
-          (ends-part g.T.ItemTaker.took g.T.ItemTaker.broke stages c.take_bits.new.stream first middle phase piece count
-          (c.self.invariant.1 ∙ sym c.self.invariant.0) over p given done stood),
+          (ends-part g.T.ItemTaker.took g.T.ItemTaker.broke stages c.take_bits.new.stream first middle s.kept.size phase piece count
+          (c.self.invariant.1 ∙ sym c.self.invariant.0) (roomy s.kept.size (most_spare s.inner.config) (s.inner.config.keep + s.inner.config.ahead) c.self.invariant.3) over p given done stood),
     )
 
 pub returns-clause-handed : goal.returns-clause-handed
@@ -68,7 +73,7 @@ returns-clause-handed g c =
     let phase = c.end-count.new.kept.phase in
     let piece = map (λ bit. bit == 1) c.bits.result.now in
     let count = c.end-count.result in
-    let over = subst (λ (l : List ℕ). Ends s.inner phase (map (λ bit. bit == 1) l) count) (sym c.bits.ensures) c.end-count.ensures.ends in
+    let over = subst (λ (l : List ℕ). Ends s.inner s.kept.size phase (map (λ bit. bit == 1) l) count) (sym c.bits.ensures) c.end-count.ensures.ends in
     let p = c.in-Ok-take_bits.ensures.handed in
     let Said : OctetReceiving → Result ℕ RecvError → Type 0 = λ r result. IfOk result (λ n. (all : List (Handed ItemValue)) × HandedOver took start all last
     × ((given : List ℕ) (done : List (Handed ItemValue)) → StandsFor r given done → AreReceived r.config given (done ++ all) n)) in
@@ -82,8 +87,8 @@ returns-clause-handed g c =
                 (HandedOver-items g.T.ItemTaker.took_phase g.T.ItemTaker.took first last (p.items ++ q.items)
                 (HandedOver-append g.T.ItemTaker.took first middle last p.items q.items p.handed q.handed)),
             λ given done stood. subst (λ (k : Configuration). AreReceived k given (done ++ all) count) c.self.invariant.0
-                (ends g.T.ItemTaker.took before.stages c.take_bits.new.stream first middle last phase piece count
-                (c.self.invariant.1 ∙ sym c.self.invariant.0) over p q given done stood),
+                (ends g.T.ItemTaker.took before.stages c.take_bits.new.stream first middle last s.kept.size phase piece count
+                (c.self.invariant.1 ∙ sym c.self.invariant.0) (roomy s.kept.size (most_spare s.inner.config) (s.inner.config.keep + s.inner.config.ahead) c.self.invariant.3) over p q given done stood),
           ) in
           subst (Said before) (sym w.result-is) said
           )
@@ -103,7 +108,7 @@ returns-clause-front g c =
     let phase = c.end-count.new.kept.phase in
     let piece = map (λ bit. bit == 1) c.bits.result.now in
     let count = c.end-count.result in
-    let over = subst (λ (l : List ℕ). Ends s.inner phase (map (λ bit. bit == 1) l) count) (sym c.bits.ensures) c.end-count.ensures.ends in
+    let over = subst (λ (l : List ℕ). Ends s.inner s.kept.size phase (map (λ bit. bit == 1) l) count) (sym c.bits.ensures) c.end-count.ensures.ends in
     let p = c.in-Ok-take_bits.ensures.handed in
     let Said : OctetReceiving → Result ℕ RecvError → Type 0 = λ r result. IsErrOf result Taker → (tried : List (Handed ItemValue)) × HandedPart took broke start tried last
     × ((given : List ℕ) (done : List (Handed ItemValue)) → StandsFor r given done → AreReceivedFront r.config given (done ++ tried)) in
@@ -119,7 +124,7 @@ returns-clause-front g c =
                 (HandedPart-after g.T.ItemTaker.took g.T.ItemTaker.broke first middle last p.items q.tried p.handed q.handed)),
             λ given done stood. subst (λ (k : Configuration). AreReceivedFront k given (done ++ tried)) c.self.invariant.0
                 (ends-front g.T.ItemTaker.took g.T.ItemTaker.broke before.stages c.take_bits.new.stream first middle
-                last phase piece count (c.self.invariant.1 ∙ sym c.self.invariant.0) over p q given done stood),
+                last s.kept.size phase piece count (c.self.invariant.1 ∙ sym c.self.invariant.0) (roomy s.kept.size (most_spare s.inner.config) (s.inner.config.keep + s.inner.config.ahead) c.self.invariant.3) over p q given done stood),
           ) in
           subst (Said before) (sym w.result-is) said
           )
