@@ -36,6 +36,7 @@ options=(
     '--ahead=[steps a window looks ahead]:steps 0 to 4096: '
     '--phase=[symbol at which the pattern begins]:phase:(given find)'
     '--polarity=[inverted markers]:polarity:(given find)'
+    '--batch=[codeblocks that are repaired and handed over at once]:codeblocks 1 to 32: '
 )
 
 soak_options=(

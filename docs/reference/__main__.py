@@ -31,7 +31,7 @@ def encode(data, ended, c):
 def decode(data, ended, c):
     r = received(data, ended, c)
     found = items(r.bits, c)
-    found = found if ended else found[:len(found) // 32 * 32]
+    found = found if ended else found[:len(found) // c.batch * c.batch]
     told = r.head + [line for _, line, _ in found] + [last_line(found, r.bits)] * ended
     frames = [frame for frame, _, _ in found if frame is not None]
     return b"".join(frames), lines(told), 1 if len(frames) < len(found) else 0

@@ -5,7 +5,7 @@ from inner import PATTERNS
 
 COMMANDS = "encode decode report trace bits certify check erased word soak".split()
 OPTIONS = """code depth length inner invert soft randomize basis limit tolerance fly polarity repair
-             start skip phase keep ahead workers""".split()
+             start skip phase keep ahead workers batch""".split()
 SOAK_OPTIONS = "seed frames hits".split()
 
 class Refused(Exception):
@@ -76,6 +76,7 @@ def configuration(given):
     c.ahead = number(given, "ahead", 0, 4096, 256)
     c.find_phase = chosen(given, "phase", ("given", "find"), "given") == "find"
     c.find_polarity = chosen(given, "polarity", ("given", "find"), "given") == "find"
+    c.batch = number(given, "batch", 1, 32, 32)
     c.codeword = c.length // c.depth + 2 * c.E  # symbols of a codeword, as they are sent
     c.codeblock = c.codeword * c.depth          # octets of a codeblock
     return c
