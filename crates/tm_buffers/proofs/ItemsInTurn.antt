@@ -1,12 +1,12 @@
 -- One item after another, in arrays.
-use Rattle.std.proofs.Common.{◌≡◌, ◌⊎◌, inl, inr, ◌≤◌, ◌<◌, ◌+◌, ℕ, Bool, true, false, List, [], ◌∷◌, ◌++◌, length, take, refl, sym, ap, ◌∙◌, subst, arith, append_assoc, length-append, length-take, min, suc, if◌then◌else◌, true≢false, Option, Some, None}
+use Rattle.std.proofs.Common.{◌≡◌, ◌⊎◌, inl, inr, ◌≤◌, ◌<◌, ◌+◌, ℕ, Bool, true, false, List, [], ◌∷◌, ◌++◌, length, take, refl, sym, ap, ◌∙◌, subst, arith, append_assoc, length-append, length-take, min, suc, if◌then◌else◌, true≢false, Some, None}
 use Rattle.std.proofs.lemmas.List.{append-nil}
 use Rattle.std.proofs.lemmas.Bool.{cases_lt}
 use Rattle.tm_base.specs.Handed.{Handed, Phase, Item, items_of, on_handed}
 use Rattle.tm_base.specs.Takers.{HandedOver}
 use Rattle.tm_channel.specs.Items.{ItemValue, frames_of}
-use Rattle.tm_buffers.specs.Reports.{AreReports, IsReport}
-use Rattle.tm_buffers.specs.Items.{Collected, Collects, Tells, collected}
+use Rattle.tm_buffers.specs.Reports.{AreReports}
+use Rattle.tm_buffers.specs.Items.{Collected, Collects, Tells, collected, none_yet}
 use Rattle.tm_buffers.specs.declared.items.BufferItems.{BufferItems}
 use Rattle.tm_buffers.specs.declared.items.Report.{Report}
 
@@ -82,7 +82,7 @@ module _ {T : Type 0} (frames reports : T → ℕ) (state : T → Collected) whe
 
 -- what a taker over whole buffers has written
 pub tells : (frames : List ℕ) (reports : List Report) (b : BufferItems) (items : List ItemValue)
-    → All (record { frames = []; frame_room = length frames; reports = []; report_room = length reports; is_short = false }) (collected b) items
+    → All (none_yet (length frames) (length reports)) (collected b) items
     → Tells (if b.is_short then None else Some (min b.count (length reports))) b.frames.now b.reports.now items
 tells frames reports b items all = by_short b.is_short refl
   where

@@ -46,11 +46,13 @@ module _ {T : Type 0} (name size : T → ℕ) (bits : T → List ℕ) where
             ∙ ap (λ l. l ++ back) one ∙ append_assoc (bits a) front back;
       }
 
--- what was kept fills the front of the buffer
-pub kept-fills : (name name' : ℕ) (buffer buffer' : List ℕ) (count : ℕ) (more : List (Handed WindowBlock))
-    → Kept name name' (length buffer) (length buffer') [] (take count buffer') more → count ≤ length buffer' → length (kept_bits (items_of more)) ≤ length buffer
+-- what was kept fills the front of the buffer, where that had no bits before
+pub kept-fills : (name name' : ℕ) (buffer before buffer' : List ℕ) (none count : ℕ) (more : List (Handed WindowBlock)) → before ≡ buffer → none ≡ 0
+    → Kept name name' (length before) (length buffer') (take none before) (take count buffer') more → count ≤ length buffer' → length (kept_bits (items_of more)) ≤ length buffer
     → Fills (Some (min count (length buffer))) buffer' (kept_bits (items_of more))
-kept-fills name name' buffer buffer' count more k within fits =
-    let is = k.kept (omega (arith, fits)) in
-    let all : min count (length buffer) ≡ count = omega (arith, within, k.same) in
+kept-fills name name' buffer before buffer' none count more same empty k within fits =
+    let no_bits : take none before ≡ [] = ap (λ n. take n before) empty in
+    let size = ap length same in
+    let is = k.kept (omega (arith, fits, ap length no_bits, size)) ∙ ap (λ bits. bits ++ kept_bits (items_of more)) no_bits in
+    let all : min count (length buffer) ≡ count = omega (arith, within, k.same, size) in
     (all ∙ omega (arith, ap length is, length-take count buffer', within), ap (λ n. take n buffer') all ∙ is)

@@ -1,9 +1,9 @@
 -- Bits of a list from one index on up to another.
-use Rattle.std.proofs.Common.{◌≡◌, ◌==◌, ◌<◌, ◌≤◌, ◌+◌, ◌-◌, ◌*◌, ◌/◌, ◌%◌, ℕ, zero, suc, Bool, not, get_or, List, [], ◌∷◌, ◌++◌, length, take, drop, map, refl, sym, ap, ◌∙◌, subst, arith, append_assoc, Option, Some, None, IfNone, IfSome, length-append, length-take, length-drop}
-use Rattle.std.proofs.lemmas.List.{append-nil, drop-append-le, drop-map, drop-drop, get_or-drop, length-map}
+use Rattle.std.proofs.Common.{◌≡◌, ◌==◌, ◌<◌, ◌≤◌, ◌+◌, ◌-◌, ◌*◌, ◌/◌, ◌%◌, ℕ, zero, suc, Bool, not, get_or, List, [], ◌∷◌, ◌++◌, length, take, drop, refl, sym, ap, ◌∙◌, subst, arith, append_assoc, Option, Some, None, IfNone, IfSome, length-take, length-drop}
+use Rattle.std.proofs.lemmas.List.{drop-append-le, drop-drop, get_or-drop}
 use Rattle.std.proofs.Math.Seq.{take-add}
 use Rattle.tm_base.specs.Bits.{bits_of, bits_of_octet, low_bits}
-use Rattle.tm_base.proofs.Packing.{bits_of-drop, bits_of-take, length-bits_of, length-low_bits}
+use Rattle.tm_base.proofs.Packing.{bits_of-drop, bits_of-take, length-low_bits}
 use Rattle.tm_sync.specs.declared.found.Found.{Found}
 use Rattle.tm_sync.specs.Places.{Rules, places}
 use Rattle.tm_sync.specs.Searching.{Searching, StandsFor}

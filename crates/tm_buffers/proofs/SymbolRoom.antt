@@ -1,11 +1,11 @@
 -- How many symbols come of octets at most.
-use Rattle.std.proofs.Common.{◌≡◌, ◌+◌, ◌*◌, ◌/◌, ◌%◌, ◌^◌, ◌<◌, ◌≤◌, ◌-◌, ℕ, zero, suc, Bool, true, false, if◌then◌else◌, List, [], ◌∷◌, ◌++◌, length, drop, subst, flat_map, refl, sym, ap, ◌∙◌, arith, nat_le, Option, Some, None, length-append, mod-lt}
+use Rattle.std.proofs.Common.{◌≡◌, ◌+◌, ◌*◌, ◌/◌, ◌^◌, ◌<◌, ◌≤◌, ◌-◌, ℕ, zero, suc, Bool, true, if◌then◌else◌, List, [], ◌∷◌, ◌++◌, length, drop, flat_map, refl, ap, ◌∙◌, arith, nat_le, Option, Some, None, length-append, mod-lt}
 use Rattle.std.specs.List.{AllByRecursion}
 use Rattle.std.proofs.lemmas.List.{length-map}
 use Rattle.std.proofs.lemmas.Nat.{div-add-mod', div_below, le-div}
 use Rattle.std.proofs.Math.Nat.{div-le_self, mul-le-mul}
 use Rattle.std.specs.Option.{is_some}
-use Rattle.tm_base.specs.Bits.{AreOctets, bit_number, bits_of, octets_of}
+use Rattle.tm_base.specs.Bits.{AreOctets, bit_number, bits_of}
 use Rattle.tm_base.specs.Pieces.{further}
 use Rattle.tm_base.specs.Marker.{marker}
 use Rattle.tm_base.proofs.Packing.{length-bits_of, length-octets_of}

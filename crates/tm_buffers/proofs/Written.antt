@@ -1,5 +1,5 @@
 -- What is known of a buffer that a sink wrote to.
-use Rattle.std.proofs.Common.{◌≡◌, ◌≤◌, ◌<◌, ◌+◌, ℕ, Bool, true, false, if◌then◌else◌, inl, inr, min, List, [], ◌∷◌, ◌++◌, length, take, Option, Some, None, Err, IsErrOf, refl, sym, ap, ◌∙◌, subst, arith, length-take}
+use Rattle.std.proofs.Common.{◌≡◌, ◌≤◌, ◌<◌, ℕ, Bool, true, false, if◌then◌else◌, inl, inr, min, List, ◌∷◌, length, take, Some, Err, IsErrOf, refl, ap, ◌∙◌, arith, length-take}
 use Rattle.std.specs.Io.KnownBytes.{append_known}
 use Rattle.tm_base.specs.Outside.{Rose}
 use Rattle.tm_base.specs.Written.{WroteFront}

@@ -22,6 +22,16 @@ collected b = record {
   is_short = b.is_short;
 }
 
+-- nothing was written yet
+abbrev pub none_yet : ℕ → ℕ → Collected
+none_yet frame_room report_room = record {
+  frames = [];
+  frame_room = frame_room;
+  reports = [];
+  report_room = report_room;
+  is_short = false;
+}
+
 -- one more item was written, or dropped where there is no room for it
 pub record Collects (before : Collected) (item : ItemValue) (now : Collected) : Type 0 where
   pub frame_room : now.frame_room ≡ before.frame_room

@@ -1,5 +1,6 @@
 -- What is said of items, as plain numbers.
-use Rattle.std.specs.Prelude.{◌≡◌, ℕ, Bool, if◌then◌else◌, List, [], ◌∷◌, length, map, take}
+use Rattle.std.specs.Int.{from_bool}
+use Rattle.std.specs.Prelude.{◌≡◌, ℕ, List, [], ◌∷◌, length, map, take}
 use Rattle.tm_rs_solve.specs.declared.answers.Answer.{Answer}
 use Rattle.tm_rs_solve.specs.declared.answers.Answer.TheVariants.{Fixed, Beyond}
 use Rattle.tm_channel.specs.Items.{ItemValue}
@@ -10,16 +11,13 @@ abbrev pub repaired_of : Answer → ℕ
 repaired_of (Fixed count) = count
 repaired_of Beyond = 255
 
-abbrev pub number_of : Bool → ℕ
-number_of is = if is then 1 else 0
-
 -- this is what is said of an item
 pub record IsReport (item : ItemValue) (report : Report) : Type 0 where
   pub place : report.place ≡ item.found.place
   pub frame_length : report.frame_length ≡ length item.frame
   pub distance : report.distance ≡ item.found.distance
-  pub bridged : report.bridged ≡ number_of item.found.bridged
-  pub inverted : report.inverted ≡ number_of item.found.inverted
+  pub bridged : report.bridged ≡ from_bool item.found.bridged
+  pub inverted : report.inverted ≡ from_bool item.found.inverted
   pub columns : report.columns ≡ length item.answers
   pub repaired : take (length item.answers) report.repaired ≡ map repaired_of item.answers
 

@@ -14,6 +14,19 @@ pub struct BufferBits<'a> {
     ghost within: { count ≤ length buffer.now },
 }
 
+impl<'a> BufferBits<'a> {
+    ghost use Rattle.std.specs.Prelude.{◌≡◌};
+
+    /// No bits yet.
+    pub fn over(buffer: &'a mut [u8]) -> BufferBits<'a>
+        ensures loan { result.buffer.ghost_name ≡ buffer.entry.ghost_name }
+        ensures buffer { result.buffer.now ≡ buffer.old }
+        ensures none { result.count ≡ 0 }
+    {
+        BufferBits { buffer, count: 0 }
+    }
+}
+
 impl<'a> BlockTaker for BufferBits<'a> {
     ghost use Rattle.std.specs.Prelude.{◌≡◌, take, length};
     ghost use Rattle.tm_buffers.specs.Decoding.{KeepsBits};

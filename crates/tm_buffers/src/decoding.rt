@@ -67,12 +67,9 @@ impl BufferDecoder {
             return None;
         }
         let most = bits.len();
-        let mut taker = BufferBits {
-            buffer: bits,
-            count: 0,
-        };
+        let mut taker = BufferBits::over(bits);
         let fed = self.inner.feed(octets, &mut taker);
-        let BufferBits { buffer: _, count } = taker;
+        let BufferBits { count, .. } = taker;
         match fed {
             Ok(()) => Some(count.min(most)),
             Err(_) => None,
@@ -93,12 +90,9 @@ impl BufferDecoder {
             return None;
         }
         let most = bits.len();
-        let mut taker = BufferBits {
-            buffer: bits,
-            count: 0,
-        };
+        let mut taker = BufferBits::over(bits);
         let ended = self.inner.finish(&mut taker);
-        let BufferBits { buffer: _, count } = taker;
+        let BufferBits { count, .. } = taker;
         match ended {
             Ok(_) => Some(count.min(most)),
             Err(_) => None,

@@ -1,7 +1,7 @@
 // Items, in arrays.
 ghost use Rattle.std.specs.Prelude.{◌≡◌, ◌≤◌, length, map, take};
 ghost use Rattle.tm_channel.specs.Items.{ItemValue};
-ghost use Rattle.tm_buffers.specs.Reports.{IsReport, number_of, repaired_of};
+ghost use Rattle.tm_buffers.specs.Reports.{IsReport, repaired_of};
 
 use tm_base::Failed;
 use tm_channel::{Answer, Item, ItemTaker};
@@ -39,6 +39,26 @@ pub struct BufferItems<'a, 'b> {
     pub is_short: bool,
     ghost octets_within: { octets ≤ length frames.now },
     ghost within: { count ≤ length reports.now },
+}
+
+impl<'a, 'b> BufferItems<'a, 'b> {
+    ghost use Rattle.std.specs.Prelude.{◌≡◌, length};
+    ghost use Rattle.tm_buffers.specs.Items.{collected, none_yet};
+
+    /// No items yet.
+    pub fn over(frames: &'a mut [u8], reports: &'b mut [Report]) -> BufferItems<'a, 'b>
+        ensures frames_loan { result.frames.ghost_name ≡ frames.entry.ghost_name }
+        ensures reports_loan { result.reports.ghost_name ≡ reports.entry.ghost_name }
+        ensures none { collected result ≡ none_yet (length frames.old) (length reports.old) }
+    {
+        BufferItems {
+            frames,
+            reports,
+            octets: 0,
+            count: 0,
+            is_short: false,
+        }
+    }
 }
 
 impl<'a, 'b> ItemTaker for BufferItems<'a, 'b> {
@@ -88,8 +108,8 @@ fn report_of(item: &Item<'_>) -> Report
         place: item.place,
         frame_length: item.frame.len() as u64,
         distance: item.distance,
-        bridged: number_of(item.bridged),
-        inverted: number_of(item.inverted),
+        bridged: u8::from(item.bridged),
+        inverted: u8::from(item.inverted),
         columns: item.answers.len() as u8,
         repaired: repaired(item.answers),
     }
@@ -115,10 +135,4 @@ fn repaired_of(answer: Answer) -> u8
         Answer::Fixed(count) => count,
         Answer::Beyond => 255,
     }
-}
-
-fn number_of(is: bool) -> u8
-    ensures { result ≡ number_of is }
-{
-    if is { 1 } else { 0 }
 }

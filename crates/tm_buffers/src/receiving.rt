@@ -56,20 +56,12 @@ impl BufferReceiver {
             → Receives self.old self.new given octets.now done result frames.new reports.new }
     {
         let most = reports.len();
-        let mut taker = BufferItems {
-            frames,
-            reports,
-            octets: 0,
-            count: 0,
-            is_short: false,
-        };
+        let mut taker = BufferItems::over(frames, reports);
         let fed = self.receiver.feed_in_order(octets, &mut taker);
         let BufferItems {
-            frames: _,
-            reports: _,
-            octets: _,
             count,
             is_short,
+            ..
         } = taker;
         match fed {
             Ok(()) => counted(count.min(most), is_short),
@@ -91,20 +83,12 @@ impl BufferReceiver {
             → ReceivesLast self.old self.new given done result bits.new frames.new reports.new }
     {
         let most = reports.len();
-        let mut taker = BufferItems {
-            frames,
-            reports,
-            octets: 0,
-            count: 0,
-            is_short: false,
-        };
+        let mut taker = BufferItems::over(frames, reports);
         let ended = self.receiver.finish_in_order(&mut taker);
         let BufferItems {
-            frames: _,
-            reports: _,
-            octets: _,
             count,
             is_short,
+            ..
         } = taker;
         match ended {
             Ok(received) => {

@@ -1,7 +1,5 @@
-use Rattle.std.proofs.Common.{rules, arith, ◌≡◌, ◌==◌, ◌<◌, ◌≤◌, ◌+◌, ◌*◌, ◌-◌, Bool, not, List, [], ◌∷◌, ◌++◌, length, None, refl, sym, ap, ◌∙◌, subst, length-append}
+use Rattle.std.proofs.Common.{rules, arith, ◌≡◌, ◌==◌, ◌+◌, Bool, not, List, ◌++◌, None, sym, ap, ◌∙◌, subst, length-append}
 use Rattle.std.proofs.lemmas.List.{append-nil, length-map}
-use Rattle.tm_base.specs.Bits.{bits_of}
-use Rattle.tm_base.proofs.Packing.{length-bits_of}
 use Rattle.tm_sync.specs.Searching.{StandsFor}
 use Rattle.tm_buffers.specs.Searching.{bits_in, span}
 use Rattle.tm_buffers.proofs.Spans.{finds-next, length-span, not-found, span-none, span-number, taken-more}

@@ -1,5 +1,4 @@
-use Rattle.std.proofs.Common.{rules, arith, ◌≡◌, ◌<◌, ◌+◌, ◌-◌, ◌*◌, ◌/◌, ◌%◌, Bool, List, [], ◌∷◌, ◌++◌, take, drop, length, ap, sym, ◌∙◌, subst}
-use Rattle.tm_base.specs.Bits.{bits_of}
+use Rattle.std.proofs.Common.{rules, arith, ◌≡◌, ◌<◌, ◌-◌, ◌/◌, ◌%◌, Bool, List, [], ◌∷◌, ◌++◌, ap, sym, ◌∙◌, subst}
 use Rattle.tm_sync.specs.Searching.{StandsFor}
 use Rattle.tm_sync.proofs.Sliding.{masked-bit}
 use Rattle.tm_buffers.proofs.Spans.{span-bit, span-octets}

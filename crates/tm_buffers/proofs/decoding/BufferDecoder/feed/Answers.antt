@@ -1,9 +1,7 @@
-use Rattle.std.proofs.Common.{rules, arith, ◌≡◌, ◌+◌, ◌*◌, ◌≤◌, ℕ, List, [], ◌++◌, length, take, nat_le, ◌^◌, ap, sym, ◌∙◌, subst, false}
-use Rattle.tm_base.specs.Handed.{Handed}
+use Rattle.std.proofs.Common.{rules, arith, ◌≡◌, ◌++◌, length, take, nat_le, ◌^◌, ap, sym, subst, false}
 use Rattle.tm_config.specs.Configuration.{Configuration}
 use Rattle.tm_inner.specs.Handing.{AreHandedDue}
 use Rattle.tm_inner.specs.Receiving.{InnerReceiving, StandsFor}
-use Rattle.tm_inner.proofs.GivenPieces.{taker_alone}
 use Rattle.tm_inner.proofs.HandedBits.{handed-more-few, needed-few}
 use Rattle.tm_buffers.specs.declared.bits.BufferBits.{BufferBits}
 use Rattle.tm_buffers.proofs.Needed.{needed}
@@ -30,7 +28,7 @@ returns-clause-decoded c = λ given done few is room.
           let most = handed-more-few inner.config given c.args.octets.now done h.0 due there.1 in
           let on : now.has_stopped ≡ false = search rules in
           let due_now = subst (λ (k : Configuration). AreHandedDue k (given ++ c.args.octets.now) (done ++ h.0)) (sym w.in-Ok.ensures.config) there.1 in
-          let fills = kept-fills _ _ c.args.bits.now taker.buffer.now taker.count h.0 kept taker.within
+          let fills = kept-fills _ _ c.args.bits.now _ taker.buffer.now _ taker.count h.0 c.over-taker.ensures.buffer c.over-taker.ensures.none kept taker.within
           (omega (arith, most, needed-few inner.config.inner inner.config, needed _ (nat_le (length c.args.octets.now) (2 ^ 40)) (length c.args.bits.now) room, keep, ahead)) in
           record { more = h.0; decoding = record { going = on; stands = there.0; due = due_now }; fills = search rules }
       | in-Err w ↦ absurd (search rules)

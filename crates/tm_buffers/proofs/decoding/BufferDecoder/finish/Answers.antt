@@ -1,10 +1,7 @@
-use Rattle.std.proofs.Common.{rules, arith, ◌≡◌, ◌+◌, ◌*◌, ◌≤◌, ℕ, List, [], ◌++◌, length, take, nat_le, ◌^◌, ap, sym, ◌∙◌, subst, true, false}
-use Rattle.tm_base.specs.Handed.{Handed}
-use Rattle.tm_config.specs.Configuration.{Configuration}
+use Rattle.std.proofs.Common.{rules, arith, ◌≡◌, ◌++◌, length, take, ap, sym, subst, true, false}
 use Rattle.tm_inner.specs.Handing.{AreHanded, AreHandedDue}
 use Rattle.tm_inner.specs.Phase.{IsChosen}
 use Rattle.tm_inner.specs.Receiving.{InnerReceiving, StandsFor}
-use Rattle.tm_inner.proofs.GivenPieces.{taker_alone}
 use Rattle.tm_inner.proofs.HandedBits.{handed-last-few, needed-few}
 use Rattle.tm_buffers.specs.declared.bits.BufferBits.{BufferBits}
 use Rattle.tm_buffers.proofs.Needed.{needed}
@@ -28,7 +25,7 @@ returns-clause-decoded c = λ given done is room.
           let kept = kept-all (λ (b : BufferBits). b.buffer.ghost_name) (λ b. length b.buffer.now) (λ b. take b.count b.buffer.now) _ taker h.0 h.1 in
           let loan : taker.buffer.ghost_name ≡ _ = kept.loan in
           let most = handed-last-few inner.config given done h.0 w.in-Ok.field-0.leftover due there.0 in
-          let fills = kept-fills _ _ c.args.bits.now taker.buffer.now taker.count h.0 kept taker.within
+          let fills = kept-fills _ _ c.args.bits.now _ taker.buffer.now _ taker.count h.0 c.over-taker.ensures.buffer c.over-taker.ensures.none kept taker.within
           (omega (arith, most, needed-few inner.config.inner inner.config, needed _ true (length c.args.bits.now) room, keep, ahead)) in
           let chosen = w.in-Ok.ensures.chosen given done stood going in
           record {

@@ -1,11 +1,10 @@
-use Rattle.std.proofs.Common.{rules, arith, ◌≡◌, ◌++◌, ℕ, List, length, false, sym, ap, ◌∙◌, subst}
+use Rattle.std.proofs.Common.{rules, ◌≡◌, ◌++◌, false, sym, subst}
 use Rattle.tm_base.specs.Handed.{items_of}
 use Rattle.tm_channel.specs.OctetReceiving.{OctetReceiving, StandsFor}
-use Rattle.tm_channel.specs.Handing.{AreReceived, AreReceivedDue}
-use Rattle.tm_inner.specs.Phase.{IsChosen}
-use Rattle.tm_buffers.specs.Items.{Tells, collected}
+use Rattle.tm_channel.specs.Handing.{AreReceivedDue}
+use Rattle.tm_buffers.specs.Items.{Collected, collected}
 use Rattle.tm_buffers.specs.declared.items.BufferItems.{BufferItems}
-use Rattle.tm_buffers.proofs.ItemsInTurn.{handled, tells}
+use Rattle.tm_buffers.proofs.ItemsInTurn.{All, handled, tells}
 use Rattle.tm_buffers.proofs.receiving.BufferReceiver.feed.Goals as goal
 use Rattle.tm_buffers.proofs.receiving.BufferReceiver.feed.Goals.{in-Ok, in-Err}
 
@@ -25,7 +24,8 @@ returns-clause-received c = λ given done few is.
           let reports_loan : taker.reports.ghost_name ≡ _ = took.reports_loan in
           let on : now.has_stopped ≡ false = search rules in
           let due = subst (λ (r : OctetReceiving). AreReceivedDue r.config (given ++ c.args.octets.now) (done ++ h.0)) c.self.view_is there.1 in
-          let written = tells c.args.frames.now c.args.reports.now taker (items_of h.0) took.all in
+          let all_new = subst (λ (a : Collected). All a (collected taker) (items_of h.0)) c.over-taker.ensures.none took.all in
+          let written = tells c.args.frames.now c.args.reports.now taker (items_of h.0) all_new in
           record { more = h.0; receiving = record { going = on; stands = there.0 }; due = due; tells = search rules }
       | in-Err w ↦ absurd (search rules)
     ]

@@ -1,11 +1,11 @@
-use Rattle.std.proofs.Common.{rules, arith, ◌≡◌, ◌++◌, ℕ, List, length, false, sym, ap, ◌∙◌, subst}
+use Rattle.std.proofs.Common.{rules, ◌≡◌, ◌++◌, false, sym, subst}
 use Rattle.tm_base.specs.Handed.{items_of}
 use Rattle.tm_channel.specs.OctetReceiving.{OctetReceiving, StandsFor}
-use Rattle.tm_channel.specs.Handing.{AreReceived, AreReceivedDue}
+use Rattle.tm_channel.specs.Handing.{AreReceived}
 use Rattle.tm_inner.specs.Phase.{IsChosen}
-use Rattle.tm_buffers.specs.Items.{Tells, collected}
+use Rattle.tm_buffers.specs.Items.{Collected, collected}
 use Rattle.tm_buffers.specs.declared.items.BufferItems.{BufferItems}
-use Rattle.tm_buffers.proofs.ItemsInTurn.{handled, tells}
+use Rattle.tm_buffers.proofs.ItemsInTurn.{All, handled, tells}
 use Rattle.tm_buffers.proofs.receiving.BufferReceiver.finish.Goals as goal
 use Rattle.tm_buffers.proofs.receiving.BufferReceiver.finish.Goals.{in-Ok, in-Err}
 
@@ -24,7 +24,8 @@ returns-clause-received c = λ given done is.
           let reports_loan : taker.reports.ghost_name ≡ _ = took.reports_loan in
           let all = subst (λ (r : OctetReceiving). AreReceived r.config given (done ++ h.0) w.in-Ok.received) c.self.view_is there in
           let chosen = subst (λ (r : OctetReceiving). IsChosen r.config given c.finish_in_order-ended.new.self.stages.inner.phased.chosen) c.self.view_is (w.in-Ok.ensures.chosen given done stood going) in
-          let written = tells c.args.frames.now c.args.reports.now taker (items_of h.0) took.all in
+          let all_new = subst (λ (a : Collected). All a (collected taker) (items_of h.0)) c.over-taker.ensures.none took.all in
+          let written = tells c.args.frames.now c.args.reports.now taker (items_of h.0) all_new in
           record { last = h.0; all = subst (λ n. AreReceived c.args.self.now.config given (done ++ h.0) n) (sym w.bits-is) all; tells = search rules; chosen = chosen }
       | in-Err w ↦ absurd (search rules)
     ]
