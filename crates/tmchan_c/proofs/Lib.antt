@@ -1,3 +1,3 @@
 pub mod AsBox
 pub mod Streams
-pub mod ReceiverCalls
+pub mod Searches

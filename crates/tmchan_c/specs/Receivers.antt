@@ -1,18 +1,17 @@
 -- What a call does with the receiver behind a handle.
-use Rattle.std.specs.Prelude.{◌≡◌, ◌⊎◌, ◌<◌, ℕ, ℤ, pos, List, [], ◌++◌, length, take, Option, Some, None}
+use Rattle.std.specs.Prelude.{◌≡◌, ℕ, ℤ, List, ◌++◌, Option, Some, None, IsSomeAnd}
 use Rattle.tm_base.specs.Handed.{Handed, items_of}
 use Rattle.tm_config.specs.Configuration.{Configuration}
 use Rattle.tm_channel.specs.Handing.{AreReceived, AreReceivedDue}
-use Rattle.tm_channel.specs.Items.{ItemValue, frames_of}
+use Rattle.tm_channel.specs.Items.{ItemValue}
 use Rattle.tm_channel.specs.OctetReceiving.{OctetReceiving}
 use Rattle.tm_inner.specs.Phase.{IsChosen}
 use Rattle.tm_buffers.specs.Items.{Tells}
 use Rattle.tm_buffers.specs.Receiving.{IsReceiving}
 use Rattle.tm_buffers.specs.declared.items.Report.{Report}
 use Rattle.tmchan_c.specs.Phases.{chosen_of}
-use Rattle.tmchan_c.specs.Refusal.{refused}
+use Rattle.tmchan_c.specs.Refusal.{number_answer}
 use Rattle.tmchan_c.specs.declared.phase.PhaseState.{PhaseState}
-use Rattle.tmchan_c.specs.declared.refusal.Refusal.TheVariants.{Room}
 use Rattle.tmchan_c.specs.declared.stream.Stream.{Stream}
 use Rattle.tmchan_c.specs.declared.stream.Stream.TheVariants.{Sender, Decoder, Receiver}
 
@@ -23,36 +22,35 @@ receiver_in (Some (Sender sender)) = None
 receiver_in (Some (Decoder decoder)) = None
 receiver_in None = None
 
--- a receiver of this configuration that was given nothing yet
-abbrev pub IsNewReceiver : Configuration → Stream → Type 0
-IsNewReceiver c (Receiver receiver) = (receiver.config ≡ c) × IsReceiving receiver [] []
-IsNewReceiver c (Sender sender) = ⊥
-IsNewReceiver c (Decoder decoder) = ⊥
+-- it holds a receiver of this configuration that was given these octets, and has handed over this
+abbrev pub IsReceiver : Option Stream → Configuration → List ℕ → List (Handed ItemValue) → Type 0
+IsReceiver held c given done =
+    IsSomeAnd (receiver_in held)
+    (λ receiver. (receiver.config ≡ c) × IsReceiving receiver given done)
 
--- how many items were written, or that there was no room for all
-abbrev pub count_answer : Option ℕ → ℤ
-count_answer None = refused Room
-count_answer (Some count) = pos count
+-- the frames and the reports of items were written, and the answer is how many these are; or there
+-- was no room for all
+pub record WroteItems (answer : ℤ) (frames : List ℕ) (reports : List Report)
+    (items : List ItemValue) : Type 0 where
+  pub count : Option ℕ
+  pub answers : answer ≡ number_answer None count
+  pub tells : Tells count frames reports items
 
--- a receiver that was given octets goes on to further ones, and what is due with them was written,
--- or there was no room for all
-pub record ReceivesInto (receiver : OctetReceiving) (now : Option Stream) (answer : ℤ) (frames : List ℕ) (reports : List Report) (given octets : List ℕ) (done : List (Handed ItemValue)) : Type 0 where
-  pub next : OctetReceiving
-  pub holds : receiver_in now ≡ Some next
-  pub config : next.config ≡ receiver.config
+-- a receiver that was given octets goes on to further ones, and what is due with them was written
+pub record ReceivesInto (c : Configuration) (given octets : List ℕ)
+    (done : List (Handed ItemValue)) (now : Option Stream) (answer : ℤ) (frames : List ℕ)
+    (reports : List Report) : Type 0 where
   pub more : List (Handed ItemValue)
-  pub receives : IsReceiving next (given ++ octets) (done ++ more)
-  pub due : AreReceivedDue receiver.config (given ++ octets) (done ++ more)
-  pub count : Option ℕ
-  pub answers : answer ≡ count_answer count
-  pub tells : Tells count frames reports (items_of more)
+  pub receiver : IsReceiver now c (given ++ octets) (done ++ more)
+  pub due : AreReceivedDue c (given ++ octets) (done ++ more)
+  pub wrote : WroteItems answer frames reports (items_of more)
 
--- at the end of its octets, which came to so many bits, what is left was written, or there was no
--- room for all, and the phase was told
-pub record ReceivesLastInto (receiver : OctetReceiving) (answer : ℤ) (frames : List ℕ) (reports : List Report) (bits : ℕ) (phase : PhaseState) (given : List ℕ) (done : List (Handed ItemValue)) : Type 0 where
+-- at the end of its octets, which came to so many bits, what is left was written, and the phase was
+-- told
+pub record ReceivesLastInto (c : Configuration) (given : List ℕ)
+    (done : List (Handed ItemValue)) (answer : ℤ) (frames : List ℕ) (reports : List Report)
+    (bits : ℕ) (phase : PhaseState) : Type 0 where
   pub last : List (Handed ItemValue)
-  pub all : AreReceived receiver.config given (done ++ last) bits
-  pub count : Option ℕ
-  pub answers : answer ≡ count_answer count
-  pub tells : Tells count frames reports (items_of last)
-  pub chosen : IsChosen receiver.config given (chosen_of phase)
+  pub all : AreReceived c given (done ++ last) bits
+  pub wrote : WroteItems answer frames reports (items_of last)
+  pub chosen : IsChosen c given (chosen_of phase)

@@ -1,8 +1,9 @@
--- When a call is refused, and the numbers that calls answer.
-use Rattle.std.specs.Prelude.{ℕ, ◌+◌, ◌*◌, ◌==◌, ℤ, pos, negsuc, [], ◌∷◌, Option, Some, None, nat_lt, nat_le, if◌then◌else◌}
-use Rattle.tm_config.specs.Accepted.{is_listed, is_within, place_of}
+-- When a call is refused, what that promises, and the numbers that calls answer.
+use Rattle.std.specs.Prelude.{◌≡◌, ℕ, ◌+◌, ◌*◌, ◌==◌, ℤ, pos, negsuc, [], ◌∷◌, Option, Some, None, option_map, nat_lt, nat_le, if◌then◌else◌}
+use Rattle.tm_config.specs.Accepted.{is_listed, is_within, place_of, refusal_of}
 use Rattle.tm_config.specs.declared.error.ConfigError.{ConfigError}
 use Rattle.tm_config.specs.declared.error.ConfigError.TheVariants.{Code, Length, Basis, Repair}
+use Rattle.tm_config.specs.declared.values.Raw.{Raw}
 use Rattle.tmchan_c.specs.declared.refusal.Refusal.{Refusal}
 use Rattle.tmchan_c.specs.declared.refusal.Refusal.TheVariants.{Room, Flags, Column, Closed, Open, Memory, Value}
 
@@ -29,6 +30,22 @@ refused (Value error) = value_answer error
 abbrev pub answered : Option Refusal → ℤ
 answered None = pos 0
 answered (Some refusal) = refused refusal
+
+-- the answer of a call that tells a number: a reason to refuse it, or that there is not the room,
+-- or the number
+abbrev pub number_answer : Option Refusal → Option ℕ → ℤ
+number_answer (Some refusal) number = refused refusal
+number_answer None None = refused Room
+number_answer None (Some number) = pos number
+
+-- a call that there is a reason to refuse answers that, and leaves all as it was
+abbrev pub Refuses : Option Refusal → ℤ → Type 0 → Type 0
+Refuses refusal answer unchanged =
+    (reason : Refusal) → refusal ≡ Some reason → (answer ≡ refused reason) × unchanged
+
+-- the reason to refuse the values of options: the first that is outside its list or range, or none
+abbrev pub values_refusal : Raw → Option Refusal
+values_refusal raw = option_map (λ error. Value error) (refusal_of raw)
 
 -- the first reason to refuse a word of n symbols of the code that corrects this many, or else the
 -- one that comes after these, or none

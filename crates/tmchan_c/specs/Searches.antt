@@ -1,4 +1,5 @@
 -- A search for markers, as a program in C keeps it.
+use Rattle.std.specs.Int.{from_bool}
 use Rattle.std.specs.Prelude.{◌≡◌, ℕ, ◌+◌, ◌^◌, ◌≤◌, ◌==◌, ◌&&◌, nat_le, ℤ, pos, Bool, true, List, ◌++◌, length, Option, Some, None, if◌then◌else◌}
 use Rattle.tm_config.specs.declared.error.ConfigError.TheVariants.{Tolerance, Fly, Polarity}
 use Rattle.tm_sync.specs.declared.found.Found.{Found}
@@ -13,9 +14,6 @@ use Rattle.tmchan_c.specs.declared.refusal.Refusal.{Refusal}
 use Rattle.tmchan_c.specs.declared.refusal.Refusal.TheVariants.{Room, Closed, Value}
 use Rattle.tmchan_c.specs.declared.search.SearchState.{SearchState}
 use Rattle.tmchan_c.specs.declared.search.PlaceState.{PlaceState}
-
-abbrev pub number_of : Bool → ℕ
-number_of is = if is then 1 else 0
 
 abbrev pub before_of : SearchState → Option Before
 before_of s = if s.has_before == 1 then Some (record { inverted = s.before_inverted == 1; bridged = s.before_bridged }) else None
@@ -84,8 +82,8 @@ place_after None place = place
 place_after (Some f) place = record {
   place = f.place;
   distance = f.distance;
-  bridged = number_of f.bridged;
-  inverted = number_of f.inverted;
+  bridged = from_bool f.bridged;
+  inverted = from_bool f.inverted;
 }
 
 -- a search has taken bits of a list of `size` from one index on up to another, behind which the

@@ -1,10 +1,8 @@
 -- What a call does with the stream behind a handle.
-use Rattle.std.specs.Prelude.{◌≡◌, ℕ, ℤ, Bool, if◌then◌else◌, pos, List, [], ◌++◌, length, take, Option, Some, None}
+use Rattle.std.specs.Prelude.{◌≡◌, ℕ, ℤ, Bool, if◌then◌else◌, pos, List, ◌++◌, length, take, Option, Some, None, IsSomeAnd}
 use Rattle.tm_base.specs.Handed.{Handed, items_of}
 use Rattle.tm_base.specs.Pieces.{further}
 use Rattle.tm_config.specs.Configuration.{Configuration}
-use Rattle.tm_config.specs.Accepted.{refusal_of}
-use Rattle.tm_config.specs.declared.error.ConfigError.{ConfigError}
 use Rattle.tm_channel.specs.Sending.{Sending}
 use Rattle.tm_channel.specs.Sent.{sent}
 use Rattle.tm_inner.specs.Handing.{AreHanded}
@@ -12,33 +10,39 @@ use Rattle.tm_inner.specs.Phase.{IsChosen}
 use Rattle.tm_inner.specs.Receiving.{InnerReceiving}
 use Rattle.tm_viterbi.specs.Clean.{kept_bits}
 use Rattle.tm_viterbi.specs.WindowBlock.{WindowBlock}
-use Rattle.tm_buffers.specs.Decoding.{IsDecoding}
-use Rattle.tm_buffers.specs.Sending.{IsSending}
+use Rattle.tm_buffers.specs.Buffer.{has_room}
+use Rattle.tm_buffers.specs.Decoding.{IsDecoding, bits_room}
+use Rattle.tm_buffers.specs.Sending.{IsSending, symbols_room}
 use Rattle.tmchan_c.specs.Options.{raw_of}
-use Rattle.tmchan_c.specs.Refusal.{refused, value_answer}
-use Rattle.tmchan_c.specs.Unit.{value_refusal}
+use Rattle.tmchan_c.specs.Refusal.{refused, values_refusal}
 use Rattle.tmchan_c.specs.declared.config.Options.{Options}
 use Rattle.tmchan_c.specs.declared.refusal.Refusal.{Refusal}
-use Rattle.tmchan_c.specs.declared.refusal.Refusal.TheVariants.{Room, Open, Memory}
+use Rattle.tmchan_c.specs.declared.refusal.Refusal.TheVariants.{Room, Closed, Open, Memory}
 use Rattle.tmchan_c.specs.declared.stream.Stream.{Stream}
 use Rattle.tmchan_c.specs.declared.stream.Stream.TheVariants.{Sender, Decoder, Receiver}
 use Rattle.tmchan_c.specs.Phases.{chosen_of}
 use Rattle.tmchan_c.specs.declared.phase.PhaseState.{PhaseState}
 
+-- ---- streams of any kind
+
 -- the first reason to refuse to open a handle, where it is open or not, or none
 abbrev pub open_refusal : Bool → Options → Option Refusal
-open_refusal is_open options = if is_open then Some Open else value_refusal (refusal_of (raw_of options)) None
+open_refusal is_open options = if is_open then Some Open else values_refusal (raw_of options)
 
--- a stream was opened of which this is true, or there was not enough memory
-abbrev pub Opens : ℤ → Option Stream → (Stream → Type 0) → Type 0
-Opens answer (Some stream) Is = (answer ≡ pos 0) × Is stream
+-- a stream was opened, of which this is true, or there was not enough memory
+abbrev pub Opens : ℤ → Option Stream → (Option Stream → Type 0) → Type 0
+Opens answer (Some stream) Is = (answer ≡ pos 0) × Is (Some stream)
 Opens answer None Is = answer ≡ refused Memory
 
--- the answer that tells the room that is needed, or why there is none
-abbrev pub room_answer : Option ConfigError → Option ℕ → ℤ
-room_answer (Some error) room = value_answer error
-room_answer None None = refused Room
-room_answer None (Some room) = pos room
+-- the reason to refuse a call on a stream that is there or not, or none
+abbrev pub closed_refusal : {T : Type 0} → Option T → Option Refusal
+closed_refusal None = Some Closed
+closed_refusal (Some stream) = None
+
+-- the same of a call that needs room, of which there is so much
+abbrev pub room_refusal : {T : Type 0} → Option T → (T → Option ℕ) → ℕ → Option Refusal
+room_refusal None needed room = Some Closed
+room_refusal (Some stream) needed room = if has_room (needed stream) room then None else Some Room
 
 -- a call has written this to the front of a buffer
 abbrev pub Wrote : {T : Type 0} → ℤ → List T → List T → Type 0
@@ -53,19 +57,21 @@ sender_in (Some (Decoder decoder)) = None
 sender_in (Some (Receiver receiver)) = None
 sender_in None = None
 
--- a sender of this configuration that was given nothing yet
-abbrev pub IsNewSender : Configuration → Stream → Type 0
-IsNewSender c (Sender sender) = (sender.config ≡ c) × IsSending sender []
-IsNewSender c (Decoder decoder) = ⊥
-IsNewSender c (Receiver receiver) = ⊥
+-- it holds a sender of this configuration that was given these octets
+abbrev pub IsSender : Option Stream → Configuration → List ℕ → Type 0
+IsSender held c given =
+    IsSomeAnd (sender_in held) (λ sender. (sender.config ≡ c) × IsSending sender given)
+
+-- the first reason to refuse it so many octets with so much room, or none
+abbrev pub sender_refusal : Option Stream → ℕ → ℕ → Option Refusal
+sender_refusal held octets room =
+    room_refusal (sender_in held) (λ sender. symbols_room sender.config octets) room
 
 -- a sender that was given octets goes on to further ones, of which the symbols were written
-pub record Sends (sender : Sending) (now : Option Stream) (answer : ℤ) (symbols given octets : List ℕ) : Type 0 where
-  pub next : Sending
-  pub holds : sender_in now ≡ Some next
-  pub config : next.config ≡ sender.config
-  pub sends : IsSending next (given ++ octets)
-  pub wrote : Wrote answer symbols (further (sent sender.config) given octets)
+pub record Sends (c : Configuration) (given octets : List ℕ) (now : Option Stream) (answer : ℤ)
+    (symbols : List ℕ) : Type 0 where
+  pub sender : IsSender now c (given ++ octets)
+  pub wrote : Wrote answer symbols (further (sent c) given octets)
 
 -- ---- decoders
 
@@ -76,26 +82,31 @@ decoder_in (Some (Sender sender)) = None
 decoder_in (Some (Receiver receiver)) = None
 decoder_in None = None
 
--- a decoder of this configuration that was given nothing yet
-abbrev pub IsNewDecoder : Configuration → Stream → Type 0
-IsNewDecoder c (Decoder decoder) = (decoder.config ≡ c) × IsDecoding decoder [] []
-IsNewDecoder c (Sender sender) = ⊥
-IsNewDecoder c (Receiver receiver) = ⊥
+-- it holds a decoder of this configuration that was given these octets, and has handed over this
+abbrev pub IsDecoder : Option Stream → Configuration → List ℕ → List (Handed WindowBlock) → Type 0
+IsDecoder held c given done =
+    IsSomeAnd (decoder_in held) (λ decoder. (decoder.config ≡ c) × IsDecoding decoder given done)
+
+-- the first reason to refuse it so many octets, or its end, with so much room, or none
+abbrev pub decoder_refusal : Option Stream → ℕ → ℕ → Option Refusal
+decoder_refusal held octets room =
+    room_refusal (decoder_in held) (λ decoder. bits_room decoder.config octets) room
 
 -- a decoder that was given octets goes on to further ones, and the bits that are due with them were
 -- written
-pub record DecodesInto (decoder : InnerReceiving) (now : Option Stream) (answer : ℤ) (bits given octets : List ℕ) (done : List (Handed WindowBlock)) : Type 0 where
-  pub next : InnerReceiving
-  pub holds : decoder_in now ≡ Some next
-  pub config : next.config ≡ decoder.config
+pub record DecodesInto (c : Configuration) (given octets : List ℕ)
+    (done : List (Handed WindowBlock)) (now : Option Stream) (answer : ℤ)
+    (bits : List ℕ) : Type 0 where
   pub more : List (Handed WindowBlock)
-  pub decodes : IsDecoding next (given ++ octets) (done ++ more)
+  pub decoder : IsDecoder now c (given ++ octets) (done ++ more)
   pub wrote : Wrote answer bits (kept_bits (items_of more))
 
 -- at the end of its octets the bits that are left were written, and the phase was told
-pub record DecodesLastInto (decoder : InnerReceiving) (answer : ℤ) (bits given : List ℕ) (done : List (Handed WindowBlock)) (phase : PhaseState) : Type 0 where
+pub record DecodesLastInto (c : Configuration) (given : List ℕ)
+    (done : List (Handed WindowBlock)) (answer : ℤ) (bits : List ℕ)
+    (phase : PhaseState) : Type 0 where
   pub last : List (Handed WindowBlock)
   pub left : ℕ
-  pub all : AreHanded decoder.config given (done ++ last) left
+  pub all : AreHanded c given (done ++ last) left
   pub wrote : Wrote answer bits (kept_bits (items_of last))
-  pub chosen : IsChosen decoder.config given (chosen_of phase)
+  pub chosen : IsChosen c given (chosen_of phase)

@@ -1,12 +1,11 @@
 -- The channel access data unit of a frame, by the numbers that a call is given.
-use Rattle.std.specs.Prelude.{ℕ, ◌+◌, ◌==◌, Option, Some, None, ℤ, pos, if◌then◌else◌}
+use Rattle.std.specs.Prelude.{ℕ, ◌+◌, ◌==◌, Option, Some, None, if◌then◌else◌}
+use Rattle.std.specs.Option.{option_or}
 use Rattle.tm_config.specs.Configuration.{Configuration, codeblock_length, configuration_of, default_raw}
-use Rattle.tm_config.specs.Accepted.{refusal_of}
-use Rattle.tm_config.specs.declared.error.ConfigError.{ConfigError}
 use Rattle.tm_config.specs.declared.values.Raw.{Raw}
-use Rattle.tmchan_c.specs.Refusal.{value_answer}
+use Rattle.tmchan_c.specs.Refusal.{values_refusal}
 use Rattle.tmchan_c.specs.declared.refusal.Refusal.{Refusal}
-use Rattle.tmchan_c.specs.declared.refusal.Refusal.TheVariants.{Room, Value}
+use Rattle.tmchan_c.specs.declared.refusal.Refusal.TheVariants.{Room}
 
 -- the values of the options: those that were told, and else the defaults
 abbrev pub unit_raw : ℕ → ℕ → ℕ → ℕ → ℕ → Raw
@@ -28,18 +27,8 @@ unit_configuration code depth basis randomize frame =
 abbrev pub unit_size : Configuration → ℕ
 unit_size c = codeblock_length c + 4
 
--- a reason of an option, or else the one that comes after these, or none
-abbrev pub value_refusal : Option ConfigError → Option Refusal → Option Refusal
-value_refusal (Some error) other = Some (Value error)
-value_refusal None other = other
-
 -- the first reason to refuse a frame of so many octets and room for so many, or none
 abbrev pub unit_refusal : ℕ → ℕ → ℕ → ℕ → ℕ → ℕ → Option Refusal
 unit_refusal code depth basis randomize frame room =
-    value_refusal (refusal_of (unit_raw code depth basis randomize frame))
+    option_or (values_refusal (unit_raw code depth basis randomize frame))
     (if room == unit_size (unit_configuration code depth basis randomize frame) then None else Some Room)
-
--- the answer that tells the size of a unit, or why there is none
-abbrev pub size_answer : Option ConfigError → ℕ → ℤ
-size_answer (Some error) size = value_answer error
-size_answer None size = pos size

@@ -1,11 +1,8 @@
 // A configuration as a program in C has it.
-ghost use Rattle.std.specs.Prelude.{◌≡◌, None};
-ghost use Rattle.tm_config.specs.Configuration.{default_raw};
-ghost use Rattle.tm_config.specs.Configuration.{configuration_of};
-ghost use Rattle.tm_config.specs.Accepted.{refusal_of};
-ghost use Rattle.tmchan_c.specs.Options.{given, raw_of};
-ghost use Rattle.tmchan_c.specs.Refusal.{answered};
-ghost use Rattle.tmchan_c.specs.Unit.{size_answer, value_refusal};
+ghost use Rattle.std.specs.Prelude.{◌≡◌, None, Some, IfOk, IfErr};
+ghost use Rattle.tm_config.specs.Configuration.{configuration_of, default_raw};
+ghost use Rattle.tmchan_c.specs.Options.{configuration, given, raw_of};
+ghost use Rattle.tmchan_c.specs.Refusal.{answered, number_answer, values_refusal};
 
 use crate::refusal::Refusal;
 use tm_config::{Config, Raw};
@@ -72,10 +69,10 @@ pub extern "C" fn tmchan_config_defaults(options: &mut Options)
 /// Answers 0, or the first value that is outside its list or range.
 #[unsafe(no_mangle)]
 pub extern "C" fn tmchan_config_check(options: &Options) -> i32
-    ensures { result ≡ answered (value_refusal (refusal_of (raw_of options.now)) None) }
+    ensures { result ≡ answered (values_refusal (raw_of options.now)) }
 {
-    match Config::check(&raw(options)) {
-        Err(error) => Refusal::Value(error).answer(),
+    match checked(&raw(options)) {
+        Err(refusal) => refusal.answer(),
         Ok(_) => 0,
     }
 }
@@ -83,12 +80,23 @@ pub extern "C" fn tmchan_config_check(options: &Options) -> i32
 /// The octets of a transfer frame; or the first value that is outside its list or range.
 #[unsafe(no_mangle)]
 pub extern "C" fn tmchan_frame_length(options: &Options) -> i32
-    ensures { result ≡ size_answer (refusal_of (raw_of options.now))
-        (configuration_of (raw_of options.now)).frame_length }
+    ensures { result ≡ number_answer (values_refusal (raw_of options.now))
+        (Some (configuration options.now).frame_length) }
 {
-    match Config::check(&raw(options)) {
-        Err(error) => Refusal::Value(error).answer(),
+    match checked(&raw(options)) {
+        Err(refusal) => refusal.answer(),
         Ok(config) => config.length() as i32,
+    }
+}
+
+/// The configuration that values give, or why they give none.
+pub fn checked(raw: &Raw) -> Result<Config, Refusal>
+    ensures ok { IfOk result (λ config. (values_refusal raw.now ≡ None) × (config ≡ configuration_of raw.now)) }
+    ensures err { IfErr result (λ refusal. values_refusal raw.now ≡ Some refusal) }
+{
+    match Config::check(raw) {
+        Ok(config) => Ok(config),
+        Err(error) => Err(Refusal::Value(error)),
     }
 }
 

@@ -1,11 +1,11 @@
 // A handle of a stream, as a program in C has it.
-ghost use Rattle.std.specs.Prelude.{◌≡◌, ◌↔◌, None, Some, IfOk, IfErr, IsSome, pos, if◌then◌else◌};
+ghost use Rattle.std.specs.Prelude.{◌≡◌, ◌↔◌, None, Some, IfOk, IfErr, IsSome};
 ghost use Rattle.std.specs.Option.{is_some, option_map};
-ghost use Rattle.tmchan_c.specs.Refusal.{refused};
+ghost use Rattle.tmchan_c.specs.Refusal.{answered};
 ghost use Rattle.tmchan_c.specs.Options.{configuration};
-ghost use Rattle.tmchan_c.specs.Streams.{Opens, open_refusal};
+ghost use Rattle.tmchan_c.specs.Streams.{Opens, closed_refusal, open_refusal};
 
-use crate::config::{Options, raw};
+use crate::config::{Options, checked, raw};
 use crate::kept::Kept;
 use crate::parts::Parts;
 use crate::refusal::Refusal;
@@ -55,7 +55,7 @@ pub fn put(handle: &mut Handle, stream: Box<Stream>)
 /// Opens a handle that is closed. Answers 0, or that there is not enough memory.
 pub fn open(alloc: Global, handle: &mut Handle, stream: Stream) -> i32
     requires { handle.old.kept.value ≡ None }
-    ensures { Opens result handle.new.kept.value (λ opened. opened ≡ stream) }
+    ensures { Opens result handle.new.kept.value (λ held. held ≡ Some stream) }
 {
     match Box::new(alloc, stream) {
         Ok(stream) => {
@@ -76,10 +76,7 @@ pub fn to_open(handle: &Handle, options: &Options) -> Result<Config, Refusal>
     if is_open(handle) {
         return Err(Refusal::Open);
     }
-    match Config::check(&raw(options)) {
-        Ok(config) => Ok(config),
-        Err(error) => Err(Refusal::Value(error)),
-    }
+    checked(&raw(options))
 }
 
 // Whether a handle is open.
@@ -92,7 +89,7 @@ fn is_open(handle: &Handle) -> bool
 /// Closes a stream, whichever it is, and gives its memory back. Answers 0, or that none is open.
 #[unsafe(no_mangle)]
 pub extern "C" fn tmchan_close(alloc: Global, handle: &mut Handle) -> i32
-    ensures answer { result ≡ (if is_some handle.old.kept.value then pos 0 else refused Refusal.Closed) }
+    ensures answer { result ≡ answered (closed_refusal handle.old.kept.value) }
     ensures closed { handle.new.kept.value ≡ None }
 {
     match take(alloc, handle) {

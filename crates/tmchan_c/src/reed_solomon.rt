@@ -7,7 +7,7 @@ ghost use Rattle.tm_rs_code.specs.Code.{IsLength, IsStrength};
 ghost use Rattle.tm_rs_code.specs.Erasures.{IsNearestErased};
 ghost use Rattle.tm_rs_code.specs.Nearest.{IsNearest};
 ghost use Rattle.tm_rs_solve.specs.Answers.{found, found_erased};
-ghost use Rattle.tmchan_c.specs.Refusal.{answered, decode_refusal, encode_refusal, erased_refusal, refused};
+ghost use Rattle.tmchan_c.specs.Refusal.{Refuses, answered, decode_refusal, encode_refusal, erased_refusal};
 ghost use Rattle.tmchan_c.specs.Repaired.{IsRepaired, IsRepairedErased, erased_by};
 
 use crate::refusal::{Refusal, checks_refusal, flags_refusal, word_refusal};
@@ -40,7 +40,7 @@ pub extern "C" fn tmchan_rs_encode(code: u32, basis: u32, info: &[u8], checks: &
         Some(refusal) => refusal.answer(),
         None => {
             let params = params_of(code, info.len() + checks.len());
-            write_checks(&params, basis_named(basis), info, checks);
+            write_checks(&params, Basis::numbered(u64::from(basis)), info, checks);
             0
         }
     }
@@ -50,14 +50,13 @@ pub extern "C" fn tmchan_rs_encode(code: u32, basis: u32, info: &[u8], checks: &
 /// those symbols, or -1 where there is none, and the word is as it was; or why it is refused.
 #[unsafe(no_mangle)]
 pub extern "C" fn tmchan_rs_decode(code: u32, basis: u32, repair: u32, word: &mut [u8]) -> i32
-    ensures refused { (refusal : Refusal) → decode_refusal code basis repair (length word.old) ≡ Some refusal
-        → (result ≡ refused refusal) × (word.new ≡ word.old) }
+    ensures refused { Refuses (decode_refusal code basis repair (length word.old)) result (word.new ≡ word.old) }
     ensures repaired { decode_refusal code basis repair (length word.old) ≡ None
         → IsRepaired code (basis_of basis) repair word.old result word.new }
 {
     match word_refusal(code, word.len() as u64, basis, repair, None) {
         Some(refusal) => refusal.answer(),
-        None => repair_word(code, basis_named(basis), repair as u8, word),
+        None => repair_word(code, Basis::numbered(u64::from(basis)), repair as u8, word),
     }
 }
 
@@ -71,27 +70,15 @@ pub extern "C" fn tmchan_rs_decode_erased(
     word: &mut [u8],
     erased: &[u8],
 ) -> i32
-    ensures refused { (refusal : Refusal) → erased_refusal code basis repair (length word.old) (length erased.now)
-        ≡ Some refusal
-        → (result ≡ refused refusal) × (word.new ≡ word.old) }
+    ensures refused { Refuses (erased_refusal code basis repair (length word.old) (length erased.now)) result
+        (word.new ≡ word.old) }
     ensures repaired { erased_refusal code basis repair (length word.old) (length erased.now) ≡ None
         → IsRepairedErased code (basis_of basis) repair erased.now word.old result word.new }
 {
     let other = flags_refusal(word.len(), erased.len());
     match word_refusal(code, word.len() as u64, basis, repair, other) {
         Some(refusal) => refusal.answer(),
-        None => repair_erased(code, basis_named(basis), repair as u8, word, erased),
-    }
-}
-
-// The basis of this number.
-fn basis_named(number: u32) -> Basis
-    ensures { result ≡ basis_of number }
-{
-    if number == 0 {
-        Basis::Dual
-    } else {
-        Basis::Poly
+        None => repair_erased(code, Basis::numbered(u64::from(basis)), repair as u8, word, erased),
     }
 }
 
@@ -126,10 +113,9 @@ fn repair_word(code: u32, basis: Basis, repair: u8, word: &mut [u8]) -> i32
     requires bound { repair ≤ code }
     ensures { IsRepaired code basis repair word.old result word.new }
 {
-    let size = word.len();
-    let params = params_of(code, size);
-    let mut elements = [Gf(0); MOST];
-    let elements = &mut elements[..size];
+    let params = params_of(code, word.len());
+    let mut room = [Gf(0); MOST];
+    let elements = &mut room[..word.len()];
     basis.octets_to_elements(word, elements);
     match decode_counted::<Brand>(Blank::new(1), &params, repair, elements) {
         Answer::Fixed(count) => {
@@ -161,13 +147,12 @@ fn repair_erased(code: u32, basis: Basis, repair: u8, word: &mut [u8], flags: &[
     requires flags { length flags.now ≡ length word.old }
     ensures { IsRepairedErased code basis repair flags.now word.old result word.new }
 {
-    let size = word.len();
-    let params = params_of(code, size);
-    let mut elements = [Gf(0); MOST];
-    let elements = &mut elements[..size];
+    let params = params_of(code, word.len());
+    let mut room = [Gf(0); MOST];
+    let elements = &mut room[..word.len()];
     basis.octets_to_elements(word, elements);
-    let mut erased = [false; MOST];
-    let erased = &mut erased[..size];
+    let mut flags_room = [false; MOST];
+    let erased = &mut flags_room[..word.len()];
     read_flags(flags, erased);
     match erased_counted::<Brand>(Blank::new(1), &params, repair, erased, elements) {
         ErasedAnswer::Fixed(others, inside) => {

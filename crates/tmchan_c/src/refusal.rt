@@ -1,7 +1,7 @@
 // Why calls are refused, and the answers that say so.
-ghost use Rattle.std.specs.Prelude.{◌≡◌, ◌*◌, ◌+◌, ◌<ℤ◌, ◌≤◌, None, pos};
+ghost use Rattle.std.specs.Prelude.{◌≡◌, ◌*◌, ◌+◌, ◌^◌, ◌<◌, ◌<ℤ◌, ◌≤◌, IfSome, None, pos};
 ghost use Rattle.tm_rs_code.specs.Code.{IsLength, IsStrength};
-ghost use Rattle.tmchan_c.specs.Refusal.{checks_refusal, column_refusal, flags_refusal, refused, value_answer, word_refusal};
+ghost use Rattle.tmchan_c.specs.Refusal.{checks_refusal, column_refusal, flags_refusal, number_answer, refused, value_answer, word_refusal};
 
 use tm_config::ConfigError;
 
@@ -39,6 +39,24 @@ impl Refusal {
             Refusal::Memory => -7,
             Refusal::Value(error) => value_answer(error),
         }
+    }
+
+    /// The same in 64 bits.
+    pub fn long_answer(self) -> i64
+        ensures { result ≡ refused self }
+    {
+        i64::from(self.answer())
+    }
+}
+
+/// The answer that tells a number, or that there is not the room.
+pub fn number_answer(number: Option<usize>) -> i64
+    requires { IfSome number (λ number. number < 2 ^ 63) }
+    ensures { result ≡ number_answer None number }
+{
+    match number {
+        Some(number) => number as i64,
+        None => Refusal::Room.long_answer(),
     }
 }
 

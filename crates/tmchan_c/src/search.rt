@@ -1,10 +1,9 @@
 // The search for sync markers: bits or octets in, places out.
-ghost use Rattle.std.specs.Prelude.{◌≡◌, ◌+◌, ◌*◌, ◌^◌, ◌≤◌, ℕ, Bool, List, [], None, Some, length, IsTrue};
+ghost use Rattle.std.specs.Prelude.{◌≡◌, ◌*◌, ◌^◌, ◌≤◌, [], None, Some, IfOk, IfErr, OnOk, length, pos};
 ghost use Rattle.tm_base.specs.Bits.{bits_of};
-ghost use Rattle.tm_sync.specs.Paused.{is_resumable};
 ghost use Rattle.tm_buffers.specs.Searching.{bits_in};
-ghost use Rattle.tmchan_c.specs.Refusal.{answered, refused};
-ghost use Rattle.tmchan_c.specs.Searches.{FindsInto, IsSearching, awaited_of, before_of, found_answer, number_of, paused_of, place_after, rules_refusal, rules_with, search_of, span_refusal};
+ghost use Rattle.tmchan_c.specs.Refusal.{Refuses};
+ghost use Rattle.tmchan_c.specs.Searches.{FindsInto, IsSearching, awaited_of, before_of, found_answer, paused_of, place_after, rules_refusal, rules_with, search_of, span_refusal};
 
 use crate::refusal::Refusal;
 use tm_buffers::{find_in_bits, find_in_octets};
@@ -58,11 +57,9 @@ pub extern "C" fn tmchan_search_open(
     either: u32,
     block_bits: u32,
 ) -> i32
-    ensures answer { result ≡ answered (rules_refusal tolerance fly either) }
-    ensures opened { rules_refusal tolerance fly either ≡ None → IsSearching search.new [] []
+    ensures refused { Refuses (rules_refusal tolerance fly either) result (search.new ≡ search.old) }
+    ensures opened { rules_refusal tolerance fly either ≡ None → (result ≡ pos 0) × IsSearching search.new [] []
         × ((search_of search.new).rules ≡ rules_with tolerance fly either block_bits) }
-    ensures unchanged { (refusal : Refusal) → rules_refusal tolerance fly either ≡ Some refusal
-        → search.new ≡ search.old }
 {
     match rules_refusal(tolerance, fly, either) {
         Some(refusal) => refusal.answer(),
@@ -84,25 +81,21 @@ pub extern "C" fn tmchan_search_bits(
     at: &mut u64,
     place: &mut PlaceState,
 ) -> i32
-    ensures refused { (refusal : Refusal) → span_refusal search.old at.old (length bits.now) (length bits.now)
-        ≡ Some refusal
-        → (result ≡ refused refusal) × (search.new ≡ search.old) × (at.new ≡ at.old) × (place.new ≡ place.old) }
+    ensures refused { Refuses (span_refusal search.old at.old (length bits.now) (length bits.now)) result
+        ((search.new ≡ search.old) × (at.new ≡ at.old) × (place.new ≡ place.old)) }
     ensures found { span_refusal search.old at.old (length bits.now) (length bits.now) ≡ None
         → FindsInto search.old search.new at.old at.new (length bits.now)
         (bits_in bits.now) place.old place.new result }
 {
     let size = bits.len() as u64;
-    match span_refusal(search, *at, bits.len(), size) {
-        Some(refusal) => refusal.answer(),
-        None => match Search::resume(&paused(search)) {
-            None => Refusal::Closed.answer(),
-            Some(mut resumed) => {
-                let (end, found) = find_in_bits(&mut resumed, bits, *at as usize);
-                *search = state(&resumed.pause());
-                *at = end as u64;
-                tell(found, place)
-            }
-        },
+    match resumed(search, *at, bits.len(), size) {
+        Err(refusal) => refusal.answer(),
+        Ok(mut resumed) => {
+            let (end, found) = find_in_bits(&mut resumed, bits, *at as usize);
+            *search = state(&resumed.pause());
+            *at = end as u64;
+            tell(found, place)
+        }
     }
 }
 
@@ -114,25 +107,21 @@ pub extern "C" fn tmchan_search_octets(
     at: &mut u64,
     place: &mut PlaceState,
 ) -> i32
-    ensures refused { (refusal : Refusal) → span_refusal search.old at.old (length octets.now) (8 * length octets.now)
-        ≡ Some refusal
-        → (result ≡ refused refusal) × (search.new ≡ search.old) × (at.new ≡ at.old) × (place.new ≡ place.old) }
+    ensures refused { Refuses (span_refusal search.old at.old (length octets.now) (8 * length octets.now)) result
+        ((search.new ≡ search.old) × (at.new ≡ at.old) × (place.new ≡ place.old)) }
     ensures found { span_refusal search.old at.old (length octets.now) (8 * length octets.now) ≡ None
         → FindsInto search.old search.new at.old at.new (8 * length octets.now)
         (bits_of octets.now) place.old place.new result }
 {
     let size = 8 * octets.len().min(MOST) as u64;
-    match span_refusal(search, *at, octets.len(), size) {
-        Some(refusal) => refusal.answer(),
-        None => match Search::resume(&paused(search)) {
-            None => Refusal::Closed.answer(),
-            Some(mut resumed) => {
-                let (end, found) = find_in_octets(&mut resumed, search.block_bits, octets, *at);
-                *search = state(&resumed.pause());
-                *at = end;
-                tell(found, place)
-            }
-        },
+    match resumed(search, *at, octets.len(), size) {
+        Err(refusal) => refusal.answer(),
+        Ok(mut resumed) => {
+            let (end, found) = find_in_octets(&mut resumed, search.block_bits, octets, *at);
+            *search = state(&resumed.pause());
+            *at = end;
+            tell(found, place)
+        }
     }
 }
 
@@ -153,20 +142,25 @@ fn rules_refusal(tolerance: u32, fly: u32, either: u32) -> Option<Refusal>
     None
 }
 
-// The first reason to refuse an array of so many elements that has `size` bits, from bit `at` on, or none.
-fn span_refusal(search: &SearchState, at: u64, count: usize, size: u64) -> Option<Refusal>
-    ensures value { result ≡ span_refusal search.now at count size }
-    ensures few { result ≡ None → count ≤ 2 ^ 40 }
-    ensures at { result ≡ None → at ≤ size }
-    ensures valid { result ≡ None → IsTrue (is_resumable (paused_of search.now)) }
+// The search that goes on with an array of so many elements that has `size` bits, from bit `at` on; or the first reason
+// to refuse it.
+fn resumed(search: &SearchState, at: u64, count: usize, size: u64) -> Result<Search, Refusal>
+    ensures ok { IfOk result (λ resumed. (span_refusal search.now at count size ≡ None)
+        × (resumed ≡ search_of search.now)) }
+    ensures few { OnOk result (count ≤ 2 ^ 40) }
+    ensures at { OnOk result (at ≤ size) }
+    ensures err { IfErr result (λ refusal. span_refusal search.now at count size ≡ Some refusal) }
 {
-    if search.is_open != 1 || search.tolerance > 8 || search.after > search.block_bits {
-        return Some(Refusal::Closed);
+    if search.is_open != 1 {
+        return Err(Refusal::Closed);
     }
+    let Some(resumed) = Search::resume(&paused(search)) else {
+        return Err(Refusal::Closed);
+    };
     if count > MOST || at > size {
-        return Some(Refusal::Room);
+        return Err(Refusal::Room);
     }
-    None
+    Ok(resumed)
 }
 
 // Tells a place that was found. Answers 1 where one was, and else 0.
@@ -179,19 +173,13 @@ fn tell(found: Option<Found>, place: &mut PlaceState) -> i32
             *place = PlaceState {
                 place: found.place,
                 distance: found.distance,
-                bridged: number_of(found.bridged),
-                inverted: number_of(found.inverted),
+                bridged: u8::from(found.bridged),
+                inverted: u8::from(found.inverted),
             };
             1
         }
         None => 0,
     }
-}
-
-fn number_of(is: bool) -> u8
-    ensures { result ≡ number_of is }
-{
-    if is { 1 } else { 0 }
 }
 
 // What a program in C keeps of a search.
@@ -225,15 +213,15 @@ fn state(paused: &Paused) -> SearchState
         after: paused.after,
         tolerance: paused.tolerance,
         fly: paused.fly,
-        either: number_of(paused.either),
-        has_before: number_of(paused.before.is_some()),
-        before_inverted: number_of(before.inverted),
+        either: u8::from(paused.either),
+        has_before: u8::from(paused.before.is_some()),
+        before_inverted: u8::from(before.inverted),
         before_bridged: before.bridged,
-        has_place: number_of(paused.awaited.is_some()),
+        has_place: u8::from(paused.awaited.is_some()),
         distance: awaited.found.distance,
-        bridged: number_of(awaited.found.bridged),
-        inverted: number_of(awaited.found.inverted),
-        next_inverted: number_of(awaited.next.inverted),
+        bridged: u8::from(awaited.found.bridged),
+        inverted: u8::from(awaited.found.inverted),
+        next_inverted: u8::from(awaited.next.inverted),
         next_bridged: awaited.next.bridged,
     }
 }

@@ -1,10 +1,10 @@
 // Channel access data units.
-ghost use Rattle.std.specs.Prelude.{◌≡◌, ◌≢◌, ◌≤◌, length, pos};
+ghost use Rattle.std.specs.Prelude.{◌≡◌, ◌≢◌, ◌≤◌, Some, length, pos};
 ghost use Rattle.tm_codeblock.specs.Cadu.{cadu as cadu_of};
-ghost use Rattle.tm_config.specs.Accepted.{refusal_of};
-ghost use Rattle.tmchan_c.specs.Refusal.{answered};
-ghost use Rattle.tmchan_c.specs.Unit.{size_answer, unit_configuration, unit_raw, unit_refusal, unit_size};
+ghost use Rattle.tmchan_c.specs.Refusal.{answered, number_answer, values_refusal};
+ghost use Rattle.tmchan_c.specs.Unit.{unit_configuration, unit_raw, unit_refusal, unit_size};
 
+use crate::config::checked;
 use crate::refusal::Refusal;
 use tm_channel::cadu;
 use tm_config::{Config, Raw};
@@ -12,11 +12,11 @@ use tm_config::{Config, Raw};
 /// The octets of the unit of a frame of so many: of its marker and its codeblock; or why there is none.
 #[unsafe(no_mangle)]
 pub extern "C" fn tmchan_cadu_length(code: u32, depth: u32, frame_length: usize) -> i32
-    ensures { result ≡ size_answer (refusal_of (unit_raw code depth 0 0 frame_length))
-        (unit_size (unit_configuration code depth 0 0 frame_length)) }
+    ensures { result ≡ number_answer (values_refusal (unit_raw code depth 0 0 frame_length))
+        (Some (unit_size (unit_configuration code depth 0 0 frame_length))) }
 {
-    match Config::check(&raw(code, depth, 0, 0, frame_length)) {
-        Err(error) => Refusal::Value(error).answer(),
+    match checked(&raw(code, depth, 0, 0, frame_length)) {
+        Err(refusal) => refusal.answer(),
         Ok(config) => size(&config) as i32,
     }
 }
@@ -36,8 +36,8 @@ pub extern "C" fn tmchan_cadu(
         (unit_configuration code depth basis randomize (length frame.now)) frame.now }
     ensures unchanged { result ≢ pos 0 → unit.new ≡ unit.old }
 {
-    match Config::check(&raw(code, depth, basis, randomize, frame.len())) {
-        Err(error) => Refusal::Value(error).answer(),
+    match checked(&raw(code, depth, basis, randomize, frame.len())) {
+        Err(refusal) => refusal.answer(),
         Ok(config) => {
             if unit.len() != size(&config) {
                 return Refusal::Room.answer();

@@ -1,0 +1,33 @@
+use Rattle.std.proofs.Common.{rules, ◌≡◌, ◌++◌, ◌∙◌, List, Option, Some, None, sym, subst, w64, to_z}
+use Rattle.tm_base.specs.Handed.{items_of}
+use Rattle.tm_config.specs.Configuration.{Configuration}
+use Rattle.tm_channel.specs.Handing.{AreReceivedDue}
+use Rattle.tm_buffers.specs.Items.{Tells}
+use Rattle.tmchan_c.specs.Receivers.{IsReceiver}
+use Rattle.tmchan_c.specs.Refusal.{number_answer}
+use Rattle.tmchan_c.specs.declared.stream.Stream.{Stream}
+use Rattle.tmchan_c.specs.declared.stream.Stream.TheVariants.{Receiver}
+use Rattle.tmchan_c.proofs.receiver.tmchan_receiver_push.Goals as goal
+use Rattle.tmchan_c.proofs.receiver.tmchan_receiver_push.Goals.{in-Receiver, in_default-deref_mut}
+
+pub returns-clause-pushed : goal.returns-clause-pushed
+returns-clause-pushed c = λ config given done is few.
+    let octets = c.args.octets.now in
+    elim c.match-deref_mut.branch [
+      | in-Receiver w ↦
+          let held : c.args.handle.now.kept.value ≡ Some (Receiver w.in-Receiver.receiver) = search rules in
+          let now : c.put.new.handle.kept.value ≡ Some (Receiver w.feed.new.self) = search rules in
+          let answers : to_z w64 c.match-deref_mut.answer-bits ≡ number_answer None w.feed.result = search rules in
+          let receiver = subst (λ (o : Option Stream). IsReceiver o config given done) held is in
+          let there = w.feed.ensures.received given done few receiver.1 in
+          let tells : Tells w.feed.result c.match-deref_mut.frames c.match-deref_mut.reports (items_of there.more) =
+          subst (λ reports. Tells w.feed.result c.match-deref_mut.frames reports (items_of there.more)) (sym w.reports-is)
+          (subst (λ frames. Tells w.feed.result frames w.feed.new.reports (items_of there.more)) (sym w.frames-is) there.tells) in
+          record {
+            more = there.more;
+            receiver = subst (λ (o : Option Stream). IsReceiver o config (given ++ octets) (done ++ there.more)) (sym now) (w.feed.ensures.config ∙ receiver.0, there.receiving);
+            due = subst (λ (k : Configuration). AreReceivedDue k (given ++ octets) (done ++ there.more)) receiver.0 there.due;
+            wrote = record { count = w.feed.result; answers = answers; tells = tells };
+          }
+      | in_default-deref_mut w ↦ absurd (search rules)
+    ]
