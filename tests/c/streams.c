@@ -9,7 +9,7 @@
 
 #include "tmchan.h"
 
-enum { OPTIONS = 19 };
+enum { OPTIONS = 20 };
 
 static long differing, calls;
 static size_t line_number;
