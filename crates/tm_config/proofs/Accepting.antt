@@ -48,6 +48,7 @@ pub record AllPass (raw : Raw) : Type 0 where
   pub phase : sought_fits raw.phase ≡ true
   pub polarity : sought_fits raw.polarity ≡ true
   pub batch : is_within 1 most_batch raw.batch ≡ true
+  pub pack : switch_fits raw.pack ≡ true
 
 pub all_pass : (raw : Raw) → refusal_of raw ≡ None → AllPass raw
 unfolding refusal_of
@@ -71,6 +72,7 @@ all_pass raw none =
     let p17 = p16.1 in
     let p18 = p17.1 in
     let p19 = p18.1 in
+    let p20 = p19.1 in
     record {
       code = p1.0;
       depth = p2.0;
@@ -91,6 +93,7 @@ all_pass raw none =
       phase = p17.0;
       polarity = p18.0;
       batch = p19.0;
+      pack = p20.0;
     }
 
 within : (least most value : ℕ) → is_within least most value ≡ true → (least ≤ value) × (value ≤ most)

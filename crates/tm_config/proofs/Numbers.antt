@@ -50,4 +50,5 @@ configuration-has raw none =
       start = numbered-has number_of_start all_starts Zero raw.start pass.start;
       phase = numbered-has number_of_sought all_sought Given raw.phase pass.phase;
       polarity = numbered-has number_of_sought all_sought Given raw.polarity pass.polarity;
+      pack = numbered-has number_of_switch all_switches false raw.pack pass.pack;
     }

@@ -14,7 +14,7 @@ use Rattle.tm_config.specs.declared.values.OuterCode.TheVariants.{Uncoded}
 use Rattle.tm_config.specs.declared.error.ConfigError.{ConfigError}
 use Rattle.tm_config.specs.declared.error.ConfigError.TheVariants.{Code, Depth, Length, Inner, Switch, Basis, Tolerance}
 use Rattle.tm_config.specs.declared.error.ConfigError.TheVariants.{Repair, Soft, Start, Skip, Workers, Limit, Fly}
-use Rattle.tm_config.specs.declared.error.ConfigError.TheVariants.{Keep, Ahead, Phase, Polarity, Batch}
+use Rattle.tm_config.specs.declared.error.ConfigError.TheVariants.{Keep, Ahead, Phase, Polarity, Batch, Pack}
 
 -- each value is within its range; the others are choices, and any of them is accepted
 pub record IsAccepted (c : Configuration) : Type 0 where
@@ -106,6 +106,7 @@ tests raw =
     ∷ (sought_fits raw.phase, Phase)
     ∷ (sought_fits raw.polarity, Polarity)
     ∷ (is_within 1 most_batch raw.batch, Batch)
+    ∷ (switch_fits raw.pack, Pack)
     ∷ []
 
 -- the error of the first test that fails
@@ -139,6 +140,7 @@ name_of Ahead = codes "ahead"
 name_of Phase = codes "phase"
 name_of Polarity = codes "polarity"
 name_of Batch = codes "batch"
+name_of Pack = codes "pack"
 
 -- their places in the order of the tests
 abbrev pub place_of : ConfigError → ℕ
@@ -161,3 +163,4 @@ place_of Ahead = 15
 place_of Phase = 16
 place_of Polarity = 17
 place_of Batch = 18
+place_of Pack = 19

@@ -46,6 +46,7 @@ default_raw = record {
   phase = 0;
   polarity = 0;
   batch = 32;
+  pack = 1;
 }
 
 -- the first of these values that has the number, or another where none has
@@ -176,6 +177,7 @@ configuration_of raw = record {
   phase = sought_of raw.phase;
   polarity = sought_of raw.polarity;
   batch = raw.batch;
+  pack = is_on raw.pack;
 }
 
 -- each choice has the number that was given for it
@@ -189,6 +191,7 @@ pub record HaveNumbers (raw : Raw) (c : Configuration) : Type 0 where
   pub start : number_of_start c.start ≡ raw.start
   pub phase : number_of_sought c.phase ≡ raw.phase
   pub polarity : number_of_sought c.polarity ≡ raw.polarity
+  pub pack : number_of_switch c.pack ≡ raw.pack
 
 -- the data octets of one codeword
 abbrev pub data_length : Configuration → ℕ

@@ -43,7 +43,7 @@ impl Config {
     /// - `Inner`: 0, 12, 23, 34, 56 or 78. `Switch`: `invert` `None`, 0 or 1, and `randomize` 0 or 1. `Basis`: 0 or 1.
     /// - `Tolerance`: 0 to 8. `Repair`: `None`, or 0 to E. `Soft`, `Start`: 0 or 1. `Skip`: 0 to 15.
     /// - `Workers`: 1 to 64. `Limit`: 1 to 2^40. `Fly`: 0 to 15. `Keep`: 64 to 65,536. `Ahead`: 0 to 4,096.
-    /// - `Phase`, `Polarity`: 0 or 1. `Batch`: 1 to 32.
+    /// - `Phase`, `Polarity`: 0 or 1. `Batch`: 1 to 32. `Pack`: 0 or 1.
     pub fn check(raw: &Raw) -> Result<Config, ConfigError>
         ensures ok { OnOk result (refusal_of raw.now ≡ None) }
         ensures config { IfOk result (λ config. config ≡ configuration_of raw.now) }
@@ -164,7 +164,8 @@ impl Config {
         self.values.repair
     }
 
-    /// The form of a soft symbol: 0 for unsigned, 1 for signed octets. It has no effect where there is no inner code.
+    /// The form of a soft symbol: 0 for unsigned, 1 for signed octets. It has no effect where there is no inner code and
+    /// bits are packed.
     pub fn soft(&self) -> u64
         ensures value { result ≡ number_of_form self.now.soft }
         ensures accepted { IsAccepted self.now }
@@ -257,6 +258,14 @@ impl Config {
     {
         self.values.batch
     }
+
+    /// Whether eight bits make an octet where there is no inner code: 1, or 0 where each bit is an octet of its own.
+    pub fn pack(&self) -> u64
+        ensures value { result ≡ number_of_switch self.now.pack }
+        ensures accepted { IsAccepted self.now }
+    {
+        number_of_switch(self.values.pack)
+    }
 }
 
 // The values, with those that were not given.
@@ -286,5 +295,6 @@ fn resolved(raw: &Raw) -> Values
         phase: sought_of(raw.phase),
         polarity: sought_of(raw.polarity),
         batch: raw.batch,
+        pack: is_on(raw.pack),
     }
 }

@@ -27,6 +27,7 @@ pub enum ConfigError {
     Phase,
     Polarity,
     Batch,
+    Pack,
 }
 
 impl ConfigError {
@@ -55,6 +56,7 @@ impl ConfigError {
             ConfigError::Phase => "phase",
             ConfigError::Polarity => "polarity",
             ConfigError::Batch => "batch",
+            ConfigError::Pack => "pack",
         }
     }
 

@@ -49,6 +49,8 @@ pub struct Raw {
     pub polarity: u64,
     /// How many codeblocks are repaired and handed over at once: 1 to 32.
     pub batch: u64,
+    /// Whether eight bits make an octet where there is no inner code (1), or each bit is an octet of its own (0).
+    pub pack: u64,
 }
 
 /// The values that hold where an option is not given.
@@ -77,6 +79,7 @@ impl Default for Raw {
             phase: 0,
             polarity: 0,
             batch: 32,
+            pack: 1,
         }
     }
 }
@@ -146,6 +149,8 @@ pub struct Values {
     pub polarity: Sought,
     /// How many codeblocks are repaired and handed over at once.
     pub batch: u64,
+    /// Whether eight bits make an octet where there is no inner code.
+    pub pack: bool,
 }
 
 impl OuterCode {

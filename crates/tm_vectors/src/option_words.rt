@@ -31,10 +31,11 @@ static LINES: [(&str, Raw); 2] = [
             phase: 0,
             polarity: 0,
             batch: 32,
+            pack: 1,
         },
     ),
     (
-        "tmchan encode --code rs8 --depth 4 --length 956 --inner 7/8 --invert off --randomize off --basis poly --tolerance 8 --repair 7 --soft i8 --start any --skip 15 --workers 64 --limit 1099511627776 --fly 14 --keep 65536 --ahead 4096 --phase find --polarity find --batch 7",
+        "tmchan encode --code rs8 --depth 4 --length 956 --inner 7/8 --invert off --randomize off --basis poly --tolerance 8 --repair 7 --soft i8 --start any --skip 15 --workers 64 --limit 1099511627776 --fly 14 --keep 65536 --ahead 4096 --phase find --polarity find --batch 7 --pack off",
         Raw {
             code: 8,
             depth: 4,
@@ -56,12 +57,13 @@ static LINES: [(&str, Raw); 2] = [
             phase: 1,
             polarity: 1,
             batch: 7,
+            pack: 0,
         },
     ),
 ];
 
 // An option, a word for it, and the number that stands for that word.
-static OPTION_WORDS: [(&str, &str, u64); 24] = [
+static OPTION_WORDS: [(&str, &str, u64); 26] = [
     ("code", "rs16", 16),
     ("code", "rs8", 8),
     ("code", "none", 0),
@@ -86,6 +88,8 @@ static OPTION_WORDS: [(&str, &str, u64); 24] = [
     ("phase", "find", 1),
     ("polarity", "given", 0),
     ("polarity", "find", 1),
+    ("pack", "on", 1),
+    ("pack", "off", 0),
 ];
 
 // The value of an option that has words.
@@ -100,6 +104,7 @@ fn value_of(raw: &Raw, option: &str) -> Option<u64> {
         "start" => Some(raw.start),
         "phase" => Some(raw.phase),
         "polarity" => Some(raw.polarity),
+        "pack" => Some(raw.pack),
         _ => None,
     }
 }

@@ -72,6 +72,7 @@ options =
     ∷ (codes "phase", sought_words)
     ∷ (codes "polarity", sought_words)
     ∷ (codes "batch", [])
+    ∷ (codes "pack", switch_words)
     ∷ []
 
 -- the options that `soak` has besides
@@ -117,4 +118,5 @@ raw_of rows = record {
   phase = unwrap_or (number_given (codes "phase") rows) default_raw.phase;
   polarity = unwrap_or (number_given (codes "polarity") rows) default_raw.polarity;
   batch = unwrap_or (number_given (codes "batch") rows) default_raw.batch;
+  pack = unwrap_or (number_given (codes "pack") rows) default_raw.pack;
 }

@@ -13,7 +13,7 @@ const NO_NUMBER: u64 = u64::MAX;
 pub type OptionRow<'a> = (&'a str, &'a [(&'a str, u64)]);
 
 // The options of every command.
-pub static OPTIONS: [OptionRow<'static>; 20] = [
+pub static OPTIONS: [OptionRow<'static>; 21] = [
     ("code", &[("rs16", 16), ("rs8", 8), ("none", 0)]),
     ("depth", &[]),
     ("length", &[]),
@@ -44,6 +44,7 @@ pub static OPTIONS: [OptionRow<'static>; 20] = [
     ("phase", &[("given", 0), ("find", 1)]),
     ("polarity", &[("given", 0), ("find", 1)]),
     ("batch", &[]),
+    ("pack", &[("on", 1), ("off", 0)]),
 ];
 
 // The options that `soak` has besides.
@@ -167,5 +168,6 @@ pub fn raw(matches: &ArgMatches) -> Raw
         phase: number_or(matches, "phase", default.phase),
         polarity: number_or(matches, "polarity", default.polarity),
         batch: number_or(matches, "batch", default.batch),
+        pack: number_or(matches, "pack", default.pack),
     }
 }

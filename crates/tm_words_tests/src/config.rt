@@ -42,7 +42,8 @@ ahead=4097|ahead\n\
 phase=2 polarity=2|phase\n\
 polarity=2 batch=0|polarity\n\
 batch=0|batch\n\
-batch=33|batch\n";
+batch=33 pack=2|batch\n\
+pack=2|pack\n";
 
 fn check_refused(rt: &impl Abort, alloc: Global) -> Result<(), AllocError> {
     for row in REFUSED.lines() {
@@ -61,7 +62,7 @@ fn check_refused(rt: &impl Abort, alloc: Global) -> Result<(), AllocError> {
 
 #[test]
 fn refuses_the_first_value_out_of_range(rt: HostRuntime) -> Result<(), Fail> {
-    assert_eq!(rt; REFUSED.lines().count(), 29);
+    assert_eq!(rt; REFUSED.lines().count(), 30);
     check_refused(&rt, rt.alloc())?;
     Ok(())
 }
@@ -138,6 +139,7 @@ fn tells_each_value(rt: HostRuntime) {
         phase: 1,
         polarity: 1,
         batch: 31,
+        pack: 0,
     };
     match Config::check(&raw) {
         Ok(config) => {
@@ -169,7 +171,10 @@ fn tells_each_value(rt: HostRuntime) {
                 ],
                 [1, 1, 15, 64]
             );
-            assert_eq!(rt; [config.limit(), config.fly(), config.batch()], [1_099_511_627_776, 15, 31]);
+            assert_eq!(rt;
+                [config.limit(), config.fly(), config.batch(), config.pack()],
+                [1_099_511_627_776, 15, 31, 0]
+            );
             assert_eq!(rt;
                 [
                     config.keep(),

@@ -35,6 +35,7 @@ fn with(raw: Raw, name: &str, number: u64) -> Option<Raw> {
         "phase" => raw.phase = number,
         "polarity" => raw.polarity = number,
         "batch" => raw.batch = number,
+        "pack" => raw.pack = number,
         _ => return None,
     }
     Some(raw)

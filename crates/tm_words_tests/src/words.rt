@@ -27,15 +27,16 @@ static EACH_OPTION: &str = "\
 tmchan encode|\n\
 tmchan encode --code rs8 --depth 4 --length 956 --inner none --invert on --randomize off --basis poly \
 --tolerance 3 --repair 7 --soft i8 --start any --skip 5 --workers 2 --limit 99 --fly 1 --keep 64 --ahead 0 \
---phase find --polarity find --batch 3|code=8 depth=4 length=956 inner=0 invert=1 randomize=0 basis=1 tolerance=3 \
-repair=7 soft=1 start=1 skip=5 workers=2 limit=99 fly=1 keep=64 ahead=0 phase=1 polarity=1 batch=3\n\
+--phase find --polarity find --batch 3 --pack off|code=8 depth=4 length=956 inner=0 invert=1 randomize=0 basis=1 \
+tolerance=3 repair=7 soft=1 start=1 skip=5 workers=2 limit=99 fly=1 keep=64 ahead=0 phase=1 polarity=1 batch=3 \
+pack=0\n\
 tmchan encode --code none|code=0\n\
 tmchan encode --code rs16 --depth 1 --inner 1/2 --limit 4294967296 --keep 8192 --ahead 256|\n\
 tmchan encode --inner 2/3|inner=23\n\
 tmchan encode --inner 3/4|inner=34\n\
 tmchan encode --inner 5/6|inner=56\n\
 tmchan encode --inner 7/8 --invert off|inner=78 invert=0\n\
-tmchan encode --phase given --polarity given --soft u8 --start zero --basis dual --randomize on|\n";
+tmchan encode --phase given --polarity given --soft u8 --start zero --basis dual --randomize on --pack on|\n";
 
 // The same for each form of a value.
 static EACH_FORM: &str = "\

@@ -30,6 +30,7 @@ raw_of options = record {
   phase = options.phase;
   polarity = options.polarity;
   batch = options.batch;
+  pack = options.pack;
 }
 
 -- the configuration that they give

@@ -34,6 +34,7 @@ pub struct Options {
     pub phase: u64,
     pub polarity: u64,
     pub batch: u64,
+    pub pack: u64,
 }
 
 /// Fills in the values that hold where an option is not given.
@@ -63,6 +64,7 @@ pub extern "C" fn tmchan_config_defaults(options: &mut Options)
         phase: raw.phase,
         polarity: raw.polarity,
         batch: raw.batch,
+        pack: raw.pack,
     };
 }
 
@@ -132,5 +134,6 @@ pub fn raw(options: &Options) -> Raw
         phase: options.phase,
         polarity: options.polarity,
         batch: options.batch,
+        pack: options.pack,
     }
 }

@@ -89,6 +89,7 @@ fn frames_are_sent_and_received_behind_handles(rt: HostRuntime) {
         phase: 0,
         polarity: 0,
         batch: 0,
+        pack: 0,
     };
     assert_eq!(rt; tmchan_config_check(&options), -17);
     tmchan_config_defaults(&mut options);
