@@ -1,8 +1,6 @@
 -- The bits that are due stand first, whatever octets come.
 use Rattle.std.proofs.Common.{◌≡◌, ℕ, zero, suc, ◌-◌, ◌==◌, Bool, List, [], ◌∷◌, ◌++◌, length, take, drop, map, refl, sym, ap, ◌∙◌, subst, arith, append_assoc, Option, Some, None}
 use Rattle.std.proofs.lemmas.List.{map-append}
-use Rattle.tm_base.specs.Bits.{bits_of}
-use Rattle.tm_base.proofs.Packing.{bits_of-append}
 use Rattle.tm_config.specs.Configuration.{Configuration}
 use Rattle.tm_conv.specs.declared.rates.Rate.{Rate}
 use Rattle.tm_viterbi.specs.Settings.{Settings}
@@ -10,7 +8,8 @@ use Rattle.tm_viterbi.specs.WindowBlock.{WindowBlock}
 use Rattle.tm_viterbi.specs.Blocks.{AreBlocksOf}
 use Rattle.tm_viterbi.specs.Due.{AreFirst}
 use Rattle.tm_viterbi.specs.Clean.{kept_bits}
-use Rattle.tm_inner.specs.Inner.{settings_of, soft_value, soft_octets, BlocksAt, DueAt, bits_at, AreInnerDue, AreInnerBlocks, inner_bits}
+use Rattle.tm_inner.specs.Inner.{settings_of, soft_value, soft_octets, BlocksAt, DueAt, plain_bits, bits_at, AreInnerDue, AreInnerBlocks, inner_bits}
+use Rattle.tm_inner.proofs.PlainBits.{plain-append}
 
 -- windows that are closed stay so
 abbrev pub StayClosed : Type 0
@@ -43,7 +42,7 @@ due-first : StayClosed → StandFirst → (rate : Option Rate) (c : Configuratio
     → DueAt rate c phase octets due → BlocksAt rate c phase (octets ++ more) blocks left
     → (rest : List Bool) × (bits_at rate c (octets ++ more) blocks ≡ bits_at rate c octets due ++ rest)
 due-first stay first None c phase octets more due blocks left is all =
-    (drop (c.skip - length (bits_of octets)) (bits_of more), ap (drop c.skip) (bits_of-append octets more) ∙ drop-split c.skip (bits_of octets) (bits_of more))
+    (drop (c.skip - length (plain_bits c octets)) (plain_bits c more), ap (drop c.skip) (plain-append c octets more) ∙ drop-split c.skip (plain_bits c octets) (plain_bits c more))
 due-first stay first (Some rate) c phase octets more due blocks left is all =
     let s = settings_of c rate in
     let back = map (soft_value c) (drop (phase - length (drop c.skip octets)) (drop (c.skip - length octets) more)) in

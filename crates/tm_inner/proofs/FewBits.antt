@@ -3,8 +3,6 @@ use Rattle.std.proofs.Common.{ℕ, ◌≡◌, ◌+◌, ◌-◌, ◌*◌, ◌≤�
 use Rattle.std.proofs.lemmas.List.{length-map}
 use Rattle.std.proofs.lemmas.Bool.{cases_lt}
 use Rattle.std.proofs.lemmas.Bool.Decides.{nat_tests}
-use Rattle.tm_base.specs.Bits.{bits_of}
-use Rattle.tm_base.proofs.Packing.{length-bits_of}
 use Rattle.tm_config.specs.Configuration.{Configuration}
 use Rattle.tm_conv.specs.declared.rates.Rate.{Rate}
 use Rattle.tm_conv.specs.Path.{steps_size}
@@ -15,9 +13,10 @@ use Rattle.tm_viterbi.specs.Clean.{kept_bits}
 use Rattle.tm_viterbi.specs.Due.{Place, Closed, behind, first_place}
 use Rattle.tm_viterbi.specs.Starts.{first_start}
 use Rattle.tm_viterbi.proofs.CleanBlocks.{steps-mono}
-use Rattle.tm_inner.specs.Inner.{settings_of, soft_octets, BlocksAt, DueAt, bits_at, AreInnerBlocks, AreInnerDue, inner_bits}
+use Rattle.tm_inner.specs.Inner.{settings_of, soft_octets, BlocksAt, DueAt, plain_bits, bits_at, AreInnerBlocks, AreInnerDue, inner_bits}
 use Rattle.tm_inner.specs.Receiving.{FirstAt, AreInnerFirst}
 use Rattle.tm_inner.proofs.ReceivedBits.{block-bits, kept-le, kept-count, length-soft}
+use Rattle.tm_inner.proofs.PlainBits.{plain-few}
 
 pub closed-few : (rate : Rate) (invert : Bool) (keep ahead : ℕ) (from to : Place) (blocks : List WindowBlock) → Closed rate invert keep ahead from blocks to
     → length (kept_bits blocks) ≤ length from.octets
@@ -35,7 +34,7 @@ closed-few rate invert keep ahead from to (b ∷ blocks) closed =
 
 few-first : (rate : Option Rate) (c : Configuration) (phase : ℕ) (octets : List ℕ) (blocks : List WindowBlock) → FirstAt rate c phase octets blocks
     → length (bits_at rate c octets blocks) ≤ 8 * length octets
-few-first None c phase octets blocks are = omega (arith, length-drop c.skip (bits_of octets), length-bits_of octets)
+few-first None c phase octets blocks are = omega (arith, length-drop c.skip (plain_bits c octets), plain-few c octets)
 few-first (Some rate) c phase octets blocks are =
     let s = settings_of c rate in
     let few = closed-few rate s.invert s.keep s.ahead (first_place s (soft_octets c phase octets)) are.0 blocks are.1 in
@@ -43,7 +42,7 @@ few-first (Some rate) c phase octets blocks are =
 
 few-whole : (rate : Option Rate) (c : Configuration) (phase : ℕ) (octets : List ℕ) (blocks : List WindowBlock) (left : ℕ) → BlocksAt rate c phase octets blocks left
     → length (bits_at rate c octets blocks) ≤ 8 * length octets
-few-whole None c phase octets blocks left are = omega (arith, length-drop c.skip (bits_of octets), length-bits_of octets)
+few-whole None c phase octets blocks left are = omega (arith, length-drop c.skip (plain_bits c octets), plain-few c octets)
 few-whole (Some rate) c phase octets blocks left are =
     let s = settings_of c rate in
     let kept = kept-count rate s.invert s.keep s.ahead (first_start s.start) 0 are.count (soft_octets c phase octets) blocks are.steps.whole are.are in

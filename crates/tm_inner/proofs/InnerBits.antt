@@ -2,8 +2,8 @@
 use Rattle.std.proofs.Common.{◌≡◌, ℕ, zero, suc, ◌+◌, ◌-◌, ◌%◌, ◌<◌, ◌≤◌, ◌==◌, cond, Bool, true, false, List, [], ◌∷◌, length, drop, map, refl, sym, ap, ◌∙◌, subst, arith, Option, Some, None, ◌⊎◌, inl, inr}
 use Rattle.std.proofs.lemmas.List.{length-map}
 use Rattle.std.proofs.lemmas.List.Elements.{All-cons, All-nil}
-use Rattle.tm_base.specs.Bits.{bits_of, octets_of, bit_number}
-use Rattle.tm_base.proofs.Packing.{bits_of-octets_of, length-bits_of}
+use Rattle.tm_base.specs.Bits.{bits_of, bit_number}
+use Rattle.tm_base.proofs.Packing.{length-bits_of}
 use Rattle.tm_config.specs.Configuration.{Configuration, is_signed}
 use Rattle.tm_config.specs.declared.values.SoftForm.{SoftForm}
 use Rattle.tm_config.specs.declared.values.SoftForm.TheVariants.{Unsigned, Signed}
@@ -19,8 +19,9 @@ use Rattle.tm_viterbi.specs.Settings.{Settings}
 use Rattle.tm_viterbi.specs.WindowBlock.{WindowBlock}
 use Rattle.tm_viterbi.specs.Blocks.{AreBlocksOf}
 use Rattle.tm_viterbi.specs.Clean.{IsFixed, AreClean, sure_symbols}
-use Rattle.tm_inner.specs.Inner.{IsStartKnown, settings_of, soft_value, soft_octets, BlocksAt, AreInnerBlocks, bits_at, inner_bits, Inner}
-use Rattle.tm_inner.specs.Symbols.{is_inverted, low_level, symbols_by, symbols_of_octets}
+use Rattle.tm_inner.specs.Inner.{IsStartKnown, settings_of, soft_value, soft_octets, BlocksAt, AreInnerBlocks, plain_bits, bits_at, inner_bits, Inner}
+use Rattle.tm_inner.specs.Symbols.{is_inverted, low_level, plain_symbols, symbols_by, symbols_of_octets}
+use Rattle.tm_inner.proofs.PlainBits.{plain-sent}
 
 -- ---- one list of bits
 
@@ -129,7 +130,7 @@ bits-sent : CleanBlocks → (c : Configuration) (rate : Option Rate) (octets : L
     → IsAccepted c → c.skip ≡ 0 → IsStartKnown c → BlocksAt rate c 0 (symbols_by rate c (bits_of octets)) blocks left
     → bits_at rate c (symbols_by rate c (bits_of octets)) blocks ≡ bits_of octets
 bits-sent clean c None octets blocks left is ok none known are =
-    drop-none c.skip (bits_of (octets_of (bits_of octets))) none ∙ bits_of-octets_of (bits_of octets) (omega (arith, length-bits_of octets))
+    drop-none c.skip (plain_bits c (plain_symbols c.pack c (bits_of octets))) none ∙ plain-sent c octets
 bits-sent clean c (Some rate) octets blocks left is ok none known are =
     let bits = bit_numbers (bits_of octets) in
     let it = clean (settings_of c rate) 0 bits blocks left ok.some_keep (AreBits-bit_numbers (bits_of octets)) (fixed c rate octets is known)

@@ -1,6 +1,7 @@
 pub mod Symbols
 pub mod Sending
 mod Coding
+pub mod PlainBits
 pub mod InnerBits
 pub mod DueBits
 pub mod ReceivedBits

@@ -3,8 +3,6 @@ use Rattle.std.proofs.Common.{◌≡◌, ℕ, ◌+◌, ◌-◌, ◌*◌, ◌/◌
 use Rattle.std.proofs.lemmas.List.{length-map}
 use Rattle.std.proofs.lemmas.Bool.{cases_lt}
 use Rattle.std.proofs.lemmas.Bool.Decides.{nat_tests}
-use Rattle.tm_base.specs.Bits.{bits_of}
-use Rattle.tm_base.proofs.Packing.{bits_of-append, length-bits_of}
 use Rattle.tm_config.specs.Configuration.{Configuration}
 use Rattle.tm_conv.specs.declared.rates.Rate.{Rate}
 use Rattle.tm_conv.specs.declared.rates.Rate.TheVariants.{R12, R23, R34, R56, R78}
@@ -17,7 +15,8 @@ use Rattle.tm_viterbi.specs.Clean.{kept_bits}
 use Rattle.tm_viterbi.specs.Starts.{first_start}
 use Rattle.tm_viterbi.proofs.CleanBlocks.{steps-mono}
 use Rattle.tm_inner.proofs.DueBits.{drop-split}
-use Rattle.tm_inner.specs.Inner.{settings_of, soft_value, soft_octets, BlocksAt, bits_at, AreInnerBlocks, inner_bits}
+use Rattle.tm_inner.proofs.PlainBits.{plain-append, length-plain}
+use Rattle.tm_inner.specs.Inner.{settings_of, soft_value, soft_octets, BlocksAt, plain_bits, plain_count, bits_at, AreInnerBlocks, inner_bits}
 
 -- ---- the whole steps of symbols
 
@@ -121,16 +120,18 @@ bits-coded c rate phase n m given blocks left is long whole are =
         same ∙ sym kept ∙ sym (length-map (kept_bits blocks) (λ bit. bit == 1))
 
 pub bits-plain : (c : Configuration) (n m : ℕ) (given : List ℕ) (blocks : List WindowBlock) → c.inner ≡ None → length given ≡ n
-    → m ≡ 8 * n - c.skip → m ≡ length (inner_bits c given blocks)
+    → m ≡ plain_count c n - c.skip → m ≡ length (inner_bits c given blocks)
 bits-plain c n m given blocks none long is =
     subst (λ (r : Option Rate). m ≡ length (bits_at r c given blocks)) (sym none)
-    (omega (arith, is, long, length-drop c.skip (bits_of given), length-bits_of given))
+    (omega (arith, is, ap (plain_count c) long, length-drop c.skip (plain_bits c given), length-plain c given))
 
 -- the bits of a longer list, with no inner code
-pub bits-further : (c : Configuration) (given octets : List ℕ) (n : ℕ) → c.inner ≡ None → n ≡ c.skip - 8 * length given
-    → inner_bits c (given ++ octets) [] ≡ inner_bits c given [] ++ drop n (bits_of octets)
+pub bits-further : (c : Configuration) (given octets : List ℕ) (n : ℕ) → c.inner ≡ None → n ≡ c.skip - plain_count c (length given)
+    → inner_bits c (given ++ octets) [] ≡ inner_bits c given [] ++ drop n (plain_bits c octets)
 bits-further c given octets n none is =
-    let same : c.skip - length (bits_of given) ≡ n = omega (arith, is, length-bits_of given) in
-    let plain : drop c.skip (bits_of (given ++ octets)) ≡ drop c.skip (bits_of given) ++ drop n (bits_of octets) =
-    ap (drop c.skip) (bits_of-append given octets) ∙ drop-split c.skip (bits_of given) (bits_of octets) ∙ ap (λ k. drop c.skip (bits_of given) ++ drop k (bits_of octets)) same in
-    subst (λ (r : Option Rate). bits_at r c (given ++ octets) [] ≡ bits_at r c given [] ++ drop n (bits_of octets)) (sym none) plain
+    let before = plain_bits c given in
+    let more = plain_bits c octets in
+    let same : c.skip - length before ≡ n = omega (arith, is, length-plain c given) in
+    let plain : drop c.skip (plain_bits c (given ++ octets)) ≡ drop c.skip before ++ drop n more =
+    ap (drop c.skip) (plain-append c given octets) ∙ drop-split c.skip before more ∙ ap (λ k. drop c.skip before ++ drop k more) same in
+    subst (λ (r : Option Rate). bits_at r c (given ++ octets) [] ≡ bits_at r c given [] ++ drop n more) (sym none) plain

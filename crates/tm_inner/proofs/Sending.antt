@@ -1,15 +1,19 @@
 -- An inner sender that is given nothing, and one piece after another.
-use Rattle.std.proofs.Common.{◌≡◌, ℕ, List, [], ◌++◌, Option, Some, None, refl, sym, ◌∙◌, subst}
+use Rattle.std.proofs.Common.{◌≡◌, ℕ, ◌+◌, ◌≤◌, Bool, true, false, List, [], ◌++◌, length, take, Option, Some, None, refl, sym, ap, ◌∙◌, subst}
+use Rattle.std.proofs.Math.Seq.{take-append-add}
+use Rattle.std.proofs.lemmas.List.{take-append-le}
+use Rattle.std.specs.Io.KnownBytes.{append_known}
 use Rattle.tm_base.specs.Bits.{AreOctets, bits_of}
 use Rattle.tm_base.specs.Written.{Wrote, WroteFront}
 use Rattle.tm_base.specs.Pieces.{Fed, FedFront, further}
+use Rattle.tm_base.proofs.Known.{append_known-more}
 use Rattle.tm_base.proofs.Pieces.{fed-none, fed-more, fed-front, fed-front_of_longer}
 use Rattle.tm_config.specs.Configuration.{Configuration}
 use Rattle.tm_conv.specs.declared.rates.Rate.{Rate}
 use Rattle.tm_conv.specs.Encoding.{Encoding}
-use Rattle.tm_inner.specs.Symbols.{symbols_by, symbols_of_octets}
-use Rattle.tm_inner.specs.Sending.{InnerSending, IsEncoderOf, KeepsFor, StandsFor, Sends, SendsFront}
-use Rattle.tm_inner.proofs.Symbols.{octets-due, symbols-go_on}
+use Rattle.tm_inner.specs.Symbols.{low_level, plain_symbols, symbols_by, symbols_of_octets}
+use Rattle.tm_inner.specs.Sending.{InnerSending, IsEncoderOf, KeepsFor, StandsFor, Sends, SendsFront, spread}
+use Rattle.tm_inner.proofs.Symbols.{octets-due, spread-append, spread-due, symbols-go_on}
 
 pub sends-none : (sender : InnerSending) (taken : Option (List ℕ)) → Sends sender sender taken taken []
 sends-none sender taken = record {
@@ -35,23 +39,70 @@ pub sends-front_of_longer : (a : InnerSending) (taken taken_now : Option (List �
 sends-front_of_longer a taken taken_now first second p =
     fed-front_of_longer StandsFor (symbols_of_octets a.config) (symbols-go_on a.config) a taken taken_now first second p
 
--- ---- with no inner code the octets are written
+-- ---- with no inner code the octets are written, or one for each of their bits
 
-by_rate : (rate : Option Rate) (c : Configuration) (given piece : List ℕ) → rate ≡ None → AreOctets piece → further (λ octets. symbols_by rate c (bits_of octets)) given piece ≡ piece
-by_rate None c given piece none small = octets-due given piece small
-by_rate (Some rate) c given piece none small = absurd cc
+-- these octets are due for a piece where there is no encoder
+abbrev ArePlain : Configuration → Option Encoding → List ℕ → List ℕ → Type 0
+ArePlain c encoder piece written = (encoder ≡ None) × ((given : List ℕ) → further (symbols_of_octets c) given piece ≡ written)
 
-pub fed-octets : (c : Configuration) (encoder : Option Encoding) (taken taken_now : Option (List ℕ)) (piece : List ℕ) → encoder ≡ None → AreOctets piece → IsEncoderOf c encoder
-    → Wrote taken taken_now piece → Fed KeepsFor (symbols_of_octets c) encoder encoder taken taken_now piece
-fed-octets c None taken taken_now piece is small of wrote = record {
+no-rate : (c : Configuration) (encoder : Option Encoding) → encoder ≡ None → IsEncoderOf c encoder → c.inner ≡ None
+no-rate c None is of = of
+no-rate c (Some encoder) is of = absurd cc
+
+plain-due : (c : Configuration) (pack : Bool) (given piece written : List ℕ) → c.inner ≡ None → c.pack ≡ pack
+    → further (λ octets. plain_symbols pack c (bits_of octets)) given piece ≡ written
+    → further (symbols_of_octets c) given piece ≡ written
+plain-due c pack given piece written none is due =
+    subst (λ (rate : Option Rate). further (λ octets. symbols_by rate c (bits_of octets)) given piece ≡ written) (sym none)
+    (subst (λ (packed : Bool). further (λ octets. plain_symbols packed c (bits_of octets)) given piece ≡ written) (sym is) due)
+
+pub plain-octets : (c : Configuration) (encoder : Option Encoding) (piece : List ℕ) → encoder ≡ None → IsEncoderOf c encoder → c.pack ≡ true → AreOctets piece
+    → ArePlain c encoder piece piece
+plain-octets c encoder piece is of packed small = (is, λ given. plain-due c true given piece piece (no-rate c encoder is of) packed (octets-due given piece small))
+
+pub plain-spread : (c : Configuration) (encoder : Option Encoding) (low : ℕ) (piece : List ℕ) → encoder ≡ None → IsEncoderOf c encoder → c.pack ≡ false → low ≡ low_level c.soft
+    → ArePlain c encoder piece (spread low piece)
+plain-spread c encoder low piece is of each same = (
+  is,
+  λ given. plain-due c false given piece (spread low piece) (no-rate c encoder is of) each
+      (spread-due (low_level c.soft) given piece ∙ ap (λ (n : ℕ). spread n piece) (sym same)),
+)
+
+pub fed-plain : (c : Configuration) (encoder : Option Encoding) (taken taken_now : Option (List ℕ)) (piece written : List ℕ) → ArePlain c encoder piece written
+    → Wrote taken taken_now written → Fed KeepsFor (symbols_of_octets c) encoder encoder taken taken_now piece
+fed-plain c None taken taken_now piece written are wrote = record {
   stands = λ given stood. tt;
-  written = λ given stood. subst (Wrote taken taken_now) (sym (by_rate c.inner c given piece of small)) wrote;
+  written = λ given stood. subst (Wrote taken taken_now) (sym (are.1 given)) wrote;
 }
-fed-octets c (Some encoder) taken taken_now piece is small of wrote = absurd cc
+fed-plain c (Some encoder) taken taken_now piece written are wrote = let none = are.0 in absurd cc
 
-pub fed-octets_front : (c : Configuration) (encoder : Option Encoding) (taken taken_now : Option (List ℕ)) (piece : List ℕ) → encoder ≡ None → AreOctets piece → IsEncoderOf c encoder
-    → WroteFront taken taken_now piece → FedFront KeepsFor (symbols_of_octets c) encoder taken taken_now piece
-fed-octets_front c None taken taken_now piece is small of wrote = record {
-  front = λ given stood. subst (WroteFront taken taken_now) (sym (by_rate c.inner c given piece of small)) wrote;
+pub fed-plain_front : (c : Configuration) (encoder : Option Encoding) (taken taken_now : Option (List ℕ)) (piece written : List ℕ) → ArePlain c encoder piece written
+    → WroteFront taken taken_now written → FedFront KeepsFor (symbols_of_octets c) encoder taken taken_now piece
+fed-plain_front c None taken taken_now piece written are wrote = record {
+  front = λ given stood. subst (WroteFront taken taken_now) (sym (are.1 given)) wrote;
 }
-fed-octets_front c (Some encoder) taken taken_now piece is small of wrote = absurd cc
+fed-plain_front c (Some encoder) taken taken_now piece written are wrote = let none = are.0 in absurd cc
+
+-- ---- an octet for each bit, one piece after another
+
+pub spread-more : (low : ℕ) (taken here now : Option (List ℕ)) (front piece all : List ℕ) → front ++ piece ≡ all
+    → Wrote taken here (spread low front) → Wrote here now (spread low piece) → Wrote taken now (spread low all)
+spread-more low taken here now front piece all is p q =
+    q ∙ ap (λ (k : Option (List ℕ)). append_known k (spread low piece)) p
+    ∙ append_known-more taken (spread low front) (spread low piece)
+    ∙ ap (append_known taken) (sym (spread-append low front piece) ∙ ap (spread low) is)
+
+pub spread-front : (low : ℕ) (taken here now : Option (List ℕ)) (front piece rest all : List ℕ) (count : ℕ) → front ++ (piece ++ rest) ≡ all
+    → Wrote taken here (spread low front) → count ≤ length (spread low piece) → Wrote here now (take count (spread low piece))
+    → WroteFront taken now (spread low all)
+spread-front low taken here now front piece rest all count is p within q =
+    let one = spread low front in
+    let two = spread low piece in
+    let three = spread low rest in
+    let whole : spread low all ≡ one ++ (two ++ three) =
+    ap (spread low) (sym is) ∙ spread-append low front (piece ++ rest) ∙ ap (λ l. one ++ l) (spread-append low piece rest) in (
+      length one + count,
+      q ∙ ap (λ (k : Option (List ℕ)). append_known k (take count two)) p
+          ∙ append_known-more taken one (take count two)
+          ∙ ap (append_known taken) (ap (λ l. one ++ l) (sym (take-append-le count two three within)) ∙ sym (take-append-add one (two ++ three) count) ∙ ap (take (length one + count)) (sym whole)),
+    )

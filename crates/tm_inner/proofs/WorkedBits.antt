@@ -6,6 +6,7 @@ use Rattle.tm_config.specs.declared.values.SoftForm.TheVariants.{Unsigned, Signe
 use Rattle.tm_conv.specs.declared.rates.Rate.TheVariants.{R12, R23}
 use Rattle.tm_viterbi.specs.declared.block.Start.TheVariants.{Zero, Any}
 use Rattle.tm_inner.specs.Inner.{settings_of, soft_octets, bits_at, Inner}
+use Rattle.tm_inner.specs.Symbols.{symbols_of_octets}
 
 -- one octet is skipped, and soft octets are signed
 abbrev signed : Configuration
@@ -37,3 +38,21 @@ row_kept = refl
 row_bits : Inner (record signed { inner = None; skip = 3 }) 0 (0xA5 ∷ []) (false ∷ false ∷ true ∷ false ∷ true ∷ [])
 unfolding low_bits
 row_bits = record { blocks = []; left = 0; are_blocks = (refl, refl); are_bits = refl }
+
+-- where bits are not packed each octet is the bit that it is nearest to, and as many are skipped
+row_nearest : Inner (record signed { inner = None; skip = 1; pack = false }) 0 (0x11 ∷ 0x80 ∷ 0xFF ∷ 0x00 ∷ 0x7F ∷ []) (false ∷ false ∷ true ∷ true ∷ [])
+row_nearest = record { blocks = []; left = 0; are_blocks = (refl, refl); are_bits = refl }
+
+row_half : Inner (record signed { soft = Unsigned; inner = None; skip = 0; pack = false }) 0 (0x00 ∷ 0x7F ∷ 0x80 ∷ 0xFF ∷ []) (false ∷ false ∷ true ∷ true ∷ [])
+row_half = record { blocks = []; left = 0; are_blocks = (refl, refl); are_bits = refl }
+
+-- and each bit is sent as an octet of its own
+row_spread : symbols_of_octets (record signed { soft = Unsigned; inner = None; pack = false }) (0xA5 ∷ [])
+    ≡ 0xFF ∷ 0x00 ∷ 0xFF ∷ 0x00 ∷ 0x00 ∷ 0xFF ∷ 0x00 ∷ 0xFF ∷ []
+unfolding low_bits
+row_spread = refl
+
+row_spread_signed : symbols_of_octets (record signed { inner = None; pack = false }) (0x80 ∷ [])
+    ≡ 0x7F ∷ 0x80 ∷ 0x80 ∷ 0x80 ∷ 0x80 ∷ 0x80 ∷ 0x80 ∷ 0x80 ∷ []
+unfolding low_bits
+row_spread_signed = refl

@@ -1,6 +1,7 @@
 -- The bits that are received: those that the inner code is decoded to (CCSDS 131.0-B, Convolutional
 -- Coding).
-use Rattle.std.specs.Prelude.{◌≡◌, ◌⊎◌, ℕ, ◌+◌, ◌%◌, ◌==◌, Bool, if◌then◌else◌, List, [], drop, map, Option, Some, None}
+use Rattle.std.specs.Prelude.{◌≡◌, ◌⊎◌, ℕ, ◌+◌, ◌*◌, ◌%◌, ◌==◌, nat_le, Bool, true, false, if◌then◌else◌}
+use Rattle.std.specs.Prelude.{List, [], drop, map, Option, Some, None}
 use Rattle.tm_base.specs.Bits.{bits_of}
 use Rattle.tm_config.specs.Configuration.{Configuration, is_signed}
 use Rattle.tm_conv.specs.declared.rates.Rate.{Rate}
@@ -51,10 +52,27 @@ DueAt (Some rate) c phase octets blocks =
 abbrev pub AreInnerDue : Configuration → ℕ → List ℕ → List WindowBlock → Type 0
 AreInnerDue c = DueAt c.inner c
 
+-- the bit that an octet is nearest to: 1 where its soft value is 128 or more
+abbrev pub nearest_bit : Configuration → ℕ → Bool
+nearest_bit c octet = nat_le 128 (soft_value c octet)
+
+-- the bits that octets hold where there is no inner code: eight each, or the one that each is
+-- nearest to
+abbrev pub plain_bits_by : Bool → Configuration → List ℕ → List Bool
+plain_bits_by true c octets = bits_of octets
+plain_bits_by false c octets = map (nearest_bit c) octets
+
+abbrev pub plain_bits : Configuration → List ℕ → List Bool
+plain_bits c = plain_bits_by c.pack c
+
+-- how many bits so many octets hold
+abbrev pub plain_count : Configuration → ℕ → ℕ
+plain_count c octets = if c.pack then 8 * octets else octets
+
 -- the bits of received octets with these blocks: those that the blocks keep, or with no inner code
 -- all behind the skipped ones
 abbrev pub bits_at : Option Rate → Configuration → List ℕ → List WindowBlock → List Bool
-bits_at None c octets blocks = drop c.skip (bits_of octets)
+bits_at None c octets blocks = drop c.skip (plain_bits c octets)
 bits_at (Some rate) c octets blocks = map (λ bit. bit == 1) (kept_bits blocks)
 
 abbrev pub inner_bits : Configuration → List ℕ → List WindowBlock → List Bool

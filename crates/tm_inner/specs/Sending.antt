@@ -4,7 +4,7 @@ use Rattle.tm_base.specs.Bits.{bits_of}
 use Rattle.tm_base.specs.Pieces.{Fed, FedFront}
 use Rattle.tm_config.specs.Configuration.{Configuration}
 use Rattle.tm_conv.specs.declared.rates.Rate.{Rate}
-use Rattle.tm_conv.specs.Encoding.{Encoding, StandsFor as EncoderStandsFor, levels, sent_for}
+use Rattle.tm_conv.specs.Encoding.{Encoding, StandsFor as EncoderStandsFor, bit_numbers, levels, sent_for}
 use Rattle.tm_inner.specs.Symbols.{is_inverted, symbols_of_octets}
 
 -- what contracts see of an inner sender
@@ -27,6 +27,10 @@ EncodesFor encoder octets = EncoderStandsFor encoder (bits_of octets)
 -- the octets of the symbols of these octets
 abbrev pub encoded : Rate → Bool → ℕ → List ℕ → List ℕ
 encoded rate invert low octets = levels low (sent_for rate invert (bits_of octets))
+
+-- an octet for each bit of these octets
+abbrev pub spread : ℕ → List ℕ → List ℕ
+spread low octets = levels low (bit_numbers (bits_of octets))
 
 -- register and pattern are those behind the bits of these octets; with no inner code nothing is
 -- kept

@@ -6,7 +6,7 @@ use Rattle.tm_config.specs.declared.values.SoftForm.{SoftForm}
 use Rattle.tm_config.specs.declared.values.SoftForm.TheVariants.{Unsigned, Signed}
 use Rattle.tm_conv.specs.declared.rates.Rate.{Rate}
 use Rattle.tm_conv.specs.declared.rates.Rate.TheVariants.{R12, R23, R34, R56, R78}
-use Rattle.tm_conv.specs.Encoding.{levels, sent_for}
+use Rattle.tm_conv.specs.Encoding.{bit_numbers, levels, sent_for}
 
 -- whether each second sum is sent inverted: as it was chosen, and else at rate 1/2 alone
 abbrev pub is_inverted : Rate → Option Bool → Bool
@@ -23,10 +23,16 @@ abbrev pub low_level : SoftForm → ℕ
 low_level Unsigned = 0x00
 low_level Signed = 0x80
 
--- the octets that are sent for bits: with no inner code the bits themselves, eight an octet; else
--- an octet for each symbol
+-- the octets of these bits as they are, where there is no inner code: one for eight of them, or one
+-- for each as for a symbol
+abbrev pub plain_symbols : Bool → Configuration → List Bool → List ℕ
+plain_symbols true c bits = octets_of bits
+plain_symbols false c bits = levels (low_level c.soft) (bit_numbers bits)
+
+-- the octets that are sent for bits: with no inner code those of the bits themselves, packed or not;
+-- else an octet for each symbol
 abbrev pub symbols_by : Option Rate → Configuration → List Bool → List ℕ
-symbols_by None c bits = octets_of bits
+symbols_by None c bits = plain_symbols c.pack c bits
 symbols_by (Some rate) c bits = levels (low_level c.soft)
     (sent_for rate (is_inverted rate c.invert) bits)
 

@@ -55,3 +55,10 @@ pub fn is_signed(config: &Config) -> bool
         SoftForm::Signed => true,
     }
 }
+
+// Whether eight bits make an octet where there is no inner code.
+pub fn is_packed(config: &Config) -> bool
+    ensures { result ≡ config.now.pack }
+{
+    config.values().pack
+}

@@ -1,10 +1,10 @@
 // How many bits are received.
-ghost use Rattle.std.specs.Prelude.{◌≡◌, ℕ, ◌+◌, ◌^◌, ◌<◌, ◌≤◌, List, length};
+ghost use Rattle.std.specs.Prelude.{◌≡◌, ℕ, ◌+◌, ◌-◌, ◌^◌, ◌<◌, ◌≤◌, List, length, min};
 ghost use Rattle.tm_conv.specs.Path.{period, steps_size};
 ghost use Rattle.tm_viterbi.specs.WindowBlock.{WindowBlock};
-ghost use Rattle.tm_inner.specs.Inner.{AreInnerBlocks, inner_bits};
+ghost use Rattle.tm_inner.specs.Inner.{AreInnerBlocks, inner_bits, plain_count};
 
-use crate::code::rate_of;
+use crate::code::{is_packed, rate_of};
 use tm_config::Config;
 use tm_conv::Rate;
 
@@ -19,7 +19,18 @@ pub fn count_bits(config: &Config, phase: u64, octets: u64) -> u64
             rate,
             octets.saturating_sub(config.skip()).saturating_sub(phase),
         ),
-        None => octets.saturating_mul(8).saturating_sub(config.skip()),
+        None => plain_count(config, octets).saturating_sub(config.skip()),
+    }
+}
+
+// How many bits so many octets hold where there is no inner code, up to 2^64-1.
+pub fn plain_count(config: &Config, octets: u64) -> u64
+    ensures { result ≡ min (plain_count config.now octets) (2 ^ 64 - 1) }
+{
+    if is_packed(config) {
+        octets.saturating_mul(8)
+    } else {
+        octets
     }
 }
 

@@ -76,7 +76,7 @@ impl Held {
 }
 
 // An octet, signed or not, as an unsigned one.
-fn unsigned(is_signed: bool, octet: u8) -> u8
+pub fn unsigned(is_signed: bool, octet: u8) -> u8
     ensures { result ≡ (if is_signed then (octet + 128) % 256 else octet) }
 {
     if is_signed {

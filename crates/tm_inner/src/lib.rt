@@ -9,9 +9,11 @@ mod feeding;
 mod held;
 mod inner_decoder;
 mod laws;
+mod nearest;
 mod phased;
 mod receiver;
 mod sender;
+mod spreading;
 mod whole;
 mod workers;
 

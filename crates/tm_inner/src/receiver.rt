@@ -1,21 +1,21 @@
 // The receiver's first stage.
-ghost use Rattle.std.specs.Prelude.{◌≡◌, ◌≢◌, ◌↔◌, ◌++◌, ℕ, ◌+◌, ◌-◌, ◌*◌, ◌^◌, ◌<◌, ◌≤◌, IsTrue, List, [], true, false, IfOk, OnOk, IsErrOf, Err, None, length, drop, map, min, take};
+ghost use Rattle.std.specs.Prelude.{◌≡◌, ◌≢◌, ◌↔◌, ◌++◌, ℕ, ◌+◌, ◌-◌, ◌^◌, ◌<◌, ◌≤◌, ◌==◌, IsTrue, List, [], true, false, IfOk, OnOk, IsErrOf, Err, None, length, drop, map, min, take};
 ghost use Rattle.std.specs.Option.{is_some};
-ghost use Rattle.tm_base.specs.Bits.{bits_of};
 ghost use Rattle.tm_base.specs.Handed.{Handed, Item, items_of, on_handed};
 ghost use Rattle.tm_base.specs.Outside.{Rose};
 ghost use Rattle.tm_base.specs.Takers.{HandedOver, HandedPart};
 ghost use Rattle.tm_viterbi.specs.WindowBlock.{WindowBlock};
 ghost use Rattle.tm_viterbi.specs.Clean.{kept_bits};
-ghost use Rattle.tm_inner.specs.Inner.{inner_bits};
+ghost use Rattle.tm_inner.specs.Inner.{inner_bits, nearest_bit, plain_bits, plain_count};
 ghost use Rattle.tm_inner.specs.Phase.{IsChosen, IsChosenSoFar, phase_octets, skipped_at};
 ghost use Rattle.tm_inner.specs.InnerDecoding.{HasWorkers};
 ghost use Rattle.tm_inner.specs.Receiving.{StandsFor};
 ghost use Rattle.tm_inner.specs.Handing.{AreHanded, AreHandedDue, AreHandedFirst, AreHandedFront};
 
-use crate::code::{is_signed, rate_of};
-use crate::counting::count_bits;
+use crate::code::{is_packed, is_signed, rate_of};
+use crate::counting::{count_bits, plain_count};
 use crate::feeding::turn;
+use crate::nearest::nearest_bits;
 use crate::phased::Phased;
 use crate::workers::{Alone, Feeding, WithWorkers};
 use std::alloc::Global;
@@ -369,15 +369,33 @@ impl InnerReceiver {
     /// With no inner code, how many bits of the next octets are still to be skipped, 0 to 15. The bits behind them are
     /// received.
     pub fn bits_to_skip(&self) -> u64
-        ensures value { result ≡ self.now.config.skip - 8 * self.now.count }
+        ensures value { result ≡ self.now.config.skip - plain_count self.now.config self.now.count }
         ensures bits { (given octets : List ℕ) (done : List (Handed WindowBlock)) → StandsFor self.now given done
             → self.now.config.inner ≡ None
             → inner_bits self.now.config (given ++ octets) []
-            ≡ inner_bits self.now.config given [] ++ drop result (bits_of octets) }
+            ≡ inner_bits self.now.config given [] ++ drop result (plain_bits self.now.config octets) }
     {
         self.config
             .skip()
-            .saturating_sub(self.count.saturating_mul(8))
+            .saturating_sub(plain_count(&self.config, self.count))
+    }
+
+    /// Whether octets hold eight bits each where there is no inner code. Else each is one bit, which `nearest_bits`
+    /// tells.
+    pub fn is_packed(&self) -> bool
+        ensures { result ≡ self.now.config.pack }
+    {
+        is_packed(&self.config)
+    }
+
+    /// Puts the bits that octets are nearest to in `bits`, each 0 or 1: 1 for an octet from 80 (hex) on, or in the signed
+    /// form from 00 to 7F.
+    pub fn nearest_bits(&self, octets: &[u8], bits: &mut [u8])
+        requires { length bits.old ≡ length octets.now }
+        ensures size { length bits.new ≡ length bits.old }
+        ensures bits { map (λ bit. bit == 1) bits.new ≡ map (nearest_bit self.now.config) octets.now }
+    {
+        nearest_bits(&self.config, octets, bits);
     }
 
     /// Turns the next octets, before they are fed, to soft octets of which 0 is the surest 0 and 255 the surest 1.

@@ -2,18 +2,20 @@
 ghost use Rattle.std.specs.Prelude.{◌≡◌, ◌≢◌, ◌↔◌, ◌≤◌, List, [], ℕ, IsTrue, OnOk, OnErr, IsErrOf, false};
 ghost use Rattle.tm_base.specs.Outside.{HasCause, Rose};
 ghost use Rattle.tm_base.specs.Pieces.{Fed, FedFront};
+ghost use Rattle.tm_base.specs.Written.{Wrote, WroteFront};
 ghost use Rattle.tm_config.specs.Configuration.{Configuration};
 ghost use Rattle.tm_inner.specs.Symbols.{low_level, symbols_of_octets};
-ghost use Rattle.tm_inner.specs.Sending.{EncodesFor, IsEncoderOf, KeepsFor, StandsFor, Sends, SendsFront, encoded};
+ghost use Rattle.tm_inner.specs.Sending.{EncodesFor, IsEncoderOf, KeepsFor, StandsFor, Sends, SendsFront, encoded, spread};
 
-use crate::code::{encoder_of, low_level};
+use crate::code::{encoder_of, is_packed, low_level};
+use crate::spreading::spread;
 use std::marker::Model;
 use thiserror::Error;
 use tm_base::{Failed, Sink, put_all};
 use tm_config::Config;
 use tm_conv::Encoder;
 
-// The octets that are encoded at a time, and the most that their symbols fill.
+// The octets that are encoded at a time, and the most that their symbols fill. Their bits fill half of it.
 const PIECE: usize = 256;
 
 const ROOM: usize = 16 * PIECE;
@@ -70,8 +72,9 @@ impl InnerSender {
     }
 
     /// Writes what is due for the next octets, most significant bit first: with an inner code an octet for each symbol,
-    /// 00 and FF, or 80 and 7F (hex) in the signed form, and else the octets (CCSDS 131.0-B, Convolutional Coding). The
-    /// code's register and puncture pattern run on from push to push.
+    /// 00 and FF, or 80 and 7F (hex) in the signed form (CCSDS 131.0-B, Convolutional Coding); with none the octets, or
+    /// where bits are not to be packed such an octet for each bit. The code's register and puncture pattern run on from
+    /// push to push.
     ///
     /// `Sink` comes where `out` fails, or takes nothing of what is left; a front of what is due was then written.
     /// `Stopped` comes where an earlier push answered `Sink`; nothing is written then.
@@ -90,7 +93,13 @@ impl InnerSender {
         if self.has_failed {
             return Err(SendError::Stopped);
         }
-        match send(&mut self.encoder, low_level(&self.config), octets, out) {
+        match send(
+            &mut self.encoder,
+            is_packed(&self.config),
+            low_level(&self.config),
+            octets,
+            out,
+        ) {
             Ok(()) => Ok(()),
             Err(Failed) => {
                 self.has_failed = true;
@@ -100,24 +109,54 @@ impl InnerSender {
     }
 }
 
-// Writes the octets, or where there is an encoder their symbols, a 0 as the octet `low`.
+// Writes the symbols of the octets where there is an encoder, and else the octets, or where they are not to be packed
+// an octet for each of their bits. A 0 is the octet `low`.
 fn send<O: Sink>(
     encoder: &mut Option<Encoder>,
+    is_packed: bool,
     low: u8,
     octets: &[u8],
     out: &mut O,
 ) -> Result<(), Failed>
     ensures of { (c : Configuration) → IsEncoderOf c encoder.old → IsEncoderOf c encoder.new }
-    ensures sent { OnOk result ((c : Configuration) → IsEncoderOf c encoder.old → low ≡ low_level c.soft
+    ensures sent { OnOk result ((c : Configuration) → IsEncoderOf c encoder.old → is_packed ≡ c.pack → low ≡ low_level c.soft
         → Fed KeepsFor (symbols_of_octets c) encoder.old encoder.new (O.taken out.old) (O.taken out.new) octets.now) }
-    ensures front { OnErr result ((c : Configuration) → IsEncoderOf c encoder.old → low ≡ low_level c.soft
+    ensures front { OnErr result ((c : Configuration) → IsEncoderOf c encoder.old → is_packed ≡ c.pack
+        → low ≡ low_level c.soft
         → FedFront KeepsFor (symbols_of_octets c) encoder.old (O.taken out.old) (O.taken out.new) octets.now) }
     ensures cause { HasCause (O.faults out.old) (O.faults out.new) (O.is_last out.new) result }
 {
     match encoder {
         Some(encoder) => send_symbols(encoder, low, octets, out),
-        None => put_all(out, octets),
+        None => {
+            if is_packed {
+                put_all(out, octets)
+            } else {
+                send_bits(low, octets, out)
+            }
+        }
     }
+}
+
+// Writes an octet for each bit of the octets, a 0 as the octet `low` and a 1 as its complement.
+fn send_bits<O: Sink>(low: u8, octets: &[u8], out: &mut O) -> Result<(), Failed>
+    ensures sent { OnOk result (Wrote (O.taken out.old) (O.taken out.new) (spread low octets.now)) }
+    ensures front { OnErr result (WroteFront (O.taken out.old) (O.taken out.new) (spread low octets.now)) }
+    ensures cause { HasCause (O.faults out.old) (O.faults out.new) (O.is_last out.new) result }
+{
+    let mut room = [0; ROOM];
+    let mut done = 0;
+    while done < octets.len() {
+        let end = done + PIECE.min(octets.len() - done);
+        let piece = &octets[done..end];
+        spread(low, piece, &mut room);
+        match put_all(out, &room[..8 * piece.len()]) {
+            Ok(()) => {}
+            Err(Failed) => return Err(Failed),
+        }
+        done = end;
+    }
+    Ok(())
 }
 
 // Writes the symbols of the octets, a 0 as the octet `low` and a 1 as its complement.

@@ -1,11 +1,12 @@
 use Rattle.std.proofs.Common.{◌∙◌, sym, arith}
+use Rattle.tm_inner.proofs.PlainBits.{count-few}
 use Rattle.tm_inner.proofs.ReceivedBits.{bits-coded, bits-plain}
 use Rattle.tm_inner.proofs.counting.count_bits.Goals as goal
 
 pub returns-in-None : goal.returns-in-None
 returns-in-None c = λ given blocks left long few are.
     bits-plain c.args.config.now c.args.octets c.saturating_sub-in-None.result given blocks (sym c.rate_of.ensures ∙ c.in-None.is) long
-    (omega (arith, long, few, c.saturating_mul.ensures, c.saturating_sub-in-None.ensures, c.skip-in-None.ensures.value))
+    (omega (arith, long, few, c.plain_count.ensures, count-few c.args.config.now c.args.octets, c.saturating_sub-in-None.ensures, c.skip-in-None.ensures.value))
 
 pub returns-in-Some : goal.returns-in-Some
 returns-in-Some c = λ given blocks left long few are.
