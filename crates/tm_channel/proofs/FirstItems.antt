@@ -1,17 +1,16 @@
 -- Items that are first ones for octets stay first, whatever octets come.
 use Rattle.std.proofs.Common.{◌≡◌, ◌==◌, ◌-◌, ℕ, Bool, List, [], ◌∷◌, ◌++◌, length, take, drop, map, sym, ap, ◌∙◌, subst, Option, Some, None}
 use Rattle.std.proofs.lemmas.List.{append-nil, map-append}
-use Rattle.tm_base.specs.Bits.{bits_of}
-use Rattle.tm_base.proofs.Packing.{bits_of-append}
 use Rattle.tm_config.specs.Configuration.{Configuration}
 use Rattle.tm_config.specs.Accepted.{IsAccepted}
 use Rattle.tm_conv.specs.declared.rates.Rate.{Rate}
 use Rattle.tm_viterbi.specs.WindowBlock.{WindowBlock}
 use Rattle.tm_viterbi.specs.Blocks.{AreBlocksOf}
 use Rattle.tm_viterbi.specs.Clean.{kept_bits}
-use Rattle.tm_inner.specs.Inner.{BlocksAt, bits_at, settings_of, soft_octets, Inner, inner_bits}
+use Rattle.tm_inner.specs.Inner.{BlocksAt, plain_bits, bits_at, settings_of, soft_octets, Inner, inner_bits}
 use Rattle.tm_inner.specs.Receiving.{FirstAt}
 use Rattle.tm_inner.proofs.DueBits.{StayClosed, StandFirst, drop-split, kept-append, soft-more}
+use Rattle.tm_inner.proofs.PlainBits.{plain-append}
 use Rattle.tm_sync.specs.declared.found.Found.{Found}
 use Rattle.tm_sync.specs.Places.{places}
 use Rattle.tm_codeblock.specs.ReceivedCodeblock.{rules_of}
@@ -30,7 +29,7 @@ bits-first : StayClosed → StandFirst → (rate : Option Rate) (c : Configurati
     → FirstAt rate c phase octets first → BlocksAt rate c phase (octets ++ more) blocks left
     → (rest : List Bool) × (bits_at rate c (octets ++ more) blocks ≡ bits_at rate c octets first ++ rest)
 bits-first stay stand None c phase octets more first blocks left is all =
-    (drop (c.skip - length (bits_of octets)) (bits_of more), ap (drop c.skip) (bits_of-append octets more) ∙ drop-split c.skip (bits_of octets) (bits_of more))
+    (drop (c.skip - length (plain_bits c octets)) (plain_bits c more), ap (drop c.skip) (plain-append c octets more) ∙ drop-split c.skip (plain_bits c octets) (plain_bits c more))
 bits-first stay stand (Some rate) c phase octets more first blocks left is all =
     let s = settings_of c rate in
     let longer = soft-more c phase octets more in

@@ -4,10 +4,8 @@ use Rattle.std.specs.Option.{is_some}
 use Rattle.std.proofs.lemmas.List.{append-nil, drop_all, length-map, take-append-le, take_all}
 use Rattle.std.proofs.Math.Seq.{drop-length, take-add}
 use Rattle.std.proofs.lemmas.Bool.{cases_lt}
-use Rattle.tm_base.specs.Bits.{bits_of}
 use Rattle.tm_base.specs.Handed.{Handed, Phase, Item, on_handed, items_of}
 use Rattle.tm_base.specs.Takers.{HandedOver, HandedPart}
-use Rattle.tm_base.proofs.Packing.{length-bits_of, bits_of-append}
 use Rattle.tm_base.proofs.Handing.{HandedOver-append, HandedPart-after}
 use Rattle.tm_base.proofs.HandedItems.{HandedOver-items, HandedPart-items, items_of-append, items_of-items}
 use Rattle.tm_config.specs.Configuration.{Configuration}
@@ -17,12 +15,13 @@ use Rattle.tm_viterbi.specs.WindowBlock.{WindowBlock}
 use Rattle.tm_viterbi.specs.Due.{AreFirst}
 use Rattle.tm_viterbi.specs.Clean.{kept_bits}
 use Rattle.tm_phase.specs.declared.choosing.Chosen.{Chosen}
-use Rattle.tm_inner.specs.Inner.{BlocksAt, bits_at, settings_of, soft_value, soft_octets, AreInnerBlocks, AreInnerDue, Inner, inner_bits}
+use Rattle.tm_inner.specs.Inner.{BlocksAt, plain_bits, plain_count, bits_at, settings_of, soft_value, soft_octets, AreInnerBlocks, AreInnerDue, Inner, inner_bits}
 use Rattle.tm_inner.specs.Phase.{IsChosenBy, IsChosen, IsSettled, needed_at, skipped_at, phase_octets, skip_of, in_turn, IsChosenSoFar}
 use Rattle.tm_inner.specs.Handing.{AreHanded, AreHandedDue}
 use Rattle.tm_inner.specs.Receiving.{InnerReceiving, FirstAt, AreInnerFirst, StandsFor as InnerStandsFor, Hands, HandsFront}
 use Rattle.tm_inner.proofs.DueBits.{drop-split, soft-more}
 use Rattle.tm_inner.proofs.GivenPieces.{Stay}
+use Rattle.tm_inner.proofs.PlainBits.{bits-nil, length-plain, plain-append, plain-few}
 use Rattle.tm_inner.proofs.PhasePieces.{PhaseStays, StayClosed, items_of-in_turn}
 use Rattle.tm_inner.proofs.HandedPieces.{stands-so-far}
 use Rattle.tm_inner.proofs.InTurn.{choice-stays, settled-stays, so_far-stays}
@@ -75,22 +74,24 @@ kept-phase a b (Phase skip cost ∷ more) handed = kept-phase handed.0 b more ha
 kept-phase a b (Item x ∷ xs) handed = kept-phase handed.0 b xs handed.2 ∙ ap (λ (o : Option Chosen). phase_from o xs) handed.1.phase
 
 -- which bits come of octets
-pub found-some : (rate : Option Rate) (skip : ℕ) (kept octets : List ℕ) → is_some rate ≡ true → bits_found rate skip kept octets ≡ map (λ bit. bit == 1) kept
-found-some None skip kept octets is = absurd cc
-found-some (Some rate) skip kept octets is = refl
+pub found-some : (c : Configuration) (rate : Option Rate) (skip : ℕ) (kept octets : List ℕ) → is_some rate ≡ true
+    → bits_found c rate skip kept octets ≡ map (λ bit. bit == 1) kept
+found-some c None skip kept octets is = absurd cc
+found-some c (Some rate) skip kept octets is = refl
 
-pub found-none : (rate : Option Rate) (skip : ℕ) (kept octets : List ℕ) → is_some rate ≡ false → bits_found rate skip kept octets ≡ drop skip (bits_of octets)
-found-none None skip kept octets is = refl
-found-none (Some rate) skip kept octets is = absurd cc
+pub found-none : (c : Configuration) (rate : Option Rate) (skip : ℕ) (kept octets : List ℕ) → is_some rate ≡ false
+    → bits_found c rate skip kept octets ≡ drop skip (plain_bits c octets)
+found-none c None skip kept octets is = refl
+found-none c (Some rate) skip kept octets is = absurd cc
 
 -- ---- the bits of further octets
 
-further-at : (rate : Option Rate) (c : Configuration) (given octets : List ℕ) (blocks more : List WindowBlock) (kept : List ℕ) (skip : ℕ) → skip ≡ c.skip - 8 * length given
-    → kept ≡ kept_bits more → bits_at rate c (given ++ octets) (blocks ++ more) ≡ bits_at rate c given blocks ++ bits_found rate skip kept octets
+further-at : (rate : Option Rate) (c : Configuration) (given octets : List ℕ) (blocks more : List WindowBlock) (kept : List ℕ) (skip : ℕ) → skip ≡ c.skip - plain_count c (length given)
+    → kept ≡ kept_bits more → bits_at rate c (given ++ octets) (blocks ++ more) ≡ bits_at rate c given blocks ++ bits_found c rate skip kept octets
 further-at None c given octets blocks more kept skip is same =
-    let left : c.skip - length (bits_of given) ≡ skip = omega (arith, is, length-bits_of given) in
-    ap (drop c.skip) (bits_of-append given octets) ∙ drop-split c.skip (bits_of given) (bits_of octets)
-    ∙ ap (λ n. drop c.skip (bits_of given) ++ drop n (bits_of octets)) left
+    let left : c.skip - length (plain_bits c given) ≡ skip = omega (arith, is, length-plain c given) in
+    ap (drop c.skip) (plain-append c given octets) ∙ drop-split c.skip (plain_bits c given) (plain_bits c octets)
+    ∙ ap (λ n. drop c.skip (plain_bits c given) ++ drop n (plain_bits c octets)) left
 further-at (Some rate) c given octets blocks more kept skip is same =
     all_bits-append blocks more ∙ ap (λ l. all_bits blocks ++ map (λ bit. bit == 1) l) (sym same)
 
@@ -112,8 +113,8 @@ grows-kept inner now room kept octets more handed none fresh stands given done w
       due = there.1;
       is_phase = kept-phase room kept more handed ∙ ap (λ (o : Option Chosen). phase_from o more) fresh;
       bits = ap (inner_bits c (given ++ octets)) (items_of-append done more)
-          ∙ further-at c.inner c given octets (items_of done) (items_of more) kept.bits (c.skip - 8 * inner.count)
-          (omega (arith, stood.count)) same;
+          ∙ further-at c.inner c given octets (items_of done) (items_of more) kept.bits (c.skip - plain_count c inner.count)
+          (ap (λ n. c.skip - plain_count c n) (sym stood.count)) same;
     }
 
 -- the first octets were gathered, and then it was given the others
@@ -148,7 +149,7 @@ last-at : (rate : Option Rate) (c : Configuration) (phase : ℕ) (given : List �
     → bits_at rate c given (blocks ++ last) ≡ bits_at rate c given blocks ++ all_bits last
 last-at None c phase given blocks last left are =
     let none = front-nil blocks last are.0 in
-    sym (append-nil (drop c.skip (bits_of given))) ∙ ap (λ (l : List WindowBlock). drop c.skip (bits_of given) ++ all_bits l) (sym none.1)
+    sym (append-nil (drop c.skip (plain_bits c given))) ∙ ap (λ (l : List WindowBlock). drop c.skip (plain_bits c given) ++ all_bits l) (sym none.1)
 last-at (Some rate) c phase given blocks last left are = all_bits-append blocks last
 
 -- the blocks of what was handed over
@@ -246,7 +247,7 @@ once-last c given done waiting last left (inr before) h settled =
 -- ---- before the choice there are no bits and no items
 
 unsettled-at : (rate : Option Rate) (c : Configuration) (given : List ℕ) → (needed_at rate c ≤ length (map (soft_value c) (drop (skipped_at rate c) given)) → ⊥) → bits_at rate c given [] ≡ []
-unsettled-at None c [] unsettled = drop_all c.skip [] (omega arith)
+unsettled-at None c [] unsettled = bits-nil None c
 unsettled-at None c (octet ∷ octets) unsettled = absurd (unsettled (omega (arith, length-map octets (soft_value c))))
 unsettled-at (Some rate) c given unsettled = refl
 
@@ -303,7 +304,7 @@ abbrev pub IsOf : Stages → Type 0
 IsOf s = s.bits.batch.config ≡ s.inner.config
 
 few-nil : (rate : Option Rate) (c : Configuration) (given : List ℕ) → length (bits_at rate c given []) ≤ 8 * length given
-few-nil None c given = omega (arith, length-drop c.skip (bits_of given), length-bits_of given)
+few-nil None c given = omega (arith, length-drop c.skip (plain_bits c given), plain-few c given)
 few-nil (Some rate) c given = omega arith
 
 due-few : (c : Configuration) (given : List ℕ) (handed : List (Handed WindowBlock)) → AreHandedDue c given handed → length (inner_bits c given (items_of handed)) ≤ 8 * length given
@@ -592,7 +593,7 @@ received-due s given done of stood =
 stays-at : StayClosed → (rate : Option Rate) (c : Configuration) (phase : ℕ) (octets more : List ℕ) (blocks : List WindowBlock) → FirstAt rate c phase octets blocks
     → FirstAt rate c phase (octets ++ more) blocks × ((rest : List Bool) × (bits_at rate c (octets ++ more) blocks ≡ bits_at rate c octets blocks ++ rest))
 stays-at closed None c phase octets more blocks first =
-    (first, (drop (c.skip - length (bits_of octets)) (bits_of more), ap (drop c.skip) (bits_of-append octets more) ∙ drop-split c.skip (bits_of octets) (bits_of more)))
+    (first, (drop (c.skip - length (plain_bits c octets)) (plain_bits c more), ap (drop c.skip) (plain-append c octets more) ∙ drop-split c.skip (plain_bits c octets) (plain_bits c more)))
 stays-at closed (Some rate) c phase octets more blocks first =
     let back = map (soft_value c) (drop (phase - length (drop c.skip octets)) (drop (c.skip - length octets) more)) in (
       subst (λ (l : List ℕ). AreFirst (settings_of c rate) l blocks) (sym (soft-more c phase octets more)) (closed (settings_of c rate) (soft_octets c phase octets) back blocks first),
@@ -768,10 +769,6 @@ ends-front took broke s bits_now taker middle now room phase piece count of room
     (subst (AreFirstItemsOf c (bits ++ piece) (places (rules_of c) (bits ++ piece))) (append_assoc stood.items p.items q.tried) items)
 
 -- ---- new stages
-
-bits-nil : (rate : Option Rate) (c : Configuration) → bits_at rate c [] [] ≡ []
-bits-nil None c = drop_all c.skip [] (omega arith)
-bits-nil (Some rate) c = refl
 
 pub stands-fresh : (s : Stages) → 1 ≤ s.inner.config.keep → InnerStandsFor s.inner [] [] → StandsForBits s.bits [] → StagesFor s [] []
 stands-fresh s some inner bits =

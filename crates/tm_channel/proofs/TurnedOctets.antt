@@ -1,6 +1,8 @@
 -- The items of octets that were turned over.
-use Rattle.std.proofs.Common.{◌≡◌, ◌<◌, ◌≤◌, ◌+◌, ◌-◌, ◌%◌, ◌==◌, cond, eqb, ℕ, Bool, true, false, List, [], ◌∷◌, ◌++◌, length, drop, map, refl, sym, ap, ◌∙◌, subst, arith, Option, Some, None, ◌⊎◌}
+use Rattle.std.proofs.Common.{◌≡◌, ◌<◌, ◌≤◌, ◌+◌, ◌-◌, ◌%◌, ◌==◌, cond, eqb, nat_le, if◌then◌else◌, inl, inr, ℕ, Bool, true, false, List, [], ◌∷◌, ◌++◌, length, drop, map, refl, sym, ap, ◌∙◌, subst, arith, Option, Some, None, ◌⊎◌}
 use Rattle.std.proofs.lemmas.List.{length-map, map-append}
+use Rattle.std.proofs.lemmas.Bool.{cases_Bool}
+use Rattle.std.proofs.lemmas.Bool.Decides.{nat_tests}
 use Rattle.tm_base.specs.Bits.{AreOctets, bits_of, bits_of_octet, low_bits, number_of}
 use Rattle.tm_base.proofs.Packing.{AreOctets-rest, length-low_bits, low_bits-number_of}
 use Rattle.tm_config.specs.Configuration.{Configuration, is_signed}
@@ -14,7 +16,7 @@ use Rattle.tm_conv.specs.Path.{AreBits, complement as complement_numbers}
 use Rattle.tm_conv.specs.Cost.{sure}
 use Rattle.tm_conv.specs.Encoding.{bit_numbers, sent_for, level, levels}
 use Rattle.tm_gf256.proofs.Below.{all_below, same_below}
-use Rattle.tm_inner.specs.Inner.{settings_of, soft_value, soft_octets, BlocksAt, bits_at}
+use Rattle.tm_inner.specs.Inner.{settings_of, soft_value, soft_octets, BlocksAt, nearest_bit, plain_bits_by, plain_bits, bits_at}
 use Rattle.tm_inner.specs.Symbols.{is_inverted, low_level, symbols_by}
 use Rattle.tm_inner.proofs.InnerBits.{drop-none, AreBits-bit_numbers, half-rate, some-steps}
 use Rattle.tm_sync.specs.Bits.{flip, complement}
@@ -53,11 +55,35 @@ bits-turned (octet ∷ octets) are =
     (λ i. octet-turned octet (are 0 0 (omega arith)) i ++ bits-turned octets (AreOctets-rest octet octets are) i)
     ∙ sym (map-append flip (bits_of_octet octet) (bits_of octets))
 
+-- two values that come to 255 are nearest to different bits
+turned-test : (a b : ℕ) → a + b ≡ 255 → nat_le 128 a ≡ flip (nat_le 128 b)
+turned-test a b sum = elim (cases_Bool (nat_le 128 b)) [
+  | inl one ↦ (let other : nat_le 128 a ≡ false = grind (arith, nat_tests) in other ∙ ap flip (sym one))
+  | inr none ↦ (let other : nat_le 128 a ≡ true = grind (arith, nat_tests) in other ∙ ap flip (sym none))
+]
+
+-- the bit that an octet turned over is nearest to
+nearest-turned : (c : Configuration) (octet : ℕ) → octet < 256 → nearest_bit c (255 - octet) ≡ flip (nearest_bit c octet)
+nearest-turned c octet small = turned-test (soft_value c (255 - octet)) (soft_value c octet) (go (is_signed c.soft))
+  where
+    go : (signed : Bool) → (if signed then (255 - octet + 128) % 256 else 255 - octet) + (if signed then (octet + 128) % 256 else octet) ≡ 255
+    go true = omega arith
+    go false = omega arith
+
+all-nearest-turned : (c : Configuration) (octets : List ℕ) → AreOctets octets → map (nearest_bit c) (turned_octets octets) ≡ complement (map (nearest_bit c) octets)
+all-nearest-turned c [] are = refl
+all-nearest-turned c (octet ∷ octets) are =
+    (λ i. nearest-turned c octet (are 0 0 (omega arith)) i ∷ all-nearest-turned c octets (AreOctets-rest octet octets are) i)
+
+plain-turned : (pack : Bool) (c : Configuration) (octets : List ℕ) → AreOctets octets → plain_bits_by pack c (turned_octets octets) ≡ complement (plain_bits_by pack c octets)
+plain-turned true c octets are = bits-turned octets are
+plain-turned false c octets are = all-nearest-turned c octets are
+
 inner-turned : (c : Configuration) (rate : Option Rate) (phase : ℕ) (octets : List ℕ) (blocks : List WindowBlock) (left : ℕ) → rate ≡ None → AreOctets octets
     → BlocksAt rate c phase octets blocks left
     → BlocksAt rate c phase (turned_octets octets) blocks left × (complement (bits_at rate c octets blocks) ≡ bits_at rate c (turned_octets octets) blocks)
 inner-turned c None phase octets blocks left none small are =
-    (are, sym (drop-complement c.skip (bits_of octets)) ∙ ap (drop c.skip) (sym (bits-turned octets small)))
+    (are, sym (drop-complement c.skip (plain_bits c octets)) ∙ ap (drop c.skip) (sym (plain-turned c.pack c octets small)))
 inner-turned c (Some rate) phase octets blocks left none small are = absurd (cc)
 
 pub received-turned : (c : Configuration) (phase : ℕ) (octets : List ℕ) (items : List ItemValue) → IsAccepted c

@@ -1,7 +1,6 @@
 -- What a receiver keeps, and for which octets, given so far, and which items, handed over so far,
 -- it stands.
 use Rattle.std.specs.Prelude.{◌≡◌, false, ◌==◌, ◌+◌, ◌-◌, ◌*◌, ◌^◌, ◌<◌, ◌≤◌, ℕ, Bool, List, ◌++◌, length, take, drop, map, Option, Some, None}
-use Rattle.tm_base.specs.Bits.{bits_of}
 use Rattle.tm_base.specs.Handed.{Handed, Item, items_of}
 use Rattle.tm_base.specs.Takers.{HandedOver, HandedPart}
 use Rattle.tm_config.specs.Configuration.{Configuration}
@@ -10,7 +9,7 @@ use Rattle.tm_viterbi.specs.WindowBlock.{WindowBlock}
 use Rattle.tm_viterbi.specs.Clean.{kept_bits}
 use Rattle.tm_conv.specs.declared.rates.Rate.{Rate}
 use Rattle.tm_phase.specs.declared.choosing.Chosen.{Chosen}
-use Rattle.tm_inner.specs.Inner.{inner_bits}
+use Rattle.tm_inner.specs.Inner.{inner_bits, plain_bits, plain_count}
 use Rattle.tm_inner.specs.Phase.{IsChosen, IsChosenSoFar, in_turn}
 use Rattle.tm_inner.specs.Handing.{AreHanded, AreHandedDue}
 use Rattle.tm_inner.specs.Receiving.{InnerReceiving, StandsFor as InnerStandsFor}
@@ -172,13 +171,14 @@ KeepsPhase before skip cost now = now ≡ record before {
 
 -- the bits that come of octets: those that the first stage keeps, or with no inner code all behind
 -- those that are still to be skipped
-abbrev pub bits_found : Option Rate → ℕ → List ℕ → List ℕ → List Bool
-bits_found None skip kept octets = drop skip (bits_of octets)
-bits_found (Some rate) skip kept octets = map (λ bit. bit == 1) kept
+abbrev pub bits_found : Configuration → Option Rate → ℕ → List ℕ → List ℕ → List Bool
+bits_found c None skip kept octets = drop skip (plain_bits c octets)
+bits_found c (Some rate) skip kept octets = map (λ bit. bit == 1) kept
 
 abbrev pub received_bits : InnerReceiving → List ℕ → List ℕ → List Bool
 received_bits inner kept octets =
-    bits_found inner.config.inner (inner.config.skip - 8 * inner.count) kept octets
+    bits_found inner.config inner.config.inner
+    (inner.config.skip - plain_count inner.config inner.count) kept octets
 
 -- the first stage goes on from these octets, and from what it has handed over, to further octets,
 -- this phase and these bits

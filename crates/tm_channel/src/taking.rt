@@ -5,6 +5,7 @@ ghost use Rattle.tm_base.specs.Bits.{bits_of};
 ghost use Rattle.tm_base.specs.Handed.{Handed, on_handed};
 ghost use Rattle.tm_base.specs.Outside.{HasCause};
 ghost use Rattle.tm_base.specs.Takers.{HandedOver, HandedPart};
+ghost use Rattle.tm_inner.specs.Inner.{nearest_bit, plain_bits};
 ghost use Rattle.tm_inner.specs.Phase.{IsChosen, in_turn};
 ghost use Rattle.tm_inner.specs.Receiving.{Hands, HandsFront, StandsFor as InnerStandsFor};
 ghost use Rattle.tm_viterbi.specs.WindowBlock.{WindowBlock};
@@ -108,7 +109,7 @@ fn take_piece<P: Workers, T: ItemTaker>(
             Err(Failed) => Err(Failed),
         }
     } else {
-        match take_behind(stream, skip, by, octets, taker) {
+        match take_behind(inner, stream, skip, by, octets, taker) {
             Ok(()) => Ok(()),
             Err(Failed) => Err(Failed),
         }
@@ -172,8 +173,58 @@ pub fn end<P: Workers>(by: &P, inner: &mut InnerReceiver, kept: &mut KeptBits) -
     by.finish(inner, kept)
 }
 
-// Gives the bits of octets behind the first `skip` ones to the second stage.
+// Gives the bits of octets behind the first `skip` ones to the second stage, where there is no inner code.
 fn take_behind<P: Workers, T: ItemTaker>(
+    inner: &InnerReceiver,
+    stream: &mut BitStream,
+    skip: u64,
+    by: &P,
+    octets: &[u8],
+    taker: &mut T,
+) -> Result<(), Failed>
+    requires workers { P.is_ready by.now }
+    requires most { length octets.now ≤ 4096 }
+    ensures stream { stream.new.batch.config ≡ stream.old.batch.config }
+    ensures handed { OnOk result (Received T.took stream.old stream.new taker.old taker.new
+        (drop skip (plain_bits inner.now.config octets.now))) }
+    ensures part { OnErr result (ReceivedPart T.took T.broke stream.old stream.new taker.old taker.new
+        (drop skip (plain_bits inner.now.config octets.now))) }
+    ensures cause { HasCause (T.faults taker.old) (T.faults taker.new) (T.is_last taker.new) result }
+{
+    if inner.is_packed() {
+        take_packed(stream, skip, by, octets, taker)
+    } else {
+        take_nearest(inner, stream, skip, by, octets, taker)
+    }
+}
+
+// The same of octets that are nearest to one bit each.
+fn take_nearest<P: Workers, T: ItemTaker>(
+    inner: &InnerReceiver,
+    stream: &mut BitStream,
+    skip: u64,
+    by: &P,
+    octets: &[u8],
+    taker: &mut T,
+) -> Result<(), Failed>
+    requires workers { P.is_ready by.now }
+    requires most { length octets.now ≤ 4096 }
+    ensures stream { stream.new.batch.config ≡ stream.old.batch.config }
+    ensures handed { OnOk result (Received T.took stream.old stream.new taker.old taker.new
+        (drop skip (map (nearest_bit inner.now.config) octets.now))) }
+    ensures part { OnErr result (ReceivedPart T.took T.broke stream.old stream.new taker.old taker.new
+        (drop skip (map (nearest_bit inner.now.config) octets.now))) }
+    ensures cause { HasCause (T.faults taker.old) (T.faults taker.new) (T.is_last taker.new) result }
+{
+    let from = skip.min(octets.len() as u64) as usize;
+    let mut room = [0; PIECE];
+    let bits = &mut room[..octets.len() - from];
+    inner.nearest_bits(&octets[from..], bits);
+    take_bits(stream, by, bits, taker)
+}
+
+// The same of octets that hold eight bits each.
+fn take_packed<P: Workers, T: ItemTaker>(
     stream: &mut BitStream,
     skip: u64,
     by: &P,

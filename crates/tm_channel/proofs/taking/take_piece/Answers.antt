@@ -1,11 +1,19 @@
-use Rattle.std.proofs.Common.{◌≡◌, ◌==◌, ◌-◌, ◌*◌, ◌∙◌, true, false, map, drop, sym, ap, subst}
+use Rattle.std.proofs.Common.{◌≡◌, ◌==◌, ◌-◌, ◌*◌, ◌∙◌, ℕ, List, true, false, map, drop, sym, ap, subst}
 use Rattle.std.specs.Option.{is_some}
-use Rattle.tm_base.specs.Bits.{bits_of}
 use Rattle.tm_base.specs.Handed.{on_handed}
 use Rattle.tm_config.specs.Configuration.{Configuration}
+use Rattle.tm_inner.specs.Inner.{plain_bits, plain_count}
+use Rattle.tm_inner.specs.Receiving.{InnerReceiving}
 use Rattle.tm_channel.specs.OctetReceiving.{Grows, Stages, received_bits}
 use Rattle.tm_channel.proofs.GivenOctets.{first-chosen, found-none, found-some, front-due, front-phase, hands-due, hands-wait}
 use Rattle.tm_channel.proofs.taking.take_piece.Goals as goal
+
+-- with no inner code the bits are those of the octets behind the skipped ones
+found-behind : (inner now : InnerReceiving) (skip : ℕ) (kept octets : List ℕ) → now.config ≡ inner.config → is_some inner.config.inner ≡ false
+    → skip ≡ inner.config.skip - plain_count inner.config inner.count → received_bits inner kept octets ≡ drop skip (plain_bits now.config octets)
+found-behind inner now skip kept octets same none is =
+    found-none inner.config inner.config.inner (inner.config.skip - plain_count inner.config inner.count) kept octets none
+    ∙ ap (λ n. drop n (plain_bits inner.config octets)) (sym is) ∙ ap (λ (k : Configuration). drop skip (plain_bits k octets)) (sym same)
 
 -- the octets wait
 pub returns-then-waits-clause-handed : goal.returns-then-waits-clause-handed
@@ -42,7 +50,7 @@ returns-in-Err-take_bits-clause-front g c =
     let is : is_some inner.config.inner ≡ true =
     ap (λ (k : Configuration). is_some k.inner) (sym d.ensures.inner) ∙ sym c.has_inner_code.ensures
     ∙ c.if-has_inner_code.true in
-    let same = found-some inner.config.inner (inner.config.skip - 8 * inner.count) kept.bits octets is
+    let same = found-some inner.config inner.config.inner (inner.config.skip - plain_count inner.config inner.count) kept.bits octets is
     ∙ ap (map (λ bit. bit == 1)) (sym c.bits.ensures) in
     let grows = subst (Grows inner d.new.inner room octets kept.phase) same (d.ensures.grows c.if-waits.false) in
     first-chosen (on_handed g.T.ItemTaker.took_phase g.T.ItemTaker.took) (on_handed g.T.ItemTaker.broke_phase g.T.ItemTaker.broke) before d.new.inner
@@ -63,13 +71,13 @@ returns-in-Err-take_behind-clause-front g c =
     let is : is_some inner.config.inner ≡ false =
     ap (λ (k : Configuration). is_some k.inner) (sym d.ensures.inner) ∙ sym c.has_inner_code.ensures
     ∙ c.if-has_inner_code.false in
-    let same = found-none inner.config.inner (inner.config.skip - 8 * inner.count) kept.bits octets is
-    ∙ ap (λ n. drop n (bits_of octets)) (sym c.bits_to_skip-skip.ensures.value) in
+    let same = found-behind inner d.new.inner c.bits_to_skip-skip.result kept.bits octets d.ensures.inner is c.bits_to_skip-skip.ensures.value in
     let grows = subst (Grows inner d.new.inner room octets kept.phase) same (d.ensures.grows c.if-waits.false) in
+    let piece = drop c.bits_to_skip-skip.result (plain_bits d.new.inner.config octets) in
     first-chosen (on_handed g.T.ItemTaker.took_phase g.T.ItemTaker.took) (on_handed g.T.ItemTaker.broke_phase g.T.ItemTaker.broke) before d.new.inner
-    c.args.taker.now c.take_behind.new.taker room octets kept.phase (drop c.bits_to_skip-skip.result (bits_of octets)) c.requires.of c.requires.room d.ensures.inner grows
+    c.args.taker.now c.take_behind.new.taker room octets kept.phase piece c.requires.of c.requires.room d.ensures.inner grows
     (front-due g.T.ItemTaker.took_phase g.T.ItemTaker.broke_phase g.T.ItemTaker.took g.T.ItemTaker.broke before d.new.inner c.take_behind.new.stream
-    c.args.taker.now c.hand_phase.new.taker c.take_behind.new.taker room octets kept.phase (drop c.bits_to_skip-skip.result (bits_of octets)) c.requires.of c.requires.room
+    c.args.taker.now c.hand_phase.new.taker c.take_behind.new.taker room octets kept.phase piece c.requires.of c.requires.room
     grows c.in-Ok.ensures.handed c.in-Err-take_behind.ensures.part)
 
 pub returns-in-Ok-take_bits-clause-handed : goal.returns-in-Ok-take_bits-clause-handed
@@ -84,7 +92,7 @@ returns-in-Ok-take_bits-clause-handed g c =
     let is : is_some inner.config.inner ≡ true =
     ap (λ (k : Configuration). is_some k.inner) (sym d.ensures.inner) ∙ sym c.has_inner_code.ensures
     ∙ c.if-has_inner_code.true in
-    let same = found-some inner.config.inner (inner.config.skip - 8 * inner.count) kept.bits octets is
+    let same = found-some inner.config inner.config.inner (inner.config.skip - plain_count inner.config inner.count) kept.bits octets is
     ∙ ap (map (λ bit. bit == 1)) (sym c.bits.ensures) in
     hands-due g.T.ItemTaker.took_phase g.T.ItemTaker.took before now c.args.taker.now c.hand_phase.new.taker c.take_bits.new.taker room octets kept.phase (map (λ bit. bit == 1) c.bits.result.now)
     c.requires.of c.requires.room d.ensures.inner (subst (Grows inner d.new.inner room octets kept.phase) same (d.ensures.grows c.if-waits.false)) c.in-Ok.ensures.handed c.in-Ok-take_bits.ensures.handed
@@ -101,7 +109,7 @@ returns-in-Ok-take_behind-clause-handed g c =
     let is : is_some inner.config.inner ≡ false =
     ap (λ (k : Configuration). is_some k.inner) (sym d.ensures.inner) ∙ sym c.has_inner_code.ensures
     ∙ c.if-has_inner_code.false in
-    let same = found-none inner.config.inner (inner.config.skip - 8 * inner.count) kept.bits octets is
-    ∙ ap (λ n. drop n (bits_of octets)) (sym c.bits_to_skip-skip.ensures.value) in
-    hands-due g.T.ItemTaker.took_phase g.T.ItemTaker.took before now c.args.taker.now c.hand_phase.new.taker c.take_behind.new.taker room octets kept.phase (drop c.bits_to_skip-skip.result (bits_of octets))
-    c.requires.of c.requires.room d.ensures.inner (subst (Grows inner d.new.inner room octets kept.phase) same (d.ensures.grows c.if-waits.false)) c.in-Ok.ensures.handed c.in-Ok-take_behind.ensures.handed
+    let same = found-behind inner d.new.inner c.bits_to_skip-skip.result kept.bits octets d.ensures.inner is c.bits_to_skip-skip.ensures.value in
+    hands-due g.T.ItemTaker.took_phase g.T.ItemTaker.took before now c.args.taker.now c.hand_phase.new.taker c.take_behind.new.taker room octets kept.phase
+    (drop c.bits_to_skip-skip.result (plain_bits d.new.inner.config octets)) c.requires.of c.requires.room d.ensures.inner
+    (subst (Grows inner d.new.inner room octets kept.phase) same (d.ensures.grows c.if-waits.false)) c.in-Ok.ensures.handed c.in-Ok-take_behind.ensures.handed
