@@ -18,6 +18,7 @@ use Rattle.tm_inner.proofs.DueBits.{StandFirst, StayClosed, bits-first}
 use Rattle.tm_inner.proofs.InTurn.{HasPhase, OnePhase, choice-stays, in_turn-exists, one-choice}
 use Rattle.tm_inner.proofs.InnerBits.{HasBlocks, has_blocks}
 use Rattle.tm_inner.proofs.PhasePieces.{PhaseStays, items_of-in_turn}
+use Rattle.tm_inner.proofs.PlainBits.{bits-nil}
 use Rattle.tm_driver.specs.Driven.{DrivenTo}
 use Rattle.tm_driver.specs.Meaning.{Ends, Output, WroteEarly, WrotePrefixes, taken_by}
 use Rattle.tm_driver.specs.declared.ending.Ending.{Ending}
@@ -534,7 +535,7 @@ writes-new c receiver packing out notes accepted same stands new = record {
     config = same;
     stands = stands-new c receiver accepted same stands;
     room = ap (λ (p : Packing). p.room) new;
-    bits = ap (λ (p : Packing). p.bits) new ∙ sym (bits-none c.inner c);
+    bits = ap (λ (p : Packing). p.bits) new ∙ sym (bits-nil c.inner c);
     windows = ap (λ (p : Packing). p.windows) new;
   };
   is_written = record {
@@ -546,7 +547,3 @@ writes-new c receiver packing out notes accepted same stands new = record {
   out = wrote-nothing out;
   notes = wrote-nothing notes;
 }
-  where
-    bits-none : (rate : Option Rate) (c : Configuration) → bits_at rate c [] [] ≡ []
-    bits-none None c = drop_all c.skip [] (omega arith)
-    bits-none (Some rate) c = refl

@@ -2,10 +2,10 @@
 use Rattle.std.proofs.Common.{◌≡◌, ◌⊎◌, inl, inr, ℕ, ◌+◌, ◌*◌, ◌<◌, ◌≤◌, ◌^◌, ◌==◌, Bool, true, false, List, [], ◌∷◌, ◌++◌, length, take, drop, map, refl, sym, ap, ◌∙◌, subst, arith, append_assoc, length-append, length-drop, Option, Some, None}
 use Rattle.std.specs.Option.{is_some}
 use Rattle.std.proofs.lemmas.List.{append-nil, drop_all, length-map, map-append}
-use Rattle.tm_base.specs.Bits.{bits_of, low_bits}
+use Rattle.tm_base.specs.Bits.{low_bits}
 use Rattle.tm_base.specs.Handed.{Handed, Phase, Item, on_handed, items_of}
 use Rattle.tm_base.specs.Takers.{HandedOver}
-use Rattle.tm_base.proofs.Packing.{length-bits_of, length-low_bits}
+use Rattle.tm_base.proofs.Packing.{length-low_bits}
 use Rattle.tm_base.proofs.HandedItems.{items_of-append}
 use Rattle.tm_config.specs.Accepted.{IsAccepted}
 use Rattle.tm_config.specs.Configuration.{Configuration}
@@ -15,13 +15,14 @@ use Rattle.tm_driver.specs.Lines.{phase_text}
 use Rattle.tm_phase.specs.declared.choosing.Chosen.{Chosen}
 use Rattle.tm_viterbi.specs.Clean.{kept_bits}
 use Rattle.tm_viterbi.specs.WindowBlock.{WindowBlock}
-use Rattle.tm_inner.specs.Inner.{BlocksAt, DueAt, bits_at, inner_bits, soft_value, AreInnerBlocks}
+use Rattle.tm_inner.specs.Inner.{BlocksAt, DueAt, plain_bits, bits_at, inner_bits, soft_value, AreInnerBlocks}
 use Rattle.tm_inner.specs.Phase.{IsChosenBy, IsSettled, in_turn, needed_at, phase_octets, skip_of, skipped_at}
 use Rattle.tm_inner.specs.Receiving.{InnerReceiving, StandsFor}
 use Rattle.tm_inner.specs.Handing.{AreHanded, AreHandedDue}
 use Rattle.tm_inner.proofs.DueBits.{kept-append}
 use Rattle.tm_inner.proofs.HandedBits.{handed-last-few, handed-more-few, needed-few}
 use Rattle.tm_inner.proofs.PhasePieces.{items_of-in_turn}
+use Rattle.tm_inner.proofs.PlainBits.{bits-nil, plain-few}
 use Rattle.tm_path_commands.specs.Bits.{Adds, AddsPhase, AddsWindow, Gathers, GathersLast, HandsWindows, Holds, IsWritten, Packing, PhaseWaits, bits_of_handed, fill, line_of, phase_line}
 use Rattle.tm_path_commands.specs.Tracing.{StandsAt}
 use Rattle.tm_path_commands.proofs.TraceEndings.{few-due, few-handed}
@@ -166,7 +167,7 @@ chosen-found c soft (Some chosen) is some given = let other = is.0 in absurd cc
 
 pub bits-unsettled : (rate : Option Rate) (c : Configuration) (given : List ℕ) → c.inner ≡ rate
     → (IsSettled c given → ⊥) → bits_at rate c given [] ≡ []
-bits-unsettled None c [] is unsettled = drop_all c.skip [] (omega arith)
+bits-unsettled None c [] is unsettled = bits-nil None c
 bits-unsettled None c (octet ∷ given) is unsettled =
     let needed : needed_at c.inner c ≡ 1 = ap (λ (r : Option Rate). needed_at r c) is in
     let skipped : skipped_at c.inner c ≡ 0 = ap (λ (r : Option Rate). skipped_at r c) is in
@@ -327,17 +328,18 @@ module _ (receiver now : InnerReceiving) (packing packed : Packing) (octets : Li
 
   -- with none there are no windows, and further bits are those of the octets
   pub gathers-plain : (final : Packing) (skip : ℕ) → is_some receiver.config.inner ≡ false
-      → Adds packed (drop skip (bits_of octets)) final
+      → Adds packed (drop skip (plain_bits receiver.config octets)) final
       → ((given more : List ℕ) (done : List (Handed WindowBlock)) → StandsFor receiver given done
       → receiver.config.inner ≡ None
-      → inner_bits receiver.config (given ++ more) [] ≡ inner_bits receiver.config given [] ++ drop skip (bits_of more))
+      → inner_bits receiver.config (given ++ more) [] ≡ inner_bits receiver.config given []
+      ++ drop skip (plain_bits receiver.config more))
       → Gathers receiver now packing final octets
   gathers-plain final skip plain adds goes = record {
     more = h.more;
     holds = λ c written given done accepted within p is.
         let none : c.inner ≡ None = is-none c.inner
         (subst (λ (k : Configuration). is_some k.inner ≡ false) p.config plain) in
-        let extra : List Bool = drop skip (bits_of octets) in
+        let extra : List Bool = drop skip (plain_bits receiver.config octets) in
         let further : inner_bits c (given ++ octets) [] ≡ inner_bits c given [] ++ extra =
         subst (λ (k : Configuration). k.inner ≡ None
         → inner_bits k (given ++ octets) [] ≡ inner_bits k given [] ++ extra) p.config
@@ -358,9 +360,8 @@ module _ (receiver now : InnerReceiving) (packing packed : Packing) (octets : Li
           all.room,
           p.room,
           few,
-          length-drop skip (bits_of octets),
-          length-bits_of
-              octets,
+          length-drop skip (plain_bits receiver.config octets),
+          plain-few receiver.config octets,
         ) in (
           record {
             config = h.config ∙ p.config;
@@ -386,8 +387,8 @@ last-bits : (rate : Option Rate) (c : Configuration) (phase : ℕ) (octets : Lis
     (left : ℕ) → BlocksAt rate c phase octets (blocks ++ last) left
     → bits_at rate c octets (blocks ++ last) ≡ bits_at rate c octets blocks ++ all_bits last
 last-bits None c phase octets blocks last left are =
-    sym (append-nil (drop c.skip (bits_of octets)))
-    ∙ ap (λ l. drop c.skip (bits_of octets) ++ all_bits l) (sym (back-none blocks last are.0))
+    sym (append-nil (drop c.skip (plain_bits c octets)))
+    ∙ ap (λ l. drop c.skip (plain_bits c octets) ++ all_bits l) (sym (back-none blocks last are.0))
 last-bits (Some rate) c phase octets blocks last left are = all_bits-append blocks last
 
 pub gathers-last : (receiver : InnerReceiving) (packing packed final : Packing) (count left : ℕ)

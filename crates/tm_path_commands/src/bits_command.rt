@@ -6,6 +6,7 @@ ghost use Rattle.tm_base.specs.Written.{Gave, Wrote, WroteFront};
 ghost use Rattle.tm_driver.specs.Courses.{SourceCourse, SinksCourse, sink_state, source_state};
 ghost use Rattle.tm_driver.specs.Meaning.{Ends, taken_by};
 ghost use Rattle.tm_driver.specs.Statuses.{failed_at_end, is_sink_fault};
+ghost use Rattle.tm_inner.specs.Inner.{nearest_bit, plain_bits};
 ghost use Rattle.tm_path_commands.specs.Bits.{Adds, CutsWriting, EndsWriting, FailsWriting, Gathers, GathersLast, HandsWindows, IsEmptied, WrotePart, WritesMore, WroteWaiting, bits_meaning, line_of};
 
 use crate::lines::blocks_line;
@@ -210,8 +211,32 @@ fn gather(receiver: &mut InnerReceiver, packer: &mut Packer, piece: &[u8])
     let skip = receiver.bits_to_skip();
     decode(receiver, packer, piece);
     if !receiver.has_inner_code() {
-        packer.add_behind(skip, piece);
+        add_behind(receiver, packer, skip, piece);
     }
+}
+
+// Packs the bits of octets behind the first `skip` ones, where there is no inner code.
+fn add_behind(receiver: &InnerReceiver, packer: &mut Packer, skip: u64, octets: &[u8])
+    requires { length octets.now ≤ 4096 }
+    ensures { Adds packer.old (drop skip (plain_bits receiver.now.config octets.now)) packer.new }
+{
+    if receiver.is_packed() {
+        packer.add_behind(skip, octets);
+    } else {
+        add_nearest(receiver, packer, skip, octets);
+    }
+}
+
+// The same of octets that are nearest to one bit each.
+fn add_nearest(receiver: &InnerReceiver, packer: &mut Packer, skip: u64, octets: &[u8])
+    requires { length octets.now ≤ 4096 }
+    ensures { Adds packer.old (drop skip (map (nearest_bit receiver.now.config) octets.now)) packer.new }
+{
+    let from = skip.min(octets.len() as u64) as usize;
+    let mut room = [0; PIECE];
+    let bits = &mut room[..octets.len() - from];
+    receiver.nearest_bits(&octets[from..], bits);
+    packer.add_bits(bits);
 }
 
 // Ends a receiver, and packs the last bits, with zeros behind them to a whole octet.
@@ -408,7 +433,7 @@ impl<'a, 'b, 'c, 'd, O: Sink, N: Sink> Feed for BitWriting<'a, 'b, 'c, 'd, O, N>
 /// Writes the received bits of the soft octets of the source, up to the limit in octets, eight an octet, the first one
 /// most significant, to `out`, with zeros behind to a whole octet at the end of the input. The notes get a line for the
 /// symbol phase before them, where it is to be found, and the end of the trace behind them. With no inner code the
-/// octets hold the bits. After a fault nothing more is read or written. It takes all its memory before it reads.
+/// octets hold the bits, packed or one each. After a fault nothing more is read or written. It takes all its memory before it reads.
 pub fn bits<S: Source, O: Sink, N: Sink>(
     alloc: Global,
     config: &Config,
