@@ -37,6 +37,7 @@ options=(
     '--phase=[symbol at which the pattern begins]:phase:(given find)'
     '--polarity=[inverted markers]:polarity:(given find)'
     '--batch=[codeblocks that are repaired and handed over at once]:codeblocks 1 to 32: '
+    '--pack=[eight bits an octet without an inner code]:switch:(on off)'
 )
 
 soak_options=(

@@ -8,9 +8,9 @@ import os
 import sys
 
 from certificate import Ends, certificate, checked_windows
-from inner import received, symbols
+from inner import on_the_link, received
 from options import Refused, read_words
-from outer import bits_of, cadu, elements, nearest_codeword, octets_from, octets_of
+from outer import cadu, elements, nearest_codeword, octets_from, octets_of
 from receiver import items, last_line
 
 BLOCK = "block {} steps {} kept {} metric {}".format
@@ -24,9 +24,9 @@ def lines(texts):
 def encode(data, ended, c):
     frames = [data[at:at + c.length] for at in range(0, len(data) - c.length + 1, c.length)]
     units = b"".join(cadu(frame, c) for frame in frames)
-    output = units if c.inner == "none" else symbols(bits_of(units), c)
     left = len(data) % c.length
-    return output, lines([f"left over {left}"] if ended and left else []), 6 if left else 0
+    notes = [f"left over {left}"] if ended and left else []
+    return on_the_link(units, c), lines(notes), 6 if left else 0
 
 def decode(data, ended, c):
     r = received(data, ended, c)
@@ -105,7 +105,7 @@ def soak(c):
             for k in range(c.hits):
                 unit[4 + (a + k) % c.codeword * c.depth + i] ^= 1 + next(draw) % 255
         units += unit
-    r = received(units if c.inner == "none" else symbols(bits_of(units), c), True, c)
+    r = received(on_the_link(units, c), True, c)
     found = items(r.bits, c)
     bad = any(frame is None for frame, _, _ in found)
     return lines([last_line(found, r.bits)]), b"", 1 if bad else 0

@@ -25,13 +25,19 @@ def soft_form(octets, c):
     return bytes(octet ^ 128 for octet in octets) if c.signed else bytes(octets)
 
 def symbols(bits, c):
-    """The symbols of a stream's bits, one octet each."""
+    """The symbols of a stream's bits, or without an inner code the bits, an octet each."""
+    if c.inner == "none":
+        return soft_form((255 * bit for bit in bits), c)
     register, octets = 0, bytearray()
     for t, bit in enumerate(bits):
         (first, second), both = sent(t, c), sums(register, bit) ^ c.invert
         octets += bytes([255 * (both >> 1)] * first + [255 * (both & 1)] * second)
         register = next_register(register, bit)
     return soft_form(octets, c)
+
+def on_the_link(units, c):
+    """The octets that are sent for CADUs."""
+    return bytes(units) if c.packed else symbols(bits_of(units), c)
 
 # The soft decoder (Viterbi), by whole windows.
 def cut_steps(octets, c):
@@ -102,9 +108,13 @@ def symbol_phase(octets, ended, c):
 def received(data, ended, c):
     """The windows and bits of an input, or where it goes on those that are due, and the lines
     that come first and last where they are told."""
-    r = SimpleNamespace(phase=(0, 0), windows=[], bits=bits_of(data)[c.skip:], leftover=0)
-    if c.inner != "none":
-        octets = soft_form(data, c)[c.skip:]
+    r = SimpleNamespace(phase=(0, 0), windows=[], leftover=0)
+    octets = soft_form(data, c)[c.skip:]
+    if c.packed:
+        r.bits = bits_of(data)[c.skip:]
+    elif c.inner == "none":
+        r.bits = [octet >> 7 for octet in octets]  # the nearer of 00 and FF
+    else:
         if c.find_phase:
             r.phase = symbol_phase(octets, ended, c)
         if r.phase:
