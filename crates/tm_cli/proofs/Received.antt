@@ -23,7 +23,7 @@ use Rattle.tm_sync.specs.declared.found.Found.{Found}
 use Rattle.tm_sync.specs.Places.{places}
 use Rattle.tm_sync.proofs.Longer.{places-count}
 use Rattle.tm_codeblock.specs.ReceivedCodeblock.{rules_of}
-use Rattle.tm_channel.specs.Due.{in_batches, due}
+use Rattle.tm_channel.specs.Due.{due_count, due}
 use Rattle.tm_channel.specs.Items.{ItemValue, AreItemsOf, AreFirstItemsOf}
 use Rattle.tm_channel.specs.Receive.{ReceiveDue, ReceiveFirst, ReceiveFront}
 use Rattle.tm_channel.specs.Handing.{ReceiveAll, AreReceived, AreReceivedDue, AreReceivedFirst, AreReceivedFront}
@@ -58,16 +58,16 @@ all-count c bits (f ∷ fs) [] are = absurd are
 all-count c bits (f ∷ fs) (item ∷ items) are = omega (arith, all-count c bits fs items are.1)
 
 -- and so are the places of those that are due
-few-places : (c : Configuration) (octets : List ℕ) (bits : List Bool) → length bits ≤ 8 * length octets → length (due (rules_of c) bits) ≤ 8 * length octets
+few-places : (c : Configuration) (octets : List ℕ) (bits : List Bool) → length bits ≤ 8 * length octets → length (due c bits) ≤ 8 * length octets
 few-places c octets bits few =
     let fs = places (rules_of c) bits in
-    omega (arith, length-take (in_batches (length fs)) fs, places-count (rules_of c) bits, few)
+    omega (arith, length-take (due_count c bits) fs, places-count (rules_of c) bits, few)
 
 few-due : (c : Configuration) (octets : List ℕ) (phase : ℕ) (items : List ItemValue) → ReceiveDue c phase octets items → length items ≤ 8 * length octets
 few-due c octets phase items r =
     let bits = inner_bits c octets r.blocks in
     let few = few-places c octets bits (first-few c phase octets r.blocks (first-of-due c phase octets r.blocks r.are_due)) in
-    omega (arith, all-count c bits (due (rules_of c) bits) items r.are_items, few)
+    omega (arith, all-count c bits (due c bits) items r.are_items, few)
 
 few-first : (c : Configuration) (octets : List ℕ) (phase : ℕ) (items : List ItemValue) → ReceiveFirst c phase octets items → length items ≤ 8 * length octets
 few-first c octets phase items r =
@@ -129,7 +129,7 @@ none-due c accepted = elim (given_or_find c.phase) as (λ _. AreReceivedDue c []
   | inl given ↦ (
       let blocks : AreInnerDue c 0 [] [] = no-blocks c.inner c in
       let bits = inner_bits c [] [] in
-      let items = no-items c bits (due (rules_of c) bits) (few-places c [] bits (first-few c 0 [] [] (first-of-due c 0 [] [] blocks))) in
+      let items = no-items c bits (due c bits) (few-places c [] bits (first-few c 0 [] [] (first-of-due c 0 [] [] blocks))) in
       inr (inl given, record { chosen = None; choice = given; items = []; are_items = record { blocks = []; are_due = blocks; are_items = items }; are = refl })
       )
   | inr find ↦ inl (none-settled c accepted find, refl)
