@@ -1,6 +1,7 @@
 -- What follows from how a command ended.
-use Rattle.std.proofs.Common.{◌≡◌, ◌≢◌, ◌⊎◌, inl, inr, ℕ, ◌+◌, ◌≤◌, List, [], ◌++◌, length, Option, Some, None, Result, Ok, Err, true, refl, sym, ◌∙◌, ap, subst, arith, length-append}
+use Rattle.std.proofs.Common.{◌≡◌, ◌≢◌, ◌⊎◌, inl, inr, ℕ, ◌≤◌, List, [], ◌++◌, length, Option, Some, None, Result, Ok, Err, true, false, refl, sym, ◌∙◌, ap, subst, arith, length-append}
 use Rattle.std.proofs.lemmas.List.{append-nil}
+use Rattle.std.proofs.lemmas.Result.{IfOk-weaker}
 use Rattle.std.specs.Io.KnownBytes.{prepend_known, IsAtEnd}
 use Rattle.std.specs.Result.{IfOk}
 use Rattle.tm_base.specs.Written.{Gave}
@@ -11,11 +12,14 @@ use Rattle.tm_config.specs.declared.error.ConfigError.TheVariants.{Code, Inner}
 use Rattle.tm_config.specs.declared.values.OuterCode.{OuterCode}
 use Rattle.tm_config.specs.declared.values.OuterCode.TheVariants.{Rs16, Rs8, Uncoded}
 use Rattle.tm_conv.specs.declared.rates.Rate.{Rate}
-use Rattle.tm_driver.specs.Courses.{SinkState, SinkCourse, SinksCourse}
+use Rattle.tm_driver.specs.Answered.{Answered, AnsweredAlone}
+use Rattle.tm_driver.specs.Courses.{SinkCall, SinkState, SinkCourse, SinkWent, SinksCourse, SourceCall, SourceState}
 use Rattle.tm_driver.specs.Meaning.{Meaning, Ends, Output, Taken, taken_by}
 use Rattle.tm_driver.specs.Statuses.{is_sink_fault, status_of}
 use Rattle.tm_driver.specs.declared.ending.Ending.{Ending}
 use Rattle.tm_driver.specs.declared.ending.Ending.TheVariants.{Done, Bad, BadWindow, LeftOver, SourceFault, SinkFault, PastLimit}
+use Rattle.tm_driver.proofs.Answered.{answered-beside}
+use Rattle.tm_driver.proofs.TwoSinks.{alone}
 use Rattle.tm_words.specs.declared.job.Job.{Job}
 use Rattle.tm_words.specs.declared.job.JobKind.{JobKind}
 use Rattle.tm_words.specs.declared.job.JobKind.TheVariants as kind
@@ -160,50 +164,42 @@ whole-input_told e meaning limit octets input (Some rest) taken ends is at_end w
 
 -- ---- the command that was asked for
 
--- what a command answers by octets that it was given
-abbrev pub Ended : {E : Type 0} → Result Ending E → (given given_now left left_now : Option (List ℕ)) → Command → Configuration → Taken → Type 0
-Ended result given given_now left left_now command c taken = IfOk result (λ ending. (octets : List ℕ) × Gave given given_now left left_now octets
-    × (length octets ≤ c.limit + 1) × Ends ending (meaning_of command c) c.limit octets taken)
+-- what a command answers
+abbrev pub AnsweredTo : {E : Type 0} → Result Ending E → Command → Configuration → SourceCall → (out notes : SinkCall) → Type 0
+AnsweredTo result command c source out notes = IfOk result (λ ending. Answered (reads command) ending (meaning_of command c) c.limit source out notes)
 
-pub as-command : {E : Type 0} (result : Result Ending E) (given given_now left left_now : Option (List ℕ)) (asked command : Command) (c : Configuration) (taken : Taken) → asked ≡ command
-    → Ended result given given_now left left_now command c taken → Ended result given given_now left left_now asked c taken
-as-command result given given_now left left_now asked command c taken is h =
-    subst (λ (k : Command). Ended result given given_now left left_now k c taken) (sym is) h
+pub as-command : {E : Type 0} (result : Result Ending E) (asked command : Command) (c : Configuration) (source : SourceCall) (out notes : SinkCall) → asked ≡ command
+    → AnsweredTo result command c source out notes → AnsweredTo result asked c source out notes
+as-command result asked command c source out notes is h = subst (λ (k : Command). AnsweredTo result k c source out notes) (sym is) h
 
 -- the same of one that left the notes as they were
-pub without-notes : {E : Type 0} (result : Result Ending E) (given given_now left left_now : Option (List ℕ)) (asked command : Command) (c : Configuration) (taken taken_now noted : Option (List ℕ)) → asked ≡ command
-    → IfOk result (λ ending. (octets : List ℕ) × Gave given given_now left left_now octets × (length octets ≤ c.limit + 1)
-    × ((notes : Option (List ℕ)) → Ends ending (meaning_of command c) c.limit octets (taken_by taken taken_now notes notes)))
-    → Ended result given given_now left left_now asked c (taken_by taken taken_now noted noted)
-without-notes (Ok ending) given given_now left left_now asked command c taken taken_now noted is h =
-    (h.0, h.1, h.2, subst (λ (k : Command). Ends ending (meaning_of k c) c.limit h.0 (taken_by taken taken_now noted noted)) (sym is) (h.3 noted))
-without-notes (Err e) given given_now left left_now asked command c taken taken_now noted is h = tt
+pub without-notes : {E : Type 0} (result : Result Ending E) (asked command : Command) (c : Configuration) (source : SourceCall) (out : SinkCall) (notes : SinkState) (notes_last : Type 0)
+    → asked ≡ command → IfOk result (λ ending. AnsweredAlone (reads command) ending (meaning_of command c) c.limit source out)
+    → AnsweredTo result asked c source out (record { before = notes; now = notes; is_last = notes_last })
+without-notes result asked command c source out notes notes_last is h =
+    as-command result asked command c source out _ is (IfOk-weaker result _ _
+    (λ ending alone. answered-beside (reads command) ending (meaning_of command c) c.limit source out notes notes_last alone) h)
 
 -- and of one that left the source as it was too
 gave-nothing : (given left : Option (List ℕ)) → Gave given given left left []
 gave-nothing given left = record { given = sym (append_known-nil given); consumed = sym (prepend_known-nil left) }
 
-pub without-input : {E : Type 0} (result : Result Ending E) (given left : Option (List ℕ)) (asked command : Command) (c : Configuration) (taken taken_now noted : Option (List ℕ)) → asked ≡ command
-    → IfOk result (λ ending. (notes : Option (List ℕ)) → Ends ending (meaning_of command c) c.limit [] (taken_by taken taken_now notes notes))
-    → Ended result given given left left asked c (taken_by taken taken_now noted noted)
-without-input (Ok ending) given left asked command c taken taken_now noted is h =
-    ([], gave-nothing given left, omega arith, subst (λ (k : Command). Ends ending (meaning_of k c) c.limit [] (taken_by taken taken_now noted noted)) (sym is) (h noted))
-without-input (Err e) given left asked command c taken taken_now noted is h = tt
-
--- the course of one sink, and of notes that stayed as they were
-pub one-sink : {E : Type 0} (result : Result Ending E) (out out_now : SinkState) (out_last : Type 0) (notes : SinkState) (notes_last : Type 0)
-    → IfOk result (λ ending. SinkCourse (is_sink_fault ending) out out_now out_last) → IfOk result (λ ending. SinksCourse (is_sink_fault ending) out out_now out_last notes notes notes_last)
-one-sink (Ok ending) out out_now out_last notes notes_last h = go ending h
-  where
-    go : (e : Ending) → SinkCourse (is_sink_fault e) out out_now out_last → SinksCourse (is_sink_fault e) out out_now out_last notes notes notes_last
-    go SinkFault h = inl (h, refl)
-    go Done h = (h, refl)
-    go Bad h = (h, refl)
-    go BadWindow h = (h, refl)
-    go LeftOver h = (h, refl)
-    go SourceFault h = (h, refl)
-    go PastLimit h = (h, refl)
-one-sink (Err e) out out_now out_last notes notes_last h = tt
+pub without-input : {E : Type 0} (result : Result Ending E) (asked command : Command) (c : Configuration) (source : SourceState) (source_last : Type 0) (out : SinkCall) (notes : SinkState) (notes_last : Type 0)
+    → asked ≡ command → reads command ≡ false
+    → IfOk result (λ ending. (noted : Option (List ℕ)) → Ends ending (meaning_of command c) c.limit [] (taken_by out.before.taken out.now.taken noted noted))
+    → IfOk result (λ ending. SinkWent (is_sink_fault ending) out)
+    → AnsweredTo result asked c (record { before = source; now = source; is_last = source_last }) out (record { before = notes; now = notes; is_last = notes_last })
+without-input (Ok ending) asked command c source source_last out notes notes_last is unread h went = as-command {E = ⊥} (Ok ending) asked command c _ out _ is (
+  [],
+  record {
+    gave = gave-nothing source.given source.left;
+    at_most = omega arith;
+    ends = h notes.taken;
+    course = λ reads. let clash : false ≡ true = sym unread ∙ reads in cc;
+    sinks = alone (is_sink_fault ending) out notes notes_last went;
+  },
+)
+without-input (Err e) asked command c source source_last out notes notes_last is unread h went = tt
 
 -- ---- what a command that is not refused has
 

@@ -1,10 +1,8 @@
 // The commands `decode` and `report`: received soft octets to frames and their report.
-ghost use Rattle.std.specs.Prelude.{◌≡◌, ℕ, ◌+◌, ◌≤◌, List, length, Option, IfOk, OnErr};
-ghost use Rattle.tm_base.specs.Written.{Gave};
+ghost use Rattle.std.specs.Prelude.{◌≡◌, true, IfOk, OnErr};
 ghost use Rattle.tm_cli.specs.Decode.{decode_meaning, report_meaning};
-ghost use Rattle.tm_driver.specs.Courses.{SinkCourse, SinksCourse, SourceCourse, sink_state, source_state};
-ghost use Rattle.tm_driver.specs.Meaning.{Ends, taken_by};
-ghost use Rattle.tm_driver.specs.Statuses.{is_sink_fault};
+ghost use Rattle.tm_driver.specs.Answered.{Answered, AnsweredAlone};
+ghost use Rattle.tm_driver.specs.Courses.{sink_call, source_call};
 
 use crate::counts::Counts;
 use crate::receiving::receive;
@@ -27,21 +25,11 @@ pub fn decode<R: Threads + Sync, S: Source, O: Sink, N: Sink>(
     out: &mut O,
     notes: &mut N,
 ) -> Result<Ending, NoMemory>
-    ensures ends { IfOk result (λ ending. (octets : List ℕ)
-        × Gave (S.given source.old) (S.given source.new) (S.left source.old) (S.left source.new) octets
-        × (length octets ≤ config.now.limit + 1)
-        × Ends ending (decode_meaning config.now) config.now.limit octets
-        (taken_by (O.taken out.old) (O.taken out.new) (N.taken notes.old) (N.taken notes.new))) }
+    ensures answered { IfOk result (λ ending. Answered true ending (decode_meaning config.now) config.now.limit
+        (source_call S.given S.left S.ended S.faults S.is_last source.old source.new)
+        (sink_call O.taken O.faults O.is_last out.old out.new)
+        (sink_call N.taken N.faults N.is_last notes.old notes.new)) }
     ensures memory { OnErr result ((source.new ≡ source.old) × (out.new ≡ out.old) × (notes.new ≡ notes.old)) }
-    ensures source { IfOk result (λ ending. SourceCourse ending
-        (source_state (S.given source.old) (S.left source.old) (S.ended source.old) (S.faults source.old))
-        (source_state (S.given source.new) (S.left source.new) (S.ended source.new) (S.faults source.new))
-        (S.is_last source.new)) }
-    ensures sinks { IfOk result (λ ending. SinksCourse (is_sink_fault ending)
-        (sink_state (O.taken out.old) (O.faults out.old)) (sink_state (O.taken out.new) (O.faults out.new))
-        (O.is_last out.new)
-        (sink_state (N.taken notes.old) (N.faults notes.old))
-        (sink_state (N.taken notes.new) (N.faults notes.new)) (N.is_last notes.new)) }
 {
     received_law();
     let report = Report {
@@ -68,19 +56,10 @@ pub fn report<R: Threads + Sync, S: Source, O: Sink>(
     source: &mut S,
     out: &mut O,
 ) -> Result<Ending, NoMemory>
-    ensures ends { IfOk result (λ ending. (octets : List ℕ)
-        × Gave (S.given source.old) (S.given source.new) (S.left source.old) (S.left source.new) octets
-        × (length octets ≤ config.now.limit + 1)
-        × ((noted : Option (List ℕ)) → Ends ending (report_meaning config.now) config.now.limit octets
-        (taken_by (O.taken out.old) (O.taken out.new) noted noted))) }
+    ensures answered { IfOk result (λ ending. AnsweredAlone true ending (report_meaning config.now) config.now.limit
+        (source_call S.given S.left S.ended S.faults S.is_last source.old source.new)
+        (sink_call O.taken O.faults O.is_last out.old out.new)) }
     ensures memory { OnErr result ((source.new ≡ source.old) × (out.new ≡ out.old)) }
-    ensures source { IfOk result (λ ending. SourceCourse ending
-        (source_state (S.given source.old) (S.left source.old) (S.ended source.old) (S.faults source.old))
-        (source_state (S.given source.new) (S.left source.new) (S.ended source.new) (S.faults source.new))
-        (S.is_last source.new)) }
-    ensures sinks { IfOk result (λ ending. SinkCourse (is_sink_fault ending)
-        (sink_state (O.taken out.old) (O.faults out.old)) (sink_state (O.taken out.new) (O.faults out.new))
-        (O.is_last out.new)) }
 {
     let mut frames = SureSink::new();
     decode(rt, alloc, config, source, &mut frames, out)

@@ -1,10 +1,8 @@
 // The command `encode`: frames from a source to symbols on a sink.
-ghost use Rattle.std.specs.Prelude.{◌≡◌, ◌⊎◌, ℕ, ◌+◌, ◌≤◌, List, length, true};
-ghost use Rattle.tm_base.specs.Written.{Gave};
+ghost use Rattle.std.specs.Prelude.{◌≡◌, ◌⊎◌, true};
 ghost use Rattle.tm_cli.specs.Encode.{encode_meaning};
-ghost use Rattle.tm_driver.specs.Courses.{SinkCourse, SinksCourse, SourceCourse, sink_state, source_state};
-ghost use Rattle.tm_driver.specs.Meaning.{Ends, taken_by};
-ghost use Rattle.tm_driver.specs.Statuses.{is_sink_fault};
+ghost use Rattle.tm_driver.specs.Answered.{Answered};
+ghost use Rattle.tm_driver.specs.Courses.{SinkWent, sink_call, source_call};
 ghost use Rattle.tm_driver.specs.declared.ending.Ending.TheVariants.{SinkFault};
 
 use tm_base::{Failed, Sink, Source};
@@ -26,7 +24,7 @@ impl<'a, 'b, 'c, O: Sink, N: Sink> Feed for Encoding<'a, 'b, 'c, O, N> {
     ghost use Rattle.tm_codeblock.specs.Frames.{behind_frames};
     ghost use Rattle.tm_channel.specs.Sending.{Sends, SendsFront, StandsFor};
     ghost use Rattle.tm_channel.proofs.Sending.{sends-none, sends-more, sends-front};
-    ghost use Rattle.tm_driver.specs.Courses.{SinkCourse, SinksCourse, sink_state};
+    ghost use Rattle.tm_driver.specs.Courses.{SinkWent, SinksWent, sink_call};
     ghost use Rattle.tm_driver.specs.Lines.{left_over_text, outcome_by};
     ghost use Rattle.tm_driver.specs.declared.ending.Stop.TheVariants.{SinkFault};
     ghost use Rattle.tm_driver.proofs.TwoSinks.{fault-after};
@@ -35,8 +33,7 @@ impl<'a, 'b, 'c, O: Sink, N: Sink> Feed for Encoding<'a, 'b, 'c, O, N> {
         × Sends a.sender.now b.sender.now (O.taken a.out.now) (O.taken b.out.now) octets };
 
     ghost stopped = { λ a b octets stop. (stop ≡ SinkFault) × (0 < a.sender.now.config.frame_length) × (b.notes.now ≡ a.notes.now)
-        × SinkCourse true (sink_state (O.taken a.out.now) (O.faults a.out.now))
-        (sink_state (O.taken b.out.now) (O.faults b.out.now)) (O.is_last b.out.now)
+        × SinkWent true (sink_call O.taken O.faults O.is_last a.out.now b.out.now)
         × SendsFront a.sender.now (O.taken a.out.now) (O.taken b.out.now) octets };
 
     ghost finished = { λ a b outcome. (rest : ℕ) × ((given : List ℕ) → StandsFor a.sender.now given → rest ≡ length (behind_frames a.sender.now.config.frame_length given))
@@ -44,14 +41,11 @@ impl<'a, 'b, 'c, O: Sink, N: Sink> Feed for Encoding<'a, 'b, 'c, O, N> {
         × Wrote (N.taken a.notes.now) (N.taken b.notes.now) (left_over_text rest) };
 
     ghost failed = { λ a b. (rest : ℕ) × ((given : List ℕ) → StandsFor a.sender.now given → rest ≡ length (behind_frames a.sender.now.config.frame_length given))
-        × (b.out.now ≡ a.out.now) × SinkCourse true
-        (sink_state (N.taken a.notes.now) (N.faults a.notes.now))
-        (sink_state (N.taken b.notes.now) (N.faults b.notes.now)) (N.is_last b.notes.now)
+        × (b.out.now ≡ a.out.now) × SinkWent true (sink_call N.taken N.faults N.is_last a.notes.now b.notes.now)
         × WroteFront (N.taken a.notes.now) (N.taken b.notes.now) (left_over_text rest) };
 
-    ghost sinks = { λ a b has_failed. SinksCourse has_failed (sink_state (O.taken a.out.now) (O.faults a.out.now)) (sink_state (O.taken b.out.now) (O.faults b.out.now)) (O.is_last b.out.now)
-        (sink_state (N.taken a.notes.now) (N.faults a.notes.now))
-        (sink_state (N.taken b.notes.now) (N.faults b.notes.now)) (N.is_last b.notes.now) };
+    ghost sinks = { λ a b failed. SinksWent failed (sink_call O.taken O.faults O.is_last a.out.now b.out.now)
+        (sink_call N.taken N.faults N.is_last a.notes.now b.notes.now) };
 
     ghost same = { λ a b. (b.sender.ghost_name ≡ a.sender.ghost_name) × (b.out.ghost_name ≡ a.out.ghost_name) × (b.notes.ghost_name ≡ a.notes.ghost_name) };
 
@@ -75,7 +69,8 @@ impl<'a, 'b, 'c, O: Sink, N: Sink> Feed for Encoding<'a, 'b, 'c, O, N> {
 
     ghost sinks_none = { λ a. (refl, refl) };
 
-    ghost sinks_more = { λ a b c has_failed p q. fault-after has_failed _ _ _ (O.is_last b.out.now) (O.is_last c.out.now) _ _ _ (N.is_last b.notes.now) (N.is_last c.notes.now) p q };
+    ghost sinks_more = { λ a b c failed p q. fault-after failed _ _ _ (O.is_last b.out.now) (O.is_last c.out.now)
+        _ _ _ (N.is_last b.notes.now) (N.is_last c.notes.now) p q };
 
     fn feed(&mut self, piece: &[u8]) -> Result<(), Stop> {
         match self.sender.push(piece, self.out) {
@@ -97,25 +92,14 @@ pub fn encode<S: Source, O: Sink, N: Sink>(
     out: &mut O,
     notes: &mut N,
 ) -> Ending
-    ensures ends { (octets : List ℕ)
-        × Gave (S.given source.old) (S.given source.new) (S.left source.old) (S.left source.new) octets
-        × (length octets ≤ config.now.limit + 1)
-        × Ends result (encode_meaning config.now) config.now.limit octets
-        (taken_by (O.taken out.old) (O.taken out.new) (N.taken notes.old) (N.taken notes.new)) }
-    ensures source { SourceCourse result (source_state (S.given source.old) (S.left source.old)
-        (S.ended source.old) (S.faults source.old))
-        (source_state (S.given source.new) (S.left source.new) (S.ended source.new) (S.faults source.new))
-        (S.is_last source.new) }
-    ensures sinks { SinksCourse (is_sink_fault result) (sink_state (O.taken out.old) (O.faults out.old))
-        (sink_state (O.taken out.new) (O.faults out.new)) (O.is_last out.new)
-        (sink_state (N.taken notes.old) (N.faults notes.old))
-        (sink_state (N.taken notes.new) (N.faults notes.new)) (N.is_last notes.new) }
+    ensures answered { Answered true result (encode_meaning config.now) config.now.limit
+        (source_call S.given S.left S.ended S.faults S.is_last source.old source.new)
+        (sink_call O.taken O.faults O.is_last out.old out.new)
+        (sink_call N.taken N.faults N.is_last notes.old notes.new) }
     ensures stops { result ≡ SinkFault
-        → (SinkCourse true (sink_state (O.taken out.old) (O.faults out.old))
-        (sink_state (O.taken out.new) (O.faults out.new)) (O.is_last out.new)
+        → (SinkWent true (sink_call O.taken O.faults O.is_last out.old out.new)
         × (S.ended source.new ≡ S.ended source.old) × (notes.new ≡ notes.old))
-        ⊎ (SinkCourse true (sink_state (N.taken notes.old) (N.faults notes.old))
-        (sink_state (N.taken notes.new) (N.faults notes.new)) (N.is_last notes.new)
+        ⊎ (SinkWent true (sink_call N.taken N.faults N.is_last notes.old notes.new)
         × (S.ended source.new ≡ true) × (O.faults out.new ≡ O.faults out.old)) }
 {
     let mut sender = Sender::new(*config);

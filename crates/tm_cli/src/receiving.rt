@@ -5,7 +5,7 @@ ghost use Rattle.tm_base.specs.Handed.{on_handed};
 ghost use Rattle.tm_base.specs.Written.{Gave};
 ghost use Rattle.tm_config.specs.Accepted.{IsAccepted};
 ghost use Rattle.tm_cli.specs.Receiving.{ReceivedTo};
-ghost use Rattle.tm_driver.specs.Courses.{SourceCourse, source_state};
+ghost use Rattle.tm_driver.specs.Courses.{SourceWent, source_call};
 
 use std::alloc::Global;
 use std::thread::Threads;
@@ -119,10 +119,8 @@ pub fn receive<R: Threads + Sync, S: Source, T: ItemTaker + ReportEnd>(
         (on_handed T.broke_phase T.broke) T.told T.broke_end config.now ending octets taker.old taker.new) }
     ensures memory { OnErr result ((source.new ≡ source.old) × (taker.new ≡ taker.old)) }
     ensures accepted { IsAccepted config.now }
-    ensures source { IfOk result (λ ending. SourceCourse ending
-        (source_state (S.given source.old) (S.left source.old) (S.ended source.old) (S.faults source.old))
-        (source_state (S.given source.new) (S.left source.new) (S.ended source.new) (S.faults source.new))
-        (S.is_last source.new)) }
+    ensures source { IfOk result (λ ending. SourceWent ending
+        (source_call S.given S.left S.ended S.faults S.is_last source.old source.new)) }
 {
     let limit = config.limit();
     let Ok(mut receiver) = Receiver::open(alloc, *config) else {

@@ -14,7 +14,7 @@ ghost use Rattle.tm_cli.specs.Receiving.{HandedDue};
 ghost use Rattle.tm_cli.specs.Soak.{soak_meaning, soak_refusal, CountedHanded, counts_of};
 ghost use Rattle.tm_cli.specs.Taken.{no_counts};
 ghost use Rattle.tm_cli.specs.declared.counts.Counts.{Counts};
-ghost use Rattle.tm_driver.specs.Courses.{SinkCourse, sink_state};
+ghost use Rattle.tm_driver.specs.Courses.{SinkWent, sink_call};
 ghost use Rattle.tm_driver.specs.Meaning.{Ends, taken_by};
 ghost use Rattle.tm_driver.specs.Statuses.{is_sink_fault};
 
@@ -165,9 +165,7 @@ pub fn soak<R: Threads + Sync, O: Sink>(
     ensures memory { OnErr result (out.new ≡ out.old) }
     ensures answers { IfOk result (λ ending. (ending ≡ Ending.Done) ⊎ (ending ≡ Ending.Bad) ⊎
         (ending ≡ Ending.SinkFault)) }
-    ensures sink { IfOk result (λ ending. SinkCourse (is_sink_fault ending)
-        (sink_state (O.taken out.old) (O.faults out.old)) (sink_state (O.taken out.new) (O.faults out.new))
-        (O.is_last out.new)) }
+    ensures sink { IfOk result (λ ending. SinkWent (is_sink_fault ending) (sink_call O.taken O.faults O.is_last out.old out.new)) }
 {
     received_law();
     let Ok(mut receiver) = Receiver::open(alloc, *config) else {

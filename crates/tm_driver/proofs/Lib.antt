@@ -4,3 +4,5 @@ pub mod SinkTexts
 pub mod HandedAlong
 pub mod TwoSinks
 pub mod Pieces
+pub mod Answered
+pub mod Driven

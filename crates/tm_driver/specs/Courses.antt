@@ -51,3 +51,48 @@ SinksCourse true out out_now out_last notes notes_now notes_last =
     (SinkCourse true out out_now out_last × SinkCourse false notes notes_now notes_last)
     ⊎ (SinkCourse true notes notes_now notes_last × SinkCourse false out out_now out_last)
 SinksCourse false out out_now out_last notes notes_now notes_last = SinkCourse false out out_now out_last × SinkCourse false notes notes_now notes_last
+
+-- ---- the same of a source and of sinks by what they tell of themselves
+
+-- a source over a call: where it stood before, where it stands after, and that its count of faults
+-- can't rise any more
+pub record SourceCall : Type 1 where
+  pub before : SourceState
+  pub now : SourceState
+  pub is_last : Type 0
+
+abbrev pub source_call : {S : Type 0} → (given left : S → Option (List ℕ)) → (ended : S → Bool)
+    → (faults : S → ℕ) → (is_last : S → Type 0) → (before now : S) → SourceCall
+source_call given left ended faults is_last before now = record {
+  before = source_state (given before) (left before) (ended before) (faults before);
+  now = source_state (given now) (left now) (ended now) (faults now);
+  is_last = is_last now;
+}
+
+-- a sink over a call
+pub record SinkCall : Type 1 where
+  pub before : SinkState
+  pub now : SinkState
+  pub is_last : Type 0
+
+abbrev pub sink_call : {O : Type 0} → (taken : O → Option (List ℕ)) → (faults : O → ℕ)
+    → (is_last : O → Type 0) → (before now : O) → SinkCall
+sink_call taken faults is_last before now = record {
+  before = sink_state (taken before) (faults before);
+  now = sink_state (taken now) (faults now);
+  is_last = is_last now;
+}
+
+-- a sink that stays as it was
+abbrev pub unused : SinkState → SinkCall
+unused sink = record { before = sink; now = sink; is_last = ⊥ }
+
+abbrev pub SourceWent : Ending → SourceCall → Type 0
+SourceWent ending source = SourceCourse ending source.before source.now source.is_last
+
+abbrev pub SinkWent : (failed : Bool) → SinkCall → Type 0
+SinkWent failed sink = SinkCourse failed sink.before sink.now sink.is_last
+
+abbrev pub SinksWent : (failed : Bool) → (out notes : SinkCall) → Type 0
+SinksWent failed out notes =
+    SinksCourse failed out.before out.now out.is_last notes.before notes.now notes.is_last

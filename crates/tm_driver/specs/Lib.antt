@@ -4,3 +4,4 @@ pub mod Lines
 pub mod Statuses
 pub mod Driven
 pub mod Meaning
+pub mod Answered

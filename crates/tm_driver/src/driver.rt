@@ -1,7 +1,7 @@
 // Reads a source to its end or past a limit, in turns, into what is fed.
 ghost use Rattle.std.specs.Prelude.{◌≡◌, ℕ, ◌+◌, ◌≤◌, ◌^◌, List, length, true};
 ghost use Rattle.tm_base.specs.Written.{Gave};
-ghost use Rattle.tm_driver.specs.Courses.{SourceCourse, source_state};
+ghost use Rattle.tm_driver.specs.Courses.{SourceWent, source_call};
 ghost use Rattle.tm_driver.specs.Driven.{DrivenTo};
 ghost use Rattle.tm_driver.specs.Statuses.{is_sink_fault};
 
@@ -20,8 +20,7 @@ pub fn drive<S: Source, F: Feed>(limit: u64, source: &mut S, feed: &mut F) -> En
     ensures driven { (octets : List ℕ) × Gave (S.given source.old) (S.given source.new) (S.left source.old) (S.left source.new) octets
         × (length octets ≤ limit + 1) × DrivenTo F.fed F.stopped F.finished F.failed limit feed.old feed.new
         (S.ended source.new ≡ true) (S.ended source.new ≡ S.ended source.old) result octets }
-    ensures source { SourceCourse result (source_state (S.given source.old) (S.left source.old) (S.ended source.old) (S.faults source.old))
-        (source_state (S.given source.new) (S.left source.new) (S.ended source.new) (S.faults source.new)) (S.is_last source.new) }
+    ensures source { SourceWent result (source_call S.given S.left S.ended S.faults S.is_last source.old source.new) }
     ensures sinks { F.sinks feed.old feed.new (is_sink_fault result) }
     ensures same { F.same feed.old feed.new }
 {

@@ -1,5 +1,5 @@
 -- What `bits` has written, from what waited, and how it ends.
-use Rattle.std.proofs.Common.{◌≡◌, ◌⊎◌, inl, inr, ℕ, ◌+◌, ◌%◌, ◌^◌, ◌<◌, ◌≤◌, Bool, List, [], ◌++◌, length, take, Option, Some, None, refl, sym, ap, ◌∙◌, subst, arith, append_assoc, length-append, length-take}
+use Rattle.std.proofs.Common.{◌≡◌, ◌⊎◌, inl, inr, ℕ, ◌+◌, ◌%◌, ◌^◌, ◌<◌, ◌≤◌, Bool, List, [], ◌++◌, length, Option, Some, None, refl, sym, ap, ◌∙◌, subst, arith, append_assoc, length-append}
 use Rattle.std.proofs.lemmas.List.{append-nil, drop_all, take_all}
 use Rattle.tm_base.specs.Bits.{bits_of, octets_of}
 use Rattle.tm_base.specs.Handed.{Handed, items_of}
@@ -22,11 +22,9 @@ use Rattle.tm_inner.proofs.PlainBits.{bits-nil}
 use Rattle.tm_driver.specs.Driven.{DrivenTo}
 use Rattle.tm_driver.specs.Meaning.{Ends, Output, WroteEarly, WrotePrefixes, taken_by}
 use Rattle.tm_driver.specs.declared.ending.Ending.{Ending}
-use Rattle.tm_driver.specs.declared.ending.Ending.TheVariants.{Done, Bad, BadWindow, LeftOver, SourceFault, SinkFault, PastLimit}
-use Rattle.tm_driver.specs.declared.ending.Outcome.{Outcome}
 use Rattle.tm_driver.specs.declared.ending.Outcome.TheVariants as outcome
-use Rattle.tm_driver.specs.declared.ending.Stop.{Stop}
 use Rattle.tm_driver.specs.declared.ending.Stop.TheVariants as stop
+use Rattle.tm_driver.proofs.Driven.{Shows, WroteInOrder, done-driven}
 use Rattle.tm_driver.proofs.SinkTexts.{front-of, wrote-front, wrote-nothing, wrote-then, wrote-then_front}
 use Rattle.tm_path_commands.specs.Bits.{CutsWriting, EndsWriting, FailsWriting, Gathers, GathersLast, IsEmptied, Packing, Writes, WritesAll, WritesAllPart, WritesMore, WritesPart, WrotePart, WroteWaiting, AreBitsInOrder, IsBits, bits_meaning, bits_of_handed, end_line, fill, filled_octets, line_of, open_bits, phase_line}
 use Rattle.tm_path_commands.specs.Lines.{trace_end_text}
@@ -257,33 +255,30 @@ is-bits : (c : Configuration) (octets : List ℕ) (handed : List (Handed WindowB
     → AreHanded c octets handed left → IsBits c octets (output-of c octets handed left)
 is-bits c octets handed left are = record { handed = handed; left = left; are_handed = are; out = refl; notes = refl }
 
-ends-done : (c : Configuration) (octets : List ℕ) (taken taken_now noted noted_now : Option (List ℕ))
-    → WritesAll c taken taken_now noted noted_now octets → length octets ≤ c.limit
-    → Ends Done (bits_meaning c) c.limit octets (taken_by taken taken_now noted noted_now)
-ends-done c octets taken taken_now noted noted_now w within = (
+shows-all : (c : Configuration) (octets : List ℕ) (taken taken_now noted noted_now : Option (List ℕ))
+    → WritesAll c taken taken_now noted noted_now octets
+    → Shows (bits_meaning c) octets (taken_by taken taken_now noted noted_now) outcome.Done
+shows-all c octets taken taken_now noted noted_now w = (
   (
     output-of c octets w.handed w.left,
     is-bits c octets w.handed w.left w.are_handed,
     record
         { out = w.out; notes = w.notes },
   ),
-  within,
-  λ none. none,
-  λ none. none,
+  (λ none. none, λ none. none),
 )
 
-ends-part : (c : Configuration) (octets : List ℕ) (taken taken_now noted noted_now : Option (List ℕ))
-    → WritesAllPart c taken taken_now noted noted_now (take c.limit octets)
-    → Ends SinkFault (bits_meaning c) c.limit octets (taken_by taken taken_now noted noted_now)
-ends-part c octets taken taken_now noted noted_now w =
-    let read = take c.limit octets in
+shows-part : (c : Configuration) (octets : List ℕ) (taken taken_now noted noted_now : Option (List ℕ))
+    → WritesAllPart c taken taken_now noted noted_now octets
+    → WroteInOrder (bits_meaning c) octets (taken_by taken taken_now noted noted_now)
+shows-part c octets taken taken_now noted noted_now w =
     let handed = w.handed in
     let line = phase_line handed in
-    let end = end_line c read handed w.left in
-    let all = filled_octets (bits_of_handed c read handed) in (
-      output-of c read handed w.left,
-      is-bits c read handed w.left w.are_handed,
-      elim w.part as (λ _. WrotePrefixes (output-of c read handed w.left) (taken_by taken taken_now noted noted_now)) [
+    let end = end_line c octets handed w.left in
+    let all = filled_octets (bits_of_handed c octets handed) in (
+      output-of c octets handed w.left,
+      is-bits c octets handed w.left w.are_handed,
+      elim w.part as (λ _. WrotePrefixes (output-of c octets handed w.left) (taken_by taken taken_now noted noted_now)) [
         | inl (inl p) ↦ record { out = no-part taken taken_now all p.0; notes = front-of noted noted_now line end p.1 }
         | inl (inr p) ↦ record {
           out = p.0;
@@ -296,7 +291,7 @@ ends-part c octets taken taken_now noted noted_now w =
         handed,
         w.left,
         w.are_handed,
-        (elim w.part as (λ _. AreBitsInOrder line (output-of c read handed w.left)
+        (elim w.part as (λ _. AreBitsInOrder line (output-of c octets handed w.left)
             (taken_by taken taken_now noted noted_now)) [
               | inl (inl p) ↦ inl p
               | inl (inr p) ↦ inr (inl p.1)
@@ -304,13 +299,6 @@ ends-part c octets taken taken_now noted noted_now w =
             ]),
       ),
     )
-
-ends-cut : (c : Configuration) (octets : List ℕ) (taken taken_now noted noted_now : Option (List ℕ))
-    → WritesAllPart c taken taken_now noted noted_now octets → length octets ≤ c.limit
-    → Ends SinkFault (bits_meaning c) c.limit octets (taken_by taken taken_now noted noted_now)
-ends-cut c octets taken taken_now noted noted_now w within =
-    ends-part c octets taken taken_now noted noted_now
-    (subst (WritesAllPart c taken taken_now noted noted_now) (sym (take_all c.limit octets within)) w)
 
 module _ (exists : HasBlocks) (stands : StandFirst) (phase : HasPhase) (one : OnePhase) (stay : StayClosed)
     (stays : PhaseStays) where
@@ -466,12 +454,11 @@ module _ (exists : HasBlocks) (stands : StandFirst) (phase : HasPhase) (one : On
     Fed a b octets = WritesMore (receiver a) (waiting a) (out a) (notes a) (receiver b) (waiting b) (out b) (notes b)
         octets
 
-    abbrev pub Stopped : F → F → List ℕ → Stop → Type 0
-    Stopped a b octets why = (why ≡ stop.SinkFault) × FailsWriting (receiver a) (waiting a) (out a) (notes a) (out b)
-        (notes b) octets
+    abbrev pub Fails : F → F → List ℕ → Type 0
+    Fails a b octets = FailsWriting (receiver a) (waiting a) (out a) (notes a) (out b) (notes b) octets
 
-    abbrev pub Ended : F → F → Outcome → Type 0
-    Ended a b by = (by ≡ outcome.Done) × EndsWriting (receiver a) (waiting a) (out a) (notes a) (out b) (notes b)
+    abbrev pub Finishes : F → F → Type 0
+    Finishes a b = EndsWriting (receiver a) (waiting a) (out a) (notes a) (out b) (notes b)
 
     abbrev pub Failed : F → F → Type 0
     Failed a b = CutsWriting (receiver a) (waiting a) (out a) (notes a) (out b) (notes b)
@@ -485,43 +472,26 @@ module _ (exists : HasBlocks) (stands : StandFirst) (phase : HasPhase) (one : On
       of-fed b octets within p = let most = accepted.limit in p c (out before) (notes before) [] accepted (λ _. fresh)
           (omega arith)
 
-      up-to : (octets : List ℕ) → length (take c.limit octets) ≤ c.limit
-      up-to octets = omega (arith, length-take c.limit octets)
-
-      early-by : (octets : List ℕ) → length octets ≤ c.limit → Fed before now octets
-          → WroteEarly (bits_meaning c) octets (taken_by (out before) (out now) (notes before) (notes now))
-      early-by octets within p = ends-early c (receiver now) (waiting now) octets (out before) (out now)
-          (notes before) (notes now) accepted (of-fed now octets within p)
-
-      ended-by : (ending : Ending) (octets : List ℕ) (ended unended : Type 0)
-          → DrivenTo Fed Stopped Ended Failed c.limit before now ended unended ending octets
-          → Ends ending (bits_meaning c) c.limit octets (taken_by (out before) (out now) (notes before) (notes now))
-      ended-by Done octets ended unended p =
-          ends-done c octets (out before) (out now) (notes before) (notes now)
-          (p.at_end.1 c (out before) (notes before) octets accepted (of-fed p.middle octets p.within p.were_fed))
-          p.within
-      ended-by Bad octets ended unended p = let no = p.at_end.0 in cc no
-      ended-by LeftOver octets ended unended p = let no = p.at_end.0 in cc no
-      ended-by BadWindow octets ended unended p = let no = p.0 in cc no
-      ended-by SourceFault octets ended unended p = (early-by octets p.1 p.0, p.1)
-      ended-by SinkFault octets ended unended (inl p) =
+      of-fails : (octets : List ℕ) → length octets ≤ c.limit → Fails before now octets
+          → WritesAllPart c (out before) (out now) (notes before) (notes now) octets
+      of-fails octets within p =
           let most = accepted.limit in
-          let within = up-to octets in
-          ends-part c octets (out before) (out now) (notes before) (notes now)
-          (fails-all c (take c.limit octets) (out before) (out now) (notes before) (notes now) accepted
-          (p.0.1 c (out before) (notes before) [] accepted (λ _. fresh) (omega arith)))
-      ended-by SinkFault octets ended unended (inr p) =
-          let w = p.0 in
-          ends-cut c octets (out before) (out now) (notes before) (notes now)
-          (w.at_end c (out before) (notes before) octets accepted (of-fed w.middle octets w.within w.were_fed)) w.within
-      ended-by PastLimit octets ended unended p = (early-by (take c.limit octets) (up-to octets) p.0, p.1)
+          fails-all c octets (out before) (out now) (notes before) (notes now) accepted
+          (p c (out before) (notes before) [] accepted (λ _. fresh) (omega arith))
 
-      pub driven-ends : (limit : ℕ) → limit ≡ c.limit → (ending : Ending) (octets : List ℕ) (ended unended : Type 0)
-          → DrivenTo Fed Stopped Ended Failed limit before now ended unended ending octets
+      pub driven-ends : (limit : ℕ) → limit ≡ c.limit → (ended unended : Type 0) (ending : Ending) (octets : List ℕ)
+          → DrivenTo Fed (λ a b o why. (why ≡ stop.SinkFault) × Fails a b o) (λ a b by. (by ≡ outcome.Done) × Finishes a b)
+          Failed limit before now ended unended ending octets
           → Ends ending (bits_meaning c) c.limit octets (taken_by (out before) (out now) (notes before) (notes now))
-      driven-ends limit is ending octets ended unended p =
-          ended-by ending octets ended unended (subst
-          (λ (n : ℕ). DrivenTo Fed Stopped Ended Failed n before now ended unended ending octets) is p)
+      driven-ends = done-driven Fed Fails Finishes Failed before now (bits_meaning c) c.limit
+          (taken_by (out before) (out now) (notes before) (notes now))
+          (λ o within p. ends-early c (receiver now) (waiting now) o (out before) (out now) (notes before) (notes now)
+          accepted (of-fed now o within p))
+          (λ o within p. shows-part c o (out before) (out now) (notes before) (notes now) (of-fails o within p))
+          (λ middle o within p end. shows-all c o (out before) (out now) (notes before) (notes now)
+          (end c (out before) (notes before) o accepted (of-fed middle o within p)))
+          (λ middle o within p end. shows-part c o (out before) (out now) (notes before) (notes now)
+          (end c (out before) (notes before) o accepted (of-fed middle o within p)))
 
 -- before the first octets
 pub writes-new : (c : Configuration) (receiver : InnerReceiving) (packing : Packing) (out notes : Option (List ℕ))

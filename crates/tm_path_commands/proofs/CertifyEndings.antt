@@ -1,6 +1,5 @@
 -- How certifying ends.
-use Rattle.std.proofs.Common.{◌≡◌, inl, inr, ℕ, ◌≤◌, List, [], ◌++◌, length, length-take, take, Option, Some, None, refl, sym, ap, ◌∙◌, subst, arith}
-use Rattle.std.proofs.lemmas.List.{take_all}
+use Rattle.std.proofs.Common.{◌≡◌, inl, inr, ℕ, ◌≤◌, List, [], ◌++◌, length, Option, Some, None, refl, sym, ap, ◌∙◌, subst, arith}
 use Rattle.std.specs.Io.KnownBytes.{append_known}
 use Rattle.tm_base.specs.Handed.{Handed}
 use Rattle.tm_config.specs.Accepted.{IsAccepted}
@@ -20,11 +19,9 @@ use Rattle.tm_cert_file.specs.Certifying.{Certifying}
 use Rattle.tm_driver.specs.Driven.{DrivenTo}
 use Rattle.tm_driver.specs.Meaning.{Ends, WroteEarly, taken_by}
 use Rattle.tm_driver.specs.declared.ending.Ending.{Ending}
-use Rattle.tm_driver.specs.declared.ending.Ending.TheVariants.{Done, Bad, BadWindow, LeftOver, SourceFault, SinkFault, PastLimit}
-use Rattle.tm_driver.specs.declared.ending.Outcome.{Outcome}
 use Rattle.tm_driver.specs.declared.ending.Outcome.TheVariants as outcome
-use Rattle.tm_driver.specs.declared.ending.Stop.{Stop}
 use Rattle.tm_driver.specs.declared.ending.Stop.TheVariants as stop
+use Rattle.tm_driver.proofs.Driven.{Shows, WroteInOrder, done-driven}
 use Rattle.tm_driver.proofs.SinkTexts.{wrote-front, wrote-nothing}
 use Rattle.tm_path_commands.specs.Certify.{IsCertifiedAll, IsCertifiedSoFar, TextAt, certify_meaning}
 use Rattle.tm_path_commands.specs.Certifying.{Certifies, CertifiesMore, CertifyFails, CutsCertificate, EndsCertificate, FailsCertifying, WritesAt, WroteCertificate, WroteCertificateFront}
@@ -32,28 +29,21 @@ use Rattle.tm_path_commands.proofs.CertifyingPlace.{Longer}
 use Rattle.tm_path_commands.proofs.CertifyingPieces.{fails-longer}
 use Rattle.tm_path_commands.proofs.CertifyingEnd.{HasCertificate, OneCertificate, Split, fails-all}
 
-ends-done : (c : Configuration) (octets : List ℕ) (taken taken_now noted : Option (List ℕ)) → WroteCertificate c taken taken_now octets → length octets ≤ c.limit
-    → Ends Done (certify_meaning c) c.limit octets (taken_by taken taken_now noted noted)
-ends-done c octets taken taken_now noted w within = (
+shows-all : (c : Configuration) (octets : List ℕ) (taken taken_now noted : Option (List ℕ)) → WroteCertificate c taken taken_now octets
+    → Shows (certify_meaning c) octets (taken_by taken taken_now noted noted) outcome.Done
+shows-all c octets taken taken_now noted w = (
   (record { out = w.0; notes = [] }, (w.1, refl), record { out = w.2; notes = wrote-nothing noted }),
-  within,
-  λ none. none,
-  λ none. none,
+  (λ none. none, λ none. none),
 )
 
-ends-front : (c : Configuration) (octets : List ℕ) (taken taken_now noted : Option (List ℕ)) → WroteCertificateFront c taken taken_now (take c.limit octets)
-    → Ends SinkFault (certify_meaning c) c.limit octets (taken_by taken taken_now noted noted)
-ends-front c octets taken taken_now noted w = (
+shows-front : (c : Configuration) (octets : List ℕ) (taken taken_now noted : Option (List ℕ)) → WroteCertificateFront c taken taken_now octets
+    → WroteInOrder (certify_meaning c) octets (taken_by taken taken_now noted noted)
+shows-front c octets taken taken_now noted w = (
   record { out = w.0; notes = [] },
   (w.1, refl),
   record { out = w.2; notes = (0, wrote-nothing noted) },
   wrote-nothing noted,
 )
-
-ends-cut : (c : Configuration) (octets : List ℕ) (taken taken_now noted : Option (List ℕ)) → WroteCertificateFront c taken taken_now octets → length octets ≤ c.limit
-    → Ends SinkFault (certify_meaning c) c.limit octets (taken_by taken taken_now noted noted)
-ends-cut c octets taken taken_now noted w within =
-    ends-front c octets taken taken_now noted (subst (λ (l : List ℕ). WroteCertificateFront c taken taken_now l) (sym (take_all c.limit octets within)) w)
 
 -- ---- what is due
 
@@ -136,11 +126,11 @@ module _ (exists : HasBlocks) (stands : StandFirst) (phase : HasPhase) (stays : 
     abbrev pub Fed : F → F → List ℕ → Type 0
     Fed a b octets = CertifiesMore (receiver a) (kept a) (out a) (receiver b) (kept b) (out b) octets
 
-    abbrev pub Stopped : F → F → List ℕ → Stop → Type 0
-    Stopped a b octets why = (why ≡ stop.SinkFault) × FailsCertifying (receiver a) (kept a) (out a) (out b) octets
+    abbrev pub Fails : F → F → List ℕ → Type 0
+    Fails a b octets = FailsCertifying (receiver a) (kept a) (out a) (out b) octets
 
-    abbrev pub Ended : F → F → Outcome → Type 0
-    Ended a b by = (by ≡ outcome.Done) × EndsCertificate (receiver a) (kept a) (out a) (out b)
+    abbrev pub Finishes : F → F → Type 0
+    Finishes a b = EndsCertificate (receiver a) (kept a) (out a) (out b)
 
     abbrev pub Failed : F → F → Type 0
     Failed a b = CutsCertificate (receiver a) (kept a) (out a) (out b)
@@ -152,39 +142,23 @@ module _ (exists : HasBlocks) (stands : StandFirst) (phase : HasPhase) (stays : 
           → Certifies c (receiver b) (kept b) (out before) (out b) octets
       of-fed b octets within p = let most = accepted.limit in p c (out before) [] accepted (λ _. fresh) (omega arith)
 
-      up-to : (octets : List ℕ) → length (take c.limit octets) ≤ c.limit
-      up-to octets = omega (arith, length-take c.limit octets)
-
-      early-by : (octets : List ℕ) → length octets ≤ c.limit → Fed before now octets
-          → WroteEarly (certify_meaning c) octets (taken_by (out before) (out now) noted noted)
-      early-by octets within p = ends-early c (receiver now) (kept now) octets (out before) (out now) noted accepted
-          (of-fed now octets within p)
-
-      ended-by : (ending : Ending) (octets : List ℕ) (ended unended : Type 0)
-          → DrivenTo Fed Stopped Ended Failed c.limit before now ended unended ending octets
-          → Ends ending (certify_meaning c) c.limit octets (taken_by (out before) (out now) noted noted)
-      ended-by Done octets ended unended p =
-          ends-done c octets (out before) (out now) noted
-          (p.at_end.1 c (out before) octets accepted (of-fed p.middle octets p.within p.were_fed)) p.within
-      ended-by Bad octets ended unended p = let no = p.at_end.0 in cc no
-      ended-by LeftOver octets ended unended p = let no = p.at_end.0 in cc no
-      ended-by BadWindow octets ended unended p = let no = p.0 in cc no
-      ended-by SourceFault octets ended unended p = (early-by octets p.1 p.0, p.1)
-      ended-by SinkFault octets ended unended (inl p) =
+      of-fails : (octets : List ℕ) → length octets ≤ c.limit → Fails before now octets
+          → WroteCertificateFront c (out before) (out now) octets
+      of-fails octets within p =
           let most = accepted.limit in
-          let within = up-to octets in
-          ends-front c octets (out before) (out now) noted
-          (fails-all exists stands has one parts c (out before) (out now) (take c.limit octets) accepted
-          (p.0.1 c (out before) [] accepted (λ _. fresh) (omega arith)))
-      ended-by SinkFault octets ended unended (inr p) =
-          let w = p.0 in
-          ends-cut c octets (out before) (out now) noted
-          (w.at_end c (out before) octets accepted (of-fed w.middle octets w.within w.were_fed)) w.within
-      ended-by PastLimit octets ended unended p = (early-by (take c.limit octets) (up-to octets) p.0, p.1)
+          fails-all exists stands has one parts c (out before) (out now) octets accepted
+          (p c (out before) [] accepted (λ _. fresh) (omega arith))
 
-      pub driven-ends : (limit : ℕ) → limit ≡ c.limit → (ending : Ending) (octets : List ℕ) (ended unended : Type 0)
-          → DrivenTo Fed Stopped Ended Failed limit before now ended unended ending octets
+      pub driven-ends : (limit : ℕ) → limit ≡ c.limit → (ended unended : Type 0) (ending : Ending) (octets : List ℕ)
+          → DrivenTo Fed (λ a b o why. (why ≡ stop.SinkFault) × Fails a b o) (λ a b by. (by ≡ outcome.Done) × Finishes a b)
+          Failed limit before now ended unended ending octets
           → Ends ending (certify_meaning c) c.limit octets (taken_by (out before) (out now) noted noted)
-      driven-ends limit is ending octets ended unended p =
-          ended-by ending octets ended unended (subst
-          (λ (n : ℕ). DrivenTo Fed Stopped Ended Failed n before now ended unended ending octets) is p)
+      driven-ends = done-driven Fed Fails Finishes Failed before now (certify_meaning c) c.limit
+          (taken_by (out before) (out now) noted noted)
+          (λ o within p. ends-early c (receiver now) (kept now) o (out before) (out now) noted accepted
+          (of-fed now o within p))
+          (λ o within p. shows-front c o (out before) (out now) noted (of-fails o within p))
+          (λ middle o within p end. shows-all c o (out before) (out now) noted
+          (end c (out before) o accepted (of-fed middle o within p)))
+          (λ middle o within p end. shows-front c o (out before) (out now) noted
+          (end c (out before) o accepted (of-fed middle o within p)))

@@ -1,6 +1,6 @@
 -- What tracing has written, from what an inner receiver handed over.
-use Rattle.std.proofs.Common.{◌≡◌, inl, inr, ℕ, ◌+◌, ◌-◌, ◌<◌, ◌≤◌, ◌^◌, Bool, List, [], ◌∷◌, ◌++◌, length, take, drop, map, refl, sym, ap, ◌∙◌, subst, arith, Option, Some, None, length-append, length-drop, length-take}
-use Rattle.std.proofs.lemmas.List.{append-nil, take_all}
+use Rattle.std.proofs.Common.{◌≡◌, inl, inr, ℕ, ◌+◌, ◌-◌, ◌<◌, ◌≤◌, ◌^◌, Bool, List, [], ◌∷◌, ◌++◌, length, drop, map, refl, sym, ap, ◌∙◌, subst, arith, Option, Some, None, length-append, length-drop}
+use Rattle.std.proofs.lemmas.List.{append-nil}
 use Rattle.tm_base.specs.Handed.{Handed, Item, items_of}
 use Rattle.tm_base.specs.Written.{WroteFront}
 use Rattle.tm_base.specs.Takers.{HandedOver, HandedPart}
@@ -32,11 +32,9 @@ use Rattle.tm_driver.specs.Driven.{DrivenTo}
 use Rattle.tm_driver.specs.Meaning.{Ends, Output, WroteBoth, WroteEarly, WrotePrefixes, taken_by}
 use Rattle.tm_driver.specs.Texts.{TookText, BrokeText}
 use Rattle.tm_driver.specs.declared.ending.Ending.{Ending}
-use Rattle.tm_driver.specs.declared.ending.Ending.TheVariants.{Done, Bad, BadWindow, LeftOver, SourceFault, SinkFault, PastLimit}
-use Rattle.tm_driver.specs.declared.ending.Outcome.{Outcome}
 use Rattle.tm_driver.specs.declared.ending.Outcome.TheVariants as outcome
-use Rattle.tm_driver.specs.declared.ending.Stop.{Stop}
 use Rattle.tm_driver.specs.declared.ending.Stop.TheVariants as stop
+use Rattle.tm_driver.proofs.Driven.{Shows, WroteInOrder, done-driven}
 use Rattle.tm_driver.proofs.SinkTexts.{broke-front, front-of, wrote-front, wrote-nothing}
 use Rattle.tm_path_commands.specs.Lines.{trace_end_text}
 use Rattle.tm_path_commands.specs.Taken.{TracedAll}
@@ -279,28 +277,25 @@ trace-of c octets handed left = record { out = trace_text handed (length (inner_
 is-trace : (c : Configuration) (octets : List ℕ) (handed : List (Handed WindowBlock)) (left : ℕ) → AreHanded c octets handed left → IsTrace c octets (trace-of c octets handed left)
 is-trace c octets handed left are = record { handed = handed; left = left; are_handed = are; out = refl; notes = refl }
 
-ends-done : (c : Configuration) (octets : List ℕ) (before now : SinkState) (noted : Option (List ℕ)) → WroteTrace c before now octets → length octets ≤ c.limit
-    → Ends Done (trace_meaning c) c.limit octets (taken_by before.taken now.taken noted noted)
-ends-done c octets before now noted w within = (
+shows-all : (c : Configuration) (octets : List ℕ) (before now : SinkState) (noted : Option (List ℕ)) → WroteTrace c before now octets
+    → Shows (trace_meaning c) octets (taken_by before.taken now.taken noted noted) outcome.Done
+shows-all c octets before now noted w = (
   (
     trace-of c octets w.handed w.left,
     is-trace c octets w.handed w.left w.are_handed,
     record { out = w.written.written; notes = wrote-nothing noted },
   ),
-  within,
-  λ none. none,
-  λ none. none,
+  (λ none. none, λ none. none),
 )
 
-ends-cut : (c : Configuration) (octets : List ℕ) (before now : SinkState) (noted : Option (List ℕ)) → WroteTraceFront c before now octets
-    → length octets ≤ c.limit → Ends SinkFault (trace_meaning c) c.limit octets (taken_by before.taken now.taken noted noted)
-ends-cut c octets before now noted w within =
-    let output = trace-of c octets w.handed w.left in (
-      output,
-      subst (λ (l : List ℕ). IsTrace c l output) (sym (take_all c.limit octets within)) (is-trace c octets w.handed w.left w.are_handed),
-      record { out = w.written; notes = (0, wrote-nothing noted) },
-      wrote-nothing noted,
-    )
+shows-front : (c : Configuration) (octets : List ℕ) (before now : SinkState) (noted : Option (List ℕ)) → WroteTraceFront c before now octets
+    → WroteInOrder (trace_meaning c) octets (taken_by before.taken now.taken noted noted)
+shows-front c octets before now noted w = (
+  trace-of c octets w.handed w.left,
+  is-trace c octets w.handed w.left w.are_handed,
+  record { out = w.written; notes = (0, wrote-nothing noted) },
+  wrote-nothing noted,
+)
 
 due-written : (c : Configuration) (r : InnerReceiving) (count : ℕ) (octets : List ℕ) (before now : SinkState) (noted : Option (List ℕ)) → Traces c r count before now octets
     → (output : Output) × IsTraceDue c octets output × WroteBoth output (taken_by before.taken now.taken noted noted)
@@ -339,16 +334,15 @@ module _ (exists : HasBlocks) (stands : StandFirst) (phase : HasPhase) (one : On
         ),
   )
 
-  ends-fed : (c : Configuration) (octets : List ℕ) (before now : SinkState) (is_last : Type 0) (noted : Option (List ℕ))
-      → IsAccepted c → TraceFails c before now is_last (take c.limit octets) → Ends SinkFault (trace_meaning c) c.limit octets (taken_by before.taken now.taken noted noted)
-  ends-fed c octets before now is_last noted accepted t =
-      let read = take c.limit octets in
-      let all = trace-output c read accepted in
-      let split = in_turn-front (λ n. AreInnerFirst c n read) (λ n blocks. AreInnerBlocks c n read blocks all.1.left) one c read t.handed all.1.handed
-      (λ n first blocks p q. first-of-all stands c.inner c n read first blocks all.1.left p q) t.are_first.1 all.1.are_handed in (
+  shows-fed : (c : Configuration) (octets : List ℕ) (before now : SinkState) (is_last : Type 0) (noted : Option (List ℕ))
+      → IsAccepted c → TraceFails c before now is_last octets → WroteInOrder (trace_meaning c) octets (taken_by before.taken now.taken noted noted)
+  shows-fed c octets before now is_last noted accepted t =
+      let all = trace-output c octets accepted in
+      let split = in_turn-front (λ n. AreInnerFirst c n octets) (λ n blocks. AreInnerBlocks c n octets blocks all.1.left) one c octets t.handed all.1.handed
+      (λ n first blocks p q. first-of-all stands c.inner c n octets first blocks all.1.left p q) t.are_first.1 all.1.are_handed in (
         all.0,
         all.1,
-        fronts-by c read t.handed before.taken now.taken noted all.0 all.1 split (trace-front before now is_last t.handed t.broke),
+        fronts-by c octets t.handed before.taken now.taken noted all.0 all.1 split (trace-front before now is_last t.handed t.broke),
         wrote-nothing noted,
       )
 
@@ -362,13 +356,13 @@ module _ (exists : HasBlocks) (stands : StandFirst) (phase : HasPhase) (one : On
     Fed a b octets = ((receiver b).config ≡ (receiver a).config)
         × Hands (TookOne name lines count) StandsAt (receiver a) (receiver b) (taker a) (taker b) octets
 
-    abbrev pub Stopped : F → F → List ℕ → Stop → Type 0
-    Stopped a b octets why = (why ≡ stop.SinkFault) × ((config : Configuration) → (receiver a).config ≡ config
+    abbrev pub Fails : F → F → List ℕ → Type 0
+    Fails a b octets = (config : Configuration) → (receiver a).config ≡ config
         → HandsFront (TookOne name lines count) (BrokeOne name lines last count) StandsAt (AreHandedFirst config)
-        (receiver a) (taker a) (taker b) octets)
+        (receiver a) (taker a) (taker b) octets
 
-    abbrev pub Ended : F → F → Outcome → Type 0
-    Ended a b by = (by ≡ outcome.Done) × EndsTrace (receiver a) (count (taker a)) (lines (taker a)) (lines (taker b))
+    abbrev pub Finishes : F → F → Type 0
+    Finishes a b = EndsTrace (receiver a) (count (taker a)) (lines (taker a)) (lines (taker b))
 
     abbrev pub Failed : F → F → Type 0
     Failed a b = CutsTrace (receiver a) (count (taker a)) (lines (taker a)) (lines (taker b))
@@ -387,43 +381,27 @@ module _ (exists : HasBlocks) (stands : StandFirst) (phase : HasPhase) (one : On
           traces name lines count c (receiver before) (receiver b) (taker before) (taker b) octets new accepted
           (p.0 ∙ same) (omega arith) stood p.1
 
-      up-to : (octets : List ℕ) → length (take c.limit octets) ≤ c.limit
-      up-to octets = omega (arith, length-take c.limit octets)
-
-      early-by : (octets : List ℕ) → length octets ≤ c.limit → Fed before now octets
-          → WroteEarly (trace_meaning c) octets (taken_by (lines (taker before)).taken
-          (lines (taker now)).taken noted noted)
-      early-by octets within p =
-          ends-early stay stays c (receiver now) (count (taker now)) octets (lines (taker before))
-          (lines (taker now)) noted accepted (of-fed now octets within p)
-
-      ended-by : (ending : Ending) (octets : List ℕ) (ended unended : Type 0)
-          → DrivenTo Fed Stopped Ended Failed c.limit before now ended unended ending octets
-          → Ends ending (trace_meaning c) c.limit octets
-          (taken_by (lines (taker before)).taken (lines (taker now)).taken noted noted)
-      ended-by Done octets ended unended p =
-          ends-done c octets (lines (taker before)) (lines (taker now)) noted
-          (p.at_end.1 c (lines (taker before)) octets accepted (of-fed p.middle octets p.within p.were_fed)) p.within
-      ended-by Bad octets ended unended p = let no = p.at_end.0 in cc no
-      ended-by LeftOver octets ended unended p = let no = p.at_end.0 in cc no
-      ended-by BadWindow octets ended unended p = let no = p.0 in cc no
-      ended-by SourceFault octets ended unended p = (early-by octets p.1 p.0, p.1)
-      ended-by SinkFault octets ended unended (inl p) =
+      of-fails : (octets : List ℕ) → length octets ≤ c.limit → Fails before now octets
+          → TraceFails c (lines (taker before)) (lines (taker now)) (last (taker now)) octets
+      of-fails octets within p =
           let most = accepted.limit in
-          let within = up-to octets in
-          let fails = trace-fails name lines last count c (receiver before) (taker before) (taker now)
-          (take c.limit octets) new accepted (omega arith) stood (p.0.1 c same) in
-          ends-fed c octets (lines (taker before)) (lines (taker now)) (last (taker now)) noted accepted fails
-      ended-by SinkFault octets ended unended (inr p) =
-          let w = p.0 in
-          ends-cut c octets (lines (taker before)) (lines (taker now)) noted
-          (w.at_end c (lines (taker before)) octets accepted (of-fed w.middle octets w.within w.were_fed)) w.within
-      ended-by PastLimit octets ended unended p = (early-by (take c.limit octets) (up-to octets) p.0, p.1)
+          trace-fails name lines last count c (receiver before) (taker before) (taker now) octets new accepted
+          (omega arith) stood (p c same)
 
-      pub driven-ends : (limit : ℕ) → limit ≡ c.limit → (ending : Ending) (octets : List ℕ) (ended unended : Type 0)
-          → DrivenTo Fed Stopped Ended Failed limit before now ended unended ending octets
+      pub driven-ends : (limit : ℕ) → limit ≡ c.limit → (ended unended : Type 0) (ending : Ending) (octets : List ℕ)
+          → DrivenTo Fed (λ a b o why. (why ≡ stop.SinkFault) × Fails a b o) (λ a b by. (by ≡ outcome.Done) × Finishes a b)
+          Failed limit before now ended unended ending octets
           → Ends ending (trace_meaning c) c.limit octets
           (taken_by (lines (taker before)).taken (lines (taker now)).taken noted noted)
-      driven-ends limit is ending octets ended unended p =
-          ended-by ending octets ended unended (subst
-          (λ (n : ℕ). DrivenTo Fed Stopped Ended Failed n before now ended unended ending octets) is p)
+      driven-ends =
+          let start = lines (taker before) in
+          let end = lines (taker now) in
+          done-driven Fed Fails Finishes Failed before now (trace_meaning c) c.limit
+          (taken_by start.taken end.taken noted noted)
+          (λ o within p. ends-early stay stays c (receiver now) (count (taker now)) o start end noted accepted
+          (of-fed now o within p))
+          (λ o within p. shows-fed c o start end (last (taker now)) noted accepted (of-fails o within p))
+          (λ middle o within p end_is. shows-all c o start end noted
+          (end_is c start o accepted (of-fed middle o within p)))
+          (λ middle o within p end_is. shows-front c o start end noted
+          (end_is c start o accepted (of-fed middle o within p)))

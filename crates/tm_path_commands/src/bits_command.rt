@@ -1,11 +1,11 @@
 // The command `bits`: the bits that are received, eight an octet, and what is said of them.
-ghost use Rattle.std.specs.Prelude.{◌≡◌, ℕ, ◌+◌, ◌≤◌, ◌==◌, Bool, false, List, [], length, map, take, drop, Option, None, OnOk, OnErr, IfOk};
+ghost use Rattle.std.specs.Prelude.{◌≡◌, ℕ, ◌≤◌, ◌==◌, Bool, false, true, List, [], length, map, take, drop, Option, None, OnOk, OnErr, IfOk};
 ghost use Rattle.tm_base.specs.Bits.{AreOctets, bits_of, low_bits, octets_of};
 ghost use Rattle.tm_base.specs.Outside.{HasCause};
-ghost use Rattle.tm_base.specs.Written.{Gave, Wrote, WroteFront};
-ghost use Rattle.tm_driver.specs.Courses.{SourceCourse, SinksCourse, sink_state, source_state};
-ghost use Rattle.tm_driver.specs.Meaning.{Ends, taken_by};
-ghost use Rattle.tm_driver.specs.Statuses.{failed_at_end, is_sink_fault};
+ghost use Rattle.tm_base.specs.Written.{Wrote, WroteFront};
+ghost use Rattle.tm_driver.specs.Answered.{Answered};
+ghost use Rattle.tm_driver.specs.Courses.{SinksWent, sink_call, source_call};
+ghost use Rattle.tm_driver.specs.Statuses.{failed_at_end};
 ghost use Rattle.tm_inner.specs.Inner.{nearest_bit, plain_bits};
 ghost use Rattle.tm_path_commands.specs.Bits.{Adds, CutsWriting, EndsWriting, FailsWriting, Gathers, GathersLast, HandsWindows, IsEmptied, WrotePart, WritesMore, WroteWaiting, bits_meaning, line_of};
 
@@ -275,11 +275,8 @@ fn write<O: Sink, N: Sink>(packer: &mut Packer, out: &mut O, notes: &mut N) -> R
         (N.taken notes.new)) }
     ensures err { OnErr result (WrotePart (line_of packer.old.phase) (octets_of packer.old.bits) (O.taken out.old)
         (O.taken out.new) (N.taken notes.old) (N.taken notes.new)) }
-    ensures sinks { SinksCourse (failed_at_end result)
-        (sink_state (O.taken out.old) (O.faults out.old)) (sink_state (O.taken out.new) (O.faults out.new))
-        (O.is_last out.new)
-        (sink_state (N.taken notes.old) (N.faults notes.old)) (sink_state (N.taken notes.new) (N.faults notes.new))
-        (N.is_last notes.new) }
+    ensures sinks { SinksWent (failed_at_end result) (sink_call O.taken O.faults O.is_last out.old out.new)
+        (sink_call N.taken N.faults N.is_last notes.old notes.new) }
 {
     match write_phase(packer, notes) {
         Ok(()) => {}
@@ -309,11 +306,8 @@ fn write_piece<O: Sink, N: Sink>(
         packer.new (O.taken out.new) (N.taken notes.new) piece.now) }
     ensures err { OnErr result (FailsWriting receiver.old packer.old (O.taken out.old) (N.taken notes.old)
         (O.taken out.new) (N.taken notes.new) piece.now) }
-    ensures sinks { SinksCourse (failed_at_end result)
-        (sink_state (O.taken out.old) (O.faults out.old)) (sink_state (O.taken out.new) (O.faults out.new))
-        (O.is_last out.new)
-        (sink_state (N.taken notes.old) (N.faults notes.old)) (sink_state (N.taken notes.new) (N.faults notes.new))
-        (N.is_last notes.new) }
+    ensures sinks { SinksWent (failed_at_end result) (sink_call O.taken O.faults O.is_last out.old out.new)
+        (sink_call N.taken N.faults N.is_last notes.old notes.new) }
 {
     gather(receiver, packer, piece);
     write(packer, out, notes)
@@ -331,11 +325,8 @@ fn write_end<O: Sink, N: Sink>(
         (O.taken out.new) (N.taken notes.new)) }
     ensures front { OnErr result (CutsWriting receiver.old packer.old (O.taken out.old) (N.taken notes.old)
         (O.taken out.new) (N.taken notes.new)) }
-    ensures sinks { SinksCourse (failed_at_end result)
-        (sink_state (O.taken out.old) (O.faults out.old)) (sink_state (O.taken out.new) (O.faults out.new))
-        (O.is_last out.new)
-        (sink_state (N.taken notes.old) (N.faults notes.old)) (sink_state (N.taken notes.new) (N.faults notes.new))
-        (N.is_last notes.new) }
+    ensures sinks { SinksWent (failed_at_end result) (sink_call O.taken O.faults O.is_last out.old out.new)
+        (sink_call N.taken N.faults N.is_last notes.old notes.new) }
 {
     let end = gather_last(receiver, packer);
     match write(packer, out, notes) {
@@ -357,7 +348,7 @@ impl<'a, 'b, 'c, 'd, O: Sink, N: Sink> Feed for BitWriting<'a, 'b, 'c, 'd, O, N>
     ghost use Rattle.std.specs.Prelude.{◌≡◌, ◌^◌, ◌<◌, ◌++◌, length, false, refl};
     ghost use Rattle.std.proofs.Common.{◌∙◌, subst, sym, append_assoc};
     ghost use Rattle.std.proofs.lemmas.List.{append-nil};
-    ghost use Rattle.tm_driver.specs.Courses.{SinksCourse, sink_state};
+    ghost use Rattle.tm_driver.specs.Courses.{SinksWent, sink_call};
     ghost use Rattle.tm_driver.specs.declared.ending.Outcome.TheVariants.{Done};
     ghost use Rattle.tm_driver.specs.declared.ending.Stop.TheVariants.{SinkFault};
     ghost use Rattle.tm_driver.proofs.TwoSinks.{fault-after};
@@ -375,10 +366,8 @@ impl<'a, 'b, 'c, 'd, O: Sink, N: Sink> Feed for BitWriting<'a, 'b, 'c, 'd, O, N>
     ghost failed = { λ a b. CutsWriting a.receiver.now a.packer.now (O.taken a.out.now) (N.taken a.notes.now)
         (O.taken b.out.now) (N.taken b.notes.now) };
 
-    ghost sinks = { λ a b failed. SinksCourse failed (sink_state (O.taken a.out.now) (O.faults a.out.now))
-        (sink_state (O.taken b.out.now) (O.faults b.out.now))
-        (O.is_last b.out.now) (sink_state (N.taken a.notes.now) (N.faults a.notes.now))
-        (sink_state (N.taken b.notes.now) (N.faults b.notes.now)) (N.is_last b.notes.now) };
+    ghost sinks = { λ a b failed. SinksWent failed (sink_call O.taken O.faults O.is_last a.out.now b.out.now)
+        (sink_call N.taken N.faults N.is_last a.notes.now b.notes.now) };
 
     ghost same = { λ a b. (b.receiver.ghost_name ≡ a.receiver.ghost_name) × (b.packer.ghost_name ≡ a.packer.ghost_name)
         × (b.out.ghost_name ≡ a.out.ghost_name) × (b.notes.ghost_name ≡ a.notes.ghost_name) };
@@ -408,12 +397,8 @@ impl<'a, 'b, 'c, 'd, O: Sink, N: Sink> Feed for BitWriting<'a, 'b, 'c, 'd, O, N>
 
     ghost sinks_none = { λ a. (refl, refl) };
 
-    ghost sinks_more = { λ a b c failed p q. fault-after failed (sink_state (O.taken a.out.now) (O.faults a.out.now))
-        (sink_state (O.taken b.out.now) (O.faults b.out.now)) (sink_state (O.taken c.out.now) (O.faults c.out.now))
-        (O.is_last b.out.now) (O.is_last c.out.now)
-        (sink_state (N.taken a.notes.now) (N.faults a.notes.now))
-        (sink_state (N.taken b.notes.now) (N.faults b.notes.now))
-        (sink_state (N.taken c.notes.now) (N.faults c.notes.now)) (N.is_last b.notes.now) (N.is_last c.notes.now) p q };
+    ghost sinks_more = { λ a b c failed p q. fault-after failed _ _ _ (O.is_last b.out.now) (O.is_last c.out.now)
+        _ _ _ (N.is_last b.notes.now) (N.is_last c.notes.now) p q };
 
     fn feed(&mut self, piece: &[u8]) -> Result<(), Stop> {
         match write_piece(self.receiver, self.packer, self.out, self.notes, piece) {
@@ -441,21 +426,11 @@ pub fn bits<S: Source, O: Sink, N: Sink>(
     out: &mut O,
     notes: &mut N,
 ) -> Result<Ending, NoMemory>
-    ensures ends { IfOk result (λ ending. (octets : List ℕ)
-        × Gave (S.given source.old) (S.given source.new) (S.left source.old) (S.left source.new) octets
-        × (length octets ≤ config.now.limit + 1)
-        × Ends ending (bits_meaning config.now) config.now.limit octets
-        (taken_by (O.taken out.old) (O.taken out.new) (N.taken notes.old) (N.taken notes.new))) }
+    ensures answered { IfOk result (λ ending. Answered true ending (bits_meaning config.now) config.now.limit
+        (source_call S.given S.left S.ended S.faults S.is_last source.old source.new)
+        (sink_call O.taken O.faults O.is_last out.old out.new)
+        (sink_call N.taken N.faults N.is_last notes.old notes.new)) }
     ensures memory { OnErr result ((source.new ≡ source.old) × (out.new ≡ out.old) × (notes.new ≡ notes.old)) }
-    ensures source { IfOk result (λ ending. SourceCourse ending
-        (source_state (S.given source.old) (S.left source.old) (S.ended source.old) (S.faults source.old))
-        (source_state (S.given source.new) (S.left source.new) (S.ended source.new) (S.faults source.new))
-        (S.is_last source.new)) }
-    ensures sinks { IfOk result (λ ending. SinksCourse (is_sink_fault ending)
-        (sink_state (O.taken out.old) (O.faults out.old)) (sink_state (O.taken out.new) (O.faults out.new))
-        (O.is_last out.new)
-        (sink_state (N.taken notes.old) (N.faults notes.old)) (sink_state (N.taken notes.new) (N.faults notes.new))
-        (N.is_last notes.new)) }
 {
     one_list_law();
     due_law();

@@ -1,12 +1,10 @@
 // The command `certify`: the certificate of the windows of the soft decoder.
-ghost use Rattle.std.specs.Prelude.{◌≡◌, ℕ, ◌+◌, ◌^◌, ◌<◌, ◌≤◌, List, [], ◌++◌, length, Option, false, OnOk, OnErr, IfOk};
+ghost use Rattle.std.specs.Prelude.{◌≡◌, ℕ, ◌+◌, ◌^◌, ◌<◌, ◌≤◌, List, [], ◌++◌, length, Option, false, true, OnOk, OnErr, IfOk};
 ghost use Rattle.tm_base.specs.Outside.{HasCause};
-ghost use Rattle.tm_base.specs.Written.{Gave};
 ghost use Rattle.tm_config.specs.Accepted.{IsAccepted};
 ghost use Rattle.tm_config.specs.Configuration.{Configuration};
-ghost use Rattle.tm_driver.specs.Courses.{SourceCourse, SinkCourse, sink_state, source_state};
-ghost use Rattle.tm_driver.specs.Meaning.{Ends, taken_by};
-ghost use Rattle.tm_driver.specs.Statuses.{is_sink_fault};
+ghost use Rattle.tm_driver.specs.Answered.{AnsweredAlone};
+ghost use Rattle.tm_driver.specs.Courses.{sink_call, source_call};
 ghost use Rattle.tm_inner.specs.Receiving.{InnerReceiving, StandsFor};
 ghost use Rattle.tm_path_commands.specs.Certify.{certify_meaning};
 ghost use Rattle.tm_path_commands.specs.Certifying.{Certifies, CertifyFails, CutsCertificate, EndsCertificate, GavePiece};
@@ -151,7 +149,7 @@ impl<'a, 'b, 'c, O: Sink> Feed for Certificate<'a, 'b, 'c, O> {
     ghost use Rattle.std.specs.Prelude.{◌≡◌, ℕ, ◌^◌, ◌<◌, List, ◌++◌, length, Option, false, refl};
     ghost use Rattle.std.proofs.Common.{◌∙◌, subst, sym, append_assoc};
     ghost use Rattle.std.proofs.lemmas.List.{append-nil};
-    ghost use Rattle.tm_driver.specs.Courses.{SinkCourse, sink_state};
+    ghost use Rattle.tm_driver.specs.Courses.{SinkWent, sink_call};
     ghost use Rattle.tm_driver.specs.declared.ending.Outcome.TheVariants.{Done};
     ghost use Rattle.tm_driver.specs.declared.ending.Stop.TheVariants.{SinkFault};
     ghost use Rattle.tm_driver.proofs.TwoSinks.{sink-after};
@@ -168,9 +166,7 @@ impl<'a, 'b, 'c, O: Sink> Feed for Certificate<'a, 'b, 'c, O> {
 
     ghost failed = { λ a b. CutsCertificate a.receiver.now a.certifying.now (O.taken a.out.now) (O.taken b.out.now) };
 
-    ghost sinks = { λ a b failed. SinkCourse failed (sink_state (O.taken a.out.now) (O.faults a.out.now))
-        (sink_state (O.taken b.out.now) (O.faults b.out.now))
-        (O.is_last b.out.now) };
+    ghost sinks = { λ a b failed. SinkWent failed (sink_call O.taken O.faults O.is_last a.out.now b.out.now) };
 
     ghost same = { λ a b. (b.receiver.ghost_name ≡ a.receiver.ghost_name)
         × (b.certifying.ghost_name ≡ a.certifying.ghost_name)
@@ -200,9 +196,7 @@ impl<'a, 'b, 'c, O: Sink> Feed for Certificate<'a, 'b, 'c, O> {
 
     ghost sinks_none = { λ a. refl };
 
-    ghost sinks_more = { λ a b c failed p q. sink-after failed (sink_state (O.taken a.out.now) (O.faults a.out.now))
-        (sink_state (O.taken b.out.now) (O.faults b.out.now)) (sink_state (O.taken c.out.now) (O.faults c.out.now))
-        (O.is_last b.out.now) (O.is_last c.out.now) p q };
+    ghost sinks_more = { λ a b c failed p q. sink-after failed _ _ _ (O.is_last b.out.now) (O.is_last c.out.now) p q };
 
     fn feed(&mut self, piece: &[u8]) -> Result<(), Stop> {
         match certify_pieces(self.receiver, self.certifying, self.out, piece) {
@@ -228,19 +222,10 @@ pub fn certify<S: Source, O: Sink>(
     source: &mut S,
     out: &mut O,
 ) -> Result<Ending, NoMemory>
-    ensures ends { IfOk result (λ ending. (octets : List ℕ)
-        × Gave (S.given source.old) (S.given source.new) (S.left source.old) (S.left source.new) octets
-        × (length octets ≤ config.now.limit + 1)
-        × ((noted : Option (List ℕ)) → Ends ending (certify_meaning config.now) config.now.limit octets
-        (taken_by (O.taken out.old) (O.taken out.new) noted noted))) }
+    ensures answered { IfOk result (λ ending. AnsweredAlone true ending (certify_meaning config.now) config.now.limit
+        (source_call S.given S.left S.ended S.faults S.is_last source.old source.new)
+        (sink_call O.taken O.faults O.is_last out.old out.new)) }
     ensures memory { OnErr result ((source.new ≡ source.old) × (out.new ≡ out.old)) }
-    ensures source { IfOk result (λ ending. SourceCourse ending
-        (source_state (S.given source.old) (S.left source.old) (S.ended source.old) (S.faults source.old))
-        (source_state (S.given source.new) (S.left source.new) (S.ended source.new) (S.faults source.new))
-        (S.is_last source.new)) }
-    ensures sinks { IfOk result (λ ending. SinkCourse (is_sink_fault ending)
-        (sink_state (O.taken out.old) (O.faults out.old)) (sink_state (O.taken out.new) (O.faults out.new))
-        (O.is_last out.new)) }
 {
     certified_law();
     closed_windows_law();

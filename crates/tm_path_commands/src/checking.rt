@@ -1,9 +1,8 @@
 // The command `check`: a certificate is read, and each of its windows is checked.
-ghost use Rattle.std.specs.Prelude.{◌≡◌, ◌≢◌, ℕ, ◌+◌, ◌^◌, ◌<◌, ◌≤◌, List, ◌++◌, length, take, Option, None, OnOk, OnErr, IfOk, IfErr};
+ghost use Rattle.std.specs.Prelude.{◌≡◌, ◌≢◌, ℕ, ◌+◌, ◌^◌, ◌<◌, ◌≤◌, List, ◌++◌, length, take, true, Option, None, OnOk, OnErr, IfOk, IfErr};
 ghost use Rattle.tm_base.specs.Outside.{HasCause};
-ghost use Rattle.tm_base.specs.Written.{Gave};
-ghost use Rattle.tm_driver.specs.Courses.{SourceCourse, SinkCourse, SinksCourse, sink_state, source_state};
-ghost use Rattle.tm_driver.specs.Meaning.{Ends, taken_by};
+ghost use Rattle.tm_driver.specs.Answered.{Answered};
+ghost use Rattle.tm_driver.specs.Courses.{SinkWent, SinksWent, sink_call, source_call};
 ghost use Rattle.tm_driver.specs.Statuses.{ending_at_end, ending_of_stop, failed_at_end, failed_in_piece, is_sink_fault};
 ghost use Rattle.tm_driver.specs.declared.ending.Ending.TheVariants.{SinkFault};
 ghost use Rattle.tm_driver.specs.declared.ending.Outcome.TheVariants.{Bad};
@@ -43,11 +42,8 @@ fn write_window<O: Sink, N: Sink>(
         (N.taken notes.new)) }
     ensures err { OnErr result (WroteWindowFront reader.now number (O.taken out.old) (O.taken out.new)
         (N.taken notes.old) (N.taken notes.new)) }
-    ensures sinks { SinksCourse (failed_at_end result)
-        (sink_state (O.taken out.old) (O.faults out.old)) (sink_state (O.taken out.new) (O.faults out.new))
-        (O.is_last out.new)
-        (sink_state (N.taken notes.old) (N.faults notes.old)) (sink_state (N.taken notes.new) (N.faults notes.new))
-        (N.is_last notes.new) }
+    ensures sinks { SinksWent (failed_at_end result) (sink_call O.taken O.faults O.is_last out.old out.new)
+        (sink_call N.taken N.faults N.is_last notes.old notes.new) }
 {
     match put_all(out, reader.kept_octets()) {
         Ok(()) => window_line(
@@ -76,11 +72,8 @@ fn end_window<O: Sink, N: Sink>(
     ensures err { OnErr result ((rules : Rules) (start noted : Option (List ℕ)) (given : List ℕ) → length given < 2 ^ 43
         → Passes rules reader.old progress.old start (O.taken out.old) noted (N.taken notes.old) given
         → Breaks rules start (O.taken out.new) noted (N.taken notes.new) given) }
-    ensures sinks { SinksCourse (failed_at_end result)
-        (sink_state (O.taken out.old) (O.faults out.old)) (sink_state (O.taken out.new) (O.faults out.new))
-        (O.is_last out.new)
-        (sink_state (N.taken notes.old) (N.faults notes.old)) (sink_state (N.taken notes.new) (N.faults notes.new))
-        (N.is_last notes.new) }
+    ensures sinks { SinksWent (failed_at_end result) (sink_call O.taken O.faults O.is_last out.old out.new)
+        (sink_call N.taken N.faults N.is_last notes.old notes.new) }
 {
     match write_window(reader, progress.count, out, notes) {
         Ok(()) => {
@@ -96,9 +89,7 @@ fn end_window<O: Sink, N: Sink>(
 // Writes which window fails, and why. Answers what checking stops by then.
 fn write_failed<N: Sink>(number: u64, reason: Reason, notes: &mut N) -> Stop
     ensures line { WroteBy result (N.taken notes.old) (N.taken notes.new) (bad_text number reason) }
-    ensures course { SinkCourse (is_sink_fault (ending_of_stop result))
-        (sink_state (N.taken notes.old) (N.faults notes.old))
-        (sink_state (N.taken notes.new) (N.faults notes.new)) (N.is_last notes.new) }
+    ensures course { SinkWent (is_sink_fault (ending_of_stop result)) (sink_call N.taken N.faults N.is_last notes.old notes.new) }
 {
     match bad_line(notes, number, reason) {
         Ok(()) => Stop::BadWindow,
@@ -129,11 +120,8 @@ fn check_window<O: Sink, N: Sink>(
         → length given + length piece.now < 2 ^ 43
         → Passes rules reader.old progress.old start (O.taken out.old) noted (N.taken notes.old) given
         → StopsBy stop rules start (O.taken out.new) noted (N.taken notes.new) (given ++ piece.now)) }
-    ensures sinks { SinksCourse (failed_in_piece result)
-        (sink_state (O.taken out.old) (O.faults out.old)) (sink_state (O.taken out.new) (O.faults out.new))
-        (O.is_last out.new)
-        (sink_state (N.taken notes.old) (N.faults notes.old)) (sink_state (N.taken notes.new) (N.faults notes.new))
-        (N.is_last notes.new) }
+    ensures sinks { SinksWent (failed_in_piece result) (sink_call O.taken O.faults O.is_last out.old out.new)
+        (sink_call N.taken N.faults N.is_last notes.old notes.new) }
 {
     read_law();
     let (taken, seen) = reader.push(piece);
@@ -168,11 +156,8 @@ fn check_octets<O: Sink, N: Sink>(
         → length given + length octets.now < 2 ^ 43
         → Passes rules reader.old progress.old start (O.taken out.old) noted (N.taken notes.old) given
         → StopsBy stop rules start (O.taken out.new) noted (N.taken notes.new) (given ++ octets.now)) }
-    ensures sinks { SinksCourse (failed_in_piece result)
-        (sink_state (O.taken out.old) (O.faults out.old)) (sink_state (O.taken out.new) (O.faults out.new))
-        (O.is_last out.new)
-        (sink_state (N.taken notes.old) (N.faults notes.old)) (sink_state (N.taken notes.new) (N.faults notes.new))
-        (N.is_last notes.new) }
+    ensures sinks { SinksWent (failed_in_piece result) (sink_call O.taken O.faults O.is_last out.old out.new)
+        (sink_call N.taken N.faults N.is_last notes.old notes.new) }
 {
     let mut at = 0;
     while at < octets.len() {
@@ -220,7 +205,7 @@ impl<'a, 'b, 'c, O: Sink, N: Sink> Feed for Checking<'a, 'b, 'c, O, N> {
     ghost use Rattle.std.specs.Prelude.{◌≡◌, ◌^◌, ◌<◌, ◌++◌, length, refl};
     ghost use Rattle.std.proofs.Common.{◌∙◌, subst, sym, append_assoc};
     ghost use Rattle.std.proofs.lemmas.List.{append-nil};
-    ghost use Rattle.tm_driver.specs.Courses.{SinksCourse, sink_state};
+    ghost use Rattle.tm_driver.specs.Courses.{SinksWent, sink_call};
     ghost use Rattle.tm_driver.specs.Statuses.{ending_at_end};
     ghost use Rattle.tm_driver.specs.declared.ending.Ending.TheVariants.{SinkFault};
     ghost use Rattle.tm_driver.specs.declared.ending.Outcome.TheVariants.{Bad};
@@ -243,10 +228,8 @@ impl<'a, 'b, 'c, O: Sink, N: Sink> Feed for Checking<'a, 'b, 'c, O, N> {
     ghost failed = { λ a b. EndsBy SinkFault a.reader.now a.progress (O.taken a.out.now) (N.taken a.notes.now)
         (O.taken b.out.now) (N.taken b.notes.now) };
 
-    ghost sinks = { λ a b failed. SinksCourse failed (sink_state (O.taken a.out.now) (O.faults a.out.now))
-        (sink_state (O.taken b.out.now) (O.faults b.out.now))
-        (O.is_last b.out.now) (sink_state (N.taken a.notes.now) (N.faults a.notes.now))
-        (sink_state (N.taken b.notes.now) (N.faults b.notes.now)) (N.is_last b.notes.now) };
+    ghost sinks = { λ a b failed. SinksWent failed (sink_call O.taken O.faults O.is_last a.out.now b.out.now)
+        (sink_call N.taken N.faults N.is_last a.notes.now b.notes.now) };
 
     ghost same = { λ a b. (b.reader.ghost_name ≡ a.reader.ghost_name) × (b.out.ghost_name ≡ a.out.ghost_name)
         × (b.notes.ghost_name ≡ a.notes.ghost_name) };
@@ -279,12 +262,8 @@ impl<'a, 'b, 'c, O: Sink, N: Sink> Feed for Checking<'a, 'b, 'c, O, N> {
 
     ghost sinks_none = { λ a. (refl, refl) };
 
-    ghost sinks_more = { λ a b c failed p q. fault-after failed (sink_state (O.taken a.out.now) (O.faults a.out.now))
-        (sink_state (O.taken b.out.now) (O.faults b.out.now)) (sink_state (O.taken c.out.now) (O.faults c.out.now))
-        (O.is_last b.out.now) (O.is_last c.out.now)
-        (sink_state (N.taken a.notes.now) (N.faults a.notes.now))
-        (sink_state (N.taken b.notes.now) (N.faults b.notes.now))
-        (sink_state (N.taken c.notes.now) (N.faults c.notes.now)) (N.is_last b.notes.now) (N.is_last c.notes.now) p q };
+    ghost sinks_more = { λ a b c failed p q. fault-after failed _ _ _ (O.is_last b.out.now) (O.is_last c.out.now)
+        _ _ _ (N.is_last b.notes.now) (N.is_last c.notes.now) p q };
 
     fn feed(&mut self, piece: &[u8]) -> Result<(), Stop> {
         check_octets(self.reader, &mut self.progress, self.out, self.notes, piece)
@@ -319,22 +298,12 @@ pub fn check<S: Source, O: Sink, N: Sink>(
     notes: &mut N,
 ) -> Result<Ending, NoMemory>
     requires { config.now.inner ≢ None }
-    ensures ends { IfOk result (λ ending. (octets : List ℕ)
-        × Gave (S.given source.old) (S.given source.new) (S.left source.old) (S.left source.new) octets
-        × (length octets ≤ config.now.limit + 1)
-        × Ends ending (check_meaning config.now) config.now.limit octets
-        (taken_by (O.taken out.old) (O.taken out.new) (N.taken notes.old) (N.taken notes.new))) }
+    ensures answered { IfOk result (λ ending. Answered true ending (check_meaning config.now) config.now.limit
+        (source_call S.given S.left S.ended S.faults S.is_last source.old source.new)
+        (sink_call O.taken O.faults O.is_last out.old out.new)
+        (sink_call N.taken N.faults N.is_last notes.old notes.new)) }
     ensures memory { OnErr result ((source.new ≡ source.old) × (out.new ≡ out.old) × (notes.new ≡ notes.old)) }
     ensures not_bad { IfOk result (λ ending. ending ≡ Ending.Bad → ⊥) }
-    ensures source { IfOk result (λ ending. SourceCourse ending
-        (source_state (S.given source.old) (S.left source.old) (S.ended source.old) (S.faults source.old))
-        (source_state (S.given source.new) (S.left source.new) (S.ended source.new) (S.faults source.new))
-        (S.is_last source.new)) }
-    ensures sinks { IfOk result (λ ending. SinksCourse (is_sink_fault ending)
-        (sink_state (O.taken out.old) (O.faults out.old)) (sink_state (O.taken out.new) (O.faults out.new))
-        (O.is_last out.new)
-        (sink_state (N.taken notes.old) (N.faults notes.old)) (sink_state (N.taken notes.new) (N.faults notes.new))
-        (N.is_last notes.new)) }
 {
     read_law();
     let keep = config.keep() as u32;

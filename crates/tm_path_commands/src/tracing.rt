@@ -1,10 +1,8 @@
 // The command `trace`: the symbol phase, where it is to be found, and the windows of the soft decoder, a line each.
-ghost use Rattle.std.specs.Prelude.{◌≡◌, ℕ, ◌+◌, ◌≤◌, List, length, Option, false, OnOk, OnErr, IfOk};
+ghost use Rattle.std.specs.Prelude.{◌≡◌, false, true, OnOk, OnErr, IfOk};
 ghost use Rattle.tm_base.specs.Outside.{HasCause};
-ghost use Rattle.tm_base.specs.Written.{Gave};
-ghost use Rattle.tm_driver.specs.Courses.{SourceCourse, SinkCourse, sink_state, source_state};
-ghost use Rattle.tm_driver.specs.Meaning.{Ends, taken_by};
-ghost use Rattle.tm_driver.specs.Statuses.{is_sink_fault};
+ghost use Rattle.tm_driver.specs.Answered.{AnsweredAlone};
+ghost use Rattle.tm_driver.specs.Courses.{sink_call, sink_state, source_call};
 ghost use Rattle.tm_path_commands.specs.Trace.{trace_meaning};
 ghost use Rattle.tm_path_commands.specs.Tracing.{CutsTrace, EndsTrace};
 
@@ -27,7 +25,7 @@ impl<'a, 'b, O: Sink> Feed for Tracing<'a, 'b, O> {
     ghost use Rattle.std.specs.Prelude.{◌≡◌, false, refl, []};
     ghost use Rattle.std.proofs.Common.{◌∙◌};
     ghost use Rattle.tm_config.specs.Configuration.{Configuration};
-    ghost use Rattle.tm_driver.specs.Courses.{SinkCourse, sink_state};
+    ghost use Rattle.tm_driver.specs.Courses.{SinkWent, sink_call, sink_state};
     ghost use Rattle.tm_driver.specs.Texts.{BrokeText};
     ghost use Rattle.tm_driver.specs.declared.ending.Outcome.TheVariants.{Done};
     ghost use Rattle.tm_driver.specs.declared.ending.Stop.TheVariants.{SinkFault};
@@ -62,9 +60,7 @@ impl<'a, 'b, O: Sink> Feed for Tracing<'a, 'b, O> {
         (sink_state (O.taken a.trace.lines.now) (O.faults a.trace.lines.now))
         (sink_state (O.taken b.trace.lines.now) (O.faults b.trace.lines.now)) };
 
-    ghost sinks = { λ a b failed. SinkCourse failed
-        (sink_state (O.taken a.trace.lines.now) (O.faults a.trace.lines.now))
-        (sink_state (O.taken b.trace.lines.now) (O.faults b.trace.lines.now)) (O.is_last b.trace.lines.now) };
+    ghost sinks = { λ a b failed. SinkWent failed (sink_call O.taken O.faults O.is_last a.trace.lines.now b.trace.lines.now) };
 
     ghost same = { λ a b. (b.receiver.ghost_name ≡ a.receiver.ghost_name)
         × (b.trace.lines.ghost_name ≡ a.trace.lines.ghost_name) };
@@ -91,10 +87,7 @@ impl<'a, 'b, O: Sink> Feed for Tracing<'a, 'b, O> {
 
     ghost sinks_none = { λ a. refl };
 
-    ghost sinks_more = { λ a b c failed p q. sink-after failed
-        (sink_state (O.taken a.trace.lines.now) (O.faults a.trace.lines.now))
-        (sink_state (O.taken b.trace.lines.now) (O.faults b.trace.lines.now))
-        (sink_state (O.taken c.trace.lines.now) (O.faults c.trace.lines.now))
+    ghost sinks_more = { λ a b c failed p q. sink-after failed _ _ _
         (O.is_last b.trace.lines.now) (O.is_last c.trace.lines.now) p q };
 
     fn feed(&mut self, piece: &[u8]) -> Result<(), Stop> {
@@ -142,19 +135,10 @@ pub fn trace<S: Source, O: Sink>(
     source: &mut S,
     out: &mut O,
 ) -> Result<Ending, NoMemory>
-    ensures ends { IfOk result (λ ending. (octets : List ℕ)
-        × Gave (S.given source.old) (S.given source.new) (S.left source.old) (S.left source.new) octets
-        × (length octets ≤ config.now.limit + 1)
-        × ((noted : Option (List ℕ)) → Ends ending (trace_meaning config.now) config.now.limit octets
-        (taken_by (O.taken out.old) (O.taken out.new) noted noted))) }
+    ensures answered { IfOk result (λ ending. AnsweredAlone true ending (trace_meaning config.now) config.now.limit
+        (source_call S.given S.left S.ended S.faults S.is_last source.old source.new)
+        (sink_call O.taken O.faults O.is_last out.old out.new)) }
     ensures memory { OnErr result ((source.new ≡ source.old) × (out.new ≡ out.old)) }
-    ensures source { IfOk result (λ ending. SourceCourse ending
-        (source_state (S.given source.old) (S.left source.old) (S.ended source.old) (S.faults source.old))
-        (source_state (S.given source.new) (S.left source.new) (S.ended source.new) (S.faults source.new))
-        (S.is_last source.new)) }
-    ensures sinks { IfOk result (λ ending. SinkCourse (is_sink_fault ending)
-        (sink_state (O.taken out.old) (O.faults out.old)) (sink_state (O.taken out.new) (O.faults out.new))
-        (O.is_last out.new)) }
 {
     one_list_law();
     due_law();

@@ -30,7 +30,7 @@ use Rattle.tm_records.specs.declared.coding.Coding.{Coding}
 use Rattle.tm_records.specs.Erased.{coding_of, erased_meaning, erased_text, nearest_text, nearest_lines, is_beyond, record_rest}
 use Rattle.tm_records.specs.Erasing.{Holds, HasSpace, Broke, Stand, HoldsAt, HoldsMore, BreaksMore, ToldAll, BrokeLast, outcome_with}
 use Rattle.tm_records.specs.Records.{AreFirstNearest, AreNearest, AreNearestDue, in_batches, left_over, record_count, record_size}
-use Rattle.tm_records.proofs.Driven.{Shows, StopShows, OutcomeShows, WroteInOrder, ends-driven}
+use Rattle.tm_driver.proofs.Driven.{Shows, StopShows, OutcomeShows, WroteInOrder, ends-driven}
 use Rattle.tm_records.proofs.NearestRecords.{first-append, first-longer, has_rest, nearest_only}
 
 -- what holds anyway holds where a call failed
@@ -548,25 +548,25 @@ module _ {F K : Type 0} (at : F → Stand) (notes : F → K) (noted : K → Opti
   Failed a b = (c : Coding) (start : Option (List ℕ)) (given : List ℕ) → HoldsAt c (at a) start given
       → BrokeLast c given start (at b).taken (noted (notes a)) (noted (notes b))
 
-  pub ends-erased : (c : Configuration) (limit : ℕ) (before now : F) (ended unended : Type 0) (ending : Ending)
-      (octets : List ℕ)
+  pub ends-erased : (c : Configuration) (limit : ℕ) → limit ≡ c.limit → (before now : F) (ended unended : Type 0)
+      (ending : Ending) (octets : List ℕ)
       → HoldsAt (coding_of c) (at before) (at before).taken []
       → DrivenTo Fed Stopped Finished Failed limit before now ended unended ending octets
-      → Ends ending (erased_meaning c) limit octets (taken_by (at before).taken (at now).taken (noted (notes before))
+      → Ends ending (erased_meaning c) c.limit octets (taken_by (at before).taken (at now).taken (noted (notes before))
       (noted (notes now)))
-  ends-erased c limit before now ended unended ending octets none driven =
+  ends-erased c limit is before now ended unended ending octets none driven =
       let k = coding_of c in
       let start = (at before).taken in
       let first = noted (notes before) in
       let last = noted (notes now) in
-      ends-driven Fed Stopped Finished Failed before now ended unended (erased_meaning c) limit
-      (taken_by start (at now).taken first last) ending octets driven
-      (λ o fed. shows-early c start (at now).taken first last (at now).batch (at now).beyond o fed.0 (ap noted fed.1)
-      (fed.2 k start [] none))
-      (λ o stop stopped. shows-stop c start (at now).taken first last o stop stopped.0 (ap noted stopped.1)
+      ends-driven Fed Stopped Finished Failed before now (erased_meaning c) c.limit
+      (taken_by start (at now).taken first last)
+      (λ o within fed. shows-early c start (at now).taken first last (at now).batch (at now).beyond o fed.0
+      (ap noted fed.1) (fed.2 k start [] none))
+      (λ o stop within stopped. shows-stop c start (at now).taken first last o stop stopped.0 (ap noted stopped.1)
       (stopped.2 k start [] none))
-      (λ middle o outcome fed told. shows-whole c start (at now).taken first last o outcome (noted (notes middle))
-      (ap noted fed.1)
-      (told k start o (fed.2 k start [] none)))
-      (λ middle o fed broke. shows-broken c start (at now).taken first last o (noted (notes middle)) (ap noted fed.1)
-      (broke k start o (fed.2 k start [] none)))
+      (λ middle o outcome within fed told. shows-whole c start (at now).taken first last o outcome
+      (noted (notes middle)) (ap noted fed.1) (told k start o (fed.2 k start [] none)))
+      (λ middle o within fed broke. shows-broken c start (at now).taken first last o (noted (notes middle))
+      (ap noted fed.1) (broke k start o (fed.2 k start [] none)))
+      limit is ended unended ending octets driven

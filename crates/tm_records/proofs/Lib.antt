@@ -1,5 +1,4 @@
 pub mod NearestRecords
 pub mod ReadRecords
-mod Driven
 mod Erasing
 mod NearestWord

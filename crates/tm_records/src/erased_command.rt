@@ -2,10 +2,9 @@
 ghost use Rattle.std.specs.Prelude.{◌≡◌, ◌≢◌, ◌⊎◌, ℕ, ◌+◌, ◌*◌, ◌<◌, ◌≤◌, ◌||◌, Bool, List, [], ◌++◌, length, Option, true, false, OnOk, OnErr, IfOk};
 ghost use Rattle.std.specs.List.{list_any};
 ghost use Rattle.tm_base.specs.Outside.{HasCause};
-ghost use Rattle.tm_base.specs.Written.{Gave, Wrote, WroteFront};
-ghost use Rattle.tm_driver.specs.Courses.{SinksCourse, SourceCourse, sink_state, source_state};
-ghost use Rattle.tm_driver.specs.Meaning.{Ends, taken_by};
-ghost use Rattle.tm_driver.specs.Statuses.{is_sink_fault};
+ghost use Rattle.tm_base.specs.Written.{Wrote, WroteFront};
+ghost use Rattle.tm_driver.specs.Answered.{Answered};
+ghost use Rattle.tm_driver.specs.Courses.{sink_call, source_call};
 ghost use Rattle.tm_rs_solve.specs.Answers.{found_erased};
 ghost use Rattle.tm_records.specs.Batch.{opened};
 ghost use Rattle.tm_records.specs.Erased.{coding_of, erased_meaning, erased_text, is_beyond, nearest_lines};
@@ -176,7 +175,7 @@ impl<'a, 'b, 'c, 'd, R: Threads + Sync, O: Sink, N: Sink> Feed
     ghost use Rattle.std.specs.Thread.{IsSync};
     ghost use Rattle.std.proofs.Common.{◌∙◌, subst, sym, append_assoc};
     ghost use Rattle.std.proofs.lemmas.List.{append-nil};
-    ghost use Rattle.tm_driver.specs.Courses.{SinksCourse, sink_state};
+    ghost use Rattle.tm_driver.specs.Courses.{SinksWent, sink_call};
     ghost use Rattle.tm_driver.specs.declared.ending.Stop.TheVariants.{SinkFault};
     ghost use Rattle.tm_records.specs.declared.coding.Coding.{Coding};
     ghost use Rattle.tm_records.specs.Erasing.{BreaksMore, Broke, BrokeLast, HasSpace, Holds, HoldsMore, ToldAll, stand};
@@ -197,10 +196,8 @@ impl<'a, 'b, 'c, 'd, R: Threads + Sync, O: Sink, N: Sink> Feed
         → Holds c a.records.now a.beyond start (O.taken a.out.now) given
         → BrokeLast c given start (O.taken b.out.now) (N.taken a.notes.now) (N.taken b.notes.now) };
 
-    ghost sinks = { λ a b has_failed. SinksCourse has_failed
-        (sink_state (O.taken a.out.now) (O.faults a.out.now)) (sink_state (O.taken b.out.now) (O.faults b.out.now))
-        (O.is_last b.out.now) (sink_state (N.taken a.notes.now) (N.faults a.notes.now))
-        (sink_state (N.taken b.notes.now) (N.faults b.notes.now)) (N.is_last b.notes.now) };
+    ghost sinks = { λ a b failed. SinksWent failed (sink_call O.taken O.faults O.is_last a.out.now b.out.now)
+        (sink_call N.taken N.faults N.is_last a.notes.now b.notes.now) };
 
     ghost same = { λ a b. (b.records.ghost_name ≡ a.records.ghost_name) × (b.out.ghost_name ≡ a.out.ghost_name)
         × (b.notes.ghost_name ≡ a.notes.ghost_name) };
@@ -233,13 +230,8 @@ impl<'a, 'b, 'c, 'd, R: Threads + Sync, O: Sink, N: Sink> Feed
 
     ghost sinks_none = { λ a. (refl, refl) };
 
-    ghost sinks_more = { λ a b last has_failed. fault-after has_failed
-        (sink_state (O.taken a.out.now) (O.faults a.out.now)) (sink_state (O.taken b.out.now) (O.faults b.out.now))
-        (sink_state (O.taken last.out.now) (O.faults last.out.now)) (O.is_last b.out.now) (O.is_last last.out.now)
-        (sink_state (N.taken a.notes.now) (N.faults a.notes.now))
-        (sink_state (N.taken b.notes.now) (N.faults b.notes.now))
-        (sink_state (N.taken last.notes.now) (N.faults last.notes.now))
-        (N.is_last b.notes.now) (N.is_last last.notes.now) };
+    ghost sinks_more = { λ a b c failed p q. fault-after failed _ _ _ (O.is_last b.out.now) (O.is_last c.out.now)
+        _ _ _ (N.is_last b.notes.now) (N.is_last c.notes.now) p q };
 
     fn feed(&mut self, piece: &[u8]) -> Result<(), Stop> {
         match take_octets(self.rt, self.records, self.out, self.beyond, piece) {
@@ -286,19 +278,11 @@ pub fn erased<R: Threads + Sync, S: Source, O: Sink, N: Sink>(
     notes: &mut N,
 ) -> Result<Ending, NoMemory>
     requires { config.now.code ≢ OuterCode.Uncoded }
-    ensures ends { IfOk result (λ ending. (octets : List ℕ)
-        × Gave (S.given source.old) (S.given source.new) (S.left source.old) (S.left source.new) octets
-        × (length octets ≤ config.now.limit + 1) × Ends ending (erased_meaning config.now) config.now.limit octets
-        (taken_by (O.taken out.old) (O.taken out.new) (N.taken notes.old) (N.taken notes.new))) }
+    ensures answered { IfOk result (λ ending. Answered true ending (erased_meaning config.now) config.now.limit
+        (source_call S.given S.left S.ended S.faults S.is_last source.old source.new)
+        (sink_call O.taken O.faults O.is_last out.old out.new)
+        (sink_call N.taken N.faults N.is_last notes.old notes.new)) }
     ensures memory { OnErr result ((source.new ≡ source.old) × (out.new ≡ out.old) × (notes.new ≡ notes.old)) }
-    ensures source { IfOk result (λ ending. SourceCourse ending
-        (source_state (S.given source.old) (S.left source.old) (S.ended source.old) (S.faults source.old))
-        (source_state (S.given source.new) (S.left source.new) (S.ended source.new) (S.faults source.new))
-        (S.is_last source.new)) }
-    ensures sinks { IfOk result (λ ending. SinksCourse (is_sink_fault ending)
-        (sink_state (O.taken out.old) (O.faults out.old)) (sink_state (O.taken out.new) (O.faults out.new))
-        (O.is_last out.new) (sink_state (N.taken notes.old) (N.faults notes.old))
-        (sink_state (N.taken notes.new) (N.faults notes.new)) (N.is_last notes.new)) }
 {
     let Ok(mut records) = records_by(alloc, config) else {
         return Err(NoMemory);

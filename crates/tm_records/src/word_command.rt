@@ -5,7 +5,7 @@ ghost use Rattle.hex.specs.Hex.{is_hex_digit};
 ghost use Rattle.tm_base.specs.Outside.{HasCause};
 ghost use Rattle.tm_base.specs.Written.{Wrote, WroteFront};
 ghost use Rattle.tm_config.specs.Configuration.{correctable};
-ghost use Rattle.tm_driver.specs.Courses.{SinkCourse, sink_state};
+ghost use Rattle.tm_driver.specs.Courses.{SinkWent, sink_call};
 ghost use Rattle.tm_driver.specs.Meaning.{Ends, taken_by};
 ghost use Rattle.tm_driver.specs.Statuses.{is_sink_fault};
 ghost use Rattle.tm_dual.specs.Octet.{sent_octet, element_of};
@@ -148,8 +148,7 @@ pub fn word<O: Sink>(config: &Config, text: &[u8], out: &mut O) -> Ending
     ensures ends { (noted : Option (List ℕ)) → Ends result (word_meaning text.now config.now) config.now.limit []
         (taken_by (O.taken out.old) (O.taken out.new) noted noted) }
     ensures answers { (result ≡ Ending.Done) ⊎ (result ≡ Ending.Bad) ⊎ (result ≡ Ending.SinkFault) }
-    ensures sink { SinkCourse (is_sink_fault result) (sink_state (O.taken out.old) (O.faults out.old))
-        (sink_state (O.taken out.new) (O.faults out.new)) (O.is_last out.new) }
+    ensures sink { SinkWent (is_sink_fault result) (sink_call O.taken O.faults O.is_last out.old out.new) }
 {
     let mut room = [0; LONGEST_WORD];
     let octets = &mut room[..text.len() / 2];

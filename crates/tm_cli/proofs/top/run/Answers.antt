@@ -25,7 +25,7 @@ returns-in-Ok-clause-answered g c = λ job asked _.
     let read = c.in-Command.ensures.command c.in-Command.job config refl in
     let same : c.in-Command.job ≡ job = same-job (map string_bytes c.args.words.now) c.in-Command.job job read.0 asked in
     let command = command_of c.in-Command.job in
-    let h = c.in-Ok.ensures.ends in
+    let h = c.in-Ok.ensures.answered in
     let ending = c.in-Ok.ending in
     let taken = g.O.Sink.taken c.args.out.now in
     let now = g.O.Sink.taken c.obey.new.out in
@@ -41,26 +41,26 @@ returns-in-Ok-clause-answered g c = λ job asked _.
     (source_state (g.S.Source.given c.args.source.now) (g.S.Source.left c.args.source.now) (g.S.Source.ended c.args.source.now) (g.S.Source.faults c.args.source.now))
     (source_state (g.S.Source.given c.obey.new.source) (g.S.Source.left c.obey.new.source) (g.S.Source.ended c.obey.new.source) (g.S.Source.faults c.obey.new.source))
     (g.S.Source.is_last c.obey.new.source) out out_now (g.O.Sink.is_last c.obey.new.out) notes notes_now (g.N.Sink.is_last c.obey.new.notes) in
-    let decodes : command ≡ Decode → Ends ending (meaning_of Decode config) config.limit h.0 all = λ asks. subst (λ (k : Command). Ends ending (meaning_of k config) config.limit h.0 all) asks h.3 in
-    let checks : command ≡ Check → Ends ending (meaning_of Check config) config.limit h.0 all = λ asks. subst (λ (k : Command). Ends ending (meaning_of k config) config.limit h.0 all) asks h.3 in
+    let decodes : command ≡ Decode → Ends ending (meaning_of Decode config) config.limit h.0 all = λ asks. subst (λ (k : Command). Ends ending (meaning_of k config) config.limit h.0 all) asks h.1.ends in
+    let checks : command ≡ Check → Ends ending (meaning_of Check config) config.limit h.0 all = λ asks. subst (λ (k : Command). Ends ending (meaning_of k config) config.limit h.0 all) asks h.1.ends in
     let no_sink : HasNoFault call → ending ≡ SinkFault → ⊥ = λ none failed.
-    elim (sink-rose ending out out_now (g.O.Sink.is_last c.obey.new.out) notes notes_now (g.N.Sink.is_last c.obey.new.notes) c.in-Ok.ensures.sinks failed) [
+    elim (sink-rose ending out out_now (g.O.Sink.is_last c.obey.new.out) notes notes_now (g.N.Sink.is_last c.obey.new.notes) h.1.sinks failed) [
       | inl p ↦ none.out p.0
       | inr p ↦ none.notes p.0
     ] in
     let no_source : HasNoFault call → ending ≡ SourceFault → ⊥ = λ none failed.
-    none.source ((c.in-Ok.ensures.source (source-reads ending command config h.0 all h.3 failed)).fault failed) in
+    none.source ((h.1.course (source-reads ending command config h.0 all h.1.ends failed)).fault failed) in
     let at_end : ending ≡ LeftOver → IsAtEnd (g.S.Source.left c.obey.new.source) = λ over.
-    ((c.in-Ok.ensures.source (left-reads ending command config h.0 all h.3 over)).ended (inr (inr over))).1 in
+    ((h.1.course (left-reads ending command config h.0 all h.1.ends over)).ended (inr (inr over))).1 in
     let answer : Answers c.status.result command config call = record {
       octets = h.0;
-      gave = h.1;
-      at_most = h.2;
+      gave = h.1.gave;
+      at_most = h.1.at_most;
       ending = ending;
       is = is;
-      ends = h.3;
-      source = c.in-Ok.ensures.source;
-      sinks = c.in-Ok.ensures.sinks;
+      ends = h.1.ends;
+      source = h.1.course;
+      sinks = h.1.sinks;
       stops = λ asks failed. elim (c.in-Ok.ensures.stops (of-encode c.in-Command.job asks) failed) as (λ _. StopsEncoding call) [
         | inl p ↦ inl (p.0, p.1, ap (λ (n : g.row.N.Denot). sink_state (g.N.Sink.taken n) (g.N.Sink.faults n)) p.2)
         | inr p ↦ inr p
@@ -68,7 +68,7 @@ returns-in-Ok-clause-answered g c = λ job asked _.
       by_window = λ asks bad. c.in-Ok.ensures.not_bad (of-check c.in-Command.job asks) bad;
       complete = λ none. subst (λ (s : ℕ). (s ≡ 0) ⊎ (s ≡ 1) ⊎ (s ≡ 6) ⊎ (s ≡ 7)) (sym is) (without-fault ending (no_source none) (no_sink none));
       whole_input = λ input told within whole none. subst (λ (s : ℕ). (s ≡ 0) ⊎ (s ≡ 1)) (sym is)
-          (whole-input_told ending (meaning_of command config) config.limit h.0 input (g.S.Source.left c.obey.new.source) all h.3 (sym told ∙ h.1.consumed) at_end within whole
+          (whole-input_told ending (meaning_of command config) config.limit h.0 input (g.S.Source.left c.obey.new.source) all h.1.ends (sym told ∙ h.1.gave.consumed) at_end within whole
           (no_source none) (no_sink none));
       clean = λ asks. c.link_law.ensures.clean ending c.status.result config h.0 taken now noted noted_now read.2 is (decodes asks);
       disturbed = λ asks. c.link_law.ensures.disturbed ending c.status.result config h.0 taken now noted noted_now read.2 is (decodes asks);

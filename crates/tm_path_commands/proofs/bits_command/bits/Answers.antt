@@ -1,12 +1,14 @@
-use Rattle.std.proofs.Common.{rules, ◌≡◌, ◌+◌, ◌≤◌, ◌∙◌, ℕ, [], None, true, length, subst}
+use Rattle.std.proofs.Common.{rules, ◌≡◌, ◌+◌, ◌∙◌, [], None, true}
+use Rattle.tm_driver.specs.Courses.{source_call}
 use Rattle.tm_driver.specs.Meaning.{Ends, taken_by}
+use Rattle.tm_driver.proofs.Answered.{answered}
 use Rattle.tm_path_commands.specs.Bits.{bits_meaning}
 use Rattle.tm_path_commands.specs.declared.bits_command.BitWriting.{BitWriting}
 use Rattle.tm_path_commands.proofs.BitsEndings.{driven-ends, writes-new}
 use Rattle.tm_path_commands.proofs.bits_command.bits.Goals as goal
 
-pub returns-clause-ends : goal.returns-clause-ends
-returns-clause-ends g c =
+pub returns-clause-answered : goal.returns-clause-answered
+returns-clause-answered g c =
     let h = c.drive-ending.ensures.driven in
     let config = c.args.config.now in
     let now = c.drive-ending.new.feed in
@@ -29,5 +31,8 @@ returns-clause-ends g c =
     c.whole_window_law.ensures.front (λ (t : BitWriting g.row.O.Denot g.row.N.Denot). t.receiver.now)
     (λ t. t.packer.now)
     (λ t. g.O.Sink.taken t.out.now) (λ t. g.N.Sink.taken t.notes.now) config _ now c.limit.ensures.accepted fresh
-    c.limit.result c.limit.ensures.value c.drive-ending.result h.0 ended unended h.3 in
-    (h.0, h.1, subst (λ (limit : ℕ). length h.0 ≤ limit + 1) c.limit.ensures.value h.2, search rules)
+    c.limit.result c.limit.ensures.value ended unended c.drive-ending.result h.0 h.3 in
+    let went = c.drive-ending.ensures.sinks in
+    let source = source_call g.S.Source.given g.S.Source.left g.S.Source.ended g.S.Source.faults g.S.Source.is_last
+    c.args.source.now c.drive-ending.new.source in
+    (h.0, answered h.0 _ _ _ _ source _ _ c.limit.ensures.value h.1 h.2 (search rules) c.drive-ending.ensures.source (search rules))

@@ -1,12 +1,14 @@
-use Rattle.std.proofs.Common.{rules, ◌≡◌, ◌+◌, ◌≤◌, ℕ, true, length, refl, subst}
+use Rattle.std.proofs.Common.{rules, ◌≡◌, true, refl}
+use Rattle.tm_driver.specs.Courses.{source_call}
 use Rattle.tm_driver.specs.Meaning.{Ends, taken_by}
+use Rattle.tm_driver.proofs.Answered.{answered}
 use Rattle.tm_path_commands.specs.Check.{ReadAt, check_meaning}
 use Rattle.tm_path_commands.specs.declared.checking.Checking.{Checking}
 use Rattle.tm_path_commands.proofs.CheckEndings.{ReadOnce, driven-ends}
 use Rattle.tm_path_commands.proofs.checking.check.Goals as goal
 
-pub returns-clause-ends : goal.returns-clause-ends
-returns-clause-ends g c =
+pub returns-clause-answered : goal.returns-clause-answered
+returns-clause-answered g c =
     let h = c.drive-ending.ensures.driven in
     let config = c.args.config.now in
     let now = c.drive-ending.new.feed in
@@ -26,4 +28,7 @@ returns-clause-ends g c =
     (λ t. g.O.Sink.taken t.out.now) (λ t. g.N.Sink.taken t.notes.now) once
     config _ now refl refl c.limit.ensures.accepted rules_are c.in-Ok.ensures.stands c.limit.result
     c.limit.ensures.value c.drive-ending.result h.0 ended unended h.3 in
-    (h.0, h.1, subst (λ (limit : ℕ). length h.0 ≤ limit + 1) c.limit.ensures.value h.2, search rules)
+    let went = c.drive-ending.ensures.sinks in
+    let source = source_call g.S.Source.given g.S.Source.left g.S.Source.ended g.S.Source.faults g.S.Source.is_last
+    c.args.source.now c.drive-ending.new.source in
+    (h.0, answered h.0 _ _ _ _ source _ _ c.limit.ensures.value h.1 h.2 (search rules) c.drive-ending.ensures.source (search rules))

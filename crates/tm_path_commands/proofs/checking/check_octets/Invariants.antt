@@ -1,7 +1,7 @@
 use Rattle.std.proofs.Common.{◌+◌, ◌-◌, ◌^◌, ◌<◌, ◌≤◌, ◌++◌, ℕ, List, false, length, take, Option}
 use Rattle.tm_cert_file.specs.Before.{Rules}
 use Rattle.tm_cert_file.specs.Reading.{IsOpen}
-use Rattle.tm_driver.specs.Courses.{SinksCourse, sink_state}
+use Rattle.tm_driver.specs.Courses.{SinksWent, sink_call}
 use Rattle.tm_path_commands.specs.Checking.{Passes}
 use Rattle.tm_path_commands.proofs.checking.check_octets.Given as goal
 
@@ -13,11 +13,8 @@ invariant-loop-at g l = record {
       → Passes rules l.fn.reader l.fn.progress start (g.O.Sink.taken l.fn.out) noted (g.N.Sink.taken l.fn.notes) given
       → Passes rules l.reader l.progress start (g.O.Sink.taken l.out) noted (g.N.Sink.taken l.notes)
       (given ++ take l.at l.octets);
-  sinks : SinksCourse false (sink_state (g.O.Sink.taken l.fn.out) (g.O.Sink.faults l.fn.out))
-      (sink_state (g.O.Sink.taken l.out) (g.O.Sink.faults l.out))
-      (g.O.Sink.is_last l.out) (sink_state (g.N.Sink.taken l.fn.notes) (g.N.Sink.faults l.fn.notes))
-      (sink_state (g.N.Sink.taken l.notes) (g.N.Sink.faults l.notes))
-      (g.N.Sink.is_last l.notes);
+  sinks : SinksWent false (sink_call g.O.Sink.taken g.O.Sink.faults g.O.Sink.is_last l.fn.out l.out)
+      (sink_call g.N.Sink.taken g.N.Sink.faults g.N.Sink.is_last l.fn.notes l.notes);
 }
 
 abbrev pub decreases-loop-at : goal.decreases-loop-at

@@ -1,0 +1,43 @@
+-- What a command answered.
+use Rattle.std.proofs.Common.{◌≡◌, ℕ, ◌+◌, ◌≤◌, Bool, true, List, length, Result, Ok, Err, IfOk, subst}
+use Rattle.tm_base.specs.Written.{Gave}
+use Rattle.tm_driver.specs.Answered.{Answered, AnsweredAlone, AnsweredWith}
+use Rattle.tm_driver.specs.Courses.{SinkCall, SinkState, SinksWent, SourceCall, SourceWent}
+use Rattle.tm_driver.specs.Meaning.{Ends, Meaning, taken_by}
+use Rattle.tm_driver.specs.Statuses.{is_sink_fault}
+use Rattle.tm_driver.specs.declared.ending.Ending.{Ending}
+use Rattle.tm_driver.proofs.TwoSinks.{alone, first-alone}
+
+-- a command that reads, from what its driver answers
+pub answered : (octets : List ℕ) (ending : Ending) (meaning : Meaning) (limit within : ℕ) (source : SourceCall) (out notes : SinkCall)
+    → within ≡ limit → Gave source.before.given source.now.given source.before.left source.now.left octets → length octets ≤ within + 1
+    → Ends ending meaning limit octets (taken_by out.before.taken out.now.taken notes.before.taken notes.now.taken)
+    → SourceWent ending source → SinksWent (is_sink_fault ending) out notes → AnsweredWith octets true ending meaning limit source out notes
+answered octets ending meaning limit within source out notes is gave at_most ends course sinks = record {
+  gave = gave;
+  at_most = subst (λ (n : ℕ). length octets ≤ n + 1) is at_most;
+  ends = ends;
+  course = λ reads. course;
+  sinks = sinks;
+}
+
+-- one that has no notes, beside any notes
+pub answered-beside : (reads : Bool) (ending : Ending) (meaning : Meaning) (limit : ℕ) (source : SourceCall) (out : SinkCall)
+    (notes : SinkState) (notes_last : Type 0) → AnsweredAlone reads ending meaning limit source out
+    → Answered reads ending meaning limit source out (record { before = notes; now = notes; is_last = notes_last })
+answered-beside reads ending meaning limit source out notes notes_last by_itself =
+    let was = by_itself.1 notes in (
+      by_itself.0,
+      record {
+        gave = was.gave;
+        at_most = was.at_most;
+        ends = was.ends;
+        course = was.course;
+        sinks = alone (is_sink_fault ending) out notes notes_last (first-alone (is_sink_fault ending) out notes was.sinks);
+      },
+    )
+
+-- two facts of what is answered
+pub IfOk-both : {T E : Type 0} (result : Result T E) (P Q R : T → Type 0) → ((t : T) → P t → Q t → R t) → IfOk result P → IfOk result Q → IfOk result R
+IfOk-both (Ok t) P Q R each p q = each t p q
+IfOk-both (Err e) P Q R each p q = tt
