@@ -206,7 +206,8 @@ typedef struct {
 int32_t tmchan_close(tmchan_stream *stream);
 
 /* The sender: the octets of transfer frames in pieces of any length, and the symbols of the CADU of each frame once it is whole: with an inner
- * code an octet for each symbol, 00 and FF (or 80 and 7F in the signed form), and else the octets of the CADU. */
+ * code an octet for each symbol, 00 and FF (or 80 and 7F in the signed form), and else the octets of the CADU, or with pack = 0 such an octet
+ * for each of its bits. */
 
 /* For how many symbols a push of so many octets needs room: more than it writes. Answers TMCHAN_BAD_.., TMCHAN_ROOM. */
 int64_t tmchan_sender_room(const tmchan_config *config, size_t octets_length);

@@ -17,7 +17,7 @@ use Rattle.tm_conv.specs.Path.{path, steps_size}
 use Rattle.tm_conv.specs.Encoding.{bit_numbers, level}
 use Rattle.tm_conv.proofs.Paths.{length-path}
 use Rattle.tm_conv.proofs.Sizes.{steps_size-add, steps_size-most}
-use Rattle.tm_inner.specs.Symbols.{low_level, is_inverted, symbols_by, symbols_of_octets}
+use Rattle.tm_inner.specs.Symbols.{low_level, is_inverted, plain_symbols, symbols_by, symbols_of_octets}
 use Rattle.tm_inner.specs.Sending.{encoded}
 use Rattle.tm_codeblock.specs.Frames.{first_frames, whole_frames}
 use Rattle.tm_codeblock.specs.Cadu.{cadu, sent_codeblock}
@@ -54,14 +54,18 @@ encoded-few rate invert low octets more a b few many =
     )
 
 -- octets as they are sent by a rate, or with no inner code
-with-none : (c : Configuration) (octets more : List ℕ) (a b : ℕ) → length octets ≡ a → length more ≡ a + b
-    → length (symbols_by None c (bits_of more)) ≤ length (symbols_by None c (bits_of octets)) + b * 1
-with-none c octets more a b few many =
+length-spread : (c : Configuration) (octets : List ℕ) → length (plain_symbols false c (bits_of octets)) ≡ 8 * length octets
+length-spread c octets = length-map (bit_numbers (bits_of octets)) (level (low_level c.soft)) ∙ length-map (bits_of octets) bit_number ∙ length-bits_of octets
+
+with-none : (pack : Bool) (c : Configuration) (octets more : List ℕ) (a b : ℕ) → length octets ≡ a → length more ≡ a + b
+    → length (plain_symbols pack c (bits_of more)) ≤ length (plain_symbols pack c (bits_of octets)) + b * (if pack then 1 else 8)
+with-none true c octets more a b few many =
     omega (arith, few, many, length-octets_of (bits_of octets), length-octets_of (bits_of more), length-bits_of octets, length-bits_of more)
+with-none false c octets more a b few many = omega (arith, few, many, length-spread c octets, length-spread c more)
 
 by-rate : (rate : Option Rate) (c : Configuration) (octets more : List ℕ) (a b : ℕ) → length octets ≡ a → length more ≡ a + b
-    → length (symbols_by rate c (bits_of more)) ≤ length (symbols_by rate c (bits_of octets)) + b * (if is_some rate then 16 else 1)
-by-rate None c octets more a b few many = with-none c octets more a b few many
+    → length (symbols_by rate c (bits_of more)) ≤ length (symbols_by rate c (bits_of octets)) + b * (if is_some rate then 16 else if c.pack then 1 else 8)
+by-rate None c octets more a b few many = with-none c.pack c octets more a b few many
 by-rate (Some rate) c octets more a b few many = encoded-few rate (is_inverted rate c.invert) (low_level c.soft) octets more a b few many
 
 symbols-few : (c : Configuration) (octets more : List ℕ) (a b : ℕ) → length octets ≡ a → length more ≡ a + b

@@ -6,9 +6,9 @@ use Rattle.tm_config.specs.Configuration.{Configuration, codeblock_length}
 use Rattle.tm_channel.specs.Sending.{Sending, StandsFor}
 
 -- how many symbols an octet comes to at most: two for each of its bits, or with no inner code
--- itself
+-- itself, or one for each bit where these are not packed
 abbrev pub most_symbols : Configuration → ℕ
-most_symbols c = if is_some c.inner then 16 else 1
+most_symbols c = if is_some c.inner then 16 else if c.pack then 1 else 8
 
 -- For how many symbols there has to be room where so many more octets are given: for those of a
 -- unit for each frame that may become whole, and one more. No more than 2^40 octets are taken at a

@@ -118,7 +118,9 @@ fn most_symbols(config: &Config) -> u64
 {
     if config.values().inner.is_some() {
         16
-    } else {
+    } else if config.values().pack {
         1
+    } else {
+        8
     }
 }
