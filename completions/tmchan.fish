@@ -29,7 +29,7 @@ complete -c tmchan -n $any -l repair -x -d 'wrong symbols of a codeword that are
 complete -c tmchan -n $any -l soft -x -a 'u8 i8' -d 'octets of a symbol'
 complete -c tmchan -n $any -l start -x -a 'zero any' -d 'first register of the convolutional code'
 complete -c tmchan -n $any -l skip -x -d 'symbols that are dropped first'
-complete -c tmchan -n $any -l workers -x -d 'workers that repair codewords'
+complete -c tmchan -n $any -l workers -x -d 'workers that decode side by side'
 complete -c tmchan -n $any -l limit -x -d 'octets that are read at most'
 complete -c tmchan -n $any -l fly -x -d 'places in a row taken without a marker'
 complete -c tmchan -n $any -l keep -x -d 'steps of a window that are kept'
