@@ -1,5 +1,5 @@
 -- The first place whose marker is there, in bits that grow at their end.
-use Rattle.std.proofs.Common.{◌≡◌, ℕ, suc, ◌+◌, ◌<◌, ◌≤◌, Bool, true, false, cond, nat_le, List, [], ◌∷◌, ◌++◌, length, refl, sym, ap, ◌∙◌, arith, Option, Some, None, append_assoc, length-append, ◌⊎◌, inl, inr}
+use Rattle.std.proofs.Common.{◌≡◌, ℕ, suc, ◌+◌, ◌*◌, ◌<◌, ◌≤◌, Bool, true, false, cond, nat_le, List, [], ◌∷◌, ◌++◌, length, refl, sym, ap, ◌∙◌, arith, Option, Some, None, append_assoc, length-append, ◌⊎◌, inl, inr}
 use Rattle.std.specs.Option.{option_or}
 use Rattle.std.proofs.lemmas.Bool.{cases_lt}
 use Rattle.std.proofs.lemmas.Bool.Decides.{nat_tests}
@@ -8,7 +8,7 @@ use Rattle.tm_sync.specs.declared.found.Before.{Before}
 use Rattle.tm_sync.specs.Places.{Rules, match_of, before_next, found_at, place_by, place_at, places_from}
 use Rattle.tm_sync.specs.Searching.{first_place}
 use Rattle.tm_sync.proofs.Steps.{places_from-nil, places_from-short, places_from-miss, places_from-hit, match_of-append, place_at-room, place_at-short}
-use Rattle.tm_sync.proofs.Longer.{Seen, none, some, seen, place_by-append, place_by-place}
+use Rattle.tm_sync.proofs.Longer.{Seen, none, some, seen, place_by-append, place_by-place, places_from-room}
 
 -- the place that the first 32 bits are
 abbrev pub here : Rules → ℕ → Option Before → List Bool → Option Found
@@ -199,3 +199,33 @@ first_place-room rules at before (b ∷ bits) f e = go (λ e. first_place-room r
         let place : f.place ≡ at = place_by-place rules at before (b ∷ bits) (match_of rules (b ∷ bits)) f h in
         omega arith
     go next (behind_it long h rest) = let more = next rest in omega arith
+
+-- ---- how many places further bits bring
+-- the first of them begins at the first place, whether or not its codeblock is whole
+pub places_from-ahead : (rules : Rules) (at : ℕ) (before : Option Before) (bits more : List Bool) (f : Found) → first_place rules at before bits ≡ Some f
+    → f.place + length (places_from rules at 0 before (bits ++ more)) * (32 + rules.block_bits) ≤ at + length bits + length more
+places_from-ahead rules at before [] more f e = let no : None ≡ Some f = sym (first_place-nil rules at before) ∙ e in absurd (cc)
+places_from-ahead rules at before (b ∷ bits) more f e = go (λ e. places_from-ahead rules (at + 1) None bits more f e) (first rules at before b bits f e)
+  where
+    go : (first_place rules (at + 1) None bits ≡ Some f → f.place + length (places_from rules (at + 1) 0 None (bits ++ more)) * (32 + rules.block_bits) ≤ at + 1 + length bits + length more)
+        → First rules at before b bits f → f.place + length (places_from rules at 0 before ((b ∷ bits) ++ more)) * (32 + rules.block_bits) ≤ at + suc (length bits) + length more
+    go next (at_front long h) =
+        let place : f.place ≡ at = place_by-place rules at before (b ∷ bits) (match_of rules (b ∷ bits)) f h in
+        omega (arith, place, places_from-room rules at 0 before ((b ∷ bits) ++ more), length-append (b ∷ bits) more)
+    go next (behind_it long h rest) =
+        let skipped = places_from-miss rules at before b (bits ++ more) (none-at rules at before (b ∷ (bits ++ more)) (here-append rules at before (b ∷ bits) more long ∙ h)) in
+        omega (arith, ap (λ (fs : List Found). length fs * (32 + rules.block_bits)) skipped, next rest)
+
+-- where none is there, its marker is not whole
+pub places_from-none_ahead : (rules : Rules) (at : ℕ) (before : Option Before) (bits more : List Bool) → first_place rules at before bits ≡ None
+    → length (places_from rules at 0 before (bits ++ more)) * (32 + rules.block_bits) ≤ 31 + length more
+places_from-none_ahead rules at before [] more e = omega (arith, places_from-room rules at 0 before more)
+places_from-none_ahead rules at before (b ∷ bits) more e = go (λ e. places_from-none_ahead rules (at + 1) None bits more e) (cases_lt (length (b ∷ bits)) 32)
+  where
+    go : (first_place rules (at + 1) None bits ≡ None → length (places_from rules (at + 1) 0 None (bits ++ more)) * (32 + rules.block_bits) ≤ 31 + length more)
+        → (length (b ∷ bits) < 32) ⊎ (32 ≤ length (b ∷ bits)) → length (places_from rules at 0 before ((b ∷ bits) ++ more)) * (32 + rules.block_bits) ≤ 31 + length more
+    go next (inl few) = omega (arith, few, places_from-room rules at 0 before ((b ∷ bits) ++ more), length-append (b ∷ bits) more)
+    go next (inr long) =
+        let ahead = none_ahead rules at before b bits long e in
+        let skipped = places_from-miss rules at before b (bits ++ more) (none-at rules at before (b ∷ (bits ++ more)) (here-append rules at before (b ∷ bits) more long ∙ ahead.0)) in
+        omega (arith, ap (λ (fs : List Found). length fs * (32 + rules.block_bits)) skipped, next ahead.1)

@@ -9,12 +9,12 @@ use Rattle.tm_sync.specs.declared.found.Found.{Found}
 use Rattle.tm_sync.specs.declared.found.Before.{Before}
 use Rattle.tm_sync.specs.declared.found.Awaited.{Awaited}
 use Rattle.tm_sync.specs.Places.{Rules, before_next, match_of, place_by, places, places_from}
-use Rattle.tm_sync.specs.Searching.{Counts, Searching, StandsFor, awaited_at, first_place, place_ahead, inside_ahead, inside_of, is_pending, end_of, before_behind, before_last}
+use Rattle.tm_sync.specs.Searching.{Counts, Searching, StandsFor, awaited_at, begun_of, first_place, place_ahead, inside_ahead, inside_of, is_pending, end_of, before_behind, before_last}
 use Rattle.tm_sync.proofs.Numbers.{value_from, value-last, number-value}
 use Rattle.tm_sync.proofs.Sliding.{byte-number, word-push}
 use Rattle.tm_sync.proofs.Steps.{places_from-nil}
 use Rattle.tm_sync.proofs.Longer.{Seen, none, some, seen, place_by-place}
-use Rattle.tm_sync.proofs.FirstPlaces.{here, ready, first_place-nil, first_place-short, first_place-stays, first_place-push, first_place-room, places_from-none, places_from-whole, places_from-unfinished, not-bridged-here, behind-matched}
+use Rattle.tm_sync.proofs.FirstPlaces.{here, ready, first_place-nil, first_place-short, first_place-stays, first_place-push, first_place-room, places_from-ahead, places_from-none, places_from-none_ahead, places_from-whole, places_from-unfinished, not-bridged-here, behind-matched}
 use Rattle.tm_sync.proofs.Ends.{end-there, places-behind}
 
 -- ---- the same with the bits cut at the end of the last codeblock found
@@ -383,6 +383,28 @@ told_all s free most bits found stood =
         let after : f.place + 32 + s.after ≡ s.pushed = subst (Ends s) is h.after_is in
         let fewer : s.after < s.rules.block_bits = grind (arith, nat_tests) in
         places_from-unfinished s.rules (length h.front) s.before h.rest f e (omega (arith, h.pushed_is, ap length h.parts, length-append h.front h.rest))
+
+-- how many places there may be with further bits
+pub told-few : (s : Searching) (bits more : List Bool) (found : List Found) → StandsFor s bits found
+    → length (places s.rules (bits ++ more)) * (32 + s.rules.block_bits) ≤ length found * (32 + s.rules.block_bits) + begun_of s + length more
+told-few s bits more found stood =
+    let h = parts_of s bits found stood in
+    let further = places_from s.rules (length h.front) 0 s.before (h.rest ++ more) in
+    let all : length (places s.rules (bits ++ more)) ≡ length found + length further = ap length (places-on s bits more found h) ∙ length-append found further in
+    omega (arith, ap (λ n. n * (32 + s.rules.block_bits)) all, go h (first_place s.rules (length h.front) s.before h.rest) refl)
+  where
+    begun : (o : Option Awaited) → s.awaited ≡ o → begun_of s ≡ option_map_or (λ count. 32 + count) (option_map (λ _. s.after) o) 31
+    begun o is = ap (λ (o : Option Awaited). option_map_or (λ count. 32 + count) (option_map (λ _. s.after) o) 31) is
+
+    go : (h : Parts s bits found) (o : Option Found) → first_place s.rules (length h.front) s.before h.rest ≡ o
+        → length (places_from s.rules (length h.front) 0 s.before (h.rest ++ more)) * (32 + s.rules.block_bits) ≤ begun_of s + length more
+    go h None e =
+        let is : s.awaited ≡ None = h.awaited_is ∙ ap (option_map (awaited_at s.before)) e in
+        omega (arith, begun None is, places_from-none_ahead s.rules (length h.front) s.before h.rest more e)
+    go h (Some f) e =
+        let is : s.awaited ≡ Some (awaited_at s.before f) = h.awaited_is ∙ ap (option_map (awaited_at s.before)) e in
+        let after : f.place + 32 + s.after ≡ s.pushed = subst (Ends s) is h.after_is in
+        omega (arith, begun (Some (awaited_at s.before f)) is, after, h.pushed_is, ap length h.parts, length-append h.front h.rest, places_from-ahead s.rules (length h.front) s.before h.rest more f e)
 
 -- the search tells the place that waits
 pub record Tells (s s' : Searching) (m : Awaited) : Type 0 where

@@ -82,7 +82,7 @@ places_from-start rules at zero before (b ∷ bits) = here (λ skip behind. late
 
 -- ---- each place takes the bits of a marker and of a codeblock
 
-places_from-room : (rules : Rules) (at skip : ℕ) (before : Option Before) (bits : List Bool) → length (places_from rules at skip before bits) * (32 + rules.block_bits) ≤ length bits - skip
+pub places_from-room : (rules : Rules) (at skip : ℕ) (before : Option Before) (bits : List Bool) → length (places_from rules at skip before bits) * (32 + rules.block_bits) ≤ length bits - skip
 places_from-room rules at skip before [] = subst (λ (fs : List Found). length fs * (32 + rules.block_bits) ≤ 0 - skip) (sym (places_from-nil rules at skip before)) (omega arith)
 places_from-room rules at (suc skip) before (b ∷ bits) =
     let more = places_from-room rules (at + 1) skip before bits in

@@ -30,6 +30,11 @@ inside_of s = option_map (λ _. s.after) s.awaited
 abbrev pub is_pending : Searching → Bool
 is_pending s = option_map_or (λ count. count == s.rules.block_bits) (inside_of s) false
 
+-- how many of the bits given may be part of the marker or the codeblock of the next place: those
+-- from that marker on, or else fewer than a marker has
+abbrev pub begun_of : Searching → ℕ
+begun_of s = option_map_or (λ count. 32 + count) (inside_of s) 31
+
 -- ---- over whole lists
 -- the bits up to the end of the last codeblock of these places
 abbrev pub end_of : Rules → List Found → ℕ
