@@ -1,9 +1,8 @@
 -- A receiver that is given octets: the phase and the blocks of its first stage, the bits of these, and the items that are due of them.
-use Rattle.std.proofs.Common.{◌≡◌, ◌==◌, ◌<◌, ◌≤◌, ◌+◌, ◌-◌, ◌*◌, ◌^◌, ℕ, inl, inr, Bool, true, false, List, [], ◌∷◌, ◌++◌, length, take, drop, map, refl, sym, ap, ◌∙◌, subst, arith, append_assoc, length-append, length-drop, length-take, mul-le-mul_right, take-append-drop, Option, Some, None}
+use Rattle.std.proofs.Common.{◌≡◌, ◌==◌, ◌<◌, ◌≤◌, ◌+◌, ◌-◌, ◌*◌, ◌^◌, ℕ, inl, inr, Bool, true, false, List, [], ◌∷◌, ◌++◌, length, take, drop, map, refl, sym, ap, ◌∙◌, subst, arith, append_assoc, length-append, length-drop, length-take, take-append-drop, Option, Some, None}
 use Rattle.std.specs.Option.{is_some}
-use Rattle.std.proofs.lemmas.List.{append-nil, drop_all, length-map, take-append-le, take_all}
+use Rattle.std.proofs.lemmas.List.{append-nil, drop_all, length-map, take_all}
 use Rattle.std.proofs.Math.Seq.{drop-length, take-add}
-use Rattle.std.proofs.lemmas.Bool.{cases_lt}
 use Rattle.tm_base.specs.Handed.{Handed, Phase, Item, on_handed, items_of}
 use Rattle.tm_base.specs.Takers.{HandedOver, HandedPart}
 use Rattle.tm_base.proofs.Handing.{HandedOver-append, HandedPart-after}
@@ -29,17 +28,16 @@ use Rattle.tm_inner.proofs.FewBits.{first-few, first-of-due, whole-few}
 use Rattle.tm_inner.proofs.HandedBits.{handed-due-none, needed-few, waiting-last-few, waiting-more-few}
 use Rattle.tm_sync.specs.declared.found.Found.{Found}
 use Rattle.tm_sync.specs.Places.{places}
-use Rattle.tm_sync.proofs.Longer.{places-end, places-few, places-goes_on}
+use Rattle.tm_sync.proofs.Longer.{places-end, places-goes_on}
 use Rattle.tm_codeblock.specs.ReceivedCodeblock.{rules_of}
 use Rattle.tm_channel.specs.Items.{ItemValue, AreItemsOf, AreFirstItemsOf, AreItems}
-use Rattle.tm_channel.specs.Due.{due, due_count}
+use Rattle.tm_channel.specs.Due.{due}
 use Rattle.tm_channel.specs.Handing.{phase_from, phase_of, AreReceived, AreReceivedDue, AreReceivedFirst, AreReceivedFront}
-use Rattle.tm_channel.specs.Receiving.{beyond, kept_at, most_spare, spare_of, AreFurther, AreFirstFurther, AreFirstDue}
-use Rattle.tm_channel.specs.OctetReceiving.{BitReceiving, OctetReceiving, StandsFor, FirstWith, StandsForBits, Stages, StagesFor, Keeping, Keeps, KeepsPhase, AreWaiting, HasRoom, Gathers, Grows, Ends, Received, ReceivedPart, ReceivedLast, ReceivedLastPart, bits_found, received_bits}
+use Rattle.tm_channel.specs.Receiving.{beyond, marked_bits, AreFurther, AreFirstFurther, AreFirstDue}
+use Rattle.tm_channel.specs.OctetReceiving.{BitReceiving, OctetReceiving, StandsFor, FirstWith, StandsForBits, Stages, StagesFor, Keeping, Keeps, KeepsPhase, AreSpare, AreWaiting, Gathers, Grows, Ends, Received, ReceivedPart, ReceivedLast, ReceivedLastPart, bits_found, received_bits}
 use Rattle.tm_channel.proofs.Streaming.{first-longer, first-more, first-then, items-then}
 use Rattle.tm_channel.proofs.AllBits.{beyond-nil, all-items, some-items, few-items, due-nil}
 use Rattle.tm_channel.proofs.ReceivedPieces.{all_bits, all_bits-append}
-use Rattle.tm_channel.proofs.Batches.{not_full}
 use Rattle.tm_channel.proofs.Turns.{front-nil, in_turn-split, none-behind, part-some, phase_from-append, phase_from-items, phase_of-in_turn, turn-further}
 
 -- ---- the phase and the bits that are kept
@@ -339,22 +337,13 @@ record Onward (s : Stages) (now : InnerReceiving) (given octets : List ℕ) (han
 
 -- there is room for the bits of the blocks that wait, and of so many octets
 abbrev pub IsRoomy : Stages → ℕ → ℕ → Type 0
-IsRoomy s count room = most_spare s.inner.config + 3 * (s.inner.config.keep + s.inner.config.ahead) + 7 + count ≤ room
+IsRoomy s count room = marked_bits s.inner.config s.inner.config.batch + 3 * (s.inner.config.keep + s.inner.config.ahead) + 7 + count ≤ room
 
-waiting-fit : (s : Stages) (given : List ℕ) (done : List (Handed ItemValue)) (count room : ℕ) → IsOf s → IsRoomy s count room → (stood : StagesFor s given done)
-    → HasRoom s.inner.config stood.waiting count room
-waiting-fit s given done count room of roomy stood =
-    let b = s.bits.batch in
-    let less : b.config.batch - 1 - length b.kept ≤ b.config.batch - 1 = omega arith in
-    let most : spare_of b ≤ most_spare b.config = mul-le-mul_right (32 + (rules_of b.config).block_bits) less in
-    let same : most_spare b.config ≡ most_spare s.inner.config = ap most_spare of in
-    omega (arith, stood.few, most, same, roomy)
-
-onward : (s : Stages) (now : InnerReceiving) (room : ℕ) (octets : List ℕ) (phase : Option Chosen) (piece : List Bool) → IsOf s → IsRoomy s (length octets) room → Grows s.inner now room octets phase piece
+onward : (s : Stages) (now : InnerReceiving) (room : ℕ) (octets : List ℕ) (phase : Option Chosen) (piece : List Bool) → IsRoomy s (length octets) room → Grows s.inner now room octets phase piece
     → (given : List ℕ) (done : List (Handed ItemValue)) → length given + length octets < 2 ^ 60 → (stood : StagesFor s given done) → Onward s now given octets stood.handed phase piece
-onward s now room octets phase piece of roomy grows given done few stood =
+onward s now room octets phase piece roomy grows given done few stood =
     let c = s.inner.config in
-    let f = grows given stood.handed stood.waiting few (waiting-fit s given done (length octets) room of roomy stood) stood.inner stood.are_due in
+    let f = grows given stood.handed stood.waiting few (omega (arith, stood.few, roomy)) stood.inner stood.are_due in
     record {
       more = f.more;
       stands = f.stands;
@@ -372,7 +361,7 @@ stages-more : {T : Type 0} (took : T → ItemValue → T → Type 0) (s now : St
     → StagesFor now (given ++ octets) (done ++ (in_turn phase [] ++ map Item p.items))
 stages-more took s now middle taker_now room octets phase piece of roomy same grows p given done few stood =
     let c = s.inner.config in
-    let f = onward s now.inner room octets phase piece of roomy grows given done few stood in
+    let f = onward s now.inner room octets phase piece roomy grows given done few stood in
     let handed = stood.handed ++ f.more in
     let bits = inner_bits c given (items_of stood.handed) in
     let more = subst (λ (k : Configuration). AreFurther k bits piece p.items) of (p.due bits f.few stood.bits) in
@@ -384,6 +373,7 @@ stages-more took s now middle taker_now room octets phase piece of roomy same gr
       waiting = [];
       are_due = subst (λ (k : Configuration). AreWaiting k (given ++ octets) handed []) (sym same) (subst (AreHandedDue c (given ++ octets)) (sym (append-nil handed)) f.due);
       few = omega arith;
+      none_due = ap (λ (l : List WindowBlock). due now.inner.config (inner_bits now.inner.config (given ++ octets) l)) (append-nil (items_of handed));
       bits = subst (λ (k : Configuration). StandsForBits now.bits (inner_bits k (given ++ octets) (items_of handed))) (sym same) stands;
       items = stood.items ++ p.items;
       are_items = subst (λ (k : Configuration). AreItemsOf k (inner_bits k (given ++ octets) (items_of handed)) (due k (inner_bits k (given ++ octets) (items_of handed))) (stood.items ++ p.items))
@@ -397,34 +387,47 @@ kept-coded : (rate : Option Rate) (c : Configuration) (given octets : List ℕ) 
 kept-coded None c given octets blocks coded = absurd cc
 kept-coded (Some rate) c given octets blocks coded = refl
 
-stages-wait : (s : Stages) (now : InnerReceiving) (octets : List ℕ) → IsOf s → now.config ≡ s.inner.config → is_some s.inner.config.inner ≡ true → Gathers s.inner now octets (spare_of s.bits.batch)
+-- the bits of blocks that wait too
+with-waiting : (rate : Option Rate) (c : Configuration) (given : List ℕ) (blocks waiting : List WindowBlock)
+    → (more : List Bool) × (bits_at rate c given (blocks ++ waiting) ≡ bits_at rate c given blocks ++ more) × (length more ≤ length (kept_bits waiting))
+with-waiting None c given blocks waiting = ([], sym (append-nil (drop c.skip (plain_bits c given))), omega arith)
+with-waiting (Some rate) c given blocks waiting = (all_bits waiting, all_bits-append blocks waiting, omega (arith, length-map (kept_bits waiting) (λ bit. bit == 1)))
+
+stages-wait : (s : Stages) (now : InnerReceiving) (octets : List ℕ) (spare : ℕ) → IsOf s → now.config ≡ s.inner.config → is_some s.inner.config.inner ≡ true
+    → AreSpare s.bits spare → spare ≤ marked_bits s.bits.batch.config s.bits.batch.config.batch → Gathers s.inner now octets spare
     → (given : List ℕ) (done : List (Handed ItemValue)) → length given + length octets < 2 ^ 60 → StagesFor s given done
     → StagesFor (record { inner = now; bits = s.bits }) (given ++ octets) (done ++ [])
-stages-wait s now octets of same coded gathers given done few stood =
+stages-wait s now octets spare of same coded none most gathers given done few stood =
     let c = s.inner.config in
     let f = gathers given stood.handed few stood.inner in
-    let is = kept-coded c.inner c given octets (items_of stood.handed) coded in
+    let waiting = f.1.0 in
+    let blocks = items_of stood.handed in
+    let is = kept-coded c.inner c given octets blocks coded in
+    let more = with-waiting c.inner c (given ++ octets) blocks waiting in
+    let stands = subst (StandsForBits s.bits) (sym is) stood.bits in
+    let none_due = subst (λ (k : Configuration). due k (inner_bits c (given ++ octets) blocks ++ more.0) ≡ due k (inner_bits c (given ++ octets) blocks)) of
+    (none (inner_bits c (given ++ octets) blocks) more.0 stands (omega (arith, more.2, f.1.1))) in
     let items = subst (λ (l : List Bool). AreItemsOf c l (due c l) stood.items) (sym is) stood.are_items in
     record {
       handed = stood.handed;
       inner = f.0;
-      waiting = f.1.0;
-      are_due = subst (λ (k : Configuration). AreWaiting k (given ++ octets) stood.handed f.1.0) (sym same) f.1.2;
-      few = f.1.1;
-      bits = subst (λ (k : Configuration). StandsForBits s.bits (inner_bits k (given ++ octets) (items_of stood.handed))) (sym same) (subst (StandsForBits s.bits) (sym is) stood.bits);
+      waiting = waiting;
+      are_due = subst (λ (k : Configuration). AreWaiting k (given ++ octets) stood.handed waiting) (sym same) f.1.2;
+      few = omega (arith, f.1.1, most, ap (λ (k : Configuration). marked_bits k k.batch) of, ap (λ (k : Configuration). marked_bits k k.batch) same);
+      none_due = subst (λ (k : Configuration). due k (inner_bits k (given ++ octets) (blocks ++ waiting)) ≡ due k (inner_bits k (given ++ octets) blocks)) (sym same) (ap (due c) more.1 ∙ none_due);
+      bits = subst (λ (k : Configuration). StandsForBits s.bits (inner_bits k (given ++ octets) blocks)) (sym same) stands;
       items = stood.items;
-      are_items = subst (λ (k : Configuration). AreItemsOf k (inner_bits k (given ++ octets) (items_of stood.handed)) (due k (inner_bits k (given ++ octets) (items_of stood.handed))) stood.items)
-          (sym same) items;
+      are_items = subst (λ (k : Configuration). AreItemsOf k (inner_bits k (given ++ octets) blocks) (due k (inner_bits k (given ++ octets) blocks)) stood.items) (sym same) items;
       are = append-nil done ∙ stood.are;
     }
 
 pub hands-wait : {T : Type 0} (took : T → Handed ItemValue → T → Type 0) (s : Stages) (now : InnerReceiving) (taker : T) (octets : List ℕ) (spare : ℕ)
-    → IsOf s → now.config ≡ s.inner.config → is_some s.inner.config.inner ≡ true → spare ≡ spare_of s.bits.batch → Gathers s.inner now octets spare
-    → Hands took StagesFor s (record { inner = now; bits = s.bits }) taker taker octets
-hands-wait took s now taker octets spare of same coded is gathers = record {
+    → IsOf s → now.config ≡ s.inner.config → is_some s.inner.config.inner ≡ true → AreSpare s.bits spare → spare ≤ marked_bits s.bits.batch.config s.bits.batch.config.batch
+    → Gathers s.inner now octets spare → Hands took StagesFor s (record { inner = now; bits = s.bits }) taker taker octets
+hands-wait took s now taker octets spare of same coded none most gathers = record {
   more = [];
   handed = refl;
-  stands = stages-wait s now octets of same coded (subst (Gathers s.inner now octets) is gathers);
+  stands = stages-wait s now octets spare of same coded none most gathers;
 }
 
 -- a part of it was
@@ -435,7 +438,7 @@ stages-front : (s : Stages) (now : InnerReceiving) (room : ℕ) (octets : List �
     → AreReceivedFirst s.inner.config (given ++ octets) (done ++ (in_turn phase [] ++ map Item tried))
 stages-front s now room octets phase piece tried of roomy grows first some given done few stood =
     let c = s.inner.config in
-    let f = onward s now room octets phase piece of roomy grows given done few stood in
+    let f = onward s now room octets phase piece roomy grows given done few stood in
     let handed = stood.handed ++ f.more in
     let bits = inner_bits c given (items_of stood.handed) in
     let more = subst (λ (k : Configuration). AreFirstFurther k bits piece tried) of (first bits f.few stood.bits) in
@@ -507,53 +510,9 @@ front-due took_phase broke_phase took broke s now bits_now taker middle taker_no
           (part-some (on_handed took_phase took) (on_handed broke_phase broke) taker taker_now (in_turn phase [] ++ map Item p.tried) part);
     }
 
--- further bits that fill no batch make no item due
-none-further : (c : Configuration) (bits more : List Bool) → length more ≤ 0 → due c (bits ++ more) ≡ due c bits
-none-further c bits [] none = ap (due c) (append-nil bits)
-none-further c bits (bit ∷ more) none = absurd (omega (arith, none))
-
-spare-due : (s : BitReceiving) (bits more : List Bool) → StandsForBits s bits → length more ≤ spare_of s.batch → due s.batch.config (bits ++ more) ≡ due s.batch.config bits
-spare-due s bits more stood few =
-    let c = s.batch.config in
-    let rules = rules_of c in
-    let left : ℕ = c.batch - 1 - length s.batch.kept in
-    elim (cases_lt (length s.batch.kept) c.batch) as (λ _. due c (bits ++ more) ≡ due c bits) [
-      | inl some ↦ (
-          let all = places rules bits in
-          let count = due_count c bits in
-          let longer = places rules (bits ++ more) in
-          let goes_on = places-goes_on rules bits more in
-          let waiting : length s.batch.kept ≡ length all - count = ap length stood.waiting ∙ length-map (drop count all) (kept_at c bits) ∙ length-drop count all in
-          let most : length longer ≡ length all + length (drop (length all) longer) = ap length goes_on ∙ length-append all (drop (length all) longer) in
-          let same : due_count c (bits ++ more) ≡ count = not_full c.batch (length all) (length longer) (omega (arith, stood.within, most))
-          (omega (arith, places-few rules bits more left few, waiting, stood.within, some)) in
-          ap (λ n. take n longer) same ∙ ap (take count) goes_on ∙ take-append-le count all (drop (length all) longer) stood.within
-          )
-      | inr full ↦ (
-          let none : left ≡ 0 = omega (arith, full) in
-          none-further c bits more (omega (arith, few, ap (λ n. n * (32 + rules.block_bits)) none))
-          )
-    ]
-
--- the items that are due with the bits of blocks that wait too
-waiting-items : (s : BitReceiving) (c : Configuration) (bits more : List Bool) (items : List ItemValue) → s.batch.config ≡ c → StandsForBits s bits
-    → length more ≤ spare_of s.batch → AreItemsOf c bits (due c bits) items → AreItemsOf c (bits ++ more) (due c (bits ++ more)) items
-waiting-items s c bits more items of stood few are =
-    let same : due c (bits ++ more) ≡ due c bits = subst (λ (k : Configuration). due k (bits ++ more) ≡ due k bits) of (spare-due s bits more stood few) in
-    let nothing : AreFurther c bits more [] =
-    subst (λ (fs : List Found). AreItemsOf c (bits ++ more) fs []) (sym (ap (beyond (due c bits)) same ∙ drop-length (due c bits))) tt in
-    subst (AreItemsOf c (bits ++ more) (due c (bits ++ more))) (append-nil items) (due-further c bits more items [] are nothing)
-
--- the bits of blocks that wait too
-with-waiting : (rate : Option Rate) (c : Configuration) (given : List ℕ) (blocks waiting : List WindowBlock)
-    → (more : List Bool) × (bits_at rate c given (blocks ++ waiting) ≡ bits_at rate c given blocks ++ more) × (length more ≤ length (kept_bits waiting))
-with-waiting None c given blocks waiting = ([], sym (append-nil (drop c.skip (bits_of given))), omega arith)
-with-waiting (Some rate) c given blocks waiting = (all_bits waiting, all_bits-append blocks waiting, omega (arith, length-map (kept_bits waiting) (λ bit. bit == 1)))
-
 -- what both stages have handed over is due
-pub received-due : (s : Stages) (given : List ℕ) (done : List (Handed ItemValue)) → IsOf s → StagesFor s given done
-    → AreReceivedDue s.inner.config given done
-received-due s given done of stood =
+pub received-due : (s : Stages) (given : List ℕ) (done : List (Handed ItemValue)) → StagesFor s given done → AreReceivedDue s.inner.config given done
+received-due s given done stood =
     let c = s.inner.config in
     let handed = stood.handed in
     let waiting = stood.waiting in
@@ -570,7 +529,9 @@ received-due s given done of stood =
           ∙ turn-items h.chosen h.items (handed ++ map Item waiting) h.are in
           let chosen : phase_of handed ≡ h.chosen = sym (phase_from-append None handed (map Item waiting) ∙ phase_from-items (phase_of handed) waiting) ∙ ap phase_of h.are ∙ phase_of-in_turn h.chosen h.items in
           let more = with-waiting c.inner c given (items_of handed) waiting in
-          let items = waiting-items s.bits c bits more.0 stood.items of stood.bits (omega (arith, more.2, stood.few)) stood.are_items in
+          let nothing : AreFurther c bits more.0 [] =
+          subst (λ (fs : List Found). AreItemsOf c (bits ++ more.0) fs []) (sym (ap (beyond (due c bits)) (sym (ap (due c) more.1) ∙ stood.none_due) ∙ drop-length (due c bits))) tt in
+          let items = subst (AreItemsOf c (bits ++ more.0) (due c (bits ++ more.0))) (append-nil stood.items) (due-further c bits more.0 stood.items [] stood.are_items nothing) in
           inr (
             g.0,
             record {
@@ -622,14 +583,14 @@ first-stays stays closed c octets more handed h =
 
 -- the phase that is chosen with these octets too
 pub first-chosen : {T : Type 0} (took broke : T → Handed ItemValue → T → Type 0) (s : Stages) (now : InnerReceiving) (taker taker_now : T) (room : ℕ) (octets : List ℕ)
-    (phase : Option Chosen) (piece : List Bool) → IsOf s → IsRoomy s (length octets) room → now.config ≡ s.inner.config → Grows s.inner now room octets phase piece
+    (phase : Option Chosen) (piece : List Bool) → IsRoomy s (length octets) room → now.config ≡ s.inner.config → Grows s.inner now room octets phase piece
     → HandsFront took broke StagesFor (AreReceivedFirst s.inner.config) s taker taker_now octets
     → HandsFront took broke StagesFor (FirstWith s.inner.config now.phased.chosen) s taker taker_now octets
-first-chosen took broke s now taker taker_now room octets phase piece of roomy same grows p = record {
+first-chosen took broke s now taker taker_now room octets phase piece roomy same grows p = record {
   tried = p.tried;
   handed = p.handed;
   first = λ given done few stood.
-      let f = onward s now room octets phase piece of roomy grows given done few stood in (
+      let f = onward s now room octets phase piece roomy grows given done few stood in (
         p.first given done few stood,
         subst (λ (k : Configuration). IsChosenSoFar k (given ++ octets) now.phased.chosen) same (stands-so-far now (given ++ octets) (stood.handed ++ f.more) f.stands),
       );
@@ -659,11 +620,11 @@ record Ended (s : Stages) (given : List ℕ) (done : List (Handed ItemValue)) (s
   counted : count ≡ length bits
   turn : (others : List ItemValue) → done ++ (in_turn phase [] ++ map Item others) ≡ in_turn chosen (stood.items ++ others)
 
-ended : (s : Stages) (given : List ℕ) (done : List (Handed ItemValue)) (stood : StagesFor s given done) (room : ℕ) (phase : Option Chosen) (piece : List Bool) (count : ℕ) → IsOf s → IsRoomy s 0 room → Ends s.inner room phase piece count
+ended : (s : Stages) (given : List ℕ) (done : List (Handed ItemValue)) (stood : StagesFor s given done) (room : ℕ) (phase : Option Chosen) (piece : List Bool) (count : ℕ) → IsRoomy s 0 room → Ends s.inner room phase piece count
     → Ended s given done stood phase piece count
-ended s given done stood room phase piece count of roomy ends =
+ended s given done stood room phase piece count roomy ends =
     let c = s.inner.config in
-    let e = ends given stood.handed stood.waiting (waiting-fit s given done 0 room of roomy stood) stood.inner stood.are_due in
+    let e = ends given stood.handed stood.waiting (omega (arith, stood.few, roomy)) stood.inner stood.are_due in
     let h = e.are_handed in
     let handed = stood.handed ++ e.last in
     let blocks = turn-items h.chosen h.items handed h.are in
@@ -687,7 +648,7 @@ pub ends : {T : Type 0} (took : T → ItemValue → T → Type 0) (s : Stages) (
     → AreReceived s.inner.config given (done ++ (in_turn phase [] ++ map Item (p.items ++ q.items))) count
 ends took s bits_now taker middle now room phase piece count of roomy ended_with p q given done stood =
     let c = s.inner.config in
-    let e = ended s given done stood room phase piece count of roomy ended_with in
+    let e = ended s given done stood room phase piece count roomy ended_with in
     let bits = inner_bits c given (items_of stood.handed) in
     let more = subst (λ (k : Configuration). AreFurther k bits piece p.items) of (p.due bits e.few stood.bits) in
     let due_items = due-further c bits piece stood.items p.items stood.are_items more in
@@ -733,7 +694,7 @@ pub ends-phase : (s : Stages) (room : ℕ) (phase : Option Chosen) (piece : List
     → (given : List ℕ) (done : List (Handed ItemValue)) → StagesFor s given done → AreReceivedFront s.inner.config given (done ++ in_turn phase [])
 ends-phase s room phase piece count of roomy ended_with given done stood =
     let c = s.inner.config in
-    let e = ended s given done stood room phase piece count of roomy ended_with in
+    let e = ended s given done stood room phase piece count roomy ended_with in
     let bits = inner_bits c given (items_of stood.handed) in
     subst (λ (l : List (Handed ItemValue)). AreReceivedFront c given (done ++ l)) (append-nil (in_turn phase []))
     (ends-first s phase piece count given done stood e [] (first-of-more c bits piece stood.items [] stood.are_items tt))
@@ -745,7 +706,7 @@ pub ends-part : {T : Type 0} (took broke : T → ItemValue → T → Type 0) (s 
     → AreReceivedFront s.inner.config given (done ++ (in_turn phase [] ++ map Item p.tried))
 ends-part took broke s bits_now taker now room phase piece count of roomy ended_with p given done stood =
     let c = s.inner.config in
-    let e = ended s given done stood room phase piece count of roomy ended_with in
+    let e = ended s given done stood room phase piece count roomy ended_with in
     let bits = inner_bits c given (items_of stood.handed) in
     let more = subst (λ (k : Configuration). AreFirstFurther k bits piece p.tried) of (p.first bits e.few stood.bits) in
     ends-first s phase piece count given done stood e p.tried (first-of-more c bits piece stood.items p.tried stood.are_items more)
@@ -757,7 +718,7 @@ pub ends-front : {T : Type 0} (took broke : T → ItemValue → T → Type 0) (s
     → AreReceivedFront s.inner.config given (done ++ (in_turn phase [] ++ map Item (p.items ++ q.tried)))
 ends-front took broke s bits_now taker middle now room phase piece count of roomy ended_with p q given done stood =
     let c = s.inner.config in
-    let e = ended s given done stood room phase piece count of roomy ended_with in
+    let e = ended s given done stood room phase piece count roomy ended_with in
     let bits = inner_bits c given (items_of stood.handed) in
     let more = subst (λ (k : Configuration). AreFurther k bits piece p.items) of (p.due bits e.few stood.bits) in
     let due_items = due-further c bits piece stood.items p.items stood.are_items more in
@@ -780,6 +741,7 @@ stands-fresh s some inner bits =
       waiting = [];
       are_due = handed-due-none c some;
       few = omega arith;
+      none_due = refl;
       bits = subst (StandsForBits s.bits) (sym none) bits;
       items = [];
       are_items = subst (λ (l : List Bool). AreItemsOf c l (due c l) []) (sym none)

@@ -22,6 +22,7 @@ pub mod Pieces
 pub mod Between
 pub mod AllBits
 pub mod ReceivedPieces
+pub mod Spare
 pub mod Turns
 pub mod GivenOctets
 pub mod ColumnsRead

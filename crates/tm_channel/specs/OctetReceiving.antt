@@ -16,7 +16,7 @@ use Rattle.tm_inner.specs.Receiving.{InnerReceiving, StandsFor as InnerStandsFor
 use Rattle.tm_channel.specs.Items.{ItemValue, AreItemsOf}
 use Rattle.tm_channel.specs.Due.{due}
 use Rattle.tm_channel.specs.Handing.{phase_of, AreReceived, AreReceivedDue, AreReceivedFirst, AreReceivedFront}
-use Rattle.tm_channel.specs.Receiving.{Batching, Stands, spare_of, GoesOn, AreDue, AreFirstDue, AreLast, AreFirstLast}
+use Rattle.tm_channel.specs.Receiving.{Batching, Stands, marked_bits, GoesOn, AreDue, AreFirstDue, AreLast, AreFirstLast}
 
 -- what contracts see of a receiver of bits
 pub record BitReceiving : Type 0 where
@@ -34,15 +34,17 @@ pub record Stages : Type 0 where
   pub bits : BitReceiving
 
 -- Stages that were given these octets and no others, fewer than 2^60, and have handed over this: of
--- the blocks that are due some may wait in the first stage, whose bits fill no batch; the bits of
--- the others were searched, and the phase, where it is chosen, and the items that are due went to
--- the taker.
+-- the blocks that are due some may wait in the first stage, whose bits make no item due; the bits
+-- of the others were searched, and the phase, where it is chosen, and the items that are due went
+-- to the taker.
 pub record StagesFor (s : Stages) (given : List ℕ) (done : List (Handed ItemValue)) : Type 0 where
   pub handed : List (Handed WindowBlock)
   pub inner : InnerStandsFor s.inner given handed
   pub waiting : List WindowBlock
   pub are_due : AreHandedDue s.inner.config given (handed ++ map Item waiting)
-  pub few : length (kept_bits waiting) ≤ spare_of s.bits.batch
+  pub few : length (kept_bits waiting) ≤ marked_bits s.inner.config s.inner.config.batch
+  pub none_due : due s.inner.config (inner_bits s.inner.config given (items_of handed ++ waiting))
+      ≡ due s.inner.config (inner_bits s.inner.config given (items_of handed))
   pub bits : StandsForBits s.bits (inner_bits s.inner.config given (items_of handed))
   pub items : List ItemValue
   pub are_items : AreItemsOf s.inner.config (inner_bits s.inner.config given (items_of handed))
@@ -210,6 +212,11 @@ Gathers inner inner_now octets most =
     → InnerStandsFor inner_now (given ++ octets) done
     × ((waiting : List WindowBlock) × (length (kept_bits waiting) ≤ most)
     × AreWaiting inner.config (given ++ octets) done waiting)
+
+-- so many further bits make no item due, whatever they are
+abbrev pub AreSpare : BitReceiving → ℕ → Type 0
+AreSpare r count = (bits more : List Bool) → StandsForBits r bits → length more ≤ count
+    → due r.batch.config (bits ++ more) ≡ due r.batch.config bits
 
 -- whatever octets the first stage was given, fewer than 2^60 with these, and whichever blocks
 -- waited, it goes on to these, to this phase and this piece of bits, for all of which there is

@@ -147,13 +147,9 @@ pub record IsReady (s : Searching) (b : Batching) : Type 0 where
   pub free : is_pending s ≡ false
   pub few : length b.kept < b.config.batch
 
--- how many further bits bring no codeblock that fills the batch, whatever they are
-abbrev pub spare_of : Batching → ℕ
-spare_of b = (b.config.batch - 1 - length b.kept) * (32 + (rules_of b.config).block_bits)
-
--- and how many these are at most
-abbrev pub most_spare : Configuration → ℕ
-most_spare c = (c.batch - 1) * (32 + (rules_of c).block_bits)
+-- how many bits codeblocks have with their markers, where there are so many of them
+abbrev pub marked_bits : Configuration → ℕ → ℕ
+marked_bits c count = count * (32 + (rules_of c).block_bits)
 
 -- ---- bits that are taken
 

@@ -1,8 +1,9 @@
 // The codeblock under way, and those of a batch that are whole.
-ghost use Rattle.std.specs.Prelude.{◌≡◌, ◌<◌, ◌≤◌, ◌+◌, ◌*◌, [], ◌∷◌, ◌++◌, IfOk, length};
+ghost use Rattle.std.specs.Prelude.{◌≡◌, ◌<◌, ◌≤◌, ◌+◌, ◌-◌, ◌*◌, [], ◌∷◌, ◌++◌, IfOk, length};
 ghost use Rattle.tm_base.specs.Bits.{bits_of, low_bits};
+ghost use Rattle.tm_config.specs.Bounds.{longest_codeblock, most_batch};
 ghost use Rattle.tm_config.specs.Configuration.{codeblock_length};
-ghost use Rattle.tm_channel.specs.Receiving.{AreItemsFor, IsItemAt, kept_of, spare_of};
+ghost use Rattle.tm_channel.specs.Receiving.{AreItemsFor, IsItemAt, kept_of, marked_bits};
 
 use crate::item::Item;
 use crate::repair::repair;
@@ -143,13 +144,12 @@ impl Codeblocks {
         self.count
     }
 
-    /// How many further bits bring no codeblock that fills the batch, whatever they are.
-    pub fn spare(&self) -> u64
-        ensures value { result ≡ spare_of self.now }
-        ensures most { result ≤ 31 * 16352 }
+    /// How many bits the codeblocks that the batch lacks have with their markers.
+    pub fn bits_lacking(&self) -> u64
+        ensures value { result ≡ marked_bits self.now.config (self.now.config.batch - length self.now.kept) }
+        ensures most { result ≤ most_batch * (32 + 8 * longest_codeblock) }
     {
-        let left = (self.slots.len() - self.count).saturating_sub(1);
-        (left * (32 + 8 * self.size)) as u64
+        ((self.slots.len() - self.count) * (32 + 8 * self.size)) as u64
     }
 
     /// Repairs all codeblocks that are kept, by these workers, and writes their items.

@@ -4,8 +4,8 @@ ghost use Rattle.tm_base.specs.Bits.{bits_of};
 ghost use Rattle.tm_base.specs.Outside.{HasCause};
 ghost use Rattle.tm_sync.specs.Searching.{StandsFor as SearchStandsFor, inside_of};
 ghost use Rattle.tm_codeblock.specs.ReceivedCodeblock.{rules_of};
-ghost use Rattle.tm_channel.specs.Receiving.{spare_of};
-ghost use Rattle.tm_channel.specs.OctetReceiving.{StandsForBits, Received, ReceivedPart, ReceivedLast, ReceivedLastPart};
+ghost use Rattle.tm_channel.specs.Receiving.{marked_bits};
+ghost use Rattle.tm_channel.specs.OctetReceiving.{AreSpare, StandsForBits, Received, ReceivedPart, ReceivedLast, ReceivedLastPart};
 
 use crate::bit_receiver::BitReceiver;
 use crate::item::ItemTaker;
@@ -74,11 +74,17 @@ impl BitStream {
         }
     }
 
-    /// How many further bits make no item due, whatever they are.
+    /// How many further bits make no item due, whatever they are: one fewer than the codeblocks that the batch lacks
+    /// have with their markers, less those that were given of the first of them.
     pub fn spare(&self) -> u64
-        ensures { result ≡ spare_of self.now.batch }
+        ensures value { AreSpare self.now result }
+        ensures most { result ≤ marked_bits self.now.batch.config self.now.batch.config.batch }
     {
-        self.receiver.batch.spare()
+        let lacking = self.receiver.batch.bits_lacking();
+        match self.receiver.search.inside() {
+            Some(count) => lacking.saturating_sub(33).saturating_sub(count),
+            None => lacking.saturating_sub(32),
+        }
     }
 
     /// Hands over the items that were not due before the end of the bits was known.

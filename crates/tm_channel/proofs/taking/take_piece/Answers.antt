@@ -22,7 +22,7 @@ returns-then-waits-clause-handed g c =
     let d = c.hold_or_decode-waits in
     let held = d.ensures.waits c.if-waits.true in
     hands-wait (on_handed g.T.ItemTaker.took_phase g.T.ItemTaker.took) before d.new.inner c.args.taker.now c.args.octets.now c.spare.result
-    c.requires.of d.ensures.inner held.0 c.spare.ensures held.1
+    c.requires.of d.ensures.inner held.0 c.spare.ensures.value c.spare.ensures.most held.1
 
 -- the taker failed at the phase
 pub returns-in-Err-clause-front : goal.returns-in-Err-clause-front
@@ -35,7 +35,7 @@ returns-in-Err-clause-front g c =
     let bits = received_bits c.args.inner.now kept.bits octets in
     let grows = d.ensures.grows c.if-waits.false in
     first-chosen (on_handed g.T.ItemTaker.took_phase g.T.ItemTaker.took) (on_handed g.T.ItemTaker.broke_phase g.T.ItemTaker.broke) before d.new.inner
-    c.args.taker.now c.hand_phase.new.taker room octets kept.phase bits c.requires.of c.requires.room d.ensures.inner grows
+    c.args.taker.now c.hand_phase.new.taker room octets kept.phase bits c.requires.room d.ensures.inner grows
     (front-phase g.T.ItemTaker.took_phase g.T.ItemTaker.broke_phase g.T.ItemTaker.took g.T.ItemTaker.broke before d.new.inner c.args.taker.now c.hand_phase.new.taker room octets
     kept.phase bits c.requires.of c.requires.room grows c.in-Err.ensures.front)
 
@@ -54,7 +54,7 @@ returns-in-Err-take_bits-clause-front g c =
     ∙ ap (map (λ bit. bit == 1)) (sym c.bits.ensures) in
     let grows = subst (Grows inner d.new.inner room octets kept.phase) same (d.ensures.grows c.if-waits.false) in
     first-chosen (on_handed g.T.ItemTaker.took_phase g.T.ItemTaker.took) (on_handed g.T.ItemTaker.broke_phase g.T.ItemTaker.broke) before d.new.inner
-    c.args.taker.now c.take_bits.new.taker room octets kept.phase (map (λ bit. bit == 1) c.bits.result.now) c.requires.of c.requires.room d.ensures.inner grows
+    c.args.taker.now c.take_bits.new.taker room octets kept.phase (map (λ bit. bit == 1) c.bits.result.now) c.requires.room d.ensures.inner grows
     (front-due g.T.ItemTaker.took_phase g.T.ItemTaker.broke_phase g.T.ItemTaker.took g.T.ItemTaker.broke before
     d.new.inner c.take_bits.new.stream
     c.args.taker.now c.hand_phase.new.taker c.take_bits.new.taker room octets kept.phase (map (λ bit. bit == 1) c.bits.result.now) c.requires.of c.requires.room
@@ -75,7 +75,7 @@ returns-in-Err-take_behind-clause-front g c =
     let grows = subst (Grows inner d.new.inner room octets kept.phase) same (d.ensures.grows c.if-waits.false) in
     let piece = drop c.bits_to_skip-skip.result (plain_bits d.new.inner.config octets) in
     first-chosen (on_handed g.T.ItemTaker.took_phase g.T.ItemTaker.took) (on_handed g.T.ItemTaker.broke_phase g.T.ItemTaker.broke) before d.new.inner
-    c.args.taker.now c.take_behind.new.taker room octets kept.phase piece c.requires.of c.requires.room d.ensures.inner grows
+    c.args.taker.now c.take_behind.new.taker room octets kept.phase piece c.requires.room d.ensures.inner grows
     (front-due g.T.ItemTaker.took_phase g.T.ItemTaker.broke_phase g.T.ItemTaker.took g.T.ItemTaker.broke before d.new.inner c.take_behind.new.stream
     c.args.taker.now c.hand_phase.new.taker c.take_behind.new.taker room octets kept.phase piece c.requires.of c.requires.room
     grows c.in-Ok.ensures.handed c.in-Err-take_behind.ensures.part)

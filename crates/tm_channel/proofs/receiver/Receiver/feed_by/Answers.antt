@@ -1,4 +1,4 @@
-use Rattle.std.proofs.Common.{◌≡◌, ◌++◌, ◌+◌, ◌^◌, ◌<◌, ◌∙◌, ℕ, List, length, false, sym, subst}
+use Rattle.std.proofs.Common.{◌≡◌, ◌++◌, ◌+◌, ◌^◌, ◌<◌, ◌∙◌, ℕ, List, length, false, subst}
 use Rattle.tm_base.specs.Handed.{Handed, on_handed}
 use Rattle.tm_base.specs.Takers.{HandedOver, HandedPart}
 use Rattle.tm_config.specs.Configuration.{Configuration}
@@ -26,7 +26,7 @@ returns-in-Ok-clause-handed g c =
           let there = p.stands given done few stood in (
             there,
             subst (λ (k : Configuration). AreReceivedDue k (given ++ octets) (done ++ p.more)) (c.take.ensures.inner ∙ c.self.invariant.0)
-                (received-due now.stages (given ++ octets) (done ++ p.more) (c.take.ensures.stream ∙ c.self.invariant.1 ∙ sym (c.take.ensures.inner ∙ c.self.invariant.0)) there),
+                (received-due now.stages (given ++ octets) (done ++ p.more) there),
           ),
     )
 
