@@ -145,6 +145,13 @@ struct Digest {
 }
 
 impl Digest {
+    fn new() -> Digest {
+        Digest {
+            count: 0,
+            number: 0,
+        }
+    }
+
     fn add(&mut self, value: u64) {
         self.number = self.number.wrapping_mul(31).wrapping_add(value);
     }
@@ -196,6 +203,33 @@ fn disturbed() -> [u8; 1480] {
     octets
 }
 
+// What came of octets that many workers decoded, and of all bits how many.
+fn receive_by_workers<R: Abort + Threads + Sync>(
+    rt: &R,
+    alloc: Global,
+    config: Config,
+    octets: &[u8],
+) -> Result<Digest, Fail> {
+    let mut taken = Digest::new();
+    let mut receiver = Receiver::open(alloc, config)?;
+    receiver.feed(rt, octets, &mut taken, &OpenGate)?;
+    let bits = receiver.finish(rt, &mut taken, &OpenGate)?;
+    taken.add(bits);
+    Ok(taken)
+}
+
+// What came of octets that were given in pieces, and that the caller alone decoded.
+fn receive_alone(alloc: Global, config: Config, octets: &[u8]) -> Result<Digest, Fail> {
+    let mut taken = Digest::new();
+    let mut receiver = Receiver::open(alloc, config)?;
+    for piece in octets.chunks(700) {
+        receiver.feed_in_order(piece, &mut taken)?;
+    }
+    let bits = receiver.finish_in_order(&mut taken)?;
+    taken.add(bits);
+    Ok(taken)
+}
+
 #[test]
 fn in_order_the_same_is_handed_over(rt: HostRuntime) -> Result<(), Fail> {
     let config = Config::check(&Raw {
@@ -203,24 +237,9 @@ fn in_order_the_same_is_handed_over(rt: HostRuntime) -> Result<(), Fail> {
         ..raw(0, 0)
     })?;
     let octets = disturbed();
-    let mut by_workers = Digest {
-        count: 0,
-        number: 0,
-    };
-    let mut receiver = Receiver::open(rt.alloc(), config)?;
-    receiver.feed(&rt, &octets, &mut by_workers, &OpenGate)?;
-    let bits = receiver.finish(&rt, &mut by_workers, &OpenGate)?;
+    let by_workers = receive_by_workers(&rt, rt.alloc(), config, &octets)?;
+    let alone = receive_alone(rt.alloc(), config, &octets)?;
     assert!(rt; by_workers.count == 40);
-    let mut alone = Digest {
-        count: 0,
-        number: 0,
-    };
-    let mut receiver = Receiver::open(rt.alloc(), config)?;
-    for piece in octets.chunks(700) {
-        receiver.feed_in_order(piece, &mut alone)?;
-    }
-    let bits_alone = receiver.finish_in_order(&mut alone)?;
-    assert!(rt; bits_alone == bits);
     assert!(rt; alone.count == 40);
     assert!(rt; alone.number == by_workers.number);
     Ok(())
