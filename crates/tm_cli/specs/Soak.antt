@@ -1,5 +1,6 @@
 -- The command `soak`: generated frames, and what is received of them.
 use Rattle.std.specs.Prelude.{◌≡◌, ℕ, ◌*◌, ◌^◌, ◌≤◌, if◌then◌else◌, nat_le, nat_lt, List, [], codes, Option, Some, None}
+use Rattle.tm_config.specs.Bounds.{longest_codeblock}
 use Rattle.tm_config.specs.Configuration.{Configuration, correctable}
 use Rattle.tm_base.specs.Handed.{Handed, items_of, on_handed}
 use Rattle.tm_channel.specs.Items.{ItemValue}
@@ -30,7 +31,7 @@ soak_reason Hits = codes "hits"
 -- an item was counted
 pub record Counted (was : Counts) (item : ItemValue) (counts : Counts) : Type 0 where
   pub counted : counts ≡ counts_after was item.answers
-  pub few : fixed_of item.answers ≤ 2040
+  pub few : fixed_of item.answers ≤ longest_codeblock
 
 -- an item was counted, and no phase
 abbrev pub CountedHanded : Counts → Handed ItemValue → Counts → Type 0

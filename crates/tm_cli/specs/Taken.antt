@@ -2,6 +2,7 @@
 use Rattle.std.specs.Prelude.{◌≡◌, ◌⊎◌, ℕ, ◌+◌, ◌≤◌, if◌then◌else◌, List, [], ◌∷◌, ◌++◌, length}
 use Rattle.tm_base.specs.Count.{raised_by}
 use Rattle.tm_base.specs.Handed.{Handed, Phase, Item, items_of}
+use Rattle.tm_config.specs.Bounds.{longest_codeblock}
 use Rattle.tm_rs_solve.specs.declared.answers.Answer.{Answer}
 use Rattle.tm_channel.specs.Items.{ItemValue, are_fixed, frames_of}
 use Rattle.tm_driver.specs.Courses.{SinkState}
@@ -31,7 +32,7 @@ counts_after counts answers = record {
 pub record Reported (before now : SinkState) (was counts : Counts) (item : ItemValue) : Type 0 where
   pub line : TookText before now (item_text (number_of was) item)
   pub counted : counts ≡ counts_after was item.answers
-  pub few : fixed_of item.answers ≤ 2040
+  pub few : fixed_of item.answers ≤ longest_codeblock
 
 -- the same of an item, or the line of the phase was taken, and nothing counted
 abbrev pub ReportedHanded : (before now : SinkState) → (was counts : Counts) → Handed ItemValue

@@ -1,6 +1,7 @@
 // What a report counts.
 ghost use Rattle.std.specs.Prelude.{◌≡◌, ◌≤◌, length};
 ghost use Rattle.tm_channel.specs.Items.{are_fixed};
+ghost use Rattle.tm_config.specs.Bounds.{longest_codeblock};
 ghost use Rattle.tm_cli.specs.Report.{fixed_of};
 ghost use Rattle.tm_cli.specs.Taken.{no_counts, number_of, counts_after};
 
@@ -40,7 +41,7 @@ impl Counts {
     pub fn add(&mut self, answers: &[Answer])
         requires { length answers.now ≤ 8 }
         ensures counted { self.new ≡ counts_after self.old answers.now }
-        ensures few { fixed_of answers.now ≤ 2040 }
+        ensures few { fixed_of answers.now ≤ longest_codeblock }
     {
         let is_good = are_fixed(answers);
         self.good = self.good.saturating_add(is_good as u64);
@@ -65,7 +66,7 @@ fn are_fixed(answers: &[Answer]) -> bool
 fn fixed_of(answers: &[Answer]) -> u64
     requires { length answers.now ≤ 8 }
     ensures sum { result ≡ fixed_of answers.now }
-    ensures few { result ≤ 2040 }
+    ensures few { result ≤ longest_codeblock }
 {
     let mut sum = 0;
     for answer in answers {

@@ -1,8 +1,8 @@
 -- What a command answered.
-use Rattle.std.proofs.Common.{◌≡◌, ℕ, ◌+◌, ◌≤◌, Bool, true, List, length, Result, Ok, Err, IfOk, subst}
+use Rattle.std.proofs.Common.{◌≡◌, ℕ, ◌+◌, ◌≤◌, Bool, true, List, length, Option, subst}
 use Rattle.tm_base.specs.Written.{Gave}
 use Rattle.tm_driver.specs.Answered.{Answered, AnsweredAlone, AnsweredWith}
-use Rattle.tm_driver.specs.Courses.{SinkCall, SinkState, SinksWent, SourceCall, SourceWent}
+use Rattle.tm_driver.specs.Courses.{SinkCall, SinkState, SinkWent, SinksWent, SourceCall, SourceWent, unused}
 use Rattle.tm_driver.specs.Meaning.{Ends, Meaning, taken_by}
 use Rattle.tm_driver.specs.Statuses.{is_sink_fault}
 use Rattle.tm_driver.specs.declared.ending.Ending.{Ending}
@@ -21,7 +21,18 @@ answered octets ending meaning limit within source out notes is gave at_most end
   sinks = sinks;
 }
 
--- one that has no notes, beside any notes
+-- one that has no notes
+pub answered-alone : (octets : List ℕ) (ending : Ending) (meaning : Meaning) (limit within : ℕ) (source : SourceCall) (out : SinkCall)
+    → within ≡ limit → Gave source.before.given source.now.given source.before.left source.now.left octets → length octets ≤ within + 1
+    → ((noted : Option (List ℕ)) → Ends ending meaning limit octets (taken_by out.before.taken out.now.taken noted noted))
+    → SourceWent ending source → SinkWent (is_sink_fault ending) out → AnsweredAlone true ending meaning limit source out
+answered-alone octets ending meaning limit within source out is gave at_most ends course sink = (
+  octets,
+  λ notes. answered octets ending meaning limit within source out (unused notes) is gave at_most (ends notes.taken) course
+      (alone (is_sink_fault ending) out notes ⊥ sink),
+)
+
+-- beside any notes
 pub answered-beside : (reads : Bool) (ending : Ending) (meaning : Meaning) (limit : ℕ) (source : SourceCall) (out : SinkCall)
     (notes : SinkState) (notes_last : Type 0) → AnsweredAlone reads ending meaning limit source out
     → Answered reads ending meaning limit source out (record { before = notes; now = notes; is_last = notes_last })
@@ -36,8 +47,3 @@ answered-beside reads ending meaning limit source out notes notes_last by_itself
         sinks = alone (is_sink_fault ending) out notes notes_last (first-alone (is_sink_fault ending) out notes was.sinks);
       },
     )
-
--- two facts of what is answered
-pub IfOk-both : {T E : Type 0} (result : Result T E) (P Q R : T → Type 0) → ((t : T) → P t → Q t → R t) → IfOk result P → IfOk result Q → IfOk result R
-IfOk-both (Ok t) P Q R each p q = each t p q
-IfOk-both (Err e) P Q R each p q = tt

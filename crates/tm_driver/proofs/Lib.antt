@@ -4,5 +4,6 @@ pub mod SinkTexts
 pub mod HandedAlong
 pub mod TwoSinks
 pub mod Pieces
+pub mod Results
 pub mod Answered
 pub mod Driven

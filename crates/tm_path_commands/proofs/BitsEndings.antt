@@ -26,7 +26,7 @@ use Rattle.tm_driver.specs.declared.ending.Outcome.TheVariants as outcome
 use Rattle.tm_driver.specs.declared.ending.Stop.TheVariants as stop
 use Rattle.tm_driver.proofs.Driven.{Shows, WroteInOrder, done-driven}
 use Rattle.tm_driver.proofs.SinkTexts.{front-of, wrote-front, wrote-nothing, wrote-then, wrote-then_front}
-use Rattle.tm_path_commands.specs.Bits.{CutsWriting, EndsWriting, FailsWriting, Gathers, GathersLast, IsEmptied, Packing, Writes, WritesAll, WritesAllPart, WritesMore, WritesPart, WrotePart, WroteWaiting, AreBitsInOrder, IsBits, bits_meaning, bits_of_handed, end_line, fill, filled_octets, line_of, open_bits, phase_line}
+use Rattle.tm_path_commands.specs.Bits.{CutsWriting, EndsWriting, FailsWriting, Gathers, GathersLast, IsEmptied, Packing, PhaseWaits, Writes, WritesAll, WritesAllPart, WritesMore, WritesPart, WrotePart, WroteWaiting, AreBitsInOrder, IsBits, bits_meaning, bits_of_handed, end_line, fill, filled_octets, line_of, open_bits, phase_line}
 use Rattle.tm_path_commands.specs.Lines.{trace_end_text}
 use Rattle.tm_path_commands.proofs.TraceEndings.{stands-new}
 use Rattle.tm_path_commands.proofs.BitsGathered.{bits-unsettled, line-append, line-in_turn}
@@ -78,6 +78,14 @@ all-octets : (written waiting all : List Bool) → length written % 8 ≡ 0 → 
     → octets_of written ++ octets_of waiting ≡ octets_of all
 all-octets written waiting all whole are = sym (octets_of-append written waiting whole) ∙ ap octets_of are
 
+-- where a phase waits no octet was written
+first-of : (packed : Packing) (written : List Bool) (more : List (Handed WindowBlock)) → PhaseWaits packed written more
+    → (line_of packed.phase ≡ []) ⊎ (octets_of written ≡ [])
+first-of packed written more waits = elim waits.first as (λ _. (line_of packed.phase ≡ []) ⊎ (octets_of written ≡ [])) [
+  | inl none ↦ inl (waits.line ∙ none)
+  | inr none ↦ inr (ap octets_of none)
+]
+
 module _ (receiver now : InnerReceiving) (packing packed : Packing) (octets : List ℕ)
     (out out_now notes notes_now : Option (List ℕ)) (h : Gathers receiver now packing packed octets) where
   pub writes-more : (emptied : Packing) → IsEmptied packed emptied → WroteWaiting packed out out_now notes notes_now
@@ -123,12 +131,6 @@ module _ (receiver now : InnerReceiving) (packing packed : Packing) (octets : Li
       let line : phase_line p.handed ++ line_of packed.phase ≡ phase_line handed = ap (λ l. phase_line p.handed ++ l)
       g.1.line ∙ sym (line-append p.handed h.more) in
       let all = all-octets p.written packed.bits (bits_of_handed c (given ++ octets) handed) p.whole g.0.bits in
-      let first : (line_of packed.phase ≡ [])
-      ⊎ (octets_of p.written ≡ []) = elim g.1.first as (λ _. (line_of packed.phase ≡ [])
-      ⊎ (octets_of p.written ≡ [])) [
-        | inl none ↦ inl (g.1.line ∙ none)
-        | inr none ↦ inr (ap octets_of none)
-      ] in
       record {
         handed = handed;
         are_due = subst (λ (k : Configuration). AreHandedDue k (given ++ octets) handed) g.0.config g.0.stands.1;
@@ -138,7 +140,7 @@ module _ (receiver now : InnerReceiving) (packing packed : Packing) (octets : Li
             notes_now) all
             (part-behind start out out_now noted notes notes_now (octets_of p.written) (octets_of packed.bits)
             (phase_line p.handed) (line_of packed.phase)
-            p.out p.notes first part));
+            p.out p.notes (first-of packed p.written h.more g.1) part));
       }
 
 -- ---- the end
@@ -204,12 +206,6 @@ module _ (receiver : InnerReceiving) (packing packed : Packing) (count left : �
   cuts-waiting notes_now part c start noted octets accepted p =
       let all : List (Handed WindowBlock) = p.handed ++ h.last in
       let g = h.holds c p.written octets p.handed accepted p.holds p.is_written in
-      let first : (line_of packed.phase ≡ [])
-      ⊎ (octets_of p.written ≡ []) = elim g.1.first as (λ _. (line_of packed.phase ≡ [])
-      ⊎ (octets_of p.written ≡ [])) [
-        | inl none ↦ inl (g.1.line ∙ none)
-        | inr none ↦ inr (ap octets_of none)
-      ] in
       record {
         handed = all;
         left = left;
@@ -220,7 +216,7 @@ module _ (receiver : InnerReceiving) (packing packed : Packing) (count left : �
             notes_now) (all-of-them c start noted octets accepted p)
             (part-behind start out out_now noted notes notes_now (octets_of p.written) (octets_of packed.bits)
             (phase_line p.handed) (line_of packed.phase)
-            p.out p.notes first part)));
+            p.out p.notes (first-of packed p.written h.last g.1) part)));
       }
 
   -- or in the last line

@@ -15,7 +15,7 @@ use Rattle.tm_cert_file.specs.Before.{Rules}
 use Rattle.tm_cert_file.specs.File.{IsRead, IsCut, IsBroken, all_kept, is_cut, kept_octets}
 use Rattle.tm_cert_file.specs.Reading.{Reading, IsOpen, StandsFor}
 use Rattle.tm_driver.specs.Driven.{DrivenTo, but_last_turn}
-use Rattle.tm_driver.specs.Meaning.{Ends, Output, WroteEarly, WrotePrefixes, taken_by}
+use Rattle.tm_driver.specs.Meaning.{Ends, Output, WroteEarly, WrotePrefixes, taken_by, WroteOutput}
 use Rattle.tm_driver.specs.Statuses.{ending_at_end}
 use Rattle.tm_driver.specs.Texts.{StopsAt}
 use Rattle.tm_driver.specs.declared.ending.Ending.{Ending}
@@ -187,6 +187,21 @@ module _ (c : Configuration) (k : Rate) (is : c.inner ≡ Some k) where
         λ more. written-first once octets more h.windows taken taken_now noted noted_now read h.wrote.out h.wrote.notes,
       )
 
+  -- the windows that pass, and what the notes say after their lines
+  wrote-end : (r : Reading) (p : Progress) (octets : List ℕ) (taken taken_now noted noted_then noted_now : Option (List ℕ))
+      → IsOpen r → (h : Passes (rules_of c k) r p taken taken_now noted noted_then octets)
+      → Wrote noted_then noted_now (end_text More (is_cut r.before.next r.octets) h.windows)
+      → WroteOutput (check_meaning c) octets (taken_by taken taken_now noted noted_now)
+  wrote-end r p octets taken taken_now noted noted_then noted_now is_open h wrote =
+      let read = read-so_far (rules_of c k) r p taken taken_now noted noted_then octets More h is_open (λ no. cc no) in (
+        output-of (rules_of c k) octets h.windows More read,
+        output-is octets h.windows More read,
+        record {
+          out = h.wrote.out;
+          notes = wrote-then noted noted_then noted_now (windows_text 0 h.windows) (end_text More (is_cut r.before.next r.octets) h.windows) h.wrote.notes wrote;
+        },
+      )
+
   -- all of a certificate that is whole was written
   told-done : ReadOnce → (r : Reading) (p : Progress) (octets : List ℕ) (taken taken_now noted noted_then noted_now : Option (List ℕ)) → IsOpen r
       → Passes (rules_of c k) r p taken taken_now noted noted_then octets → length octets ≤ c.limit → is_cut r.before.next r.octets ≡ false
@@ -195,15 +210,7 @@ module _ (c : Configuration) (k : Rate) (is : c.inner ≡ Some k) where
       let read = read-so_far (rules_of c k) r p taken taken_now noted noted_then octets More h is_open (λ no. cc no) in
       let text : trace_end_text p.count p.bits 0 ≡ end_text More (is_cut r.before.next r.octets) h.windows =
       (λ i. trace_end_text (h.count i) (h.bits i) 0) ∙ ap (λ b. end_text More b h.windows) (sym whole) in (
-        (
-          output-of (rules_of c k) octets h.windows More read,
-          output-is octets h.windows More read,
-          record {
-            out = h.wrote.out;
-            notes = wrote-then noted noted_then noted_now (windows_text 0 h.windows) (end_text More (is_cut r.before.next r.octets) h.windows) h.wrote.notes
-                (subst (Wrote noted_then noted_now) text wrote);
-          },
-        ),
+        wrote-end r p octets taken taken_now noted noted_then noted_now is_open h (subst (Wrote noted_then noted_now) text wrote),
         within,
         λ partial. let other = from-rate (λ r'. (windows : List Window) × IsCut r' octets windows) c.inner c k is partial in
             let same = once.one (rules_of c k) octets h.windows other.0 More More read other.1.0 in
@@ -219,15 +226,7 @@ module _ (c : Configuration) (k : Rate) (is : c.inner ≡ Some k) where
   told-cut r p octets taken taken_now noted noted_then noted_now is_open h within cut wrote =
       let read = read-so_far (rules_of c k) r p taken taken_now noted noted_then octets More h is_open (λ no. cc no) in
       let text : cut_text p.count ≡ end_text More (is_cut r.before.next r.octets) h.windows = ap cut_text h.count ∙ ap (λ b. end_text More b h.windows) (sym cut) in (
-        (
-          output-of (rules_of c k) octets h.windows More read,
-          output-is octets h.windows More read,
-          record {
-            out = h.wrote.out;
-            notes = wrote-then noted noted_then noted_now (windows_text 0 h.windows) (end_text More (is_cut r.before.next r.octets) h.windows) h.wrote.notes
-                (subst (Wrote noted_then noted_now) text wrote);
-          },
-        ),
+        wrote-end r p octets taken taken_now noted noted_then noted_now is_open h (subst (Wrote noted_then noted_now) text wrote),
         within,
         at-rate (λ r'. (windows : List Window) × IsCut r' octets windows) c.inner c k is (h.windows, (read, cut)),
       )

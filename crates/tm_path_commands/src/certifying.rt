@@ -108,10 +108,7 @@ fn certify_pieces<O: Sink>(
     let mut done = 0;
     while done < octets.len() {
         let end = done + PIECE.min(octets.len() - done);
-        match certify_piece(receiver, certifying, out, &octets[done..end]) {
-            Ok(()) => {}
-            Err(Failed) => return Err(Failed),
-        }
+        certify_piece(receiver, certifying, out, &octets[done..end])?;
         done = end;
     }
     Ok(())

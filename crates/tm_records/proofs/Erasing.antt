@@ -1,6 +1,6 @@
 -- The lines of records, batch by batch, and how `erased` ends.
-use Rattle.std.proofs.Common.{◌≡◌, inl, inr, ℕ, zero, suc, ◌+◌, ◌-◌, ◌*◌, ◌/◌, ◌%◌, ◌<◌, ◌≤◌, ◌==◌, ◌||◌, Bool, true, false, List, [], ◌∷◌, ◌++◌, length, map, take, drop, Option, Some, Result, Ok, Err, refl, sym, ap, ◌∙◌, subst, arith, append_assoc, take-append-drop, length-append}
-use Rattle.std.specs.Prelude.{slice_get, if◌then◌else◌, OnErr}
+use Rattle.std.proofs.Common.{◌≡◌, inl, inr, ℕ, zero, suc, ◌+◌, ◌-◌, ◌*◌, ◌/◌, ◌%◌, ◌<◌, ◌≤◌, ◌==◌, ◌||◌, Bool, true, false, List, [], ◌∷◌, ◌++◌, length, map, take, drop, Option, Some, refl, sym, ap, ◌∙◌, subst, arith, append_assoc, take-append-drop, length-append}
+use Rattle.std.specs.Prelude.{slice_get, if◌then◌else◌}
 use Rattle.std.specs.List.{list_any}
 use Rattle.std.proofs.Math.Seq.{take-add}
 use Rattle.std.proofs.lemmas.Bool.Decides.{nat_tests}
@@ -32,11 +32,6 @@ use Rattle.tm_records.specs.Erasing.{Holds, HasSpace, Broke, Stand, HoldsAt, Hol
 use Rattle.tm_records.specs.Records.{AreFirstNearest, AreNearest, AreNearestDue, in_batches, left_over, record_count, record_size}
 use Rattle.tm_driver.proofs.Driven.{Shows, StopShows, OutcomeShows, WroteInOrder, ends-driven}
 use Rattle.tm_records.proofs.NearestRecords.{first-append, first-longer, has_rest, nearest_only}
-
--- what holds anyway holds where a call failed
-pub on_err-all : {T E Q : Type 0} (r : Result T E) → Q → OnErr r Q
-on_err-all (Ok x) q = tt
-on_err-all (Err e) q = q
 
 -- ---- lines
 

@@ -8,16 +8,19 @@ use Rattle.std.proofs.lemmas.List.Sums.{AllPass-from_list_all, list_all-from_All
 use Rattle.hex.specs.Hex.{is_hex_digit, decode_sized}
 use Rattle.hex.specs.declared.error.FromHexError.{FromHexError}
 use Rattle.hex.proofs.HexLemmas.{IsOk-written, IsOk-decode_sized, decode_of-digits, decode_sized-twice}
+use Rattle.tm_base.specs.Written.{Wrote}
 use Rattle.tm_config.specs.Configuration.{Configuration, correctable, is_uncoded}
 use Rattle.tm_config.specs.declared.values.OuterCode.{OuterCode}
 use Rattle.tm_config.specs.declared.values.OuterCode.TheVariants.{Rs16, Rs8, Uncoded}
 use Rattle.tm_config.proofs.Choices.{uncoded_false}
+use Rattle.tm_driver.specs.Meaning.{WroteOutput, taken_by}
+use Rattle.tm_driver.proofs.SinkTexts.{wrote-nothing}
 use Rattle.tm_dual.specs.Octet.{sent_octet, element_of}
 use Rattle.tm_rs_code.specs.Nearest.{IsNearest}
 use Rattle.tm_rs_solve.specs.Answers.{found}
 use Rattle.tm_rs_solve.specs.declared.answers.Answer.{Answer}
 use Rattle.tm_rs_solve.specs.declared.answers.Answer.TheVariants.{Fixed, Beyond}
-use Rattle.tm_records.specs.Word.{octets_of_hex, word_refusal, word_of, word_text, IsWordLine, IsBeyond}
+use Rattle.tm_records.specs.Word.{octets_of_hex, word_meaning, word_refusal, word_of, word_text, IsWordLine, IsBeyond}
 use Rattle.tm_records.specs.declared.word_command.WordRefusal.{WordRefusal}
 use Rattle.tm_records.specs.declared.word_command.WordRefusal.TheVariants.{Code, Hex}
 
@@ -112,6 +115,17 @@ pub nearest-line : (c : Configuration) (text octets now : List ℕ) (answer : An
 nearest-line c text octets now answer accepted read repaired =
     let near = repaired-text c text octets now answer accepted read repaired in
     record { answer = answer; codeword = near.0; nearest = near.1; is_line = ap (word_text answer) near.2 }
+
+-- all of it was written
+pub line-written : (c : Configuration) (text octets now : List ℕ) (answer : Answer) → word_refusal c text ≡ None
+    → (list_all is_hex_digit text ≡ true → octets ≡ octets_of_hex text)
+    → Repaired c octets answer now → (taken taken_now noted : Option (List ℕ)) → Wrote taken taken_now (word_text answer now)
+    → WroteOutput (word_meaning text c) [] (taken_by taken taken_now noted noted)
+line-written c text octets now answer accepted read repaired taken taken_now noted wrote = (
+  record { out = word_text answer now; notes = [] },
+  (nearest-line c text octets now answer accepted read repaired, refl),
+  record { out = wrote; notes = wrote-nothing noted },
+)
 
 -- a word is beyond repair where it is answered so
 pub is_beyond : (c : Configuration) (text octets now : List ℕ) (answer : Answer) → word_refusal c text ≡ None

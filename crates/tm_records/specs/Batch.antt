@@ -1,5 +1,6 @@
 -- What contracts see of a batch of records, and what its room holds.
 use Rattle.std.specs.Prelude.{◌≡◌, ℕ, ◌*◌, ◌<◌, ◌≤◌, List, [], ◌∷◌, map, take, drop, unwrap_or}
+use Rattle.tm_config.specs.Bounds.{longest_word}
 use Rattle.tm_gf256.specs.Poly.{numbers}
 use Rattle.tm_rs_code.specs.Erasures.{NearestErased}
 use Rattle.tm_rs_solve.specs.Answers.{found_erased}
@@ -25,7 +26,7 @@ opened c workers = record { coding = c; workers = workers; octets = []; nearest 
 pub record HasRoom (c : Coding) (size octets words taken decoded : ℕ) : Type 0 where
   pub is_size : size ≡ record_size c
   pub some : 0 < size
-  pub most : size ≤ 510
+  pub most : size ≤ 2 * longest_word
   pub room : octets ≡ 256 * size
   pub count : words ≡ 256
   pub few_octets : taken ≤ octets

@@ -2,6 +2,7 @@
 use Rattle.std.specs.Prelude.{◌≡◌, ◌⊎◌, ℕ, ◌*◌, ◌<◌, ◌≤◌, Bool, true, List, ◌++◌, length, Option}
 use Rattle.std.specs.List.{list_any}
 use Rattle.tm_base.specs.Written.{Wrote, WroteFront}
+use Rattle.tm_config.specs.Bounds.{longest_word}
 use Rattle.tm_driver.specs.Lines.{left_over_text, outcome_by}
 use Rattle.tm_driver.specs.declared.ending.Outcome.{Outcome}
 use Rattle.tm_driver.specs.declared.ending.Outcome.TheVariants.{Done, Bad}
@@ -71,7 +72,7 @@ pub record ToldAll (c : Coding) (octets : List ℕ) (outcome : Outcome)
     (start now noted noted_now : Option (List ℕ)) : Type 0 where
   pub nearest : List NearestErased
   pub are_nearest : AreNearest c octets nearest
-  pub short : c.params.n ≤ 255
+  pub short : c.params.n ≤ longest_word
   pub lines : Wrote start now (nearest_lines c.basis nearest)
   pub rest : Wrote noted noted_now (left_over_text (left_over c octets))
   pub outcome_is :

@@ -1,5 +1,6 @@
 // A batch of records that is filled from pieces and decoded at once.
 ghost use Rattle.std.specs.Prelude.{◌≡◌, ◌<◌, ◌≤◌, ◌*◌, ◌-◌, ◌↔◌, ◌++◌, ℕ, List, [], length, map, min, take, IfOk, IsTrue, Some, slice_get};
+ghost use Rattle.tm_config.specs.Bounds.{longest_word};
 ghost use Rattle.tm_dual.specs.Octet.{sent_octet};
 ghost use Rattle.tm_rs_solve.specs.Answers.{found_erased};
 ghost use Rattle.tm_records.specs.Batch.{Batch, opened};
@@ -57,7 +58,7 @@ impl Model for Records {
 
 // Room for a batch of records of so many octets.
 fn room(alloc: Global, size: usize) -> Result<(Vec<u8>, Vec<ErasedWord>), AllocError>
-    requires { size ≤ 510 }
+    requires { size ≤ 2 * longest_word }
     ensures octets { IfOk result (λ r. length r.0.items ≡ 256 * size) }
     ensures words { IfOk result (λ r. length r.1.items ≡ 256) }
 {
@@ -144,7 +145,7 @@ impl Records {
     /// How many symbols a word has.
     pub fn word_length(&self) -> usize
         ensures value { result ≡ self.now.coding.params.n }
-        ensures most { result ≤ 255 }
+        ensures most { result ≤ longest_word }
     {
         self.size / 2
     }

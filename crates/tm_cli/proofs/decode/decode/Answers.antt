@@ -1,7 +1,8 @@
 use Rattle.std.proofs.Common.{rules, ◌≡◌, refl}
 use Rattle.tm_driver.specs.Courses.{sink_state, source_call}
 use Rattle.tm_driver.specs.Meaning.{Ends, taken_by}
-use Rattle.tm_driver.proofs.Answered.{IfOk-both, answered}
+use Rattle.tm_driver.proofs.Answered.{answered}
+use Rattle.tm_driver.proofs.Results.{IfOk-both}
 use Rattle.tm_cli.specs.Decode.{decode_meaning}
 use Rattle.tm_cli.specs.declared.takers.Decoding.{Decoding}
 use Rattle.tm_cli.proofs.Reports.{decode-ends}

@@ -1,4 +1,4 @@
-use Rattle.std.proofs.Common.{rules, ◌≡◌, ◌+◌, ◌∙◌, [], None, true}
+use Rattle.std.proofs.Common.{rules, ◌+◌, ◌∙◌, [], None}
 use Rattle.tm_driver.specs.Courses.{source_call}
 use Rattle.tm_driver.specs.Meaning.{Ends, taken_by}
 use Rattle.tm_driver.proofs.Answered.{answered}
@@ -12,8 +12,6 @@ returns-clause-answered g c =
     let h = c.drive-ending.ensures.driven in
     let config = c.args.config.now in
     let now = c.drive-ending.new.feed in
-    let ended = g.S.Source.ended c.drive-ending.new.source ≡ true in
-    let unended = g.S.Source.ended c.drive-ending.new.source ≡ g.S.Source.ended c.args.source.now in
     let fresh = writes-new config c.in-Ok.receiver c.in-Ok-open.packer (g.O.Sink.taken c.args.out.now)
     (g.N.Sink.taken c.args.notes.now) c.limit.ensures.accepted
     c.in-Ok.ensures.config c.in-Ok.ensures.stands
@@ -31,7 +29,7 @@ returns-clause-answered g c =
     c.whole_window_law.ensures.front (λ (t : BitWriting g.row.O.Denot g.row.N.Denot). t.receiver.now)
     (λ t. t.packer.now)
     (λ t. g.O.Sink.taken t.out.now) (λ t. g.N.Sink.taken t.notes.now) config _ now c.limit.ensures.accepted fresh
-    c.limit.result c.limit.ensures.value ended unended c.drive-ending.result h.0 h.3 in
+    c.limit.result c.limit.ensures.value _ _ c.drive-ending.result h.0 h.3 in
     let went = c.drive-ending.ensures.sinks in
     let source = source_call g.S.Source.given g.S.Source.left g.S.Source.ended g.S.Source.faults g.S.Source.is_last
     c.args.source.now c.drive-ending.new.source in

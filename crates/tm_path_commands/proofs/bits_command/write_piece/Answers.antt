@@ -1,15 +1,11 @@
-use Rattle.std.proofs.Common.{Result, Ok, Err, OnOk}
 use Rattle.std.proofs.lemmas.Result.{on_err_weaker}
+use Rattle.tm_driver.proofs.Results.{IfOk-both}
 use Rattle.tm_path_commands.proofs.BitsEndings.{fails-more, writes-more}
 use Rattle.tm_path_commands.proofs.bits_command.write_piece.Goals as goal
 
-both-ok : {T E P Q R : Type 0} (result : Result T E) → (P → Q → R) → OnOk result P → OnOk result Q → OnOk result R
-both-ok (Ok t) each p q = each p q
-both-ok (Err e) each p q = tt
-
 pub returns-clause-ok : goal.returns-clause-ok
 returns-clause-ok g c =
-    both-ok c.write.result (λ emptied wrote.
+    IfOk-both c.write.result _ _ _ (λ _ emptied wrote.
     writes-more c.args.receiver.now c.gather.new.receiver c.args.packer.now c.gather.new.packer c.args.piece.now
     (g.O.Sink.taken c.args.out.now) (g.O.Sink.taken c.write.new.out)
     (g.N.Sink.taken c.args.notes.now) (g.N.Sink.taken c.write.new.notes) c.gather.ensures.gathers c.write.new.packer

@@ -1,9 +1,7 @@
-use Rattle.std.proofs.Common.{rules, ◌≡◌, true}
-use Rattle.tm_driver.specs.Courses.{SinksWent, sink_call, source_call, unused}
+use Rattle.std.proofs.Common.{rules, ℕ, List, Option}
+use Rattle.tm_driver.specs.Courses.{source_call}
 use Rattle.tm_driver.specs.Meaning.{Ends, taken_by}
-use Rattle.tm_driver.specs.Statuses.{is_sink_fault}
-use Rattle.tm_driver.proofs.TwoSinks.{alone}
-use Rattle.tm_driver.proofs.Answered.{answered}
+use Rattle.tm_driver.proofs.Answered.{answered-alone}
 use Rattle.tm_path_commands.specs.Certify.{certify_meaning}
 use Rattle.tm_path_commands.specs.declared.certifying.Certificate.{Certificate}
 use Rattle.tm_path_commands.proofs.CertifyEndings.{driven-ends}
@@ -11,28 +9,20 @@ use Rattle.tm_path_commands.proofs.certifying.certify.Goals as goal
 
 pub returns-clause-answered : goal.returns-clause-answered
 returns-clause-answered g c =
-    let h = c.drive-ending.ensures.driven in (
-      h.0,
-      λ notes.
-          let config = c.args.config.now in
-          let now = c.drive-ending.new.feed in
-          let law = c.certified_law.ensures in
-          let ended = g.S.Source.ended c.drive-ending.new.source ≡ true in
-          let unended = g.S.Source.ended c.drive-ending.new.source ≡ g.S.Source.ended c.args.source.now in
-          let done : Ends c.drive-ending.result (certify_meaning config) config.limit h.0
-          (taken_by (g.O.Sink.taken c.args.out.now) (g.O.Sink.taken now.out.now) notes.taken notes.taken) =
-          driven-ends c.one_list_law.ensures.exists c.due_law.ensures.first c.phase_law.ensures.exists
-          c.whole_window_law.ensures.front c.closed_windows_law.ensures
-          law.exists law.one law.split law.longer (λ (t : Certificate g.row.O.Denot). t.receiver.now) (λ t. t.certifying.now)
-          (λ t. g.O.Sink.taken t.out.now)
-          config _ now notes.taken c.limit.ensures.accepted
-          (c.in-Ok-open.ensures c.in-Ok.receiver (g.O.Sink.taken c.args.out.now) c.in-Ok.ensures.config
-          c.in-Ok.ensures.stands)
-          c.limit.result c.limit.ensures.value ended unended c.drive-ending.result h.0 h.3 in
-          let out = sink_call g.O.Sink.taken g.O.Sink.faults g.O.Sink.is_last c.args.out.now now.out.now in
-          let went : SinksWent (is_sink_fault c.drive-ending.result) out (unused notes) =
-          alone (is_sink_fault c.drive-ending.result) out notes ⊥ c.drive-ending.ensures.sinks in
-          let source = source_call g.S.Source.given g.S.Source.left g.S.Source.ended g.S.Source.faults g.S.Source.is_last
-          c.args.source.now c.drive-ending.new.source in
-          answered h.0 _ _ _ _ source _ _ c.limit.ensures.value h.1 h.2 (search rules) c.drive-ending.ensures.source (search rules),
-    )
+    let h = c.drive-ending.ensures.driven in
+    let config = c.args.config.now in
+    let now = c.drive-ending.new.feed in
+    let law = c.certified_law.ensures in
+    let done : (noted : Option (List ℕ)) → Ends c.drive-ending.result (certify_meaning config) config.limit h.0
+    (taken_by (g.O.Sink.taken c.args.out.now) (g.O.Sink.taken now.out.now) noted noted) =
+    λ noted. driven-ends c.one_list_law.ensures.exists c.due_law.ensures.first c.phase_law.ensures.exists
+    c.whole_window_law.ensures.front c.closed_windows_law.ensures
+    law.exists law.one law.split law.longer (λ (t : Certificate g.row.O.Denot). t.receiver.now) (λ t. t.certifying.now)
+    (λ t. g.O.Sink.taken t.out.now)
+    config _ now noted c.limit.ensures.accepted
+    (c.in-Ok-open.ensures c.in-Ok.receiver (g.O.Sink.taken c.args.out.now) c.in-Ok.ensures.config
+    c.in-Ok.ensures.stands)
+    c.limit.result c.limit.ensures.value _ _ c.drive-ending.result h.0 h.3 in
+    let source = source_call g.S.Source.given g.S.Source.left g.S.Source.ended g.S.Source.faults g.S.Source.is_last
+    c.args.source.now c.drive-ending.new.source in
+    answered-alone h.0 _ _ _ _ source _ c.limit.ensures.value h.1 h.2 (search rules) c.drive-ending.ensures.source (search rules)

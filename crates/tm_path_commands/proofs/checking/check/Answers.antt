@@ -1,4 +1,4 @@
-use Rattle.std.proofs.Common.{rules, ◌≡◌, true, refl}
+use Rattle.std.proofs.Common.{rules, ◌≡◌, refl}
 use Rattle.tm_driver.specs.Courses.{source_call}
 use Rattle.tm_driver.specs.Meaning.{Ends, taken_by}
 use Rattle.tm_driver.proofs.Answered.{answered}
@@ -12,8 +12,6 @@ returns-clause-answered g c =
     let h = c.drive-ending.ensures.driven in
     let config = c.args.config.now in
     let now = c.drive-ending.new.feed in
-    let ended = g.S.Source.ended c.drive-ending.new.source ≡ true in
-    let unended = g.S.Source.ended c.drive-ending.new.source ≡ g.S.Source.ended c.args.source.now in
     let once : ReadOnce = record {
       exists = c.read_law.ensures.exists;
       one = c.read_law.ensures.one;
@@ -27,7 +25,7 @@ returns-clause-answered g c =
     driven-ends (λ (t : Checking g.row.O.Denot g.row.N.Denot). t.reader.now) (λ t. t.progress)
     (λ t. g.O.Sink.taken t.out.now) (λ t. g.N.Sink.taken t.notes.now) once
     config _ now refl refl c.limit.ensures.accepted rules_are c.in-Ok.ensures.stands c.limit.result
-    c.limit.ensures.value c.drive-ending.result h.0 ended unended h.3 in
+    c.limit.ensures.value c.drive-ending.result h.0 _ _ h.3 in
     let went = c.drive-ending.ensures.sinks in
     let source = source_call g.S.Source.given g.S.Source.left g.S.Source.ended g.S.Source.faults g.S.Source.is_last
     c.args.source.now c.drive-ending.new.source in

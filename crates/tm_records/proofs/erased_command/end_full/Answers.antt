@@ -1,5 +1,6 @@
 use Rattle.std.proofs.Common.{◌∙◌}
-use Rattle.tm_records.proofs.Erasing.{on_err-all, held-full, held-broke}
+use Rattle.tm_driver.proofs.Results.{on_err-all}
+use Rattle.tm_records.proofs.Erasing.{held-full, held-broke}
 use Rattle.tm_records.proofs.erased_command.end_full.Goals as goal
 
 pub returns-clause-ok : goal.returns-clause-ok

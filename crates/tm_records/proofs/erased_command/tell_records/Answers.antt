@@ -2,7 +2,8 @@ use Rattle.std.proofs.Common.{◌∙◌, ◌||◌, sym, subst}
 use Rattle.tm_base.specs.Written.{Wrote, WroteFront}
 use Rattle.tm_rs_solve.specs.Answers.{found_erased}
 use Rattle.tm_driver.proofs.SinkTexts.{wrote-then}
-use Rattle.tm_records.proofs.Erasing.{on_err-all, line-is, lines-more, beyond-more, broke-in}
+use Rattle.tm_driver.proofs.Results.{on_err-all}
+use Rattle.tm_records.proofs.Erasing.{line-is, lines-more, beyond-more, broke-in}
 use Rattle.tm_records.proofs.erased_command.tell_records.Goals as goal
 
 pub loop-index-preserved : goal.loop-index-preserved

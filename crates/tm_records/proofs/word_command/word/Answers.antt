@@ -1,7 +1,7 @@
 use Rattle.std.proofs.Common.{[], refl, arith}
 use Rattle.tm_driver.proofs.SinkTexts.{wrote-nothing, wrote-no_front}
 use Rattle.tm_records.specs.Word.{word_text}
-use Rattle.tm_records.proofs.NearestWord.{nearest-line, is_beyond, not_beyond}
+use Rattle.tm_records.proofs.NearestWord.{line-written, nearest-line, is_beyond, not_beyond}
 use Rattle.tm_records.proofs.word_command.word.Goals as goal
 
 pub returns-in-Fixed-clause-ends : goal.returns-in-Fixed-clause-ends
@@ -9,14 +9,8 @@ returns-in-Fixed-clause-ends g c = λ noted.
     let answer = c.repair-answer.result in
     let octets = c.repair-answer.new.octets in
     let near = c.repair-answer.ensures.nearest in
-    let read = c.read_octets.ensures.octets in
-    let is = nearest-line c.args.config.now c.args.text.now _ octets answer c.requires read near in (
-      (
-        record { out = word_text answer octets; notes = [] },
-        (is, refl),
-        record
-            { out = c.in-Ok.ensures.ok; notes = wrote-nothing noted },
-      ),
+    let read = c.read_octets.ensures.octets in (
+      line-written c.args.config.now c.args.text.now _ octets answer c.requires read near _ _ noted c.in-Ok.ensures.ok,
       omega arith,
       λ none. none,
       not_beyond c.args.config.now c.args.text.now _ octets answer _ c.requires read near c.in-Fixed.is,
@@ -24,27 +18,20 @@ returns-in-Fixed-clause-ends g c = λ noted.
 
 pub returns-in-Beyond-clause-ends : goal.returns-in-Beyond-clause-ends
 returns-in-Beyond-clause-ends g c = λ noted.
-    let answer = c.repair-answer.result in
     let octets = c.repair-answer.new.octets in
     let near = c.repair-answer.ensures.nearest in
-    let read = c.read_octets.ensures.octets in
-    let is = nearest-line c.args.config.now c.args.text.now _ octets answer c.requires read near in (
-      (
-        record { out = word_text answer octets; notes = [] },
-        (is, refl),
-        record
-            { out = c.in-Ok.ensures.ok; notes = wrote-nothing noted },
-      ),
+    let read = c.read_octets.ensures.octets in (
+      line-written c.args.config.now c.args.text.now _ octets c.repair-answer.result c.requires read near _ _ noted
+          c.in-Ok.ensures.ok,
       omega arith,
-      is_beyond c.args.config.now c.args.text.now _ octets answer c.requires read near c.in-Beyond.is,
+      is_beyond c.args.config.now c.args.text.now _ octets c.repair-answer.result c.requires read near c.in-Beyond.is,
     )
 
 pub returns-in-Err-clause-ends : goal.returns-in-Err-clause-ends
 returns-in-Err-clause-ends g c = λ noted.
     let answer = c.repair-answer.result in
     let octets = c.repair-answer.new.octets in
-    let read = c.read_octets.ensures.octets in
-    let is = nearest-line c.args.config.now c.args.text.now _ octets answer c.requires read
+    let is = nearest-line c.args.config.now c.args.text.now _ octets answer c.requires c.read_octets.ensures.octets
     c.repair-answer.ensures.nearest in (
       record { out = word_text answer octets; notes = [] },
       (is, refl),

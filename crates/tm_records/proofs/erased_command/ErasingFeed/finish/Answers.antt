@@ -1,4 +1,5 @@
-use Rattle.tm_records.proofs.Erasing.{on_err-all, told-last, broke-lines, broke-rest}
+use Rattle.tm_driver.proofs.Results.{on_err-all}
+use Rattle.tm_records.proofs.Erasing.{told-last, broke-lines, broke-rest}
 use Rattle.tm_records.proofs.erased_command.ErasingFeed.finish.Goals as goal
 
 pub returns-clause-finished : goal.returns-clause-finished
