@@ -15,7 +15,7 @@ use Rattle.tm_config.specs.Accepted.{IsAccepted}
 use Rattle.tm_conv.specs.declared.rates.Rate.{Rate}
 use Rattle.tm_conv.specs.Path.{period}
 use Rattle.tm_phase.specs.declared.choosing.Chosen.{Chosen}
-use Rattle.tm_inner.specs.Inner.{Inner, IsStartKnown, inner_bits}
+use Rattle.tm_inner.specs.Inner.{Inner, IsStartKnown, plain_count, inner_bits}
 use Rattle.tm_inner.specs.Phase.{IsChosen, PhaseAt, phase_octets, skip_of, in_turn}
 use Rattle.tm_inner.specs.Symbols.{symbols_of_octets}
 use Rattle.tm_inner.proofs.InTurn.{OnePhase, one-choice}
@@ -161,7 +161,7 @@ same-count c phase octets others bits more long a b = ap length a.are_bits ∙ b
     n = length others
 
     m : ℕ
-    m = 8 * n - c.skip
+    m = plain_count c n - c.skip
 
     by-rate : (rate : Option Rate) → c.inner ≡ rate
         → length (inner_bits c octets a.blocks) ≡ length (inner_bits c others b.blocks)

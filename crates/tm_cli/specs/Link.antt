@@ -44,8 +44,8 @@ KeepsDisturbedLink status c octets taken taken_now noted noted_now =
     × (AreNear c (unit_places c units) units → (status ≡ 0)
     × Wrote taken taken_now (unit_frames units))
 
--- With no inner code and inverted markers, the octets with each bit turned over have the same
--- frames, and the report says of each codeblock that it was received in the other polarity.
+-- With no inner code and inverted markers, the octets turned over, each 255 less what it was, have
+-- the same frames, and the report says of each codeblock that it was received in the other polarity.
 abbrev pub KeepsTurnedInput : Configuration → List ℕ
     → (taken taken_now noted noted_now : Option (List ℕ)) → Type 0
 KeepsTurnedInput c octets taken taken_now noted noted_now =

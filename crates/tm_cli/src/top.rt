@@ -18,8 +18,8 @@ use tm_path_commands::certificate_law;
 /// Runs the program: reads its words, the first of which is its name and is not looked at, and then does what they ask
 /// for:
 ///
-/// - `encode` sends the transfer frames of the source to `out`, as octets of marked codeblocks or of symbols (CCSDS
-///   131.0-B).
+/// - `encode` sends the transfer frames of the source to `out`, as octets of marked codeblocks, or of their bits or
+///   symbols (CCSDS 131.0-B).
 /// - `decode` receives such octets, a soft one for each symbol: `out` gets the frame of each codeblock that is found
 ///   and repaired, and the notes a report, which has a line for each codeblock and one for all, and before them one for
 ///   the symbol phase where it is to be found.
