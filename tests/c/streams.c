@@ -9,7 +9,7 @@
 
 #include "tmchan.h"
 
-enum { OPTIONS = 20 };
+enum { OPTIONS = 21 };
 
 static long differing, calls;
 static size_t line_number;
