@@ -142,7 +142,7 @@ report-broke lines last counts handed a b new few part =
     let fewer = front-few handed part.front part.rest part.next part.split in
     let first = report-wrote lines counts part.front a part.middle new (omega arith) part.handed in
     let number = next-number (lines a) (lines part.middle) (counts part.middle) part.front first (omega arith) in record {
-      front = part.front;
+      prefix = part.front;
       next = part.next;
       rest = part.rest;
       split = part.split;
@@ -173,7 +173,7 @@ decoding-broke out notes out_last notes_last counts handed a b new few part =
     let fewer = front-few handed front part.rest next part.split in
     let first = decoding-wrote out notes counts front a middle new (omega arith) part.handed in
     let number = next-number (notes a) (notes middle) (counts middle) front first.1 (omega arith) in record {
-      front = front;
+      prefix = front;
       next = next;
       rest = part.rest;
       split = part.split;
@@ -202,13 +202,13 @@ lines-front before now last front rest next broke =
 
 pub report-front : (before now : SinkState) (last : Type 0) (handed : List (Handed ItemValue)) → ReportBroke before now last handed → WroteFront before.taken now.taken (items_text 0 handed)
 report-front before now last handed broke =
-    subst (WroteFront before.taken now.taken) (sym (ap (items_text 0) broke.split)) (lines-front before now last broke.front broke.rest broke.next broke.lines)
+    subst (WroteFront before.taken now.taken) (sym (ap (items_text 0) broke.split)) (lines-front before now last broke.prefix broke.rest broke.next broke.lines)
 
 pub decoding-fronts : (out out_now : SinkState) (out_last : Type 0) (notes notes_now : SinkState) (notes_last : Type 0) (handed : List (Handed ItemValue))
     → DecodingBroke out out_now out_last notes notes_now notes_last handed
     → WroteFront out.taken out_now.taken (handed_frames handed) × WroteFront notes.taken notes_now.taken (items_text 0 handed)
 decoding-fronts out out_now out_last notes notes_now notes_last handed broke =
-    let front = broke.front in
+    let front = broke.prefix in
     let next = broke.next in
     let rest = broke.rest in
     let both : handed_frames (front ++ next ∷ []) ≡ handed_frames front ++ handed_frames (next ∷ []) = handed_frames-append front (next ∷ []) in

@@ -238,10 +238,10 @@ decode-early exists stand c octets handed out out_now notes notes_now counts acc
 in-order : (handed first behind : List (Handed ItemValue)) (bits : ℕ) (out out_now : SinkState) (out_last : Type 0) (notes notes_now : SinkState) (notes_last : Type 0) → handed ≡ first ++ behind
     → DecodingBroke out out_now out_last notes notes_now notes_last first → AreInOrder handed bits (taken_by out.taken out_now.taken notes.taken notes_now.taken)
 in-order handed first behind bits out out_now out_last notes notes_now notes_last split broke =
-    let front = broke.front in
+    let front = broke.prefix in
     let next = broke.next in
     record {
-      front = front;
+      prefix = front;
       rest = next ∷ (broke.rest ++ behind);
       split = split ∙ ap (λ l. l ++ behind) broke.split ∙ append_assoc front (next ∷ broke.rest) behind;
       stops = elim broke.broke as (λ _. StopsAt (handed_frames front) (items_text 0 front) (handed_frames (next ∷ [])) (handed_item_text (length (items_of front)) next)
@@ -292,7 +292,7 @@ decode-broke c count octets handed out out_now notes notes_now last all within f
         count,
         subst (λ (l : List ℕ). AreReceived c l handed count) up_to all,
         record {
-          front = handed;
+          prefix = handed;
           rest = [];
           split = sym (append-nil handed);
           stops = inr (frames.written ∙ ap (append_known out.taken) (sym (append-nil (handed_frames handed))), told.written);

@@ -32,27 +32,27 @@ abbrev pub HasBad : Configuration → List ℕ → Type 0
 HasBad c octets = (handed : List (Handed ItemValue)) × ((bits : ℕ)
     × AreReceived c octets handed bits) × (bad (items_of handed) ≡ 0 → ⊥)
 
--- the frame of what is handed over next, and its line; behind the last there is no frame, and the
+-- the frame of what is handed over next, and its line; after the last there is no frame, and the
 -- report ends
 abbrev pub next_frame : List (Handed ItemValue) → List ℕ
 next_frame [] = []
 next_frame (next ∷ rest) = handed_frames (next ∷ [])
 
-abbrev pub next_line : (front rest : List (Handed ItemValue)) → (bits : ℕ) → List ℕ
-next_line front [] bits = items_end_text (items_of front) bits
-next_line front (next ∷ rest) bits = handed_item_text (length (items_of front)) next
+abbrev pub next_line : (prefix rest : List (Handed ItemValue)) → (bits : ℕ) → List ℕ
+next_line prefix [] bits = items_end_text (items_of prefix) bits
+next_line prefix (next ∷ rest) bits = handed_item_text (length (items_of prefix)) next
 
 -- The output took the frames of the first of what was handed over, and the notes their lines, and
 -- no more but a part of what comes next: of the next frame or, once the output has taken that, of
 -- its line. Behind the last this is the end of the report.
 pub record AreInOrder (handed : List (Handed ItemValue)) (bits : ℕ) (taken : Taken) : Type 0 where
-  pub front : List (Handed ItemValue)
+  pub prefix : List (Handed ItemValue)
   pub rest : List (Handed ItemValue)
-  pub split : handed ≡ front ++ rest
-  pub stops : StopsAt (handed_frames front) (items_text 0 front) (next_frame rest)
-      (next_line front rest bits) taken.out taken.out_now taken.notes taken.notes_now
+  pub split : handed ≡ prefix ++ rest
+  pub stops : StopsAt (handed_frames prefix) (items_text 0 prefix) (next_frame rest)
+      (next_line prefix rest bits) taken.out taken.out_now taken.notes taken.notes_now
 
--- `decode`: the frames go to the output and the report to the notes, the line of an item behind its
+-- `decode`: the frames go to the output and the report to the notes, the line of an item after its
 -- frame.
 abbrev pub decode_meaning : Configuration → Meaning
 decode_meaning c = record {

@@ -26,15 +26,15 @@ refusal_of_command c Check = if is_none c.inner then Some (Value Inner) else Non
 refusal_of_command c command = None
 
 -- the refusal for the first value of the configuration that is outside its list or range, and
--- behind these for what a command alone has
-abbrev pub refusal_behind : Option ConfigError → Configuration → Command → Option Refusal
-refusal_behind (Some error) c command = Some (Value error)
-refusal_behind None c command = refusal_of_command c command
+-- after these for what a command alone has
+abbrev pub refusal_after : Option ConfigError → Configuration → Command → Option Refusal
+refusal_after (Some error) c command = Some (Value error)
+refusal_after None c command = refusal_of_command c command
 
 -- the refusal of a job; no job is refused as the words
 abbrev pub refusal_of_job : Option Job → Option Refusal
 refusal_of_job None = Some Words
-refusal_of_job (Some job) = refusal_behind (refusal_of_raw job.raw) (configuration_of job.raw)
+refusal_of_job (Some job) = refusal_after (refusal_of_raw job.raw) (configuration_of job.raw)
     (command_of job)
 
 -- words that clap's rule does not take are refused as such, and others for their job

@@ -18,7 +18,7 @@ use Rattle.tm_cli.specs.Meanings.{meaning_of}
 use Rattle.tm_cli.specs.Refusal.{reason_of, refusal_of}
 use Rattle.tm_cli.specs.declared.refusal.Refusal.{Refusal}
 
--- where the source, the output and the notes of a call stood before it, and where they stand behind
+-- where the source, the output and the notes of a call stood before it, and where they stand after
 -- it
 pub record Call : Type 1 where
   pub source : SourceState
@@ -76,7 +76,7 @@ pub record Answers (status : ℕ) (command : Command) (c : Configuration) (call 
   pub sinks : SinksCourse
       (is_sink_fault ending) call.out call.out_now call.out_last call.notes call.notes_now call.notes_last
   pub stops : command ≡ Encode → ending ≡ SinkFault → StopsEncoding call
-  -- status 1 of `check` tells a window that fails alone, and so how little was read behind it
+  -- status 1 of `check` tells a window that fails alone, and so how little was read after it
   pub by_window : command ≡ Check → ending ≡ Bad → ⊥
   -- without a fault; and where the source tells its input, which is whole and within the limit
   pub complete : HasNoFault call → (status ≡ 0) ⊎ (status ≡ 1) ⊎ (status ≡ 6) ⊎ (status ≡ 7)

@@ -41,7 +41,7 @@ ReportedHanded before now was counts (Phase skip cost) = (counts ≡ was)
     × TookText before now (phase_text skip cost)
 ReportedHanded before now was counts (Item item) = Reported before now was counts item
 
--- the same of all, one behind the other
+-- the same of all, one after the other
 pub record ReportedAll (before now : SinkState) (was counts : Counts) (handed : List
     (Handed ItemValue)) : Type 0 where
   pub lines : TookText before now (items_text (was.good + was.bad) handed)
@@ -52,35 +52,35 @@ pub record ReportedAll (before now : SinkState) (was counts : Counts) (handed : 
 -- the sink failed in the line of the phase or of one of the items
 pub record ReportBroke (before now : SinkState) (is_last : Type 0) (handed : List
     (Handed ItemValue)) : Type 0 where
-  pub front : List (Handed ItemValue)
+  pub prefix : List (Handed ItemValue)
   pub next : Handed ItemValue
   pub rest : List (Handed ItemValue)
-  pub split : handed ≡ front ++ next ∷ rest
-  pub lines : BrokeText before now is_last (items_text 0 front) (handed_item_text
-      (length (items_of front)) next)
+  pub split : handed ≡ prefix ++ next ∷ rest
+  pub lines : BrokeText before now is_last (items_text 0 prefix) (handed_item_text
+      (length (items_of prefix)) next)
 
 -- the frames of the items of what was handed over
 abbrev pub handed_frames : List (Handed ItemValue) → List ℕ
 handed_frames handed = frames_of (items_of handed)
 
--- Behind the frames and lines of `front`, a sink failed: the one of the frames in the frame of
+-- After the frames and lines of `prefix`, a sink failed: the one of the frames in the frame of
 -- `next`, and then its line was not begun, or the one of the lines in its line, and then its frame
 -- was taken. A phase has no frame.
 abbrev pub DecodingBrokeAt : (out out_now : SinkState) → Type 0 → (notes notes_now : SinkState)
     → Type 0 → List (Handed ItemValue) → Handed ItemValue → Type 0
-DecodingBrokeAt out out_now out_last notes notes_now notes_last front next =
-    (BrokeText out out_now out_last (handed_frames front) (handed_frames (next ∷ []))
-    × TookText notes notes_now (items_text 0 front))
-    ⊎ (TookText out out_now (handed_frames (front ++ next ∷ []))
-    × BrokeText notes notes_now notes_last (items_text 0 front) (handed_item_text
-    (length (items_of front)) next))
+DecodingBrokeAt out out_now out_last notes notes_now notes_last prefix next =
+    (BrokeText out out_now out_last (handed_frames prefix) (handed_frames (next ∷ []))
+    × TookText notes notes_now (items_text 0 prefix))
+    ⊎ (TookText out out_now (handed_frames (prefix ++ next ∷ []))
+    × BrokeText notes notes_now notes_last (items_text 0 prefix) (handed_item_text
+    (length (items_of prefix)) next))
 
 -- a sink failed in the frame or in the line of one of the items, or in the line of the phase
 pub record DecodingBroke (out out_now : SinkState) (out_last : Type 0)
     (notes notes_now : SinkState) (notes_last : Type 0) (handed : List
     (Handed ItemValue)) : Type 0 where
-  pub front : List (Handed ItemValue)
+  pub prefix : List (Handed ItemValue)
   pub next : Handed ItemValue
   pub rest : List (Handed ItemValue)
-  pub split : handed ≡ front ++ next ∷ rest
-  pub broke : DecodingBrokeAt out out_now out_last notes notes_now notes_last front next
+  pub split : handed ≡ prefix ++ next ∷ rest
+  pub broke : DecodingBrokeAt out out_now out_last notes notes_now notes_last prefix next

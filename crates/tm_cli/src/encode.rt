@@ -85,7 +85,7 @@ impl<'a, 'b, 'c, O: Sink, N: Sink> Feed for Encoding<'a, 'b, 'c, O, N> {
 }
 
 /// Sends the frames of the source, up to the limit in octets, and at the end of the input tells on the notes how many
-/// octets are left over behind the last whole frame. After a fault nothing more is read or written.
+/// octets are left over after the last whole frame. After a fault nothing more is read or written.
 pub fn encode<S: Source, O: Sink, N: Sink>(
     config: &Config,
     source: &mut S,

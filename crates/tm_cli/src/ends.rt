@@ -1,4 +1,4 @@
-// The end of a report, behind the lines that a taker wrote.
+// The end of a report, after the lines that a taker wrote.
 ghost use Rattle.std.specs.Prelude.{◌≡◌, ◌↔◌, List, true, IfOk, OnErr};
 ghost use Rattle.tm_base.specs.Outside.{HasCause};
 ghost use Rattle.tm_base.specs.Handed.{Handed, items_of};

@@ -21,7 +21,7 @@ fn draw_octets(draws: &mut Lcg64Xsh32, octets: &mut [u8])
     }
 }
 
-// Changes `hits` symbols of a column of a codeblock, one behind another from the one that is drawn first, each by a
+// Changes `hits` symbols of a column of a codeblock, one after another from the one that is drawn first, each by a
 // draw.
 fn change_column(
     draws: &mut Lcg64Xsh32,
@@ -61,7 +61,7 @@ fn change_columns(draws: &mut Lcg64Xsh32, config: &Config, hits: u64, codeblock:
 }
 
 /// Writes the unit of a frame of drawn octets, with `hits` symbols of each column of its codeblock changed by the draws
-/// behind.
+/// after it.
 pub fn generate_unit(draws: &mut Lcg64Xsh32, config: &Config, hits: u64, unit: &mut [u8])
     requires hits { hits ≤ 32 }
     requires unit { length unit.old ≡ codeblock_length config.now + 4 }

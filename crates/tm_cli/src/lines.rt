@@ -62,7 +62,7 @@ fn add_answers(line: &mut Line, answers: &[Answer])
 }
 
 /// Writes what was received at a place, the item of this number: `frame K at P marker D words A1 .. AI`, where
-/// `bridged` stands for `marker` at a place where none matched, ` inverted` behind D of an inverted codeblock, x for a
+/// `bridged` stands for `marker` at a place where none matched, ` inverted` after D of an inverted codeblock, x for a
 /// column beyond repair, and `uncoded` for the columns with no outer code. `Failed` comes only where the sink's count
 /// of faults rose.
 pub fn frame_line<O: Sink>(out: &mut O, number: u64, item: &Item<'_>) -> Result<(), Failed>

@@ -13,7 +13,7 @@ use tm_base::{Failed, NoMemory, Source};
 use tm_channel::{Config, ItemTaker, OpenGate, Receiver};
 use tm_driver::{Ending, Feed, Outcome, Stop, drive};
 
-/// Takes the end of a report, behind its items.
+/// Takes the end of a report, after its items.
 pub trait ReportEnd {
     /// The end of the report of so many bits was written, and whether no column was beyond repair.
     ghost told: { Self → ℕ → Bool → Self → Type 0 };
