@@ -161,7 +161,7 @@ typedef struct {
     uint64_t soft;      /* soft octets: 0 (default): 0 is the surest 0 and 255 the surest 1; 1: in two's complement, -128 and 127 */
     uint64_t start;     /* the decoder's first path starts from register zero: 0 (default), or from any: 1 */
     uint64_t skip;      /* how many soft octets, or bits with no inner code, are dropped from the front: 0 (default) to 15 */
-    uint64_t workers;   /* 1 (default) to 64: has no effect here, where no thread is started */
+    uint64_t workers;   /* 1 (default) to 64: no thread is started here, and more than 1 only take a receiver more memory */
     uint64_t limit;     /* 1 to 2^40 (default 2^32): has no effect here */
     uint64_t fly;       /* flywheel: how many markers in a row may be missing, 0 (default) to 15 */
     uint64_t keep;      /* steps of a decoder's window that are kept: 64 to 65,536, default 8,192 */
