@@ -1,4 +1,4 @@
-use Rattle.std.proofs.Common.{◌≡◌, ◌==◌, ◌-◌, ◌*◌, ◌∙◌, ℕ, List, true, false, map, drop, sym, ap, subst}
+use Rattle.std.proofs.Common.{◌≡◌, ◌==◌, ◌-◌, ◌∙◌, ℕ, List, true, false, map, drop, sym, ap, subst}
 use Rattle.std.specs.Option.{is_some}
 use Rattle.tm_base.specs.Handed.{on_handed}
 use Rattle.tm_config.specs.Configuration.{Configuration}
