@@ -33,7 +33,7 @@ use Rattle.tm_codeblock.specs.ReceivedCodeblock.{rules_of}
 use Rattle.tm_channel.specs.Items.{ItemValue, AreItemsOf, AreFirstItemsOf, AreItems}
 use Rattle.tm_channel.specs.Due.{due}
 use Rattle.tm_channel.specs.Handing.{phase_from, phase_of, AreReceived, AreReceivedDue, AreReceivedFirst, AreReceivedFront}
-use Rattle.tm_channel.specs.Receiving.{beyond, marked_bits, AreFurther, AreFirstFurther, AreFirstDue}
+use Rattle.tm_channel.specs.Receiving.{beyond, waiting_bits, AreFurther, AreFirstFurther, AreFirstDue}
 use Rattle.tm_channel.specs.OctetReceiving.{BitReceiving, OctetReceiving, StandsFor, FirstWith, StandsForBits, Stages, StagesFor, Keeping, Keeps, KeepsPhase, AreSpare, AreWaiting, Gathers, Grows, Ends, Received, ReceivedPart, ReceivedLast, ReceivedLastPart, bits_found, received_bits}
 use Rattle.tm_channel.proofs.Streaming.{first-longer, first-more, first-then, items-then}
 use Rattle.tm_channel.proofs.AllBits.{beyond-nil, all-items, some-items, few-items, due-nil}
@@ -337,7 +337,7 @@ record Onward (s : Stages) (now : InnerReceiving) (given octets : List ℕ) (han
 
 -- there is room for the bits of the blocks that wait, and of so many octets
 abbrev pub IsRoomy : Stages → ℕ → ℕ → Type 0
-IsRoomy s count room = marked_bits s.inner.config s.inner.config.batch + 3 * (s.inner.config.keep + s.inner.config.ahead) + 7 + count ≤ room
+IsRoomy s count room = waiting_bits s.inner.config s.inner.config.batch + 3 * (s.inner.config.keep + s.inner.config.ahead) + 7 + count ≤ room
 
 onward : (s : Stages) (now : InnerReceiving) (room : ℕ) (octets : List ℕ) (phase : Option Chosen) (piece : List Bool) → IsRoomy s (length octets) room → Grows s.inner now room octets phase piece
     → (given : List ℕ) (done : List (Handed ItemValue)) → length given + length octets < 2 ^ 60 → (stood : StagesFor s given done) → Onward s now given octets stood.handed phase piece
@@ -394,7 +394,7 @@ with-waiting None c given blocks waiting = ([], sym (append-nil (drop c.skip (pl
 with-waiting (Some rate) c given blocks waiting = (all_bits waiting, all_bits-append blocks waiting, omega (arith, length-map (kept_bits waiting) (λ bit. bit == 1)))
 
 stages-wait : (s : Stages) (now : InnerReceiving) (octets : List ℕ) (spare : ℕ) → IsOf s → now.config ≡ s.inner.config → is_some s.inner.config.inner ≡ true
-    → AreSpare s.bits spare → spare ≤ marked_bits s.bits.batch.config s.bits.batch.config.batch → Gathers s.inner now octets spare
+    → AreSpare s.bits spare → spare ≤ waiting_bits s.bits.batch.config s.bits.batch.config.batch → Gathers s.inner now octets spare
     → (given : List ℕ) (done : List (Handed ItemValue)) → length given + length octets < 2 ^ 60 → StagesFor s given done
     → StagesFor (record { inner = now; bits = s.bits }) (given ++ octets) (done ++ [])
 stages-wait s now octets spare of same coded none most gathers given done few stood =
@@ -413,7 +413,7 @@ stages-wait s now octets spare of same coded none most gathers given done few st
       inner = f.0;
       waiting = waiting;
       are_due = subst (λ (k : Configuration). AreWaiting k (given ++ octets) stood.handed waiting) (sym same) f.1.2;
-      few = omega (arith, f.1.1, most, ap (λ (k : Configuration). marked_bits k k.batch) of, ap (λ (k : Configuration). marked_bits k k.batch) same);
+      few = omega (arith, f.1.1, most, ap (λ (k : Configuration). waiting_bits k k.batch) of, ap (λ (k : Configuration). waiting_bits k k.batch) same);
       none_due = subst (λ (k : Configuration). due k (inner_bits k (given ++ octets) (blocks ++ waiting)) ≡ due k (inner_bits k (given ++ octets) blocks)) (sym same) (ap (due c) more.1 ∙ none_due);
       bits = subst (λ (k : Configuration). StandsForBits s.bits (inner_bits k (given ++ octets) blocks)) (sym same) stands;
       items = stood.items;
@@ -422,7 +422,7 @@ stages-wait s now octets spare of same coded none most gathers given done few st
     }
 
 pub hands-wait : {T : Type 0} (took : T → Handed ItemValue → T → Type 0) (s : Stages) (now : InnerReceiving) (taker : T) (octets : List ℕ) (spare : ℕ)
-    → IsOf s → now.config ≡ s.inner.config → is_some s.inner.config.inner ≡ true → AreSpare s.bits spare → spare ≤ marked_bits s.bits.batch.config s.bits.batch.config.batch
+    → IsOf s → now.config ≡ s.inner.config → is_some s.inner.config.inner ≡ true → AreSpare s.bits spare → spare ≤ waiting_bits s.bits.batch.config s.bits.batch.config.batch
     → Gathers s.inner now octets spare → Hands took StagesFor s (record { inner = now; bits = s.bits }) taker taker octets
 hands-wait took s now taker octets spare of same coded none most gathers = record {
   more = [];

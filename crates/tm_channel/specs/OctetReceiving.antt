@@ -16,7 +16,7 @@ use Rattle.tm_inner.specs.Receiving.{InnerReceiving, StandsFor as InnerStandsFor
 use Rattle.tm_channel.specs.Items.{ItemValue, AreItemsOf}
 use Rattle.tm_channel.specs.Due.{due}
 use Rattle.tm_channel.specs.Handing.{phase_of, AreReceived, AreReceivedDue, AreReceivedFirst, AreReceivedFront}
-use Rattle.tm_channel.specs.Receiving.{Batching, Stands, marked_bits, GoesOn, AreDue, AreFirstDue, AreLast, AreFirstLast}
+use Rattle.tm_channel.specs.Receiving.{Batching, Stands, waiting_bits, GoesOn, AreDue, AreFirstDue, AreLast, AreFirstLast}
 
 -- what contracts see of a receiver of bits
 pub record BitReceiving : Type 0 where
@@ -42,7 +42,7 @@ pub record StagesFor (s : Stages) (given : List ℕ) (done : List (Handed ItemVa
   pub inner : InnerStandsFor s.inner given handed
   pub waiting : List WindowBlock
   pub are_due : AreHandedDue s.inner.config given (handed ++ map Item waiting)
-  pub few : length (kept_bits waiting) ≤ marked_bits s.inner.config s.inner.config.batch
+  pub few : length (kept_bits waiting) ≤ waiting_bits s.inner.config s.inner.config.batch
   pub none_due : due s.inner.config (inner_bits s.inner.config given (items_of handed ++ waiting))
       ≡ due s.inner.config (inner_bits s.inner.config given (items_of handed))
   pub bits : StandsForBits s.bits (inner_bits s.inner.config given (items_of handed))

@@ -1,5 +1,5 @@
 -- What a receiver keeps of the bits that it was given, and which items it has handed over of them.
-use Rattle.std.specs.Prelude.{◌≡◌, ℕ, ◌+◌, ◌-◌, ◌*◌, ◌<◌, ◌≤◌, ◌^◌, Bool, false, List, [], ◌∷◌, ◌++◌, length, take, drop, map, get_or, unwrap_or, ◌⊎◌}
+use Rattle.std.specs.Prelude.{◌≡◌, ℕ, ◌+◌, ◌-◌, ◌*◌, ◌<◌, ◌≤◌, ◌^◌, Bool, false, List, [], ◌∷◌, ◌++◌, length, take, drop, map, get_or, unwrap_or, nat_lt, if◌then◌else◌, ◌⊎◌}
 use Rattle.tm_base.specs.Bits.{bits_of}
 use Rattle.tm_config.specs.Configuration.{Configuration, codeblock_length}
 use Rattle.tm_sync.specs.declared.found.Found.{Found}
@@ -147,9 +147,10 @@ pub record IsReady (s : Searching) (b : Batching) : Type 0 where
   pub free : is_pending s ≡ false
   pub few : length b.kept < b.config.batch
 
--- how many bits codeblocks have with their markers, where there are so many of them
-abbrev pub marked_bits : Configuration → ℕ → ℕ
-marked_bits c count = count * (32 + (rules_of c).block_bits)
+-- how many bits may wait at most where a batch lacks so many codeblocks: as many as these have with
+-- their markers, and none where one worker decodes
+abbrev pub waiting_bits : Configuration → ℕ → ℕ
+waiting_bits c count = if nat_lt 1 c.workers then count * (32 + (rules_of c).block_bits) else 0
 
 -- ---- bits that are taken
 

@@ -51,7 +51,7 @@ pub enum RecvError {
 pub struct Receiver {
     config: Config,
     inner: InnerReceiver,
-    // Room for the bits of a batch, and for those of a window of the inner code, of the octets that wait for
+    // Room for the bits that may wait, and for those of a window of the inner code, of the octets that wait for
     // the phase and of a piece of octets.
     kept: KeptBits,
     stream: BitStream,
@@ -60,7 +60,7 @@ pub struct Receiver {
 
 impl Model for Receiver {
     ghost use Rattle.std.specs.Prelude.{◌≡◌, ◌≤◌, ◌+◌, ◌*◌, false};
-    ghost use Rattle.tm_channel.specs.Receiving.{marked_bits};
+    ghost use Rattle.tm_channel.specs.Receiving.{waiting_bits};
     ghost use Rattle.tm_channel.specs.OctetReceiving.{OctetReceiving};
 
     ghost Value = { OctetReceiving };
@@ -72,7 +72,7 @@ impl Model for Receiver {
     } };
 
     ghost invariant = { λ r. (r.inner.config ≡ r.config) × (r.stream.batch.config ≡ r.config) × (r.has_stopped ≡ false → r.inner.has_stopped ≡ false)
-        × (marked_bits r.inner.config r.inner.config.batch + 3 * (r.inner.config.keep + r.inner.config.ahead) + 7 + 4096 ≤ r.kept.size) };
+        × (waiting_bits r.inner.config r.inner.config.batch + 3 * (r.inner.config.keep + r.inner.config.ahead) + 7 + 4096 ≤ r.kept.size) };
 }
 
 impl Receiver {

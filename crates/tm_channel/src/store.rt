@@ -3,7 +3,7 @@ ghost use Rattle.std.specs.Prelude.{◌≡◌, ◌<◌, ◌≤◌, ◌+◌, ◌-
 ghost use Rattle.tm_base.specs.Bits.{bits_of, low_bits};
 ghost use Rattle.tm_config.specs.Bounds.{longest_codeblock, most_batch};
 ghost use Rattle.tm_config.specs.Configuration.{codeblock_length};
-ghost use Rattle.tm_channel.specs.Receiving.{AreItemsFor, IsItemAt, kept_of, marked_bits};
+ghost use Rattle.tm_channel.specs.Receiving.{AreItemsFor, IsItemAt, kept_of, waiting_bits};
 
 use crate::item::Item;
 use crate::repair::repair;
@@ -144,11 +144,15 @@ impl Codeblocks {
         self.count
     }
 
-    /// How many bits the codeblocks that the batch lacks have with their markers.
+    /// How many bits the codeblocks that the batch lacks have with their markers; none with one worker.
     pub fn bits_lacking(&self) -> u64
-        ensures value { result ≡ marked_bits self.now.config (self.now.config.batch - length self.now.kept) }
+        ensures value { result ≡ waiting_bits self.now.config (self.now.config.batch - length self.now.kept) }
+        ensures all { self.now.kept ≡ [] → result ≡ waiting_bits self.now.config self.now.config.batch }
         ensures most { result ≤ most_batch * (32 + 8 * longest_codeblock) }
     {
+        if self.config.workers() < 2 {
+            return 0;
+        }
         ((self.slots.len() - self.count) * (32 + 8 * self.size)) as u64
     }
 

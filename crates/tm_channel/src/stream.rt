@@ -4,7 +4,7 @@ ghost use Rattle.tm_base.specs.Bits.{bits_of};
 ghost use Rattle.tm_base.specs.Outside.{HasCause};
 ghost use Rattle.tm_sync.specs.Searching.{StandsFor as SearchStandsFor, inside_of};
 ghost use Rattle.tm_codeblock.specs.ReceivedCodeblock.{rules_of};
-ghost use Rattle.tm_channel.specs.Receiving.{marked_bits};
+ghost use Rattle.tm_channel.specs.Receiving.{waiting_bits};
 ghost use Rattle.tm_channel.specs.OctetReceiving.{AreSpare, StandsForBits, Received, ReceivedPart, ReceivedLast, ReceivedLastPart};
 
 use crate::bit_receiver::BitReceiver;
@@ -75,10 +75,10 @@ impl BitStream {
     }
 
     /// How many further bits make no item due, whatever they are: one fewer than the codeblocks that the batch lacks
-    /// have with their markers, less those that were given of the first of them.
+    /// have with their markers, less those that were given of the first of them; none with one worker.
     pub fn spare(&self) -> u64
         ensures value { AreSpare self.now result }
-        ensures most { result ≤ marked_bits self.now.batch.config self.now.batch.config.batch }
+        ensures most { result ≤ waiting_bits self.now.batch.config self.now.batch.config.batch }
     {
         let lacking = self.receiver.batch.bits_lacking();
         match self.receiver.search.inside() {

@@ -9,7 +9,7 @@ ghost use Rattle.tm_inner.specs.Inner.{nearest_bit, plain_bits};
 ghost use Rattle.tm_inner.specs.Phase.{IsChosen, in_turn};
 ghost use Rattle.tm_inner.specs.Receiving.{Hands, HandsFront, StandsFor as InnerStandsFor};
 ghost use Rattle.tm_viterbi.specs.WindowBlock.{WindowBlock};
-ghost use Rattle.tm_channel.specs.Receiving.{marked_bits};
+ghost use Rattle.tm_channel.specs.Receiving.{waiting_bits};
 ghost use Rattle.tm_channel.specs.OctetReceiving.{Ends, FirstWith, Gathers, Grows, Received, ReceivedPart, StagesFor, received_bits};
 
 use crate::item::ItemTaker;
@@ -26,7 +26,7 @@ use tm_viterbi::closed_windows_law;
 pub const PIECE: usize = 4096;
 
 /// Takes the next octets, and hands over what is due with them: the symbol phase, where it is chosen with them, and
-/// items. There is to be room for the bits of a batch, and for those of a window, of the octets that wait for
+/// items. There is to be room for the bits that may wait, and for those of a window, of the octets that wait for
 /// the phase and of `PIECE` octets.
 pub fn take<P: Workers, T: ItemTaker>(
     inner: &mut InnerReceiver,
@@ -39,7 +39,7 @@ pub fn take<P: Workers, T: ItemTaker>(
     requires workers { P.is_ready by.now }
     requires fresh { inner.old.has_stopped ≡ false }
     requires of { stream.old.batch.config ≡ inner.old.config }
-    requires room { marked_bits inner.old.config inner.old.config.batch + 3 * (inner.old.config.keep + inner.old.config.ahead)
+    requires room { waiting_bits inner.old.config inner.old.config.batch + 3 * (inner.old.config.keep + inner.old.config.ahead)
         + 7 + 4096 ≤ kept.old.size }
     ensures inner { inner.new.config ≡ inner.old.config }
     ensures fresh { inner.new.has_stopped ≡ false }
@@ -80,7 +80,7 @@ fn take_piece<P: Workers, T: ItemTaker>(
     requires fresh { inner.old.has_stopped ≡ false }
     requires of { stream.old.batch.config ≡ inner.old.config }
     requires most { length octets.now ≤ 4096 }
-    requires room { marked_bits inner.old.config inner.old.config.batch + 3 * (inner.old.config.keep + inner.old.config.ahead)
+    requires room { waiting_bits inner.old.config inner.old.config.batch + 3 * (inner.old.config.keep + inner.old.config.ahead)
         + 7 + length octets.now ≤ kept.old.size }
     ensures inner { inner.new.config ≡ inner.old.config }
     ensures fresh { inner.new.has_stopped ≡ false }

@@ -7,7 +7,7 @@ use Rattle.tm_config.specs.Configuration.{Configuration}
 use Rattle.tm_inner.specs.Phase.{in_turn}
 use Rattle.tm_channel.specs.Items.{ItemValue}
 use Rattle.tm_channel.specs.Handing.{AreReceived, AreReceivedFront}
-use Rattle.tm_channel.specs.Receiving.{marked_bits}
+use Rattle.tm_channel.specs.Receiving.{waiting_bits}
 use Rattle.tm_channel.specs.OctetReceiving.{OctetReceiving, StandsFor, Stages, Ends}
 use Rattle.tm_channel.specs.declared.receiver.RecvError.{RecvError}
 use Rattle.tm_channel.specs.declared.receiver.RecvError.TheVariants.{Taker}
@@ -32,7 +32,7 @@ returns-in-Err-clause-front g c = λ _.
       in_turn kept.phase [],
       c.in-Err.ensures.front,
       λ given done stood. subst (λ (k : Configuration). AreReceivedFront k given (done ++ in_turn kept.phase [])) c.self.invariant.0
-          (ends-phase stages s.kept.size kept.phase (map (λ bit. bit == 1) kept.bits) c.end-count.result (c.self.invariant.1 ∙ sym c.self.invariant.0) (roomy s.kept.size (marked_bits s.inner.config s.inner.config.batch) (s.inner.config.keep + s.inner.config.ahead) c.self.invariant.3) c.end-count.ensures.ends given done stood),
+          (ends-phase stages s.kept.size kept.phase (map (λ bit. bit == 1) kept.bits) c.end-count.result (c.self.invariant.1 ∙ sym c.self.invariant.0) (roomy s.kept.size (waiting_bits s.inner.config s.inner.config.batch) (s.inner.config.keep + s.inner.config.ahead) c.self.invariant.3) c.end-count.ensures.ends given done stood),
     )
 
 -- it failed at an item that is due with the last bits
@@ -58,7 +58,7 @@ returns-in-Err-take_bits-clause-front g c = λ _.
           (HandedPart-items g.T.ItemTaker.took_phase g.T.ItemTaker.broke_phase g.T.ItemTaker.took g.T.ItemTaker.broke first middle p.tried p.handed),
       λ given done stood. subst (λ (k : Configuration). AreReceivedFront k given (done ++ tried)) c.self.invariant.0
           (ends-part g.T.ItemTaker.took g.T.ItemTaker.broke stages c.take_bits.new.stream first middle s.kept.size phase piece count
-          (c.self.invariant.1 ∙ sym c.self.invariant.0) (roomy s.kept.size (marked_bits s.inner.config s.inner.config.batch) (s.inner.config.keep + s.inner.config.ahead) c.self.invariant.3) over p given done stood),
+          (c.self.invariant.1 ∙ sym c.self.invariant.0) (roomy s.kept.size (waiting_bits s.inner.config s.inner.config.batch) (s.inner.config.keep + s.inner.config.ahead) c.self.invariant.3) over p given done stood),
     )
 
 pub returns-clause-handed : goal.returns-clause-handed
@@ -88,7 +88,7 @@ returns-clause-handed g c =
                 (HandedOver-append g.T.ItemTaker.took first middle last p.items q.items p.handed q.handed)),
             λ given done stood. subst (λ (k : Configuration). AreReceived k given (done ++ all) count) c.self.invariant.0
                 (ends g.T.ItemTaker.took before.stages c.take_bits.new.stream first middle last s.kept.size phase piece count
-                (c.self.invariant.1 ∙ sym c.self.invariant.0) (roomy s.kept.size (marked_bits s.inner.config s.inner.config.batch) (s.inner.config.keep + s.inner.config.ahead) c.self.invariant.3) over p q given done stood),
+                (c.self.invariant.1 ∙ sym c.self.invariant.0) (roomy s.kept.size (waiting_bits s.inner.config s.inner.config.batch) (s.inner.config.keep + s.inner.config.ahead) c.self.invariant.3) over p q given done stood),
           ) in
           subst (Said before) (sym w.result-is) said
           )
@@ -124,7 +124,7 @@ returns-clause-front g c =
                 (HandedPart-after g.T.ItemTaker.took g.T.ItemTaker.broke first middle last p.items q.tried p.handed q.handed)),
             λ given done stood. subst (λ (k : Configuration). AreReceivedFront k given (done ++ tried)) c.self.invariant.0
                 (ends-front g.T.ItemTaker.took g.T.ItemTaker.broke before.stages c.take_bits.new.stream first middle
-                last s.kept.size phase piece count (c.self.invariant.1 ∙ sym c.self.invariant.0) (roomy s.kept.size (marked_bits s.inner.config s.inner.config.batch) (s.inner.config.keep + s.inner.config.ahead) c.self.invariant.3) over p q given done stood),
+                last s.kept.size phase piece count (c.self.invariant.1 ∙ sym c.self.invariant.0) (roomy s.kept.size (waiting_bits s.inner.config s.inner.config.batch) (s.inner.config.keep + s.inner.config.ahead) c.self.invariant.3) over p q given done stood),
           ) in
           subst (Said before) (sym w.result-is) said
           )

@@ -1,7 +1,7 @@
 use Rattle.std.proofs.Common.{◌≡◌, ◌+◌, ◌≤◌, ℕ, Option, sym, ap, subst, arith}
 use Rattle.std.specs.Option.{option_map_or}
 use Rattle.tm_sync.specs.Searching.{begun_of}
-use Rattle.tm_channel.specs.Receiving.{marked_bits}
+use Rattle.tm_channel.specs.Receiving.{waiting_bits}
 use Rattle.tm_channel.specs.OctetReceiving.{AreSpare, BitReceiving}
 use Rattle.tm_channel.proofs.Spare.{lacking-most, spare-due}
 use Rattle.tm_channel.proofs.stream.BitStream.spare.Goals as goal
@@ -24,10 +24,10 @@ returns-in-None-clause-value c =
 
 pub returns-in-Some-clause-most : goal.returns-in-Some-clause-most
 returns-in-Some-clause-most c =
-    subst (λ (v : BitReceiving). c.saturating_sub-in-Some.result ≤ marked_bits v.batch.config v.batch.config.batch) c.self.view_is
+    subst (λ (v : BitReceiving). c.saturating_sub-in-Some.result ≤ waiting_bits v.batch.config v.batch.config.batch) c.self.view_is
     (omega (arith, lacking-most c.self.inside.receiver.batch, c.bits_lacking-lacking.ensures.value, c.saturating_sub.ensures, c.saturating_sub-in-Some.ensures))
 
 pub returns-in-None-clause-most : goal.returns-in-None-clause-most
 returns-in-None-clause-most c =
-    subst (λ (v : BitReceiving). c.saturating_sub-in-None.result ≤ marked_bits v.batch.config v.batch.config.batch) c.self.view_is
+    subst (λ (v : BitReceiving). c.saturating_sub-in-None.result ≤ waiting_bits v.batch.config v.batch.config.batch) c.self.view_is
     (omega (arith, lacking-most c.self.inside.receiver.batch, c.bits_lacking-lacking.ensures.value, c.saturating_sub-in-None.ensures))
