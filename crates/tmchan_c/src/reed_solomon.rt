@@ -78,7 +78,13 @@ pub extern "C" fn tmchan_rs_decode_erased(
     let other = flags_refusal(word.len(), erased.len());
     match word_refusal(code, word.len() as u64, basis, repair, other) {
         Some(refusal) => refusal.answer(),
-        None => repair_erased(code, Basis::numbered(u64::from(basis)), repair as u8, word, erased),
+        None => repair_erased(
+            code,
+            Basis::numbered(u64::from(basis)),
+            repair as u8,
+            word,
+            erased,
+        ),
     }
 }
 
