@@ -8,7 +8,7 @@ use Rattle.tm_words.specs.declared.job.Job.{Job}
 use Rattle.tm_cli.specs.Command.{command_of}
 use Rattle.tm_cli.specs.declared.refusal.Refusal.{Refusal}
 use Rattle.tm_cli.specs.declared.refusal.Refusal.TheVariants as refusal
-use Rattle.tm_cli.specs.Refusal.{first_refusal, refusal_behind, refusal_of_command, refusal_of_job}
+use Rattle.tm_cli.specs.Refusal.{first_refusal, refusal_after, refusal_of_command, refusal_of_job}
 
 pub words-refused : (faults : Kinds) (job : Option Job) → (faults ≡ [] → ⊥) → first_refusal faults job ≡ Some refusal.Words
 words-refused [] job none = absurd (none refl)
@@ -20,6 +20,6 @@ pub command-refused : (faults : Kinds) (read : Option Job) (job : Job) (config :
 command-refused faults read job config found why taken is none same tested refused =
     ap (λ (f : Kinds). first_refusal f read) taken
     ∙ ap refusal_of_job is
-    ∙ ap (λ (e : Option ConfigError). refusal_behind e (configuration_of job.raw) (command_of job)) none
+    ∙ ap (λ (e : Option ConfigError). refusal_after e (configuration_of job.raw) (command_of job)) none
     ∙ ap (λ (k : Configuration). refusal_of_command k (command_of job)) (sym same)
     ∙ sym tested ∙ refused
