@@ -6,3 +6,5 @@
 mod channel;
 #[cfg(test)]
 mod sync;
+#[cfg(test)]
+mod windows;
