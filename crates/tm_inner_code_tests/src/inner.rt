@@ -263,35 +263,17 @@ fn bits_without_an_inner_code(rt: HostRuntime) -> Result<(), Fail> {
     Ok(())
 }
 
-// With no inner code each octet is a bit where these are not packed: the one that it is nearest to.
+// With no inner code each octet is a bit where these are not packed, and so are the skipped ones.
 #[test]
 fn bits_that_are_not_packed(rt: HostRuntime) -> Result<(), Fail> {
     let alloc = rt.alloc();
-    let mut raw = Raw {
-        inner: 0,
-        pack: 0,
-        ..Raw::default()
-    };
+    let mut raw = Raw::default();
+    raw.inner = 0;
+    raw.pack = 0;
     check(&rt, alloc, raw, &[0; 38], &[], (38, 0))?;
     raw.skip = 3;
     check(&rt, alloc, raw, &[0; 38], &[], (35, 0))?;
-    check(&rt, alloc, raw, &[0xFF, 0xFF], &[], (0, 0))?;
-    let octets = [0x00, 0x7F, 0x80, 0xFF];
-    for (soft, wanted) in [(0, [0, 0, 1, 1]), (1, [1, 1, 0, 0])] {
-        raw.soft = soft;
-        let config = Config::check(&raw)?;
-        let mut taker = Collector::new(alloc, 0);
-        let mut receiver = InnerReceiver::open(alloc, &config)?;
-        assert!(rt; !receiver.is_packed());
-        let mut bits = [0; 4];
-        receiver.nearest_bits(&octets, &mut bits);
-        assert_eq!(rt; bits, wanted);
-        for left in [3, 1, 0, 0] {
-            assert_eq!(rt; receiver.bits_to_skip(), left);
-            receiver.feed(&[0xFF, 0x00], &mut taker)?;
-        }
-    }
-    Ok(())
+    check(&rt, alloc, raw, &[0xFF, 0xFF], &[], (0, 0))
 }
 
 // A taker that fails at the first block stops the receiver.
