@@ -1,10 +1,9 @@
 -- Fed nothing, and fed one piece after another.
-use Rattle.std.proofs.Common.{◌≡◌, ℕ, ◌+◌, List, [], ◌++◌, length, take, drop, Option, refl, sym, ◌∙◌, ap, subst, append_assoc, min, arith}
+use Rattle.std.proofs.Common.{◌≡◌, ℕ, ◌+◌, List, [], ◌++◌, length, take, drop, Option, sym, ◌∙◌, ap, subst, append_assoc, min, arith}
 use Rattle.std.proofs.lemmas.List.{append-nil, take_min, take-append-le}
 use Rattle.std.proofs.Math.Seq.{take-append-add, drop-append_seam, drop-length}
 use Rattle.std.specs.Io.KnownBytes.{append_known}
 use Rattle.tm_base.proofs.Known.{append_known-more, append_known-nil}
-use Rattle.tm_base.specs.Written.{Wrote, WroteFront}
 use Rattle.tm_base.specs.Pieces.{beyond, further, GoesOn, Fed, FedFront}
 
 -- what is due beyond nothing is all

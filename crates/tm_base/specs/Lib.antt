@@ -3,9 +3,11 @@ pub mod Written
 pub mod Pieces
 pub mod Takers
 pub mod Handed
+pub mod Calls
 pub mod Bits
 pub mod Marker
 pub mod Count
 pub mod SourceInMemory
 pub mod SinkInMemory
 pub mod SureState
+pub mod HeldOctets

@@ -5,6 +5,7 @@
 
 mod attached;
 mod bits;
+mod held;
 mod memory;
 mod outside;
 mod standard;
@@ -12,6 +13,7 @@ mod sure;
 
 pub use attached::{MARKER, marker};
 pub use bits::BitReader;
+pub use held::{Held, zeros};
 pub use memory::{MemSink, MemSource};
 pub use outside::{Failed, NoMemory, Sink, Source, put_all};
 pub use standard::{StdSink, StdSource};
