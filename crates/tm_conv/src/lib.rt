@@ -12,4 +12,4 @@ mod rates;
 pub use encoder::{Encoder, Symbols};
 pub use laws::{best_path_law, clean_symbols_law, columns_law, complement_law, six_pairs_law};
 pub use plain::plain_encode;
-pub use rates::{Rate, kept, step_len, steps_len, symbols_of};
+pub use rates::{Rate, kept, period, step_len, steps_len, symbols_of};

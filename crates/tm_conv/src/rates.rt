@@ -63,9 +63,11 @@ pub fn step_len(rate: Rate, t: u64) -> usize
 }
 
 /// How many steps the puncture pattern of a rate has.
-pub(crate) fn period(rate: Rate) -> u8
+#[inline(always)]
+pub fn period(rate: Rate) -> u8
     ensures period { result ≡ period rate }
     ensures some { 0 < result }
+    ensures small { result ≤ 7 }
 {
     match rate {
         Rate::R12 => 1,
