@@ -16,10 +16,10 @@ mod LeastTotals
 mod Filled
 mod Tails
 pub mod Closing
-mod Handing
-mod WholeBlocks
+pub mod Handing
+pub mod WholeBlocks
 mod LastWindow
-mod Feeding
+pub mod Feeding
 mod LeastCost
 mod OneList
 pub mod CleanBlocks

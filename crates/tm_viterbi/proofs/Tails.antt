@@ -1,9 +1,7 @@
 -- The octets behind a window's kept steps, some steps on.
-use Rattle.std.proofs.Common.{◌≡◌, ℕ, ◌+◌, ◌-◌, ◌*◌, ◌<◌, ◌≤◌, ◌∙◌, sym, ap, arith, List, ◌++◌, length, length-drop, drop, take, min, ◌⊎◌, inl, inr}
+use Rattle.std.proofs.Common.{◌≡◌, ℕ, ◌+◌, ◌-◌, ◌*◌, ◌<◌, ◌≤◌, ◌∙◌, sym, ap, arith, List, ◌++◌, length, drop, min, ◌⊎◌, inl, inr}
 use Rattle.std.proofs.lemmas.Bool.{cases_lt}
-use Rattle.std.proofs.lemmas.List.{drop-append-le, drop-take}
-use Rattle.std.proofs.lemmas.List.Edits.{take-paste}
-use lib.Seq.{paste}
+use Rattle.std.proofs.lemmas.List.{drop-append-le}
 use Rattle.tm_conv.specs.declared.rates.Rate.{Rate}
 use Rattle.tm_conv.specs.Path.{steps_size}
 use Rattle.tm_conv.proofs.Paths.{steps_size-zero}
@@ -74,16 +72,3 @@ pub tail_is : (rate rate' : Rate) (t t' n keep ahead len : ℕ) → rate' ≡ ra
 tail_is rate rate' t t' n keep ahead len er et full is =
     let count : n - keep ≡ ahead = omega arith in
     is ∙ ap (steps_size rate (t + keep)) count ∙ ap (λ (v : ℕ). steps_size rate v ahead) (sym et) ∙ ap (λ (v : Rate). steps_size v t' ahead) (sym er)
-
-pub cut_fits : (rate : Rate) (t keep ahead least cut len : ℕ) → len ≡ steps_size rate t ahead → least ≡ min ahead keep → cut ≡ steps_size rate t least → cut ≤ len
-cut_fits rate t keep ahead least cut len is e c = omega (arith, is, c, steps_size-le rate t least ahead (omega arith))
-
--- the front of a list is dropped where it stands, by a copy of the rest
-pub cut_front : (len n : ℕ) (all : List ℕ) → n ≤ len → len ≤ length all → take (len - n) (paste all 0 (drop n all) (len - n)) ≡ drop n (take len all)
-cut_front len n all le fits =
-    let left = len - n in
-    let same : left ≡ 0 + left = omega arith in
-    let whole : n + left ≡ len = omega arith in
-    ap (λ (k : ℕ). take k (paste all 0 (drop n all) left)) same
-    ∙ take-paste all 0 (drop n all) left (omega arith) (omega (arith, length-drop n all))
-    ∙ sym (drop-take n left all) ∙ ap (λ (k : ℕ). drop n (take k all)) whole

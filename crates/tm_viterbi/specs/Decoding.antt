@@ -1,8 +1,11 @@
 -- What contracts see of a decoder, and for which octets, given so far, and which blocks, handed over so far, it stands.
-use Rattle.std.specs.Prelude.{ℕ, ◌≡◌, Bool, List, [], length}
+use Rattle.std.specs.Prelude.{ℕ, ◌≡◌, Bool, List, [], length, Result}
+use Rattle.tm_base.specs.Calls.{CallAnswers, TakerCall}
 use Rattle.tm_viterbi.specs.Settings.{Settings}
 use Rattle.tm_viterbi.specs.WindowBlock.{WindowBlock}
 use Rattle.tm_viterbi.specs.Streaming.{settings_of, IsOpenStep, Reaches}
+use Rattle.tm_viterbi.specs.declared.decoder.FeedError.{FeedError}
+use Rattle.tm_viterbi.specs.declared.decoder.FeedError.TheVariants.{Stopped, Taker}
 use Rattle.tm_viterbi.specs.declared.stream.Stream.{Stream}
 
 -- what contracts see of a decoder
@@ -21,3 +24,9 @@ pub record StandsFor (d : Decoding) (given : List ℕ) (done : List WindowBlock)
   pub count : length given ≡ d.count
   pub reaches : Reaches d.stream given [] done
   pub open_step : IsOpenStep d.stream
+
+-- a call of it is refused once it has stopped, and fails only where the taker does
+abbrev pub Calls : {R : Type 0} → (before now : Decoding) → TakerCall WindowBlock
+    → Result R FeedError → Type 0
+Calls before now taker result = CallAnswers Stopped Taker before.has_stopped before now
+    taker.unchanged taker.before taker.now taker.is_last result

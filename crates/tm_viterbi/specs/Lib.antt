@@ -11,7 +11,6 @@ pub mod Totals
 pub mod Carries
 pub mod Summing
 pub mod Filling
-pub mod TailOctets
 pub mod Flowing
 pub mod Streaming
 pub mod Decoding

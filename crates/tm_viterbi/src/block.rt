@@ -1,6 +1,8 @@
 // What the decoder hands over, and to whom.
-ghost use Rattle.std.specs.Prelude.{ℕ, OnErr, OnOk};
+ghost use Rattle.std.specs.Prelude.{◌≡◌, ◌<◌, ℕ, OnErr, OnOk};
+ghost use Rattle.std.specs.Option.{ForSome};
 ghost use Rattle.tm_base.specs.Outside.{HasCause};
+ghost use Rattle.tm_viterbi.specs.Starts.{first_start};
 ghost use Rattle.tm_viterbi.specs.WindowBlock.{WindowBlock};
 
 use std::marker::Model;
@@ -13,6 +15,17 @@ pub enum Start {
     Zero,
     /// Any register.
     Any,
+}
+
+/// The register that the first window's path may start from, where it is one alone.
+pub fn first_start(start: Start) -> Option<u8>
+    ensures value { result ≡ first_start start }
+    ensures small { ForSome result (λ register. register < 64) }
+{
+    match start {
+        Start::Zero => Some(0),
+        Start::Any => None,
+    }
 }
 
 /// The best path of a window (CCSDS 131.0-B, Convolutional Coding).

@@ -1,12 +1,12 @@
 // The decoder.
-ghost use Rattle.std.specs.Prelude.{◌≡◌, ◌≢◌, ◌↔◌, ◌++◌, ◌∷◌, ℕ, ◌+◌, ◌^◌, ◌<◌, ◌≤◌, IsTrue, List, [], true, false, IfOk, OnOk, IsErrOf, Err, length};
+ghost use Rattle.std.specs.Prelude.{◌≡◌, ◌↔◌, ◌++◌, ◌∷◌, ℕ, ◌+◌, ◌^◌, ◌<◌, ◌≤◌, IsTrue, List, [], true, false, IfOk, OnOk, IsErrOf, length};
 ghost use Rattle.tm_base.specs.Takers.{HandedOver, HandedPart};
-ghost use Rattle.tm_base.specs.Outside.{Rose};
+ghost use Rattle.tm_base.specs.Calls.{taker_call};
 ghost use Rattle.tm_viterbi.specs.WindowBlock.{WindowBlock};
 ghost use Rattle.tm_viterbi.specs.Settings.{Settings};
 ghost use Rattle.tm_viterbi.specs.Blocks.{AreBlocksOf};
 ghost use Rattle.tm_viterbi.specs.Due.{AreDue, AreFirst};
-ghost use Rattle.tm_viterbi.specs.Decoding.{StandsFor};
+ghost use Rattle.tm_viterbi.specs.Decoding.{Calls, StandsFor};
 
 use crate::block::{BlockTaker, Start};
 use crate::stream::Stream;
@@ -85,8 +85,8 @@ impl Decoder {
     ///
     /// The octets given in all are to be below 2^60.
     pub fn feed<B: BlockTaker>(&mut self, piece: &[u8], blocks: &mut B) -> Result<(), FeedError>
-        ensures stopped { IsErrOf result FeedError.Stopped ↔ IsTrue self.old.has_stopped }
-        ensures unchanged { IsErrOf result FeedError.Stopped → (self.new ≡ self.old) × (blocks.new ≡ blocks.old) }
+        ensures call { Calls self.old self.new
+            (taker_call B.took B.broke B.faults B.is_last blocks.old blocks.new) result }
         ensures stops { IsTrue self.new.has_stopped ↔ OnOk result ⊥ }
         ensures settings { self.new.settings ≡ self.old.settings }
         ensures handed { OnOk result ((more : List WindowBlock) × HandedOver B.took blocks.old more blocks.new
@@ -94,9 +94,6 @@ impl Decoder {
             → StandsFor self.new (given ++ piece.now) (done ++ more) × AreDue self.old.settings (given ++ piece.now) (done ++ more))) }
         ensures front { IsErrOf result FeedError.Taker → (tried : List WindowBlock) × HandedPart B.took B.broke blocks.old tried blocks.new
             × ((given : List ℕ) (done : List WindowBlock) → StandsFor self.old given done → AreFirst self.old.settings (given ++ piece.now) (done ++ tried)) }
-        ensures later { B.faults blocks.old ≤ B.faults blocks.new }
-        ensures rose { IsErrOf result FeedError.Taker → Rose (B.faults blocks.old) (B.faults blocks.new) (B.is_last blocks.new) }
-        ensures same { result ≢ Err FeedError.Taker → B.faults blocks.new ≡ B.faults blocks.old }
     {
         if self.has_stopped {
             return Err(FeedError::Stopped);
@@ -120,8 +117,8 @@ impl Decoder {
     /// `Taker` comes where `blocks` fails. `Stopped` comes where an earlier call answered `Taker` or `finish` was called;
     /// nothing is handed over then.
     pub fn finish<B: BlockTaker>(&mut self, blocks: &mut B) -> Result<u8, FeedError>
-        ensures stopped { IsErrOf result FeedError.Stopped ↔ IsTrue self.old.has_stopped }
-        ensures unchanged { IsErrOf result FeedError.Stopped → (self.new ≡ self.old) × (blocks.new ≡ blocks.old) }
+        ensures call { Calls self.old self.new
+            (taker_call B.took B.broke B.faults B.is_last blocks.old blocks.new) result }
         ensures stops { self.new.has_stopped ≡ true }
         ensures settings { self.new.settings ≡ self.old.settings }
         ensures handed { IfOk result (λ left. (last : List WindowBlock) × HandedOver B.took blocks.old last blocks.new
@@ -129,9 +126,6 @@ impl Decoder {
         ensures front { IsErrOf result FeedError.Taker → (last : WindowBlock) × B.broke blocks.old last blocks.new
             × ((given : List ℕ) (done : List WindowBlock) → StandsFor self.old given done → (left : ℕ) × AreBlocksOf self.old.settings given (done ++ last ∷ []) left) }
         ensures left { IfOk result (λ left. left ≤ 1) }
-        ensures later { B.faults blocks.old ≤ B.faults blocks.new }
-        ensures rose { IsErrOf result FeedError.Taker → Rose (B.faults blocks.old) (B.faults blocks.new) (B.is_last blocks.new) }
-        ensures same { result ≢ Err FeedError.Taker → B.faults blocks.new ≡ B.faults blocks.old }
     {
         if self.has_stopped {
             return Err(FeedError::Stopped);

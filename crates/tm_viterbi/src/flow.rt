@@ -4,15 +4,15 @@ ghost use Rattle.tm_conv.specs.Path.{steps_size};
 ghost use Rattle.tm_viterbi.specs.Starts.{starts_from};
 
 use crate::filling::{BestPath, Window};
-use crate::tail::Tail;
 use std::alloc::{AllocError, Global};
+use tm_base::Held;
 use tm_conv::{Rate, steps_len};
 
 /// A window, and the octets behind its kept steps.
 #[derive(Drop)]
 pub(crate) struct Flow {
     pub(crate) window: Window,
-    tail: Tail,
+    tail: Held,
     ghost tail_len: { length tail.octets ≡ steps_size window.rate (window.t + window.keep) (window.filled - window.keep) },
     ghost tail_room: { 2 * window.ahead ≤ tail.room },
 }
@@ -37,7 +37,7 @@ impl Flow {
         ensures began { IfOk result (λ f. (f.window.rate ≡ rate) × (f.window.invert ≡ invert) × (f.window.keep ≡ keep) × (f.window.ahead ≡ ahead) × (f.window.starts ≡ starts) × (f.window.t ≡ 0) × (f.window.filled ≡ 0)) }
     {
         let window = Window::new(alloc, rate, invert, keep, ahead, starts)?;
-        let tail = Tail::new(alloc, 2 * (ahead + 1))?;
+        let tail = Held::open(alloc, 2 * (ahead + 1))?;
         Ok(Flow { window, tail })
     }
 

@@ -18,13 +18,12 @@ mod narrow_sums;
 mod passes;
 mod stream;
 mod sums;
-mod tail;
 mod traceback;
 mod whole;
 mod window;
 mod window_decoder;
 
-pub use block::{Block, BlockTaker, Start};
+pub use block::{Block, BlockTaker, Start, first_start};
 pub use clean_laws::{clean_blocks_law, closed_windows_law, turned_blocks_law};
 pub use columns::plain_column;
 pub use decoder::{Decoder, FeedError};

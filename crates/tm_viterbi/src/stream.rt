@@ -7,12 +7,12 @@ ghost use Rattle.tm_conv.specs.Path.{period, step_size, steps_size};
 ghost use Rattle.tm_viterbi.specs.Starts.{starts_from, first_start};
 ghost use Rattle.tm_viterbi.specs.WindowBlock.{WindowBlock};
 
-use crate::block::{Block, BlockTaker, Start};
+use crate::block::{Block, BlockTaker, Start, first_start};
 use crate::filling::BestPath;
 use crate::flow::Flow;
 use std::alloc::{AllocError, Global};
-use tm_base::Failed;
-use tm_conv::{Rate, step_len};
+use tm_base::{Failed, zeros};
+use tm_conv::{Rate, period, step_len};
 
 /// The window that is being filled, and the octet that waits for the rest of its step.
 #[derive(Drop)]
@@ -26,34 +26,14 @@ pub(crate) struct Stream {
     ghost sizes: { (64 ≤ flow.window.keep) × (flow.window.keep + flow.window.ahead ≤ 69632) },
 }
 
-pub(crate) fn first_start(start: Start) -> Option<u8>
-    ensures { result ≡ first_start start }
-{
-    match start {
-        Start::Zero => Some(0),
-        Start::Any => None,
-    }
-}
-
-fn zeros(alloc: Global, count: usize) -> Result<Vec<u8>, AllocError>
-    ensures { IfOk result (λ v. vec_len v ≡ count) }
-{
-    vec![in alloc; 0u8; count]
-}
-
 // How many steps the pattern of a rate has. They send one symbol more, wherever they begin.
+#[inline(always)]
 fn period_len(rate: Rate) -> usize
     ensures period { result ≡ period rate }
     ensures some { 0 < result }
     ensures small { result ≤ 7 }
 {
-    match rate {
-        Rate::R12 => 1,
-        Rate::R23 => 2,
-        Rate::R34 => 3,
-        Rate::R56 => 5,
-        Rate::R78 => 7,
-    }
+    usize::from(period(rate))
 }
 
 // How many whole steps the next octets have from step t on, at most `limit`, and how many octets these steps take.

@@ -11,10 +11,10 @@ ghost use Rattle.tm_viterbi.specs.Settings.{Settings};
 ghost use Rattle.tm_viterbi.specs.Blocks.{AreBlocksOf};
 ghost use Rattle.tm_viterbi.specs.Due.{AreFirst};
 
-use crate::block::{BlockTaker, Start};
+use crate::block::{BlockTaker, Start, first_start};
 use crate::decoder::Decoder;
 use crate::passes::run;
-use crate::stream::{first_start, whole_steps};
+use crate::stream::whole_steps;
 use crate::window::{first_sums, least_register};
 use std::alloc::Global;
 use thiserror::Error;

@@ -85,7 +85,7 @@ returns c =
     let soft = c.args.soft.now in
     let s = c.least_register.result in
     let starts = starts_from c.first_start.result in
-    let some = some_start c.first_start.result (subst (λ (o : Option ℕ). ForSome o (λ register. register < 64)) (sym c.first_start.ensures) (register_small c.args.start)) in
+    let some = some_start c.first_start.result (subst (λ (o : Option ℕ). ForSome o (λ register. register < 64)) (sym c.first_start.ensures.value) (register_small c.args.start)) in
     let bytes : All (λ y. y < 256) soft = All-from_get_or (λ y. y < 256) soft 0 (λ j lt. omega (arith, c.type_inv.soft j)) in
     let size : length soft ≡ steps_size c.args.rate 0 c.loop-at.done = omega (arith, i.place, i.within, c.loop-at-test.false) in
     let best = subst (λ (v : List ℕ). AreBest (total_of c.args.rate c.args.invert 0 c.first_sums-sums.result v) c.loop-at.done c.loop-at.sums i.best.0)
@@ -94,4 +94,4 @@ returns c =
     c.first_sums-sums.ensures some.0 some.1 some.2 size bytes (omega (arith, size, i.few, steps_size-most c.args.rate 0 c.loop-at.done)) best c.least_register.ensures in
     let first = start_of i.best.0 s in
     let bits = reverse (past_of i.best.0 s) in
-    (first, bits, subst (λ (o : Option ℕ). IsBest (starts_from o) c.args.rate c.args.invert 0 soft first bits) c.first_start.ensures h.0, c.from.ensures ∙ h.1)
+    (first, bits, subst (λ (o : Option ℕ). IsBest (starts_from o) c.args.rate c.args.invert 0 soft first bits) c.first_start.ensures.value h.0, c.from.ensures ∙ h.1)

@@ -1,16 +1,7 @@
 use Rattle.std.proofs.Common.{ap, length, length-drop, arith, min, ◌∙◌, ◌≡◌, ◌+◌, ◌-◌}
 use Rattle.tm_conv.specs.Path.{steps_size}
-use Rattle.tm_viterbi.proofs.Tails.{tail_is, cut_fits, tail_size_turned}
+use Rattle.tm_viterbi.proofs.Tails.{tail_is, tail_size_turned}
 use Rattle.tm_viterbi.proofs.flow.Flow.turn.Goals as goal
-
-pub drop_front-requires : goal.drop_front-requires
-drop_front-requires c =
-    let w = c.args.self.now.window in
-    let v = c.take_steps.new.self in
-    let len = tail_is w.rate v.rate w.t v.t w.filled w.keep w.ahead (length c.args.self.now.tail.octets)
-    (c.take_steps.ensures.same.0 ∙ c.begin.ensures.same.0) (c.take_steps.ensures.same.5 ∙ c.begin.ensures.place.0) c.requires.full c.args.self.now.tail_len in
-    let least : c.min.result ≡ min w.ahead v.keep = omega (arith, c.min.ensures, c.begin.ensures.same.3) in
-    cut_fits v.rate v.t v.keep w.ahead c.min.result c.steps_len-size.result _ len least c.steps_len-size.ensures
 
 pub invariant_of-self : goal.invariant_of-self
 invariant_of-self c =
