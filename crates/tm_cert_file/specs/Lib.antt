@@ -5,6 +5,5 @@ pub mod Seen
 pub mod File
 pub mod Shown
 pub mod Passes
-pub mod HeldOctets
 pub mod Certifying
 pub mod Reading

@@ -5,13 +5,12 @@ ghost use Rattle.tm_conv.specs.Path.{steps_size};
 ghost use Rattle.tm_viterbi.specs.Starts.{first_start};
 ghost use Rattle.tm_cert_file.specs.Certifying.{Fits, WroteBlock, WroteBlockFront, with_octets};
 
-use crate::held::Held;
 use crate::writing::write_window;
 use std::alloc::Global;
 use std::marker::Model;
-use tm_base::{Failed, NoMemory, Sink};
+use tm_base::{Failed, Held, NoMemory, Sink};
 use tm_conv::{Rate, symbols_of};
-use tm_viterbi::{Block, BlockTaker, Start};
+use tm_viterbi::{Block, BlockTaker, Start, first_start};
 
 /// The most octets that are given at a time.
 pub const PIECE: usize = 256;
@@ -22,16 +21,6 @@ pub(crate) fn span(rate: Rate, t: u64, steps: u64) -> usize
     ensures { result ≡ steps_size rate t steps }
 {
     (symbols_of(rate, t + steps) - symbols_of(rate, t)) as usize
-}
-
-// The register of the first window's start set, or None for any.
-fn first_start(start: Start) -> Option<u8>
-    ensures { result ≡ first_start start }
-{
-    match start {
-        Start::Zero => Some(0),
-        Start::Any => None,
-    }
 }
 
 /// What is kept to write the certificate of the blocks of soft octets: the octets of the window that is being decoded, and where it

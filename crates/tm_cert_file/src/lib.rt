@@ -4,7 +4,6 @@
 #![tactic(auto)]
 
 mod certifying;
-mod held;
 mod judging;
 mod laws;
 mod numbers;

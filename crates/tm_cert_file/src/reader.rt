@@ -9,7 +9,6 @@ ghost use Rattle.tm_cert_file.specs.File.{is_cut, kept_octets};
 ghost use Rattle.tm_cert_file.specs.Reading.{IsOpen, HasPassed, StandsFor};
 
 use crate::certifying::span;
-use crate::held::Held;
 use crate::judging::{
     are_bits, has_shape, is_joined, next_after, register_after, seen_by, verdict_on,
 };
@@ -17,7 +16,7 @@ use crate::numbers::{COLUMN, HEADER, read_u32, read_u64};
 use crate::seen::{Next, Reason, Seen};
 use std::alloc::Global;
 use std::marker::Model;
-use tm_base::NoMemory;
+use tm_base::{Held, NoMemory};
 use tm_conv::Rate;
 use tm_path_cert::Starts;
 
