@@ -17,7 +17,8 @@ use Rattle.tm_viterbi.proofs.HasBlocks.{HasBest}
 use Rattle.tm_windows.specs.Candidates.{ClosedWith, place_behind}
 use Rattle.tm_windows.specs.Gathered.{settings_of, room_of, HasRoom, IsOpen, Reaches}
 use Rattle.tm_windows.specs.declared.gathering.Gathering.{Gathering}
-use Rattle.tm_windows.proofs.Endings.{all_blocks, one_block}
+use Rattle.tm_viterbi.proofs.WholeBlocks.{all_blocks}
+use Rattle.tm_windows.proofs.Endings.{one_block}
 use Rattle.tm_windows.proofs.Existing.{has_windows}
 use Rattle.tm_windows.proofs.Runs.{more_times}
 

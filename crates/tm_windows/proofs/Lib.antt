@@ -2,4 +2,3 @@ mod Runs
 mod Endings
 mod Existing
 pub mod Gatherings
-mod Fronts

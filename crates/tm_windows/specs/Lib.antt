@@ -1,5 +1,5 @@
 pub mod Candidates
+pub mod ClosedRun
 pub mod Sharing
-pub mod HeldOctets
 pub mod Gathered
 pub mod ParallelDecoding

@@ -2,6 +2,7 @@
 ghost use Rattle.std.specs.Prelude.{◌≡◌, IfOk, vec_len};
 
 use std::alloc::{AllocError, Global};
+use tm_base::zeros;
 use tm_viterbi::BestPath;
 
 /// The best path of a window from the registers that were taken to be its start set.
@@ -10,12 +11,6 @@ pub(crate) struct Candidate {
     pub(crate) starts: Option<u8>,
     pub(crate) path: BestPath,
     pub(crate) bits: Vec<u8>,
-}
-
-fn zeros(alloc: Global, count: usize) -> Result<Vec<u8>, AllocError>
-    ensures { IfOk result (λ v. vec_len v ≡ count) }
-{
-    vec![in alloc; 0u8; count]
 }
 
 impl Candidate {

@@ -1,49 +1,43 @@
-// How windows are closed: side by side, by many workers, or one behind another, with no thread.
-ghost use Rattle.std.specs.Prelude.{◌≡◌, ◌+◌, ◌*◌, ◌^◌, ◌<◌, ◌≤◌, IfOk, OnErr, List, length};
+// How windows are decoded that close: side by side, by many workers, or one behind another, with no thread.
+ghost use Rattle.std.specs.Prelude.{◌≡◌, ◌+◌, ◌*◌, ◌^◌, ◌<◌, ◌≤◌, ℕ, length};
+ghost use Rattle.std.specs.List.{All};
 ghost use Rattle.std.specs.Option.{ForSome};
-ghost use Rattle.tm_base.specs.Outside.{HasCause};
-ghost use Rattle.tm_base.specs.Takers.{HandedOver, HandedPart};
 ghost use Rattle.tm_conv.specs.Path.{steps_size};
-ghost use Rattle.tm_viterbi.specs.WindowBlock.{WindowBlock};
-ghost use Rattle.tm_viterbi.specs.Due.{Place};
-ghost use Rattle.tm_windows.specs.Candidates.{ClosedWith, place_behind};
+ghost use Rattle.tm_windows.specs.Candidates.{AreCandidates, HaveRoom};
 
-use crate::window_workers::WindowWorkers;
+use crate::candidate::Candidate;
+use crate::decoding::decode_run;
+use crate::sharing::decode_evenly;
 use std::thread::Threads;
-use tm_base::Failed;
-use tm_viterbi::BlockTaker;
+use tm_viterbi::{WindowDecoder, WindowShape};
 
-pub(crate) trait Closing<B: BlockTaker> {
-    /// Whether windows can be closed in this way.
-    ghost is_ready: { Self → Type 0 };
+pub(crate) trait Closing {
+    /// Whether windows of so many octets can be decoded in this way.
+    ghost is_ready: { Self → ℕ → Type 0 };
 
-    /// Closes the next `count` windows, as `WindowWorkers::close` does.
-    fn close(
+    /// Decodes a window for each candidate: the first from step t on and from these registers, and each other one from
+    /// the register behind the one before it, or from a guess of it.
+    fn decode(
         &self,
-        workers: &mut WindowWorkers,
+        shape: WindowShape,
+        decoders: &mut [WindowDecoder],
+        candidates: &mut [Candidate],
         starts: Option<u8>,
         t: u64,
         octets: &[u8],
-        count: usize,
-        blocks: &mut B,
-    ) -> Result<Option<u8>, Failed>
-        requires ready { is_ready self.now }
-        requires most { count ≤ workers.old.most }
+    )
+        requires ready { is_ready self.now (length octets.now) }
+        requires some { (0 < length decoders.old) × (length decoders.old ≤ 64) }
+        requires shape { All (λ d. d ≡ shape) decoders.old }
+        requires bits { HaveRoom (shape.keep + shape.ahead) candidates.old }
+        requires most { length candidates.old ≤ 2 ^ 32 }
         requires start { ForSome starts (λ register. register < 64) }
-        requires room { steps_size workers.old.shape.rate t
-            (count * workers.old.shape.keep + workers.old.shape.ahead + 1)
+        requires room { steps_size shape.rate t (length candidates.old * shape.keep + shape.ahead + 1)
             ≤ length octets.now }
-        requires long { length octets.now ≤ 2 ^ 62 }
-        requires few { t + count * workers.old.shape.keep < 2 ^ 61 }
-        ensures ok { IfOk result (λ next. (more : List WindowBlock) × HandedOver B.took blocks.old more blocks.new
-            × ClosedWith workers.old.shape (record { starts = starts; t = t; octets = octets.now }) more
-            (place_behind workers.old.shape t octets.now count next)) }
-        ensures small { IfOk result (λ next. ForSome next (λ register. register < 64)) }
-        ensures err { OnErr result ((tried : List WindowBlock) × HandedPart B.took B.broke blocks.old tried blocks.new
-            × (to : Place) × ClosedWith workers.old.shape
-            (record { starts = starts; t = t; octets = octets.now }) tried to) }
-        ensures cause { HasCause (B.faults blocks.old) (B.faults blocks.new) (B.is_last blocks.new) result }
-        ensures same { workers.new ≡ workers.old };
+        requires few { t + length candidates.old * shape.keep < 2 ^ 61 }
+        ensures candidates { AreCandidates shape t octets.now 0 (length candidates.old) candidates.new }
+        ensures bits { HaveRoom (shape.keep + shape.ahead) candidates.new }
+        ensures shape { All (λ d. d ≡ shape) decoders.new };
 }
 
 /// By all workers.
@@ -52,21 +46,31 @@ pub(crate) struct SideBySide<'a, R: Threads + Sync> {
     pub(crate) rt: &'a R,
 }
 
-impl<'a, R: Threads + Sync, B: BlockTaker> Closing<B> for SideBySide<'a, R> {
+impl<'a, R: Threads + Sync> Closing for SideBySide<'a, R> {
+    ghost use Rattle.std.specs.Prelude.{◌≤◌, ◌^◌};
     ghost use Rattle.std.specs.Thread.{IsSync};
 
-    ghost is_ready = { λ by. IsSync R.row };
+    ghost is_ready = { λ by count. IsSync R.row × (count ≤ 2 ^ 62) };
 
-    fn close(
+    fn decode(
         &self,
-        workers: &mut WindowWorkers,
+        shape: WindowShape,
+        decoders: &mut [WindowDecoder],
+        candidates: &mut [Candidate],
         starts: Option<u8>,
         t: u64,
         octets: &[u8],
-        count: usize,
-        blocks: &mut B,
-    ) -> Result<Option<u8>, Failed> {
-        workers.close(self.rt, starts, t, octets, count, blocks)
+    ) {
+        decode_evenly(
+            self.rt,
+            shape,
+            decoders,
+            Some(starts),
+            t,
+            octets,
+            0,
+            candidates,
+        );
     }
 }
 
@@ -74,18 +78,18 @@ impl<'a, R: Threads + Sync, B: BlockTaker> Closing<B> for SideBySide<'a, R> {
 #[derive(Drop)]
 pub(crate) struct OneByOne;
 
-impl<B: BlockTaker> Closing<B> for OneByOne {
-    ghost is_ready = { λ by. Unit {0} };
+impl Closing for OneByOne {
+    ghost is_ready = { λ by count. Unit {0} };
 
-    fn close(
+    fn decode(
         &self,
-        workers: &mut WindowWorkers,
+        shape: WindowShape,
+        decoders: &mut [WindowDecoder],
+        candidates: &mut [Candidate],
         starts: Option<u8>,
         t: u64,
         octets: &[u8],
-        count: usize,
-        blocks: &mut B,
-    ) -> Result<Option<u8>, Failed> {
-        workers.close_alone(starts, t, octets, count, blocks)
+    ) {
+        decode_run(&mut decoders[0], shape, candidates, starts, t, octets);
     }
 }

@@ -8,12 +8,11 @@ ghost use Rattle.tm_viterbi.specs.Starts.{first_start};
 ghost use Rattle.tm_viterbi.specs.WindowBlock.{WindowBlock};
 
 use crate::closing::Closing;
-use crate::held::Held;
 use crate::window_workers::WindowWorkers;
 use std::alloc::Global;
-use tm_base::{Failed, NoMemory};
+use tm_base::{Failed, Held, NoMemory};
 use tm_conv::{Rate, best_path_law, steps_len};
-use tm_viterbi::{BlockTaker, Start, WindowShape};
+use tm_viterbi::{BlockTaker, Start, WindowShape, first_start};
 
 /// A stream whose windows before step `t` are closed, and the octets from there on.
 #[derive(Drop)]
@@ -31,16 +30,6 @@ pub(crate) struct Gathering {
     ghost some: { (0 < most) × (most ≤ 2 ^ 17) },
     ghost register: { ForSome starts (λ register. register < 64) },
     ghost room: { (2 * (most * shape.keep + shape.ahead + 1) ≤ held.room) × (held.room ≤ 2 ^ 40) },
-}
-
-fn first_start(start: Start) -> Option<u8>
-    ensures value { result ≡ first_start start }
-    ensures small { ForSome result (λ register. register < 64) }
-{
-    match start {
-        Start::Zero => Some(0),
-        Start::Any => None,
-    }
 }
 
 // How many whole steps so many octets have from step t on, at most `limit`.
@@ -141,12 +130,12 @@ impl Gathering {
     }
 
     // Hands over the blocks of the windows that the octets held close. Where the taker fails no octet is held any more.
-    fn close<C: Closing<B>, B: BlockTaker>(
+    fn close<C: Closing, B: BlockTaker>(
         &mut self,
         closing: &C,
         blocks: &mut B,
     ) -> Result<(), Failed>
-        requires ready { C.is_ready closing.now }
+        requires ready { (count : ℕ) → count ≤ 2 ^ 62 → C.is_ready closing.now count }
         requires room { HasRoom self.old }
         requires few { self.old.t < 2 ^ 60 }
         ensures ok { OnOk result ((more : List WindowBlock) × HandedOver B.took blocks.old more blocks.new
@@ -165,14 +154,10 @@ impl Gathering {
         if count == 0 {
             return Ok(());
         }
-        match closing.close(
-            &mut self.workers,
-            self.starts,
-            self.t,
-            octets,
-            count,
-            blocks,
-        ) {
+        match self
+            .workers
+            .close_by(closing, self.starts, self.t, octets, count, blocks)
+        {
             Ok(next) => {
                 let steps = count * self.shape.keep;
                 self.held
@@ -190,13 +175,13 @@ impl Gathering {
 
     // Takes the next octets of a piece, until a batch of windows is closed, and hands over the blocks. Answers how many
     // octets these are.
-    fn take_next<C: Closing<B>, B: BlockTaker>(
+    fn take_next<C: Closing, B: BlockTaker>(
         &mut self,
         closing: &C,
         rest: &[u8],
         blocks: &mut B,
     ) -> Result<usize, Failed>
-        requires ready { C.is_ready closing.now }
+        requires ready { (count : ℕ) → count ≤ 2 ^ 62 → C.is_ready closing.now count }
         requires room { HasRoom self.old }
         requires few { self.old.t < 2 ^ 60 }
         ensures ok { IfOk result (λ n. (n ≤ length rest.now) × (more : List WindowBlock)
@@ -221,13 +206,13 @@ impl Gathering {
     }
 
     /// Takes a piece, and hands over the blocks of the windows that are closed by it and the octets before it.
-    pub(crate) fn take<C: Closing<B>, B: BlockTaker>(
+    pub(crate) fn take<C: Closing, B: BlockTaker>(
         &mut self,
         closing: &C,
         piece: &[u8],
         blocks: &mut B,
     ) -> Result<(), Failed>
-        requires ready { C.is_ready closing.now }
+        requires ready { (count : ℕ) → count ≤ 2 ^ 62 → C.is_ready closing.now count }
         requires room { HasRoom self.old }
         requires few { reached self.old + length piece.now < 2 ^ 60 }
         ensures ok { OnOk result ((more : List WindowBlock) × HandedOver B.took blocks.old more blocks.new
@@ -287,12 +272,12 @@ impl Gathering {
 
     /// Hands over the blocks of the windows that the octets held close, and that of the last window, where a step is
     /// left for it. Answers how many octets are left over.
-    pub(crate) fn end<C: Closing<B>, B: BlockTaker>(
+    pub(crate) fn end<C: Closing, B: BlockTaker>(
         &mut self,
         closing: &C,
         blocks: &mut B,
     ) -> Result<u8, Failed>
-        requires ready { C.is_ready closing.now }
+        requires ready { (count : ℕ) → count ≤ 2 ^ 62 → C.is_ready closing.now count }
         requires room { HasRoom self.old }
         requires few { self.old.t + length self.old.held.octets < 2 ^ 60 }
         ensures ok { IfOk result (λ left. (last : List WindowBlock) × HandedOver B.took blocks.old last blocks.new

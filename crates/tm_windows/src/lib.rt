@@ -8,7 +8,6 @@ mod closing;
 mod decoding;
 mod gathering;
 mod guessing;
-mod held;
 mod parallel_decoder;
 mod settling;
 mod sharing;

@@ -1,6 +1,6 @@
 // The decoder of a stream, with workers.
-ghost use Rattle.std.specs.Prelude.{◌≡◌, ◌≢◌, ◌↔◌, ◌++◌, ◌⊎◌, ℕ, ◌+◌, ◌*◌, ◌^◌, ◌<◌, ◌≤◌, IsTrue, List, [], true, false, IfOk, OnOk, IsErrOf, Err, length};
-ghost use Rattle.tm_base.specs.Outside.{Rose};
+ghost use Rattle.std.specs.Prelude.{◌≡◌, ◌↔◌, ◌++◌, ◌⊎◌, ℕ, ◌+◌, ◌*◌, ◌^◌, ◌<◌, ◌≤◌, IsTrue, List, [], true, false, IfOk, OnOk, IsErrOf, length};
+ghost use Rattle.tm_base.specs.Calls.{taker_call};
 ghost use Rattle.tm_base.specs.Takers.{HandedOver, HandedPart};
 ghost use Rattle.tm_viterbi.specs.WindowBlock.{WindowBlock};
 ghost use Rattle.tm_viterbi.specs.Settings.{Settings};
@@ -8,7 +8,7 @@ ghost use Rattle.tm_viterbi.specs.Blocks.{AreBlocksOf};
 ghost use Rattle.tm_viterbi.specs.Due.{AreDue, AreFirst};
 ghost use Rattle.tm_windows.specs.Gathered.{IsOpen, room_of};
 ghost use Rattle.tm_windows.specs.Sharing.{workers_for, windows_for};
-ghost use Rattle.tm_windows.specs.ParallelDecoding.{StandsFor};
+ghost use Rattle.tm_windows.specs.ParallelDecoding.{Calls, Feeds, Finishes, StandsFor};
 
 use crate::closing::{Closing, OneByOne, SideBySide};
 use crate::gathering::Gathering;
@@ -150,24 +150,8 @@ impl ParallelDecoder {
         piece: &[u8],
         blocks: &mut B,
     ) -> Result<(), FeedError>
-        ensures stopped { IsErrOf result FeedError.Stopped ↔ IsTrue self.old.has_stopped }
-        ensures unchanged { IsErrOf result FeedError.Stopped → (self.new ≡ self.old) × (blocks.new ≡ blocks.old) }
-        ensures stops { IsTrue self.new.has_stopped ↔ OnOk result ⊥ }
-        ensures settings { self.new.settings ≡ self.old.settings }
-        ensures handed { OnOk result ((more : List WindowBlock) × HandedOver B.took blocks.old more blocks.new
-            × ((given : List ℕ) (done : List WindowBlock) → length given + length piece.now < 2 ^ 60
-            → StandsFor self.old given done
-            → StandsFor self.new (given ++ piece.now) (done ++ more)
-            × AreDue self.old.settings (given ++ piece.now) (done ++ more))) }
-        ensures is_open { OnOk result (IsOpen self.new.gathering) }
-        ensures front { IsErrOf result FeedError.Taker → (tried : List WindowBlock)
-            × HandedPart B.took B.broke blocks.old tried blocks.new
-            × ((given : List ℕ) (done : List WindowBlock) → StandsFor self.old given done
-            → AreFirst self.old.settings (given ++ piece.now) (done ++ tried)) }
-        ensures later { B.faults blocks.old ≤ B.faults blocks.new }
-        ensures rose { IsErrOf result FeedError.Taker
-            → Rose (B.faults blocks.old) (B.faults blocks.new) (B.is_last blocks.new) }
-        ensures same { result ≢ Err FeedError.Taker → B.faults blocks.new ≡ B.faults blocks.old }
+        ensures { Feeds self.old self.new piece.now
+            (taker_call B.took B.broke B.faults B.is_last blocks.old blocks.new) result }
     {
         self.feed_by(&SideBySide { rt }, piece, blocks)
     }
@@ -178,37 +162,21 @@ impl ParallelDecoder {
         piece: &[u8],
         blocks: &mut B,
     ) -> Result<(), FeedError>
-        ensures stopped { IsErrOf result FeedError.Stopped ↔ IsTrue self.old.has_stopped }
-        ensures unchanged { IsErrOf result FeedError.Stopped → (self.new ≡ self.old) × (blocks.new ≡ blocks.old) }
-        ensures stops { IsTrue self.new.has_stopped ↔ OnOk result ⊥ }
-        ensures settings { self.new.settings ≡ self.old.settings }
-        ensures handed { OnOk result ((more : List WindowBlock) × HandedOver B.took blocks.old more blocks.new
-            × ((given : List ℕ) (done : List WindowBlock) → length given + length piece.now < 2 ^ 60
-            → StandsFor self.old given done
-            → StandsFor self.new (given ++ piece.now) (done ++ more)
-            × AreDue self.old.settings (given ++ piece.now) (done ++ more))) }
-        ensures is_open { OnOk result (IsOpen self.new.gathering) }
-        ensures front { IsErrOf result FeedError.Taker → (tried : List WindowBlock)
-            × HandedPart B.took B.broke blocks.old tried blocks.new
-            × ((given : List ℕ) (done : List WindowBlock) → StandsFor self.old given done
-            → AreFirst self.old.settings (given ++ piece.now) (done ++ tried)) }
-        ensures later { B.faults blocks.old ≤ B.faults blocks.new }
-        ensures rose { IsErrOf result FeedError.Taker
-            → Rose (B.faults blocks.old) (B.faults blocks.new) (B.is_last blocks.new) }
-        ensures same { result ≢ Err FeedError.Taker → B.faults blocks.new ≡ B.faults blocks.old }
+        ensures { Feeds self.old self.new piece.now
+            (taker_call B.took B.broke B.faults B.is_last blocks.old blocks.new) result }
     {
         self.feed_by(&OneByOne, piece, blocks)
     }
 
-    fn feed_by<C: Closing<B>, B: BlockTaker>(
+    fn feed_by<C: Closing, B: BlockTaker>(
         &mut self,
         closing: &C,
         piece: &[u8],
         blocks: &mut B,
     ) -> Result<(), FeedError>
-        requires ready { C.is_ready closing.now }
-        ensures stopped { IsErrOf result FeedError.Stopped ↔ IsTrue self.old.has_stopped }
-        ensures unchanged { IsErrOf result FeedError.Stopped → (self.new ≡ self.old) × (blocks.new ≡ blocks.old) }
+        requires ready { (count : ℕ) → count ≤ 2 ^ 62 → C.is_ready closing.now count }
+        ensures call { Calls self.old self.new
+            (taker_call B.took B.broke B.faults B.is_last blocks.old blocks.new) result }
         ensures stops { IsTrue self.new.has_stopped ↔ OnOk result ⊥ }
         ensures settings { self.new.settings ≡ self.old.settings }
         ensures handed { OnOk result ((more : List WindowBlock) × HandedOver B.took blocks.old more blocks.new
@@ -221,10 +189,6 @@ impl ParallelDecoder {
             × HandedPart B.took B.broke blocks.old tried blocks.new
             × ((given : List ℕ) (done : List WindowBlock) → StandsFor self.old given done
             → AreFirst self.old.settings (given ++ piece.now) (done ++ tried)) }
-        ensures later { B.faults blocks.old ≤ B.faults blocks.new }
-        ensures rose { IsErrOf result FeedError.Taker
-            → Rose (B.faults blocks.old) (B.faults blocks.new) (B.is_last blocks.new) }
-        ensures same { result ≢ Err FeedError.Taker → B.faults blocks.new ≡ B.faults blocks.old }
     {
         if self.has_stopped {
             return Err(FeedError::Stopped);
@@ -283,58 +247,28 @@ impl ParallelDecoder {
         rt: &R,
         blocks: &mut B,
     ) -> Result<u8, FeedError>
-        ensures stopped { IsErrOf result FeedError.Stopped ↔ IsTrue self.old.has_stopped }
-        ensures unchanged { IsErrOf result FeedError.Stopped → (self.new ≡ self.old) × (blocks.new ≡ blocks.old) }
-        ensures stops { self.new.has_stopped ≡ true }
-        ensures settings { self.new.settings ≡ self.old.settings }
-        ensures handed { IfOk result (λ left. (last : List WindowBlock) × HandedOver B.took blocks.old last blocks.new
-            × ((given : List ℕ) (done : List WindowBlock) → StandsFor self.old given done
-            → AreBlocksOf self.old.settings given (done ++ last) left)) }
-        ensures front { IsErrOf result FeedError.Taker → (tried : List WindowBlock)
-            × HandedPart B.took B.broke blocks.old tried blocks.new
-            × ((given : List ℕ) (done : List WindowBlock) → StandsFor self.old given done
-            → AreFirst self.old.settings given (done ++ tried) ⊎ ((left : ℕ)
-            × AreBlocksOf self.old.settings given (done ++ tried) left)) }
-        ensures left { IfOk result (λ left. left ≤ 1) }
-        ensures later { B.faults blocks.old ≤ B.faults blocks.new }
-        ensures rose { IsErrOf result FeedError.Taker
-            → Rose (B.faults blocks.old) (B.faults blocks.new) (B.is_last blocks.new) }
-        ensures same { result ≢ Err FeedError.Taker → B.faults blocks.new ≡ B.faults blocks.old }
+        ensures { Finishes self.old self.new
+            (taker_call B.took B.broke B.faults B.is_last blocks.old blocks.new) result }
     {
         self.finish_by(&SideBySide { rt }, blocks)
     }
 
     /// Does what `finish` does, but decodes the windows one behind another, with no thread.
     pub fn finish_alone<B: BlockTaker>(&mut self, blocks: &mut B) -> Result<u8, FeedError>
-        ensures stopped { IsErrOf result FeedError.Stopped ↔ IsTrue self.old.has_stopped }
-        ensures unchanged { IsErrOf result FeedError.Stopped → (self.new ≡ self.old) × (blocks.new ≡ blocks.old) }
-        ensures stops { self.new.has_stopped ≡ true }
-        ensures settings { self.new.settings ≡ self.old.settings }
-        ensures handed { IfOk result (λ left. (last : List WindowBlock) × HandedOver B.took blocks.old last blocks.new
-            × ((given : List ℕ) (done : List WindowBlock) → StandsFor self.old given done
-            → AreBlocksOf self.old.settings given (done ++ last) left)) }
-        ensures front { IsErrOf result FeedError.Taker → (tried : List WindowBlock)
-            × HandedPart B.took B.broke blocks.old tried blocks.new
-            × ((given : List ℕ) (done : List WindowBlock) → StandsFor self.old given done
-            → AreFirst self.old.settings given (done ++ tried) ⊎ ((left : ℕ)
-            × AreBlocksOf self.old.settings given (done ++ tried) left)) }
-        ensures left { IfOk result (λ left. left ≤ 1) }
-        ensures later { B.faults blocks.old ≤ B.faults blocks.new }
-        ensures rose { IsErrOf result FeedError.Taker
-            → Rose (B.faults blocks.old) (B.faults blocks.new) (B.is_last blocks.new) }
-        ensures same { result ≢ Err FeedError.Taker → B.faults blocks.new ≡ B.faults blocks.old }
+        ensures { Finishes self.old self.new
+            (taker_call B.took B.broke B.faults B.is_last blocks.old blocks.new) result }
     {
         self.finish_by(&OneByOne, blocks)
     }
 
-    fn finish_by<C: Closing<B>, B: BlockTaker>(
+    fn finish_by<C: Closing, B: BlockTaker>(
         &mut self,
         closing: &C,
         blocks: &mut B,
     ) -> Result<u8, FeedError>
-        requires ready { C.is_ready closing.now }
-        ensures stopped { IsErrOf result FeedError.Stopped ↔ IsTrue self.old.has_stopped }
-        ensures unchanged { IsErrOf result FeedError.Stopped → (self.new ≡ self.old) × (blocks.new ≡ blocks.old) }
+        requires ready { (count : ℕ) → count ≤ 2 ^ 62 → C.is_ready closing.now count }
+        ensures call { Calls self.old self.new
+            (taker_call B.took B.broke B.faults B.is_last blocks.old blocks.new) result }
         ensures stops { self.new.has_stopped ≡ true }
         ensures settings { self.new.settings ≡ self.old.settings }
         ensures handed { IfOk result (λ left. (last : List WindowBlock) × HandedOver B.took blocks.old last blocks.new
@@ -346,10 +280,6 @@ impl ParallelDecoder {
             → AreFirst self.old.settings given (done ++ tried) ⊎ ((left : ℕ)
             × AreBlocksOf self.old.settings given (done ++ tried) left)) }
         ensures left { IfOk result (λ left. left ≤ 1) }
-        ensures later { B.faults blocks.old ≤ B.faults blocks.new }
-        ensures rose { IsErrOf result FeedError.Taker
-            → Rose (B.faults blocks.old) (B.faults blocks.new) (B.is_last blocks.new) }
-        ensures same { result ≢ Err FeedError.Taker → B.faults blocks.new ≡ B.faults blocks.old }
     {
         if self.has_stopped {
             return Err(FeedError::Stopped);

@@ -1,19 +1,18 @@
 // Workers, with all that they need, that close several windows side by side.
-ghost use Rattle.std.specs.Prelude.{◌≡◌, ◌+◌, ◌*◌, ◌^◌, ◌<◌, ◌≤◌, IfOk, OnErr, OnOk, List, length, vec_len};
+ghost use Rattle.std.specs.Prelude.{◌≡◌, ◌+◌, ◌*◌, ◌^◌, ◌<◌, ◌≤◌, IfOk, OnErr, OnOk, length, vec_len};
 ghost use Rattle.std.specs.List.{All};
 ghost use Rattle.std.specs.Option.{ForSome};
+ghost use Rattle.tm_base.specs.Calls.{taker_call};
 ghost use Rattle.tm_base.specs.Outside.{HasCause};
-ghost use Rattle.tm_base.specs.Takers.{HandedOver, HandedPart};
 ghost use Rattle.tm_conv.specs.Path.{steps_size};
 ghost use Rattle.tm_viterbi.specs.WindowBlock.{WindowBlock};
 ghost use Rattle.tm_viterbi.specs.Blocks.{IsBlock};
-ghost use Rattle.tm_viterbi.specs.Due.{Place};
-ghost use Rattle.tm_windows.specs.Candidates.{ClosedWith, HaveRoom, place_behind};
+ghost use Rattle.tm_windows.specs.Candidates.{HaveRoom};
+ghost use Rattle.tm_windows.specs.ClosedRun.{CanClose, ClosedRun};
 
 use crate::candidate::Candidate;
-use crate::decoding::decode_run;
+use crate::closing::{Closing, OneByOne, SideBySide};
 use crate::settling::{hand_last, settle_run};
-use crate::sharing::decode_evenly;
 use std::alloc::{AllocError, Global};
 use std::marker::Model;
 use std::thread::Threads;
@@ -75,8 +74,8 @@ fn new_candidates(alloc: Global, steps: usize, count: usize) -> Result<Vec<Candi
 }
 
 // Closes the next `count` windows and hands over their blocks.
-fn close_run<R: Threads + Sync, B: BlockTaker>(
-    rt: &R,
+fn close_run<C: Closing, B: BlockTaker>(
+    by: &C,
     shape: WindowShape,
     decoders: &mut [WindowDecoder],
     candidates: &mut [Candidate],
@@ -87,68 +86,22 @@ fn close_run<R: Threads + Sync, B: BlockTaker>(
     blocks: &mut B,
 ) -> Result<Option<u8>, Failed>
     requires some { (0 < length decoders.old) × (length decoders.old ≤ 64) }
+    requires ready { C.is_ready by.now (length octets.now) }
     requires shape { All (λ d. d ≡ shape) decoders.old }
     requires small { shape.keep + shape.ahead ≤ 69632 }
-    requires most { count ≤ length candidates.old }
+    requires most { (count ≤ length candidates.old) × (length candidates.old ≤ 2 ^ 32) }
     requires bits { HaveRoom (shape.keep + shape.ahead) candidates.old }
-    requires long { (length candidates.old ≤ 2 ^ 32) × (length octets.now ≤ 2 ^ 62) }
     requires start { ForSome starts (λ register. register < 64) }
     requires room { steps_size shape.rate t (count * shape.keep + shape.ahead + 1) ≤ length octets.now }
     requires few { t + count * shape.keep < 2 ^ 61 }
-    ensures ok { IfOk result (λ next. (more : List WindowBlock) × HandedOver B.took blocks.old more blocks.new
-        × ClosedWith shape (record { starts = starts; t = t; octets = octets.now }) more
-        (place_behind shape t octets.now count next)) }
-    ensures small { IfOk result (λ next. ForSome next (λ register. register < 64)) }
-    ensures err { OnErr result ((tried : List WindowBlock) × HandedPart B.took B.broke blocks.old tried blocks.new
-        × (to : Place) × ClosedWith shape (record { starts = starts; t = t; octets = octets.now }) tried to) }
-    ensures cause { HasCause (B.faults blocks.old) (B.faults blocks.new) (B.is_last blocks.new) result }
+    ensures closed { ClosedRun shape starts t octets.now count
+        (taker_call B.took B.broke B.faults B.is_last blocks.old blocks.new) result }
     ensures bits { HaveRoom (shape.keep + shape.ahead) candidates.new }
     ensures shape { All (λ d. d ≡ shape) decoders.new }
 {
-    let (candidates, _) = candidates.split_at_mut(count);
-    decode_evenly(rt, shape, decoders, Some(starts), t, octets, 0, candidates);
-    settle_run(
-        candidates,
-        &mut decoders[0],
-        shape,
-        starts,
-        t,
-        octets,
-        blocks,
-    )
-}
-
-// The same with no thread, by one decoder.
-fn close_run_alone<B: BlockTaker>(
-    shape: WindowShape,
-    decoder: &mut WindowDecoder,
-    candidates: &mut [Candidate],
-    starts: Option<u8>,
-    t: u64,
-    octets: &[u8],
-    count: usize,
-    blocks: &mut B,
-) -> Result<Option<u8>, Failed>
-    requires shape { decoder.old ≡ shape }
-    requires small { shape.keep + shape.ahead ≤ 69632 }
-    requires most { count ≤ length candidates.old }
-    requires bits { HaveRoom (shape.keep + shape.ahead) candidates.old }
-    requires start { ForSome starts (λ register. register < 64) }
-    requires room { steps_size shape.rate t (count * shape.keep + shape.ahead + 1) ≤ length octets.now }
-    requires few { t + count * shape.keep < 2 ^ 61 }
-    ensures ok { IfOk result (λ next. (more : List WindowBlock) × HandedOver B.took blocks.old more blocks.new
-        × ClosedWith shape (record { starts = starts; t = t; octets = octets.now }) more
-        (place_behind shape t octets.now count next)) }
-    ensures small { IfOk result (λ next. ForSome next (λ register. register < 64)) }
-    ensures err { OnErr result ((tried : List WindowBlock) × HandedPart B.took B.broke blocks.old tried blocks.new
-        × (to : Place) × ClosedWith shape (record { starts = starts; t = t; octets = octets.now }) tried to) }
-    ensures cause { HasCause (B.faults blocks.old) (B.faults blocks.new) (B.is_last blocks.new) result }
-    ensures bits { HaveRoom (shape.keep + shape.ahead) candidates.new }
-    ensures same { decoder.new ≡ shape }
-{
     let (run, _) = candidates.split_at_mut(count);
-    decode_run(decoder, shape, run, starts, t, octets);
-    settle_run(run, decoder, shape, starts, t, octets, blocks)
+    by.decode(shape, decoders, run, starts, t, octets);
+    settle_run(run, &mut decoders[0], shape, starts, t, octets, blocks)
 }
 
 impl WindowWorkers {
@@ -193,27 +146,13 @@ impl WindowWorkers {
         count: usize,
         blocks: &mut B,
     ) -> Result<Option<u8>, Failed>
-        requires most { count ≤ self.old.most }
-        requires start { ForSome starts (λ register. register < 64) }
-        requires room { steps_size self.old.shape.rate t
-            (count * self.old.shape.keep + self.old.shape.ahead + 1) ≤ length octets.now }
         requires long { length octets.now ≤ 2 ^ 62 }
-        requires few { t + count * self.old.shape.keep < 2 ^ 61 }
-        ensures ok { IfOk result (λ next. (more : List WindowBlock) × HandedOver B.took blocks.old more blocks.new
-            × ClosedWith self.old.shape (record { starts = starts; t = t; octets = octets.now }) more
-            (place_behind self.old.shape t octets.now count next)) }
-        ensures small { IfOk result (λ next. ForSome next (λ register. register < 64)) }
-        ensures err { OnErr result ((tried : List WindowBlock) × HandedPart B.took B.broke blocks.old tried blocks.new
-            × (to : Place) × ClosedWith self.old.shape
-            (record { starts = starts; t = t; octets = octets.now }) tried to) }
-        ensures cause { HasCause (B.faults blocks.old) (B.faults blocks.new) (B.is_last blocks.new) result }
+        requires closes { CanClose self.old starts t octets.now count }
+        ensures closed { ClosedRun self.old.shape starts t octets.now count
+            (taker_call B.took B.broke B.faults B.is_last blocks.old blocks.new) result }
         ensures same { self.new ≡ self.old }
     {
-        let decoders = self.decoders.as_mut_slice();
-        let candidates = self.candidates.as_mut_slice();
-        close_run(
-            rt, self.shape, decoders, candidates, starts, t, octets, count, blocks,
-        )
+        self.close_by(&SideBySide { rt }, starts, t, octets, count, blocks)
     }
 
     /// Closes the next `count` windows as `close` does, but one behind another, with no thread.
@@ -225,32 +164,34 @@ impl WindowWorkers {
         count: usize,
         blocks: &mut B,
     ) -> Result<Option<u8>, Failed>
-        requires most { count ≤ self.old.most }
-        requires start { ForSome starts (λ register. register < 64) }
-        requires room { steps_size self.old.shape.rate t (count * self.old.shape.keep + self.old.shape.ahead + 1)
-            ≤ length octets.now }
-        requires few { t + count * self.old.shape.keep < 2 ^ 61 }
-        ensures ok { IfOk result (λ next. (more : List WindowBlock) × HandedOver B.took blocks.old more blocks.new
-            × ClosedWith self.old.shape (record { starts = starts; t = t; octets = octets.now }) more
-            (place_behind self.old.shape t octets.now count next)) }
-        ensures small { IfOk result (λ next. ForSome next (λ register. register < 64)) }
-        ensures err { OnErr result ((tried : List WindowBlock) × HandedPart B.took B.broke blocks.old tried blocks.new
-            × (to : Place) × ClosedWith self.old.shape
-            (record { starts = starts; t = t; octets = octets.now }) tried to) }
-        ensures cause { HasCause (B.faults blocks.old) (B.faults blocks.new) (B.is_last blocks.new) result }
+        requires closes { CanClose self.old starts t octets.now count }
+        ensures closed { ClosedRun self.old.shape starts t octets.now count
+            (taker_call B.took B.broke B.faults B.is_last blocks.old blocks.new) result }
+        ensures same { self.new ≡ self.old }
+    {
+        self.close_by(&OneByOne, starts, t, octets, count, blocks)
+    }
+
+    // Closes the next `count` windows in this way.
+    pub(crate) fn close_by<C: Closing, B: BlockTaker>(
+        &mut self,
+        by: &C,
+        starts: Option<u8>,
+        t: u64,
+        octets: &[u8],
+        count: usize,
+        blocks: &mut B,
+    ) -> Result<Option<u8>, Failed>
+        requires ready { C.is_ready by.now (length octets.now) }
+        requires closes { CanClose self.old starts t octets.now count }
+        ensures closed { ClosedRun self.old.shape starts t octets.now count
+            (taker_call B.took B.broke B.faults B.is_last blocks.old blocks.new) result }
         ensures same { self.new ≡ self.old }
     {
         let decoders = self.decoders.as_mut_slice();
         let candidates = self.candidates.as_mut_slice();
-        close_run_alone(
-            self.shape,
-            &mut decoders[0],
-            candidates,
-            starts,
-            t,
-            octets,
-            count,
-            blocks,
+        close_run(
+            by, self.shape, decoders, candidates, starts, t, octets, count, blocks,
         )
     }
 

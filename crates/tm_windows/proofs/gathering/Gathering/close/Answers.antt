@@ -3,26 +3,10 @@ use Rattle.tm_conv.proofs.Sizes.{steps_size-le, steps_size-least}
 use Rattle.tm_windows.proofs.Gatherings.{closed_now, tried_now, still_open}
 use Rattle.tm_windows.proofs.gathering.Gathering.close.Goals as goal
 
-pub drop_front-requires : goal.drop_front-requires
-drop_front-requires g c =
-    let s = c.args.self.now in
-    let count = c.closed_windows-count.result in
-    let same : length c.as_slice-octets.result.now ≡ length s.held.octets
-    = ap length c.as_slice-octets.ensures.octets in
-    let room = c.closed_windows-count.ensures.room (omega (arith, c.if-count-eq0.false)) in
-    omega (
-      arith,
-      same,
-      room,
-      c.steps_len.ensures,
-      steps_size-le s.shape.rate s.t (count * s.shape.keep)
-          (count * s.shape.keep + s.shape.ahead + 1) (omega arith),
-    )
-
 pub returns-in-Ok-clause-ok : goal.returns-in-Ok-clause-ok
 returns-in-Ok-clause-ok g c =
     let s = c.args.self.now in
-    let ok = c.in-Ok.ensures.ok in (
+    let ok = c.in-Ok.ensures.closed.ok in (
       ok.0,
       ok.1,
       λ all rest done r.
@@ -62,7 +46,7 @@ returns-in-Ok-clause-counted g c =
 pub returns-in-Err-clause-err : goal.returns-in-Err-clause-err
 returns-in-Err-clause-err g c =
     let s = c.args.self.now in
-    let err = c.in-Err.ensures.err in (
+    let err = c.in-Err.ensures.closed.err in (
       err.0,
       err.1,
       λ all rest done r.
