@@ -16,7 +16,8 @@ use Rattle.tm_viterbi.specs.declared.decoder.FeedError.TheVariants.{Taker, Stopp
 use Rattle.tm_inner.specs.Inner.{soft_value, soft_octets, BlocksAt, DueAt, AreInnerBlocks, AreInnerDue}
 use Rattle.tm_inner.specs.Phase.{skipped_at, phase_octets}
 use Rattle.tm_inner.specs.InnerDecoding.{StandsIn, settings_in}
-use Rattle.tm_inner.specs.Receiving.{HasClosedAll, IsDecoderOf, DecodesFor, FindsFirst, FirstAt, AreInnerFirst, Hands, HandsFront, HeldOctets, InnerReceiving, from_form, soft_form}
+use Rattle.tm_base.specs.HeldOctets.{HeldOctets}
+use Rattle.tm_inner.specs.Receiving.{HasClosedAll, IsDecoderOf, DecodesFor, FindsFirst, FirstAt, AreInnerFirst, Hands, HandsFront, InnerReceiving, from_form, soft_form}
 use Rattle.tm_inner.proofs.DueBits.{drop-split}
 use Rattle.tm_inner.proofs.DueBlocks.{due-in}
 

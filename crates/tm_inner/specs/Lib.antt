@@ -5,3 +5,4 @@ pub mod Sending
 pub mod InnerDecoding
 pub mod Receiving
 pub mod Handing
+pub mod Calls

@@ -42,11 +42,6 @@ abbrev pub FindsFirst : Option InnerDecoder → List ℕ → List WindowBlock �
 FindsFirst None soft blocks = blocks ≡ []
 FindsFirst (Some decoder) soft blocks = AreFirst (settings_in decoder) soft blocks
 
--- what contracts see of the octets that wait, and of the room for them
-pub record HeldOctets : Type 0 where
-  pub octets : List ℕ
-  pub room : ℕ
-
 -- what contracts see of a decoder behind the choice of the phase
 pub record Phasing : Type 0 where
   pub config : Configuration

@@ -1,12 +1,12 @@
 // How many bits are received.
 ghost use Rattle.std.specs.Prelude.{◌≡◌, ℕ, ◌+◌, ◌-◌, ◌^◌, ◌<◌, ◌≤◌, List, length, min};
-ghost use Rattle.tm_conv.specs.Path.{period, steps_size};
+ghost use Rattle.tm_conv.specs.Path.{steps_size};
 ghost use Rattle.tm_viterbi.specs.WindowBlock.{WindowBlock};
 ghost use Rattle.tm_inner.specs.Inner.{AreInnerBlocks, inner_bits, plain_count};
 
 use crate::code::{is_packed, rate_of};
 use tm_config::Config;
-use tm_conv::Rate;
+use tm_conv::{Rate, period};
 
 // How many bits are received with so many octets: those of the whole steps of the inner code behind the phase, or with
 // none all behind the skipped ones.
@@ -40,20 +40,6 @@ fn count_steps(rate: Rate, symbols: u64) -> u64
     ensures most { symbols < steps_size rate 0 (result + 1) }
 {
     // A step has one symbol, and the first of each period one more.
-    let period = period(rate);
+    let period = u64::from(period(rate));
     symbols / (period + 1) * period + (symbols % (period + 1)).saturating_sub(1)
-}
-
-// How many steps the puncture patterns have.
-fn period(rate: Rate) -> u64
-    ensures value { result ≡ period rate }
-    ensures small { (1 ≤ result) × (result ≤ 7) }
-{
-    match rate {
-        Rate::R12 => 1,
-        Rate::R23 => 2,
-        Rate::R34 => 3,
-        Rate::R56 => 5,
-        Rate::R78 => 7,
-    }
 }

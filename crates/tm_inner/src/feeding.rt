@@ -5,6 +5,7 @@ ghost use Rattle.tm_base.specs.Takers.{HandedOver, HandedPart};
 ghost use Rattle.tm_config.specs.Configuration.{Configuration};
 ghost use Rattle.tm_viterbi.specs.Due.{AreFirst};
 ghost use Rattle.tm_viterbi.specs.WindowBlock.{WindowBlock};
+ghost use Rattle.tm_inner.specs.Calls.{GivesSoft};
 ghost use Rattle.tm_inner.specs.Inner.{AreInnerBlocks, AreInnerDue, soft_octets};
 ghost use Rattle.tm_inner.specs.InnerDecoding.{HasClosed, HasWorkers, settings_in, has_stopped_in, StandsIn};
 ghost use Rattle.tm_inner.specs.Receiving.{AreInnerFirst, HasClosedAll, IsDecoderOf, HasStopped, DecodesFor, FindsFirst, Hands, HandsFront, from_form};
@@ -180,14 +181,9 @@ fn feed<F: Feeding<B>, B: BlockTaker>(
 ) -> Result<(), Failed>
     requires ready { F.is_ready by.now }
     requires fresh { has_stopped_in decoder.old ≡ false }
-    ensures settings { settings_in decoder.new ≡ settings_in decoder.old }
-    ensures fresh { OnOk result (has_stopped_in decoder.new ≡ false) }
-    ensures stopped { OnErr result (has_stopped_in decoder.new ≡ true) }
+    ensures gives { GivesSoft B.took B.broke B.faults B.is_last decoder.old decoder.new blocks.old blocks.new soft.now
+        result }
     ensures closed { OnOk result (HasClosed decoder.new) }
-    ensures handed { OnOk result (Hands B.took StandsIn decoder.old decoder.new blocks.old blocks.new soft.now) }
-    ensures front { OnErr result (HandsFront B.took B.broke StandsIn
-        (AreFirst (settings_in decoder.old)) decoder.old blocks.old blocks.new soft.now) }
-    ensures cause { HasCause (B.faults blocks.old) (B.faults blocks.new) (B.is_last blocks.new) result }
 {
     match by.feed(decoder, soft, blocks) {
         Ok(()) => Ok(()),
@@ -204,18 +200,13 @@ fn give<F: Feeding<B>, B: BlockTaker>(
 ) -> Result<(), Failed>
     requires ready { F.is_ready by.now }
     requires fresh { has_stopped_in decoder.old ≡ false }
-    ensures settings { settings_in decoder.new ≡ settings_in decoder.old }
-    ensures fresh { OnOk result (has_stopped_in decoder.new ≡ false) }
-    ensures stopped { OnErr result (has_stopped_in decoder.new ≡ true) }
-    ensures handed { OnOk result (Hands B.took StandsIn decoder.old decoder.new blocks.old blocks.new soft.now) }
-    ensures front { OnErr result (HandsFront B.took B.broke StandsIn
-        (AreFirst (settings_in decoder.old)) decoder.old blocks.old blocks.new soft.now) }
-    ensures cause { HasCause (B.faults blocks.old) (B.faults blocks.new) (B.is_last blocks.new) result }
+    ensures { GivesSoft B.took B.broke B.faults B.is_last decoder.old decoder.new blocks.old blocks.new soft.now
+        result }
 {
-    match by.give(decoder, soft, blocks) {
-        Ok(()) => Ok(()),
-        Err(_) => Err(Failed),
+    if gather(decoder, soft) {
+        return Ok(());
     }
+    feed(by, decoder, soft, blocks)
 }
 
 // Gives a decoder the next signed octets.
@@ -227,15 +218,9 @@ fn feed_signed<F: Feeding<B>, B: BlockTaker>(
 ) -> Result<(), Failed>
     requires ready { F.is_ready by.now }
     requires fresh { has_stopped_in decoder.old ≡ false }
-    ensures settings { settings_in decoder.new ≡ settings_in decoder.old }
-    ensures fresh { OnOk result (has_stopped_in decoder.new ≡ false) }
-    ensures stopped { OnErr result (has_stopped_in decoder.new ≡ true) }
+    ensures gives { GivesSoft B.took B.broke B.faults B.is_last decoder.old decoder.new blocks.old blocks.new
+        (from_form true octets.now) result }
     ensures closed { OnOk result (HasClosed decoder.new) }
-    ensures handed { OnOk result (Hands B.took StandsIn decoder.old decoder.new blocks.old blocks.new
-        (from_form true octets.now)) }
-    ensures front { OnErr result (HandsFront B.took B.broke StandsIn
-        (AreFirst (settings_in decoder.old)) decoder.old blocks.old blocks.new (from_form true octets.now)) }
-    ensures cause { HasCause (B.faults blocks.old) (B.faults blocks.new) (B.is_last blocks.new) result }
 {
     closed_windows_law();
     let mut room = [0; PIECE];

@@ -1,5 +1,6 @@
 // The bits of octets that hold one each.
 ghost use Rattle.std.specs.Prelude.{◌≡◌, ◌==◌, length, map};
+ghost use Rattle.tm_conv.specs.Path.{AreBits};
 ghost use Rattle.tm_inner.specs.Inner.{nearest_bit};
 
 use crate::code::is_signed;
@@ -10,6 +11,7 @@ use tm_config::Config;
 pub fn nearest_bits(config: &Config, octets: &[u8], bits: &mut [u8])
     requires { length bits.old ≡ length octets.now }
     ensures size { length bits.new ≡ length bits.old }
+    ensures are_bits { AreBits bits.new }
     ensures bits { map (λ bit. bit == 1) bits.new ≡ map (nearest_bit config.now) octets.now }
 {
     let is_signed = is_signed(config);

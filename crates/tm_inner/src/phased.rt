@@ -11,12 +11,12 @@ ghost use Rattle.tm_inner.specs.Handing.{AreHanded, AreHandedDue, AreHandedFront
 
 use crate::code::{is_inverted, is_signed, rate_of};
 use crate::feeding::{count_due, decode, decoder_of, end, gather_octets};
-use crate::held::Held;
+use crate::held::hold;
 use crate::inner_decoder::InnerDecoder;
 use crate::workers::Feeding;
 use std::alloc::Global;
 use std::marker::Model;
-use tm_base::{Failed, NoMemory};
+use tm_base::{Failed, Held, NoMemory};
 use tm_config::{Config, Sought};
 use tm_phase::{Chosen, choose, octets_needed, phase_law, whole_window_law};
 use tm_viterbi::{BlockTaker, closed_windows_law};
@@ -107,7 +107,7 @@ impl Phased {
         if !self.waits() {
             return decode(by, &mut self.decoder, signed, octets, blocks);
         }
-        let taken = self.held.fill(signed, octets);
+        let taken = hold(&mut self.held, signed, octets);
         if !self.held.is_full() {
             return Ok(());
         }

@@ -1,15 +1,17 @@
 // The receiver's first stage.
-ghost use Rattle.std.specs.Prelude.{◌≡◌, ◌≢◌, ◌↔◌, ◌++◌, ℕ, ◌+◌, ◌-◌, ◌^◌, ◌<◌, ◌≤◌, ◌==◌, IsTrue, List, [], true, false, IfOk, OnOk, IsErrOf, Err, None, length, drop, map, min, take};
+ghost use Rattle.std.specs.Prelude.{◌≡◌, ◌↔◌, ◌++◌, ℕ, ◌+◌, ◌-◌, ◌^◌, ◌<◌, ◌≤◌, ◌==◌, IsTrue, List, [], true, false, IfOk, OnOk, IsErrOf, None, length, drop, map, min, take};
 ghost use Rattle.std.specs.Option.{is_some};
+ghost use Rattle.tm_base.specs.Calls.{taker_call};
 ghost use Rattle.tm_base.specs.Handed.{Handed, Item, items_of, on_handed};
-ghost use Rattle.tm_base.specs.Outside.{Rose};
 ghost use Rattle.tm_base.specs.Takers.{HandedOver, HandedPart};
+ghost use Rattle.tm_conv.specs.Path.{AreBits};
 ghost use Rattle.tm_viterbi.specs.WindowBlock.{WindowBlock};
 ghost use Rattle.tm_viterbi.specs.Clean.{kept_bits};
 ghost use Rattle.tm_inner.specs.Inner.{inner_bits, nearest_bit, plain_bits, plain_count};
 ghost use Rattle.tm_inner.specs.Phase.{IsChosen, IsChosenSoFar, phase_octets, skipped_at};
 ghost use Rattle.tm_inner.specs.InnerDecoding.{HasWorkers};
 ghost use Rattle.tm_inner.specs.Receiving.{StandsFor};
+ghost use Rattle.tm_inner.specs.Calls.{Calls, Feeds, Finishes};
 ghost use Rattle.tm_inner.specs.Handing.{AreHanded, AreHandedDue, AreHandedFirst, AreHandedFront};
 
 use crate::code::{is_packed, is_signed, rate_of};
@@ -97,29 +99,9 @@ impl InnerReceiver {
     ///
     /// The octets given in all are to be below 2^60.
     pub fn feed<B: BlockTaker>(&mut self, octets: &[u8], blocks: &mut B) -> Result<(), FeedError>
-        ensures stopped { IsErrOf result FeedError.Stopped ↔ IsTrue self.old.has_stopped }
-        ensures unchanged { IsErrOf result FeedError.Stopped → (self.new ≡ self.old) × (blocks.new ≡ blocks.old) }
-        ensures stops { IsTrue self.new.has_stopped ↔ OnOk result ⊥ }
-        ensures config { self.new.config ≡ self.old.config }
-        ensures chosen { (given : List ℕ) (done : List (Handed WindowBlock)) → StandsFor self.old given done
-            → self.old.has_stopped ≡ false
-            → IsChosenSoFar self.old.config (given ++ octets.now) self.new.phased.chosen }
-        ensures handed { OnOk result ((more : List (Handed WindowBlock))
-            × HandedOver (on_handed B.took_phase B.took) blocks.old more blocks.new
-            × ((given : List ℕ) (done : List (Handed WindowBlock)) → length given + length octets.now < 2 ^ 60
-            → StandsFor self.old given done
-            → StandsFor self.new (given ++ octets.now) (done ++ more)
-            × AreHandedDue self.old.config (given ++ octets.now) (done ++ more))) }
-        ensures front { IsErrOf result FeedError.Taker
-            → (tried : List (Handed WindowBlock))
-            × HandedPart (on_handed B.took_phase B.took) (on_handed B.broke_phase B.broke) blocks.old tried blocks.new
-            × ((given : List ℕ) (done : List (Handed WindowBlock)) → length given + length octets.now < 2 ^ 60
-            → StandsFor self.old given done
-            → AreHandedFirst self.old.config (given ++ octets.now) (done ++ tried)) }
-        ensures later { B.faults blocks.old ≤ B.faults blocks.new }
-        ensures rose { IsErrOf result FeedError.Taker
-            → Rose (B.faults blocks.old) (B.faults blocks.new) (B.is_last blocks.new) }
-        ensures same { result ≢ Err FeedError.Taker → B.faults blocks.new ≡ B.faults blocks.old }
+        ensures { Feeds self.old self.new octets.now
+            (taker_call (on_handed B.took_phase B.took) (on_handed B.broke_phase B.broke) B.faults B.is_last
+            blocks.old blocks.new) result }
     {
         self.feed_by(&Alone, octets, blocks)
     }
@@ -131,29 +113,9 @@ impl InnerReceiver {
         octets: &[u8],
         blocks: &mut B,
     ) -> Result<(), FeedError>
-        ensures stopped { IsErrOf result FeedError.Stopped ↔ IsTrue self.old.has_stopped }
-        ensures unchanged { IsErrOf result FeedError.Stopped → (self.new ≡ self.old) × (blocks.new ≡ blocks.old) }
-        ensures stops { IsTrue self.new.has_stopped ↔ OnOk result ⊥ }
-        ensures config { self.new.config ≡ self.old.config }
-        ensures chosen { (given : List ℕ) (done : List (Handed WindowBlock)) → StandsFor self.old given done
-            → self.old.has_stopped ≡ false
-            → IsChosenSoFar self.old.config (given ++ octets.now) self.new.phased.chosen }
-        ensures handed { OnOk result ((more : List (Handed WindowBlock))
-            × HandedOver (on_handed B.took_phase B.took) blocks.old more blocks.new
-            × ((given : List ℕ) (done : List (Handed WindowBlock)) → length given + length octets.now < 2 ^ 60
-            → StandsFor self.old given done
-            → StandsFor self.new (given ++ octets.now) (done ++ more)
-            × AreHandedDue self.old.config (given ++ octets.now) (done ++ more))) }
-        ensures front { IsErrOf result FeedError.Taker
-            → (tried : List (Handed WindowBlock))
-            × HandedPart (on_handed B.took_phase B.took) (on_handed B.broke_phase B.broke) blocks.old tried blocks.new
-            × ((given : List ℕ) (done : List (Handed WindowBlock)) → length given + length octets.now < 2 ^ 60
-            → StandsFor self.old given done
-            → AreHandedFirst self.old.config (given ++ octets.now) (done ++ tried)) }
-        ensures later { B.faults blocks.old ≤ B.faults blocks.new }
-        ensures rose { IsErrOf result FeedError.Taker
-            → Rose (B.faults blocks.old) (B.faults blocks.new) (B.is_last blocks.new) }
-        ensures same { result ≢ Err FeedError.Taker → B.faults blocks.new ≡ B.faults blocks.old }
+        ensures { Feeds self.old self.new octets.now
+            (taker_call (on_handed B.took_phase B.took) (on_handed B.broke_phase B.broke) B.faults B.is_last
+            blocks.old blocks.new) result }
     {
         self.feed_by(&WithWorkers { rt }, octets, blocks)
     }
@@ -165,8 +127,9 @@ impl InnerReceiver {
         blocks: &mut B,
     ) -> Result<(), FeedError>
         requires ready { F.is_ready by.now }
-        ensures stopped { IsErrOf result FeedError.Stopped ↔ IsTrue self.old.has_stopped }
-        ensures unchanged { IsErrOf result FeedError.Stopped → (self.new ≡ self.old) × (blocks.new ≡ blocks.old) }
+        ensures call { Calls self.old self.new
+            (taker_call (on_handed B.took_phase B.took) (on_handed B.broke_phase B.broke) B.faults B.is_last
+            blocks.old blocks.new) result }
         ensures stops { IsTrue self.new.has_stopped ↔ OnOk result ⊥ }
         ensures config { self.new.config ≡ self.old.config }
         ensures chosen { (given : List ℕ) (done : List (Handed WindowBlock)) → StandsFor self.old given done
@@ -184,10 +147,6 @@ impl InnerReceiver {
             × ((given : List ℕ) (done : List (Handed WindowBlock)) → length given + length octets.now < 2 ^ 60
             → StandsFor self.old given done
             → AreHandedFirst self.old.config (given ++ octets.now) (done ++ tried)) }
-        ensures later { B.faults blocks.old ≤ B.faults blocks.new }
-        ensures rose { IsErrOf result FeedError.Taker
-            → Rose (B.faults blocks.old) (B.faults blocks.new) (B.is_last blocks.new) }
-        ensures same { result ≢ Err FeedError.Taker → B.faults blocks.new ≡ B.faults blocks.old }
     {
         if self.has_stopped {
             return Err(FeedError::Stopped);
@@ -250,28 +209,9 @@ impl InnerReceiver {
     /// `Taker` comes where `blocks` fails; a front of all was then handed over. `Stopped` comes where an earlier call
     /// answered `Taker` or `finish` was called; nothing is handed over then.
     pub fn finish<B: BlockTaker>(&mut self, blocks: &mut B) -> Result<InnerEnd, FeedError>
-        ensures stopped { IsErrOf result FeedError.Stopped ↔ IsTrue self.old.has_stopped }
-        ensures unchanged { IsErrOf result FeedError.Stopped → (self.new ≡ self.old) × (blocks.new ≡ blocks.old) }
-        ensures stops { self.new.has_stopped ≡ true }
-        ensures config { self.new.config ≡ self.old.config }
-        ensures chosen { (given : List ℕ) (done : List (Handed WindowBlock)) → StandsFor self.old given done
-            → self.old.has_stopped ≡ false
-            → IsChosen self.old.config given self.new.phased.chosen }
-        ensures handed { IfOk result (λ end. (last : List (Handed WindowBlock))
-            × HandedOver (on_handed B.took_phase B.took) blocks.old last blocks.new
-            × ((given : List ℕ) (done : List (Handed WindowBlock)) → StandsFor self.old given done
-            → AreHanded self.old.config given (done ++ last) end.leftover
-            × (end.bits ≡ length (inner_bits self.old.config given (items_of (done ++ last)))))) }
-        ensures front { IsErrOf result FeedError.Taker
-            → (tried : List (Handed WindowBlock))
-            × HandedPart (on_handed B.took_phase B.took) (on_handed B.broke_phase B.broke) blocks.old tried blocks.new
-            × ((given : List ℕ) (done : List (Handed WindowBlock)) → StandsFor self.old given done
-            → AreHandedFront self.old.config given (done ++ tried)) }
-        ensures left { IfOk result (λ end. end.leftover ≤ 1) }
-        ensures later { B.faults blocks.old ≤ B.faults blocks.new }
-        ensures rose { IsErrOf result FeedError.Taker
-            → Rose (B.faults blocks.old) (B.faults blocks.new) (B.is_last blocks.new) }
-        ensures same { result ≢ Err FeedError.Taker → B.faults blocks.new ≡ B.faults blocks.old }
+        ensures { Finishes self.old self.new
+            (taker_call (on_handed B.took_phase B.took) (on_handed B.broke_phase B.broke) B.faults B.is_last
+            blocks.old blocks.new) result }
     {
         self.finish_by(&Alone, blocks)
     }
@@ -282,28 +222,9 @@ impl InnerReceiver {
         rt: &R,
         blocks: &mut B,
     ) -> Result<InnerEnd, FeedError>
-        ensures stopped { IsErrOf result FeedError.Stopped ↔ IsTrue self.old.has_stopped }
-        ensures unchanged { IsErrOf result FeedError.Stopped → (self.new ≡ self.old) × (blocks.new ≡ blocks.old) }
-        ensures stops { self.new.has_stopped ≡ true }
-        ensures config { self.new.config ≡ self.old.config }
-        ensures chosen { (given : List ℕ) (done : List (Handed WindowBlock)) → StandsFor self.old given done
-            → self.old.has_stopped ≡ false
-            → IsChosen self.old.config given self.new.phased.chosen }
-        ensures handed { IfOk result (λ end. (last : List (Handed WindowBlock))
-            × HandedOver (on_handed B.took_phase B.took) blocks.old last blocks.new
-            × ((given : List ℕ) (done : List (Handed WindowBlock)) → StandsFor self.old given done
-            → AreHanded self.old.config given (done ++ last) end.leftover
-            × (end.bits ≡ length (inner_bits self.old.config given (items_of (done ++ last)))))) }
-        ensures front { IsErrOf result FeedError.Taker
-            → (tried : List (Handed WindowBlock))
-            × HandedPart (on_handed B.took_phase B.took) (on_handed B.broke_phase B.broke) blocks.old tried blocks.new
-            × ((given : List ℕ) (done : List (Handed WindowBlock)) → StandsFor self.old given done
-            → AreHandedFront self.old.config given (done ++ tried)) }
-        ensures left { IfOk result (λ end. end.leftover ≤ 1) }
-        ensures later { B.faults blocks.old ≤ B.faults blocks.new }
-        ensures rose { IsErrOf result FeedError.Taker
-            → Rose (B.faults blocks.old) (B.faults blocks.new) (B.is_last blocks.new) }
-        ensures same { result ≢ Err FeedError.Taker → B.faults blocks.new ≡ B.faults blocks.old }
+        ensures { Finishes self.old self.new
+            (taker_call (on_handed B.took_phase B.took) (on_handed B.broke_phase B.broke) B.faults B.is_last
+            blocks.old blocks.new) result }
     {
         self.finish_by(&WithWorkers { rt }, blocks)
     }
@@ -314,8 +235,9 @@ impl InnerReceiver {
         blocks: &mut B,
     ) -> Result<InnerEnd, FeedError>
         requires ready { F.is_ready by.now }
-        ensures stopped { IsErrOf result FeedError.Stopped ↔ IsTrue self.old.has_stopped }
-        ensures unchanged { IsErrOf result FeedError.Stopped → (self.new ≡ self.old) × (blocks.new ≡ blocks.old) }
+        ensures call { Calls self.old self.new
+            (taker_call (on_handed B.took_phase B.took) (on_handed B.broke_phase B.broke) B.faults B.is_last
+            blocks.old blocks.new) result }
         ensures stops { self.new.has_stopped ≡ true }
         ensures config { self.new.config ≡ self.old.config }
         ensures chosen { (given : List ℕ) (done : List (Handed WindowBlock)) → StandsFor self.old given done
@@ -332,10 +254,6 @@ impl InnerReceiver {
             × ((given : List ℕ) (done : List (Handed WindowBlock)) → StandsFor self.old given done
             → AreHandedFront self.old.config given (done ++ tried)) }
         ensures left { IfOk result (λ end. end.leftover ≤ 1) }
-        ensures later { B.faults blocks.old ≤ B.faults blocks.new }
-        ensures rose { IsErrOf result FeedError.Taker
-            → Rose (B.faults blocks.old) (B.faults blocks.new) (B.is_last blocks.new) }
-        ensures same { result ≢ Err FeedError.Taker → B.faults blocks.new ≡ B.faults blocks.old }
     {
         if self.has_stopped {
             return Err(FeedError::Stopped);
@@ -393,6 +311,7 @@ impl InnerReceiver {
     pub fn nearest_bits(&self, octets: &[u8], bits: &mut [u8])
         requires { length bits.old ≡ length octets.now }
         ensures size { length bits.new ≡ length bits.old }
+        ensures are_bits { AreBits bits.new }
         ensures bits { map (λ bit. bit == 1) bits.new ≡ map (nearest_bit self.now.config) octets.now }
     {
         nearest_bits(&self.config, octets, bits);

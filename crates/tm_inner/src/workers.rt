@@ -39,29 +39,6 @@ pub trait Feeding<B: BlockTaker> {
             → Rose (B.faults blocks.old) (B.faults blocks.new) (B.is_last blocks.new) }
         ensures same { result ≢ Err FeedError.Taker → B.faults blocks.new ≡ B.faults blocks.old };
 
-    /// The same, but the windows that are closed may wait for the next call.
-    fn give(
-        &self,
-        decoder: &mut InnerDecoder,
-        piece: &[u8],
-        blocks: &mut B,
-    ) -> Result<(), FeedError>
-        requires ready { is_ready self.now }
-        ensures stopped { IsErrOf result FeedError.Stopped ↔ IsTrue (has_stopped_in decoder.old) }
-        ensures stops { IsTrue (has_stopped_in decoder.new) ↔ OnOk result ⊥ }
-        ensures settings { settings_in decoder.new ≡ settings_in decoder.old }
-        ensures handed { OnOk result ((more : List WindowBlock) × HandedOver B.took blocks.old more blocks.new
-            × ((given : List ℕ) (done : List WindowBlock) → length given + length piece.now < 2 ^ 60
-            → StandsIn decoder.old given done → StandsIn decoder.new (given ++ piece.now) (done ++ more))) }
-        ensures front { IsErrOf result FeedError.Taker → (tried : List WindowBlock)
-            × HandedPart B.took B.broke blocks.old tried blocks.new
-            × ((given : List ℕ) (done : List WindowBlock) → StandsIn decoder.old given done
-            → AreFirst (settings_in decoder.old) (given ++ piece.now) (done ++ tried)) }
-        ensures later { B.faults blocks.old ≤ B.faults blocks.new }
-        ensures rose { IsErrOf result FeedError.Taker
-            → Rose (B.faults blocks.old) (B.faults blocks.new) (B.is_last blocks.new) }
-        ensures same { result ≢ Err FeedError.Taker → B.faults blocks.new ≡ B.faults blocks.old };
-
     /// Ends a decoder, as its own `finish` does.
     fn finish(&self, decoder: &mut InnerDecoder, blocks: &mut B) -> Result<u8, FeedError>
         requires ready { is_ready self.now }
@@ -88,7 +65,6 @@ pub fn gather(decoder: &mut InnerDecoder, piece: &[u8]) -> bool
     ensures unchanged { result ≡ false → decoder.new ≡ decoder.old }
     ensures settings { (settings_in decoder.new ≡ settings_in decoder.old)
         × (has_stopped_in decoder.new ≡ has_stopped_in decoder.old) }
-    ensures fresh { IsTrue result → has_stopped_in decoder.old ≡ false }
     ensures gathered { IsTrue result → (given : List ℕ) (done : List WindowBlock) → StandsIn decoder.old given done
         → StandsIn decoder.new (given ++ piece.now) done }
 {
@@ -132,18 +108,6 @@ impl<'a, R: Threads + Sync, B: BlockTaker> Feeding<B> for WithWorkers<'a, R> {
         }
     }
 
-    fn give(
-        &self,
-        decoder: &mut InnerDecoder,
-        piece: &[u8],
-        blocks: &mut B,
-    ) -> Result<(), FeedError> {
-        if gather(decoder, piece) {
-            return Ok(());
-        }
-        self.feed(decoder, piece, blocks)
-    }
-
     fn finish(&self, decoder: &mut InnerDecoder, blocks: &mut B) -> Result<u8, FeedError> {
         match decoder {
             InnerDecoder::One(decoder) => decoder.finish(blocks),
@@ -169,15 +133,6 @@ impl<B: BlockTaker> Feeding<B> for Alone {
             InnerDecoder::One(decoder) => decoder.feed(piece, blocks),
             InnerDecoder::Many(decoder) => decoder.feed_alone(piece, blocks),
         }
-    }
-
-    fn give(
-        &self,
-        decoder: &mut InnerDecoder,
-        piece: &[u8],
-        blocks: &mut B,
-    ) -> Result<(), FeedError> {
-        self.feed(decoder, piece, blocks)
     }
 
     fn finish(&self, decoder: &mut InnerDecoder, blocks: &mut B) -> Result<u8, FeedError> {

@@ -1,6 +1,14 @@
+use Rattle.std.proofs.Common.{rules}
 use Rattle.tm_inner.proofs.feeding.feed.Goals as goal
 
-pub returns-in-Ok-clause-handed : goal.returns-in-Ok-clause-handed
-returns-in-Ok-clause-handed g c =
+pub returns-in-Ok-clause-gives : goal.returns-in-Ok-clause-gives
+returns-in-Ok-clause-gives g c =
     let ok = c.in-Ok.ensures.handed in
-    record { more = ok.0; handed = ok.1; stands = ok.2 }
+    record {
+      settings = c.feed.ensures.settings;
+      fresh = search rules;
+      stopped = search rules;
+      handed = record { more = ok.0; handed = ok.1; stands = ok.2 };
+      front = search rules;
+      cause = search rules;
+    }

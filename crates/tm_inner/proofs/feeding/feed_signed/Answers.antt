@@ -1,6 +1,7 @@
-use Rattle.std.proofs.Common.{◌≤◌, ◌++◌, [], ◌≡◌, ◌+◌, ◌-◌, ◌%◌, ◌∙◌, List, ℕ, true, take, drop, length, arith, refl, ap, subst, length-append, length-drop, length-take}
+use Rattle.std.proofs.Common.{◌≤◌, ◌++◌, [], ◌≡◌, ◌+◌, ◌-◌, ◌%◌, ◌∙◌, List, ℕ, true, take, drop, length, arith, refl, ap, rules, subst, length-append, length-drop, length-take}
 use Rattle.std.proofs.lemmas.List.{append-nil, length-map, take_all}
 use Rattle.std.proofs.lemmas.Result.{on_ok_weaker, on_err_weaker}
+use Rattle.tm_base.specs.Outside.{HasCause, Rose}
 use Rattle.tm_viterbi.specs.Settings.{Settings}
 use Rattle.tm_viterbi.specs.WindowBlock.{WindowBlock}
 use Rattle.tm_viterbi.specs.Due.{AreFirst}
@@ -42,55 +43,65 @@ loop-done-preserved g c =
           (from_form true (take at octets)) (from_form true (take size (drop at octets))) i.handed one);
     }
 
-pub returns-in-Err-clause-front : goal.returns-in-Err-clause-front
-returns-in-Err-clause-front g c =
+pub returns-in-Err-clause-gives : goal.returns-in-Err-clause-gives
+returns-in-Err-clause-gives g c =
     let i = c.loop-done.invariant in
     let at = c.loop-done.done in
     let end = at + c.min.result in
     let octets = c.args.octets.now in
     let piece = take (end - at) (drop at octets) in
-    let took = g.B.BlockTaker.took in
-    let broke = g.B.BlockTaker.broke in
+    let t = g.B.BlockTaker in
     let before = c.args.decoder.now in
     let First : List ℕ → List WindowBlock → Type 0 = AreFirst (settings_in before) in
     let soft : c.turn.new.octets ≡ from_form true piece = c.turn.ensures ∙ ap (from_form true) c.copy_from_slice.ensures.after in
     let one =
-    subst (λ (s : Settings). HandsFront took broke StandsIn (AreFirst s) c.loop-done.decoder c.loop-done.blocks c.give.new.blocks (from_form true piece)) i.settings
-    (subst (HandsFront took broke StandsIn (AreFirst (settings_in c.loop-done.decoder)) c.loop-done.decoder c.loop-done.blocks c.give.new.blocks) soft c.in-Err.ensures.front) in
-    let whole = HandsFront took broke StandsIn First before c.args.blocks.now c.give.new.blocks in
-    subst whole (form-split true end octets)
-    (hands-longer took broke StandsIn First before c.args.blocks.now c.give.new.blocks (from_form true (take end octets)) (from_form true (drop end octets)) (c.closed_windows_law.ensures (settings_in before))
-    (subst whole (form-joined true at c.min.result octets)
-    (hands-front took broke StandsIn First before c.loop-done.decoder c.args.blocks.now c.loop-done.blocks c.give.new.blocks (from_form true (take at octets)) (from_form true piece) i.handed one)))
+    subst (λ (s : Settings). HandsFront t.took t.broke StandsIn (AreFirst s) c.loop-done.decoder c.loop-done.blocks c.give.new.blocks (from_form true piece)) i.settings
+    (subst (HandsFront t.took t.broke StandsIn (AreFirst (settings_in c.loop-done.decoder)) c.loop-done.decoder c.loop-done.blocks c.give.new.blocks) soft c.in-Err.ensures.front) in
+    let whole = HandsFront t.took t.broke StandsIn First before c.args.blocks.now c.give.new.blocks in
+    record {
+      settings = c.give.ensures.settings ∙ i.settings;
+      fresh = search rules;
+      stopped = c.in-Err.ensures.stopped;
+      handed = search rules;
+      front = subst whole (form-split true end octets)
+          (hands-longer t.took t.broke StandsIn First before c.args.blocks.now c.give.new.blocks (from_form true (take end octets)) (from_form true (drop end octets)) (c.closed_windows_law.ensures (settings_in before))
+          (subst whole (form-joined true at c.min.result octets)
+          (hands-front t.took t.broke StandsIn First before c.loop-done.decoder c.args.blocks.now c.loop-done.blocks c.give.new.blocks (from_form true (take at octets)) (from_form true piece) i.handed one)));
+      cause = record {
+        later = subst (λ (n : ℕ). n ≤ t.faults c.give.new.blocks) i.faults c.in-Err.ensures.cause.later;
+        failed = subst (λ (n : ℕ). Rose n (t.faults c.give.new.blocks) (t.is_last c.give.new.blocks)) i.faults c.in-Err.ensures.cause.failed;
+        same = search rules;
+      };
+    }
 
 -- all octets were taken
 all-taken : (done : ℕ) (octets : List ℕ) → length octets ≤ done → from_form true (take done octets) ++ [] ≡ from_form true octets
 all-taken done octets le = append-nil (from_form true (take done octets)) ∙ ap (from_form true) (take_all done octets le)
 
-pub returns-clause-handed : goal.returns-clause-handed
-returns-clause-handed g c =
+pub returns-clause-gives : goal.returns-clause-gives
+returns-clause-gives g c =
     let l = c.loop-done in
+    let i = l.invariant in
     let octets = c.args.octets.now in
     let before = c.args.decoder.now in
     let start = c.args.blocks.now in
-    let took = g.B.BlockTaker.took in
-    let whole : List ℕ → Type 0 = Hands took StandsIn before c.feed.new.decoder start c.feed.new.blocks in
-    on_ok_weaker c.feed.result
-    (λ p. subst whole (all-taken l.done octets c.loop-done-test.false)
-    (hands-more took StandsIn before l.decoder c.feed.new.decoder start l.blocks c.feed.new.blocks (from_form true (take l.done octets)) [] l.invariant.handed p))
-    c.feed.ensures.handed
-
-pub returns-clause-front : goal.returns-clause-front
-returns-clause-front g c =
-    let l = c.loop-done in
-    let octets = c.args.octets.now in
-    let before = c.args.decoder.now in
-    let start = c.args.blocks.now in
-    let took = g.B.BlockTaker.took in
-    let broke = g.B.BlockTaker.broke in
+    let now = c.feed.new.blocks in
+    let t = g.B.BlockTaker in
     let First : List ℕ → List WindowBlock → Type 0 = AreFirst (settings_in before) in
-    on_err_weaker c.feed.result
-    (λ p. subst (HandsFront took broke StandsIn First before start c.feed.new.blocks) (all-taken l.done octets c.loop-done-test.false)
-    (hands-front took broke StandsIn First before l.decoder start l.blocks c.feed.new.blocks (from_form true (take l.done octets)) [] l.invariant.handed
-    (subst (λ (s : Settings). HandsFront took broke StandsIn (AreFirst s) l.decoder l.blocks c.feed.new.blocks []) l.invariant.settings p)))
-    c.feed.ensures.front
+    let fed = c.feed.ensures.gives in
+    let all = all-taken l.done octets c.loop-done-test.false in
+    record {
+      settings = fed.settings ∙ i.settings;
+      fresh = fed.fresh;
+      stopped = fed.stopped;
+      handed = on_ok_weaker c.feed.result
+          (λ p. subst (Hands t.took StandsIn before c.feed.new.decoder start now) all
+          (hands-more t.took StandsIn before l.decoder c.feed.new.decoder start l.blocks now (from_form true (take l.done octets)) [] i.handed p))
+          fed.handed;
+      front = on_err_weaker c.feed.result
+          (λ p. subst (HandsFront t.took t.broke StandsIn First before start now) all
+          (hands-front t.took t.broke StandsIn First before l.decoder start l.blocks now (from_form true (take l.done octets)) [] i.handed
+          (subst (λ (s : Settings). HandsFront t.took t.broke StandsIn (AreFirst s) l.decoder l.blocks now []) i.settings p)))
+          fed.front;
+      cause = subst (λ (n : ℕ). HasCause n (t.faults now) (t.is_last now) c.feed.result) i.faults fed.cause;
+    }

@@ -27,7 +27,7 @@ returns-clause-front g c = λ _.
     let fed = c.in-Ok-feed.ensures.handed in
     let none : IsTrue c.feed.new.self.has_stopped → ⊥ = λ stopped. c.in-Ok-feed.ensures.stops.0 stopped in
     let octets = c.args.octets.now in
-    let last = c.in-Err.ensures.front (taker_alone c.in-Err.field-0 (λ is. none (c.in-Err.ensures.stopped.0 is))) in (
+    let last = c.in-Err.ensures.front (taker_alone c.in-Err.field-0 (λ is. none (c.in-Err.ensures.call.stopped.0 is))) in (
       fed.0 ++ last.0,
       HandedPart-after _ _ c.args.blocks.now c.feed.new.blocks c.finish.new.blocks fed.0 last.0 fed.1 last.1,
       λ few.
@@ -39,7 +39,7 @@ pub returns-in_default-feed-clause-front : goal.returns-in_default-feed-clause-f
 returns-in_default-feed-clause-front g c = λ _.
     let none : IsTrue c.in-Ok.receiver.has_stopped → ⊥ = λ stopped. let both : true ≡ false = sym stopped ∙ c.in-Ok.ensures.fresh in absurd cc in
     let octets = c.args.octets.now in
-    let tried = c.in_default-feed.ensures.front (taker_alone c.in_default-feed.field-0 (λ is. none (c.in_default-feed.ensures.stopped.0 is))) in (
+    let tried = c.in_default-feed.ensures.front (taker_alone c.in_default-feed.field-0 (λ is. none (c.in_default-feed.ensures.call.stopped.0 is))) in (
       tried.0,
       tried.1,
       λ few. front-first c.args.config.now octets tried.0

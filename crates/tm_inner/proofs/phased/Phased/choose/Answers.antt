@@ -17,7 +17,7 @@ returns-in-Err-clause-front g c =
     subst (λ (p : Phasing). ChoosesFront t.took_phase t.broke_phase t.took t.broke p c.args.blocks.now c.phase.new.self) c.self.view_is
     (chooses-none t.took_phase t.broke_phase t.took t.broke before chosen c.args.blocks.now c.phase.new.self
     (subst (λ (p : Phasing). p.config.phase ≡ Find) (sym c.self.view_is) c.requires.find)
-    (subst (λ (l : List ℕ). PhaseAt s.config.inner s.config l chosen) c.as_slice.ensures c.phase_of-chosen.ensures.phase) c.in-Err.ensures.err)
+    (subst (λ (l : List ℕ). PhaseAt s.config.inner s.config l chosen) c.as_slice.ensures.octets c.phase_of-chosen.ensures.phase) c.in-Err.ensures.err)
 
 pub invariant_of-self-2 : goal.invariant_of-self-2
 invariant_of-self-2 g c = (c.decode.ensures.of c.self.inside.config c.self.invariant.0, c.self.invariant.1)
@@ -36,12 +36,12 @@ returns-clause-handed g c =
     let chosen = c.phase_of-chosen.result in
     let slice = c.as_slice-2.result.now in
     let before : Phasing = record { config = s.config; decoder = s.decoder; held = s.held.octets; room = s.held.room; chosen = s.chosen } in
-    let rest = plain-form (take (length slice - c.from.result) (drop c.from.result slice)) ∙ behind chosen.skip c.from.result slice s.held.octets c.from.ensures c.as_slice-2.ensures in
+    let rest = plain-form (take (length slice - c.from.result) (drop c.from.result slice)) ∙ behind chosen.skip c.from.result slice s.held.octets c.from.ensures c.as_slice-2.ensures.octets in
     on_ok_weaker c.decode.result
     (λ h. subst (λ (p : Phasing). Chooses t.took_phase t.took p (record before { decoder = c.decode.new.decoder; chosen = Some chosen }) c.args.blocks.now c.decode.new.blocks) c.self.view_is
     (chooses t.took_phase t.took before c.decode.new.decoder chosen c.args.blocks.now c.phase.new.self c.decode.new.blocks (drop chosen.skip s.held.octets)
     (subst (λ (p : Phasing). p.config.phase ≡ Find) (sym c.self.view_is) c.requires.find)
-    (subst (λ (l : List ℕ). PhaseAt s.config.inner s.config l chosen) c.as_slice.ensures c.phase_of-chosen.ensures.phase) refl c.in-Ok.ensures.ok
+    (subst (λ (l : List ℕ). PhaseAt s.config.inner s.config l chosen) c.as_slice.ensures.octets c.phase_of-chosen.ensures.phase) refl c.in-Ok.ensures.ok
     (subst (Hands t.took DecodesFor s.decoder c.decode.new.decoder c.phase.new.self c.decode.new.blocks) rest h))) c.decode.ensures.handed
 
 pub returns-clause-front : goal.returns-clause-front
@@ -51,10 +51,10 @@ returns-clause-front g c =
     let chosen = c.phase_of-chosen.result in
     let slice = c.as_slice-2.result.now in
     let before : Phasing = record { config = s.config; decoder = s.decoder; held = s.held.octets; room = s.held.room; chosen = s.chosen } in
-    let rest = plain-form (take (length slice - c.from.result) (drop c.from.result slice)) ∙ behind chosen.skip c.from.result slice s.held.octets c.from.ensures c.as_slice-2.ensures in
+    let rest = plain-form (take (length slice - c.from.result) (drop c.from.result slice)) ∙ behind chosen.skip c.from.result slice s.held.octets c.from.ensures c.as_slice-2.ensures.octets in
     on_err_weaker c.decode.result
     (λ h. subst (λ (p : Phasing). ChoosesFront t.took_phase t.broke_phase t.took t.broke p c.args.blocks.now c.decode.new.blocks) c.self.view_is
     (chooses-front t.took_phase t.broke_phase t.took t.broke before chosen c.args.blocks.now c.phase.new.self c.decode.new.blocks (drop chosen.skip s.held.octets)
     (subst (λ (p : Phasing). p.config.phase ≡ Find) (sym c.self.view_is) c.requires.find)
-    (subst (λ (l : List ℕ). PhaseAt s.config.inner s.config l chosen) c.as_slice.ensures c.phase_of-chosen.ensures.phase) refl c.self.invariant.0 c.in-Ok.ensures.ok
+    (subst (λ (l : List ℕ). PhaseAt s.config.inner s.config l chosen) c.as_slice.ensures.octets c.phase_of-chosen.ensures.phase) refl c.self.invariant.0 c.in-Ok.ensures.ok
     (subst (HandsFront t.took t.broke DecodesFor (FindsFirst s.decoder) s.decoder c.phase.new.self c.decode.new.blocks) rest h))) c.decode.ensures.front

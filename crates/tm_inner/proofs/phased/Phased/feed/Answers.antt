@@ -6,7 +6,8 @@ use Rattle.tm_base.specs.Handed.{on_handed}
 use Rattle.tm_config.specs.Configuration.{Configuration, is_signed}
 use Rattle.tm_config.specs.declared.values.Sought.TheVariants.{Find}
 use Rattle.tm_inner.specs.Phase.{IsSoFarBy, IsChosenBy}
-use Rattle.tm_inner.specs.Receiving.{DecodesFor, FindsFirst, Hands, HandsFront, HeldOctets, Phasing, PhasesFor, IsFirstBy, from_form, soft_form}
+use Rattle.tm_base.specs.HeldOctets.{HeldOctets}
+use Rattle.tm_inner.specs.Receiving.{DecodesFor, FindsFirst, Hands, HandsFront, Phasing, PhasesFor, IsFirstBy, from_form, soft_form}
 use Rattle.tm_inner.proofs.GivenPieces.{same-held, taken-all, form-parts}
 use Rattle.tm_inner.proofs.PhasePieces.{NoneWaits, Chooses, ChoosesFront, hands-going, front-going, hands-waiting, hands-choosing, front-choosing, front-behind, so-far-going, so-far-waiting, so-far-choosing}
 use Rattle.tm_inner.proofs.phased.Phased.feed.Goals as goal
@@ -83,8 +84,8 @@ returns-then-not-is_full-clause-chosen g c = λ soft done stood.
     let octets = c.args.octets.now in
     let before : Phasing = record { config = s.config; decoder = s.decoder; held = s.held.octets; room = s.held.room; chosen = s.chosen } in
     let asks = subst (λ (p : Phasing). (p.config.phase ≡ Find) × (p.chosen ≡ None)) (sym c.self.view_is) (c.waits.ensures.0 c.if-not-waits.false) in
-    let left : c.fill-taken.new.self.room ≤ length c.fill-taken.new.self.octets → ⊥ = λ full. let both : IsTrue false = c.if-not-is_full.ensures.1 full in absurd cc in
-    let w = waiting before c.fill-taken.new.self c.is_signed-signed.result c.fill-taken.result octets c.is_signed-signed.ensures c.fill-taken.ensures.octets c.fill-taken.ensures.room c.fill-taken.ensures.most left in
+    let left : c.hold-taken.new.held.room ≤ length c.hold-taken.new.held.octets → ⊥ = λ full. let both : IsTrue false = c.if-not-is_full.ensures.1 full in absurd cc in
+    let w = waiting before c.hold-taken.new.held c.is_signed-signed.result c.hold-taken.result octets c.is_signed-signed.ensures c.hold-taken.ensures.octets c.hold-taken.ensures.room c.hold-taken.ensures.most left in
     subst (λ (p : Phasing). PhasesFor p soft done → IsSoFarBy p.config (soft ++ soft_form p.config octets) s.chosen) c.self.view_is
     (so-far-waiting before (soft_form s.config octets) soft done asks.0 asks.1 (omega (arith, w.few, c.self.invariant.1 asks.0))) stood
 
@@ -97,9 +98,9 @@ returns-then-not-is_full-clause-handed g c =
     let took_phase = g.B.BlockTaker.took_phase in
     let before : Phasing = record { config = s.config; decoder = s.decoder; held = s.held.octets; room = s.held.room; chosen = s.chosen } in
     let asks = subst (λ (p : Phasing). (p.config.phase ≡ Find) × (p.chosen ≡ None)) (sym c.self.view_is) (c.waits.ensures.0 c.if-not-waits.false) in
-    let left : c.fill-taken.new.self.room ≤ length c.fill-taken.new.self.octets → ⊥ = λ full. let both : IsTrue false = c.if-not-is_full.ensures.1 full in absurd cc in
-    let w = waiting before c.fill-taken.new.self c.is_signed-signed.result c.fill-taken.result octets c.is_signed-signed.ensures c.fill-taken.ensures.octets c.fill-taken.ensures.room c.fill-taken.ensures.most left in
-    subst (λ (p : Phasing). Hands (on_handed took_phase took) PhasesFor p (record before { held = c.fill-taken.new.self.octets; room = c.fill-taken.new.self.room }) start start (soft_form p.config octets)) c.self.view_is
+    let left : c.hold-taken.new.held.room ≤ length c.hold-taken.new.held.octets → ⊥ = λ full. let both : IsTrue false = c.if-not-is_full.ensures.1 full in absurd cc in
+    let w = waiting before c.hold-taken.new.held c.is_signed-signed.result c.hold-taken.result octets c.is_signed-signed.ensures c.hold-taken.ensures.octets c.hold-taken.ensures.room c.hold-taken.ensures.most left in
+    subst (λ (p : Phasing). Hands (on_handed took_phase took) PhasesFor p (record before { held = c.hold-taken.new.held.octets; room = c.hold-taken.new.held.room }) start start (soft_form p.config octets)) c.self.view_is
     (subst (λ (h : HeldOctets). Hands (on_handed took_phase took) PhasesFor before (record before { held = h.octets; room = h.room }) start start (soft_form s.config octets)) (sym w.held)
     (hands-waiting took_phase took before start (soft_form s.config octets) asks.0 asks.1 (omega (arith, w.few, c.self.invariant.1 asks.0))))
 
@@ -127,14 +128,14 @@ pub returns-in-Err-clause-chosen : goal.returns-in-Err-clause-chosen
 returns-in-Err-clause-chosen g c = λ soft done stood.
     let s = c.self.inside in
     let octets = c.args.octets.now in
-    let held = c.fill-taken.new.self in
+    let held = c.hold-taken.new.held in
     let is_signed = c.is_signed-signed.result in
-    let form = from_form is_signed (take c.fill-taken.result octets) in
-    let rest = from_form is_signed (drop c.fill-taken.result octets) in
+    let form = from_form is_signed (take c.hold-taken.result octets) in
+    let rest = from_form is_signed (drop c.hold-taken.result octets) in
     let before : Phasing = record { config = s.config; decoder = s.decoder; held = s.held.octets; room = s.held.room; chosen = s.chosen } in
     let asks = subst (λ (p : Phasing). (p.config.phase ≡ Find) × (p.chosen ≡ None)) (sym c.self.view_is) (c.waits.ensures.0 c.if-not-waits.false) in
-    let f = filled before held c.is_signed-signed.result c.fill-taken.result _ octets c.is_signed-signed.ensures c.fill-taken.ensures.octets c.fill-taken.ensures.room (c.is_full.ensures.0 c.if-not-is_full.false) (c.self.invariant.1 asks.0) in
-    let is = subst (λ (l : List ℕ). IsChosenBy s.config l c.choose.new.self.chosen) c.fill-taken.ensures.octets c.choose.ensures.chosen in
+    let f = filled before held c.is_signed-signed.result c.hold-taken.result _ octets c.is_signed-signed.ensures c.hold-taken.ensures.octets c.hold-taken.ensures.room (c.is_full.ensures.0 c.if-not-is_full.false) (c.self.invariant.1 asks.0) in
+    let is = subst (λ (l : List ℕ). IsChosenBy s.config l c.choose.new.self.chosen) c.hold-taken.ensures.octets c.choose.ensures.chosen in
     subst (λ (p : Phasing). PhasesFor p soft done → IsSoFarBy p.config (soft ++ soft_form p.config octets) c.choose.new.self.chosen) c.self.view_is
     (λ stands. subst (λ (l : List ℕ). IsSoFarBy s.config (soft ++ l) c.choose.new.self.chosen) f.parts
     (so-far-choosing c.whole_window_law.ensures.front before c.choose.new.self.chosen form rest soft done asks.0 asks.1 f.many is stands)) stood
@@ -145,13 +146,13 @@ returns-in-Err-clause-front g c =
     let t = g.B.BlockTaker in
     let octets = c.args.octets.now in
     let start = c.args.blocks.now in
-    let held = c.fill-taken.new.self in
+    let held = c.hold-taken.new.held in
     let is_signed = c.is_signed-signed.result in
-    let form = from_form is_signed (take c.fill-taken.result octets) in
-    let rest = from_form is_signed (drop c.fill-taken.result octets) in
+    let form = from_form is_signed (take c.hold-taken.result octets) in
+    let rest = from_form is_signed (drop c.hold-taken.result octets) in
     let before : Phasing = record { config = s.config; decoder = s.decoder; held = s.held.octets; room = s.held.room; chosen = s.chosen } in
     let asks = subst (λ (p : Phasing). (p.config.phase ≡ Find) × (p.chosen ≡ None)) (sym c.self.view_is) (c.waits.ensures.0 c.if-not-waits.false) in
-    let f = filled before held c.is_signed-signed.result c.fill-taken.result _ octets c.is_signed-signed.ensures c.fill-taken.ensures.octets c.fill-taken.ensures.room (c.is_full.ensures.0 c.if-not-is_full.false) (c.self.invariant.1 asks.0) in
+    let f = filled before held c.is_signed-signed.result c.hold-taken.result _ octets c.is_signed-signed.ensures c.hold-taken.ensures.octets c.hold-taken.ensures.room (c.is_full.ensures.0 c.if-not-is_full.false) (c.self.invariant.1 asks.0) in
     let chose = subst (λ (h : HeldOctets). ChoosesFront t.took_phase t.broke_phase t.took t.broke (record before { held = h.octets; room = h.room }) start c.choose.new.blocks) f.held c.in-Err.ensures.front in
     subst (λ (p : Phasing). HandsFront (on_handed t.took_phase t.took) (on_handed t.broke_phase t.broke) PhasesFor (IsFirstBy p.config) p start c.choose.new.blocks (soft_form p.config octets)) c.self.view_is
     (subst (HandsFront (on_handed t.took_phase t.took) (on_handed t.broke_phase t.broke) PhasesFor (IsFirstBy s.config) before start c.choose.new.blocks) f.parts
@@ -168,15 +169,15 @@ pub returns-clause-chosen : goal.returns-clause-chosen
 returns-clause-chosen g c = λ soft done stood.
     let s = c.self.inside in
     let octets = c.args.octets.now in
-    let held = c.fill-taken.new.self in
+    let held = c.hold-taken.new.held in
     let is_signed = c.is_signed-signed.result in
-    let form = from_form is_signed (take c.fill-taken.result octets) in
-    let rest = from_form is_signed (drop c.fill-taken.result octets) in
+    let form = from_form is_signed (take c.hold-taken.result octets) in
+    let rest = from_form is_signed (drop c.hold-taken.result octets) in
     let chosen = c.self-2.inside.chosen in
     let before : Phasing = record { config = s.config; decoder = s.decoder; held = s.held.octets; room = s.held.room; chosen = s.chosen } in
     let asks = subst (λ (p : Phasing). (p.config.phase ≡ Find) × (p.chosen ≡ None)) (sym c.self.view_is) (c.waits.ensures.0 c.if-not-waits.false) in
-    let f = filled before held c.is_signed-signed.result c.fill-taken.result _ octets c.is_signed-signed.ensures c.fill-taken.ensures.octets c.fill-taken.ensures.room (c.is_full.ensures.0 c.if-not-is_full.false) (c.self.invariant.1 asks.0) in
-    let is = subst (λ (l : List ℕ). IsChosenBy s.config l chosen) c.fill-taken.ensures.octets
+    let f = filled before held c.is_signed-signed.result c.hold-taken.result _ octets c.is_signed-signed.ensures c.hold-taken.ensures.octets c.hold-taken.ensures.room (c.is_full.ensures.0 c.if-not-is_full.false) (c.self.invariant.1 asks.0) in
+    let is = subst (λ (l : List ℕ). IsChosenBy s.config l chosen) c.hold-taken.ensures.octets
     (subst (λ (p : Phasing). IsChosenBy s.config held.octets p.chosen) (sym c.self-2.view_is) c.choose.ensures.chosen) in
     subst (λ (p : Phasing). PhasesFor p soft done → IsSoFarBy p.config (soft ++ soft_form p.config octets) chosen) c.self.view_is
     (λ stands. subst (λ (l : List ℕ). IsSoFarBy s.config (soft ++ l) chosen) f.parts
@@ -191,15 +192,15 @@ returns-clause-handed g c =
     let start = c.args.blocks.now in
     let middle = c.choose.new.blocks in
     let last = c.decode-2.new.blocks in
-    let held = c.fill-taken.new.self in
-    let taken = c.fill-taken.result in
+    let held = c.hold-taken.new.held in
+    let taken = c.hold-taken.result in
     let is_signed = c.is_signed-signed.result in
     let form = from_form is_signed (take taken octets) in
     let rest = from_form is_signed (drop taken octets) in
     let before : Phasing = record { config = s.config; decoder = s.decoder; held = s.held.octets; room = s.held.room; chosen = s.chosen } in
     let after : Phasing = record { config = s'.config; decoder = s'.decoder; held = s'.held.octets; room = s'.held.room; chosen = s'.chosen } in
     let asks = subst (λ (p : Phasing). (p.config.phase ≡ Find) × (p.chosen ≡ None)) (sym c.self.view_is) (c.waits.ensures.0 c.if-not-waits.false) in
-    let f = filled before held c.is_signed-signed.result taken _ octets c.is_signed-signed.ensures c.fill-taken.ensures.octets c.fill-taken.ensures.room (c.is_full.ensures.0 c.if-not-is_full.false) (c.self.invariant.1 asks.0) in
+    let f = filled before held c.is_signed-signed.result taken _ octets c.is_signed-signed.ensures c.hold-taken.ensures.octets c.hold-taken.ensures.room (c.is_full.ensures.0 c.if-not-is_full.false) (c.self.invariant.1 asks.0) in
     let config : s'.config ≡ s.config = ap (λ (p : Phasing). p.config) c.self-2.view_is ∙ c.choose.ensures.config in
     let chose = subst (λ (h : HeldOctets). Chooses t.took_phase t.took (record before { held = h.octets; room = h.room }) after start middle) f.held
     (subst (λ (p : Phasing). Chooses t.took_phase t.took (record before { held = held.octets; room = held.room }) p start middle) (sym c.self-2.view_is) c.in-Ok.ensures.handed) in
@@ -218,15 +219,15 @@ returns-clause-front g c =
     let start = c.args.blocks.now in
     let middle = c.choose.new.blocks in
     let last = c.decode-2.new.blocks in
-    let held = c.fill-taken.new.self in
-    let taken = c.fill-taken.result in
+    let held = c.hold-taken.new.held in
+    let taken = c.hold-taken.result in
     let is_signed = c.is_signed-signed.result in
     let form = from_form is_signed (take taken octets) in
     let rest = from_form is_signed (drop taken octets) in
     let before : Phasing = record { config = s.config; decoder = s.decoder; held = s.held.octets; room = s.held.room; chosen = s.chosen } in
     let after : Phasing = record { config = s'.config; decoder = s'.decoder; held = s'.held.octets; room = s'.held.room; chosen = s'.chosen } in
     let asks = subst (λ (p : Phasing). (p.config.phase ≡ Find) × (p.chosen ≡ None)) (sym c.self.view_is) (c.waits.ensures.0 c.if-not-waits.false) in
-    let f = filled before held c.is_signed-signed.result taken _ octets c.is_signed-signed.ensures c.fill-taken.ensures.octets c.fill-taken.ensures.room (c.is_full.ensures.0 c.if-not-is_full.false) (c.self.invariant.1 asks.0) in
+    let f = filled before held c.is_signed-signed.result taken _ octets c.is_signed-signed.ensures c.hold-taken.ensures.octets c.hold-taken.ensures.room (c.is_full.ensures.0 c.if-not-is_full.false) (c.self.invariant.1 asks.0) in
     let config : s'.config ≡ s.config = ap (λ (p : Phasing). p.config) c.self-2.view_is ∙ c.choose.ensures.config in
     let chose = subst (λ (h : HeldOctets). Chooses t.took_phase t.took (record before { held = h.octets; room = h.room }) after start middle) f.held
     (subst (λ (p : Phasing). Chooses t.took_phase t.took (record before { held = held.octets; room = held.room }) p start middle) (sym c.self-2.view_is) c.in-Ok.ensures.handed) in

@@ -1,0 +1,77 @@
+-- What the calls of an inner receiver, and of the decoder within it, promise.
+use Rattle.std.specs.Prelude.{◌≡◌, ◌↔◌, ℕ, ◌+◌, ◌^◌, ◌<◌, ◌≤◌, ◌++◌, true, false, List, length, Result, IfOk, OnErr, OnOk, IsErrOf, IsTrue}
+use Rattle.tm_base.specs.Calls.{CallAnswers, TakerCall}
+use Rattle.tm_base.specs.Handed.{Handed, items_of}
+use Rattle.tm_base.specs.Outside.{HasCause}
+use Rattle.tm_viterbi.specs.WindowBlock.{WindowBlock}
+use Rattle.tm_viterbi.specs.Due.{AreFirst}
+use Rattle.tm_viterbi.specs.declared.decoder.FeedError.{FeedError}
+use Rattle.tm_viterbi.specs.declared.decoder.FeedError.TheVariants.{Stopped, Taker}
+use Rattle.tm_inner.specs.declared.inner_decoder.InnerDecoder.{InnerDecoder}
+use Rattle.tm_inner.specs.declared.receiver.InnerEnd.{InnerEnd}
+use Rattle.tm_inner.specs.Inner.{inner_bits}
+use Rattle.tm_inner.specs.InnerDecoding.{has_stopped_in, settings_in, StandsIn}
+use Rattle.tm_inner.specs.Phase.{IsChosen, IsChosenSoFar}
+use Rattle.tm_inner.specs.Receiving.{Hands, HandsFront, InnerReceiving, StandsFor}
+use Rattle.tm_inner.specs.Handing.{AreHanded, AreHandedDue, AreHandedFirst, AreHandedFront}
+
+-- ---- of the decoder
+
+-- given these soft octets, a decoder that had not stopped handed over blocks that are due, or the
+-- first of them until the taker failed
+pub record GivesSoft {T R E : Type 0} (took broke : T → WindowBlock → T → Type 0) (faults : T → ℕ)
+    (is_last : T → Type 0) (before now : InnerDecoder) (taker taker_now : T) (soft : List ℕ)
+    (result : Result R E) : Type 0 where
+  pub settings : settings_in now ≡ settings_in before
+  pub fresh : OnOk result (has_stopped_in now ≡ false)
+  pub stopped : OnErr result (has_stopped_in now ≡ true)
+  pub handed : OnOk result (Hands took StandsIn before now taker taker_now soft)
+  pub front : OnErr result (HandsFront took broke StandsIn (AreFirst (settings_in before)) before
+      taker taker_now soft)
+  pub cause : HasCause (faults taker) (faults taker_now) (is_last taker_now) result
+
+-- ---- of the receiver
+
+-- it is refused once the receiver has stopped, and fails only where the taker does
+abbrev pub Calls : {R : Type 0} → (before now : InnerReceiving) → TakerCall (Handed WindowBlock)
+    → Result R FeedError → Type 0
+Calls before now taker result = CallAnswers Stopped Taker before.has_stopped before now
+    taker.unchanged taker.before taker.now taker.is_last result
+
+-- with these octets what is due was handed over, or the first of it until the taker failed; the
+-- phase that is kept now is the one that is chosen of all octets so far, if one is
+pub record Feeds {R : Type 0} (before now : InnerReceiving) (octets : List ℕ)
+    (taker : TakerCall (Handed WindowBlock)) (result : Result R FeedError) : Type 0 where
+  pub call : Calls before now taker result
+  pub stops : IsTrue now.has_stopped ↔ OnOk result ⊥
+  pub config : now.config ≡ before.config
+  pub chosen : (given : List ℕ) (done : List (Handed WindowBlock)) → StandsFor before given done
+      → before.has_stopped ≡ false
+      → IsChosenSoFar before.config (given ++ octets) now.phased.chosen
+  pub handed : OnOk result ((more : List (Handed WindowBlock)) × taker.took more
+      × ((given : List ℕ) (done : List (Handed WindowBlock)) → length given + length octets < 2 ^ 60
+      → StandsFor before given done
+      → StandsFor now (given ++ octets) (done ++ more)
+      × AreHandedDue before.config (given ++ octets) (done ++ more)))
+  pub front : IsErrOf result Taker → (tried : List (Handed WindowBlock)) × taker.broke tried
+      × ((given : List ℕ) (done : List (Handed WindowBlock)) → length given + length octets < 2 ^ 60
+      → StandsFor before given done
+      → AreHandedFirst before.config (given ++ octets) (done ++ tried))
+
+-- at the end what is left was handed over, or the first of it until the taker failed; so many bits
+-- were received, and so many octets are left over
+pub record Finishes (before now : InnerReceiving) (taker : TakerCall (Handed WindowBlock))
+    (result : Result InnerEnd FeedError) : Type 0 where
+  pub call : Calls before now taker result
+  pub stops : now.has_stopped ≡ true
+  pub config : now.config ≡ before.config
+  pub chosen : (given : List ℕ) (done : List (Handed WindowBlock)) → StandsFor before given done
+      → before.has_stopped ≡ false → IsChosen before.config given now.phased.chosen
+  pub handed : IfOk result (λ end. (last : List (Handed WindowBlock)) × taker.took last
+      × ((given : List ℕ) (done : List (Handed WindowBlock)) → StandsFor before given done
+      → AreHanded before.config given (done ++ last) end.leftover
+      × (end.bits ≡ length (inner_bits before.config given (items_of (done ++ last))))))
+  pub front : IsErrOf result Taker → (tried : List (Handed WindowBlock)) × taker.broke tried
+      × ((given : List ℕ) (done : List (Handed WindowBlock)) → StandsFor before given done
+      → AreHandedFront before.config given (done ++ tried))
+  pub left : IfOk result (λ end. end.leftover ≤ 1)
