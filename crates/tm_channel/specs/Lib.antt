@@ -12,3 +12,4 @@ pub mod Storing
 pub mod Sending
 pub mod Steps
 pub mod Workers
+pub mod Calls

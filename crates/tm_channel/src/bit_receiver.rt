@@ -3,10 +3,9 @@ ghost use Rattle.std.specs.Prelude.{◌≡◌, ◌≢◌, ◌<◌, ◌≤◌, �
 ghost use Rattle.tm_base.specs.Bits.{bits_of, bits_of_octet};
 ghost use Rattle.tm_base.specs.Outside.{HasCause};
 ghost use Rattle.tm_base.specs.Takers.{HandedOver, HandedPart};
-ghost use Rattle.tm_sync.specs.Searching.{StandsFor, inside_of};
-ghost use Rattle.tm_codeblock.specs.ReceivedCodeblock.{rules_of};
+ghost use Rattle.tm_sync.specs.Searching.{inside_of};
 ghost use Rattle.tm_channel.specs.Items.{ItemValue};
-ghost use Rattle.tm_channel.specs.Receiving.{Agree, AreFirstLast, AreItemsFor, AreLast, GoesOn, Holds, HoldsMore, IsFree, IsHanded, IsReady, Stands, bits_between};
+ghost use Rattle.tm_channel.specs.Receiving.{Agree, AreItemsFor, GoesOn, Holds, HoldsMore, IsFree, IsHanded, IsReady, bits_between};
 ghost use Rattle.tm_channel.specs.OctetReceiving.{Received, ReceivedPart};
 
 use crate::item::ItemTaker;
@@ -45,21 +44,6 @@ pub struct BitReceiver {
 }
 
 impl BitReceiver {
-    /// A receiver that was given no bits.
-    pub fn new(search: Search, batch: Codeblocks) -> BitReceiver
-        requires rules { search.rules ≡ rules_of batch.config }
-        requires inside { inside_of search ≡ None }
-        requires stands { StandsFor search [] [] }
-        requires part { batch.part ≡ [] }
-        requires kept { batch.kept ≡ [] }
-        requires some { 0 < batch.config.batch }
-        ensures ready { IsReady result.search result.batch }
-        ensures config { result.batch.config ≡ batch.config }
-        ensures stands { Stands result.search result.batch [] }
-    {
-        BitReceiver { search, batch }
-    }
-
     /// Takes the bits of octets behind the first `from` ones, has each batch that is full with them repaired, and hands
     /// over its items.
     pub fn receive<P: Workers, T: ItemTaker>(
@@ -246,8 +230,12 @@ impl BitReceiver {
         }
     }
 
-    // Hands over the items of all codeblocks that are kept, and keeps none.
-    fn hand_all<P: Workers, T: ItemTaker>(&mut self, by: &P, taker: &mut T) -> Result<(), Failed>
+    /// Hands over the items of all codeblocks that are kept, and keeps none.
+    pub fn hand_all<P: Workers, T: ItemTaker>(
+        &mut self,
+        by: &P,
+        taker: &mut T,
+    ) -> Result<(), Failed>
         requires workers { P.is_ready by.now }
         ensures search { self.new.search ≡ self.old.search }
         ensures config { self.new.batch.config ≡ self.old.batch.config }
@@ -265,28 +253,6 @@ impl BitReceiver {
         let result = hand_over(&self.batch, taker);
         self.batch.clear();
         result
-    }
-
-    /// Hands over the items that were not due before the end of the bits was known.
-    pub fn hand_last<P: Workers, T: ItemTaker>(
-        &mut self,
-        by: &P,
-        taker: &mut T,
-    ) -> Result<(), Failed>
-        requires workers { P.is_ready by.now }
-        requires ready { IsReady self.old.search self.old.batch }
-        ensures ready { IsReady self.new.search self.new.batch }
-        ensures config { self.new.batch.config ≡ self.old.batch.config }
-        ensures all { OnOk result ((items : List ItemValue) × HandedOver T.took taker.old items taker.new
-            × AreLast self.old.batch.config (Stands self.old.search self.old.batch) items) }
-        ensures broke { OnErr result ((items : List ItemValue) × HandedPart T.took T.broke taker.old items taker.new
-            × AreFirstLast self.old.batch.config (Stands self.old.search self.old.batch) items) }
-        ensures cause { HasCause (T.faults taker.old) (T.faults taker.new) (T.is_last taker.new) result }
-    {
-        match self.hand_all(by, taker) {
-            Ok(()) => Ok(()),
-            Err(Failed) => Err(Failed),
-        }
     }
 
     // Whether no codeblock is under way, and one has eight bits or more.

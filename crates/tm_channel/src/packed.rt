@@ -1,6 +1,7 @@
 // Bits that are octets 0 and 1, packed to octets for the search.
 ghost use Rattle.std.specs.Prelude.{◌≡◌, ◌<◌, ◌≤◌, ◌⊎◌, ◌*◌, ◌%◌, ◌==◌, length, map, OnOk, OnErr};
 ghost use Rattle.tm_base.specs.Outside.{HasCause};
+ghost use Rattle.tm_channel.specs.Calls.{TakesBits};
 ghost use Rattle.tm_channel.specs.OctetReceiving.{Received, ReceivedPart};
 
 use crate::item::ItemTaker;
@@ -49,12 +50,8 @@ fn take_run<P: Workers, T: ItemTaker>(
     requires workers { P.is_ready by.now }
     requires whole { (length bits.now < 8) ⊎ (length bits.now % 8 ≡ 0) }
     requires most { length bits.now ≤ 8 * 256 }
-    ensures config { stream.new.batch.config ≡ stream.old.batch.config }
-    ensures handed { OnOk result
-        (Received T.took stream.old stream.new taker.old taker.new (map (λ bit. bit == 1) bits.now)) }
-    ensures part { OnErr result
-        (ReceivedPart T.took T.broke stream.old stream.new taker.old taker.new (map (λ bit. bit == 1) bits.now)) }
-    ensures cause { HasCause (T.faults taker.old) (T.faults taker.new) (T.is_last taker.new) result }
+    ensures { TakesBits T.took T.broke T.faults T.is_last stream.old stream.new taker.old taker.new
+        (map (λ bit. bit == 1) bits.now) result }
 {
     if bits.len() < 8 {
         // They stand behind others in an octet, which are left out.

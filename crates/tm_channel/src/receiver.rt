@@ -9,6 +9,7 @@ ghost use Rattle.tm_workers.specs.Batch.{EachBecomes};
 ghost use Rattle.tm_workers.specs.Words.{Decodes};
 ghost use Rattle.tm_channel.specs.Items.{ItemValue};
 ghost use Rattle.tm_channel.specs.Handing.{AreReceived, AreReceivedDue, AreReceivedFirst, AreReceivedFront};
+ghost use Rattle.tm_channel.specs.Calls.{Calls, Feeds, Finishes};
 ghost use Rattle.tm_channel.specs.OctetReceiving.{FeedBreaks, FeedChooses, FeedHands, FinishBreaks, FinishChooses, FinishHands, StandsFor};
 
 use crate::item::ItemTaker;
@@ -125,20 +126,8 @@ impl Receiver {
         taker: &mut T,
         gate: &G,
     ) -> Result<(), RecvError>
-        ensures stopped { IsErrOf result RecvError.Stopped ↔ IsTrue self.old.has_stopped }
-        ensures unchanged { IsErrOf result RecvError.Stopped → (self.new ≡ self.old) × (taker.new ≡ taker.old) }
-        ensures stops { IsTrue self.new.has_stopped ↔ OnOk result ⊥ }
-        ensures config { self.new.config ≡ self.old.config }
-        ensures handed { OnOk result
-            (FeedHands (on_handed T.took_phase T.took) self.old self.new taker.old taker.new octets.now) }
-        ensures front { IsErrOf result RecvError.Taker
-            → FeedBreaks (on_handed T.took_phase T.took) (on_handed T.broke_phase T.broke) self.old taker.old taker.new
-            octets.now }
-        ensures chosen { FeedChooses self.old self.new octets.now }
-        ensures later { T.faults taker.old ≤ T.faults taker.new }
-        ensures rose { IsErrOf result RecvError.Taker
-            → Rose (T.faults taker.old) (T.faults taker.new) (T.is_last taker.new) }
-        ensures same { result ≢ Err RecvError.Taker → T.faults taker.new ≡ T.faults taker.old }
+        ensures { Feeds (on_handed T.took_phase T.took) (on_handed T.broke_phase T.broke) T.faults T.is_last
+            self.old self.new taker.old taker.new octets.now result }
     {
         let decode = |alloc: Global, params: &Params, repair: u8, words: &mut [Word], workers: u8|
             requires { IsSync R.row × IsSync G.row × (repair ≤ params.now.e) × (length words.old < 2 ^ 32)
@@ -155,20 +144,8 @@ impl Receiver {
         octets: &[u8],
         taker: &mut T,
     ) -> Result<(), RecvError>
-        ensures stopped { IsErrOf result RecvError.Stopped ↔ IsTrue self.old.has_stopped }
-        ensures unchanged { IsErrOf result RecvError.Stopped → (self.new ≡ self.old) × (taker.new ≡ taker.old) }
-        ensures stops { IsTrue self.new.has_stopped ↔ OnOk result ⊥ }
-        ensures config { self.new.config ≡ self.old.config }
-        ensures handed { OnOk result
-            (FeedHands (on_handed T.took_phase T.took) self.old self.new taker.old taker.new octets.now) }
-        ensures front { IsErrOf result RecvError.Taker
-            → FeedBreaks (on_handed T.took_phase T.took) (on_handed T.broke_phase T.broke) self.old taker.old taker.new
-            octets.now }
-        ensures chosen { FeedChooses self.old self.new octets.now }
-        ensures later { T.faults taker.old ≤ T.faults taker.new }
-        ensures rose { IsErrOf result RecvError.Taker
-            → Rose (T.faults taker.old) (T.faults taker.new) (T.is_last taker.new) }
-        ensures same { result ≢ Err RecvError.Taker → T.faults taker.new ≡ T.faults taker.old }
+        ensures { Feeds (on_handed T.took_phase T.took) (on_handed T.broke_phase T.broke) T.faults T.is_last
+            self.old self.new taker.old taker.new octets.now result }
     {
         self.feed_by(&InOrder, octets, taker)
     }
@@ -181,8 +158,7 @@ impl Receiver {
         taker: &mut T,
     ) -> Result<(), RecvError>
         requires workers { P.is_ready by.now }
-        ensures stopped { IsErrOf result RecvError.Stopped ↔ IsTrue self.old.has_stopped }
-        ensures unchanged { IsErrOf result RecvError.Stopped → (self.new ≡ self.old) × (taker.new ≡ taker.old) }
+        ensures call { Calls T.faults T.is_last self.old self.new taker.old taker.new result }
         ensures stops { IsTrue self.new.has_stopped ↔ OnOk result ⊥ }
         ensures config { self.new.config ≡ self.old.config }
         ensures handed { OnOk result
@@ -191,10 +167,6 @@ impl Receiver {
             → FeedBreaks (on_handed T.took_phase T.took) (on_handed T.broke_phase T.broke) self.old taker.old taker.new
             octets.now }
         ensures chosen { FeedChooses self.old self.new octets.now }
-        ensures later { T.faults taker.old ≤ T.faults taker.new }
-        ensures rose { IsErrOf result RecvError.Taker
-            → Rose (T.faults taker.old) (T.faults taker.new) (T.is_last taker.new) }
-        ensures same { result ≢ Err RecvError.Taker → T.faults taker.new ≡ T.faults taker.old }
     {
         if self.has_stopped {
             return Err(RecvError::Stopped);
@@ -226,19 +198,8 @@ impl Receiver {
         taker: &mut T,
         gate: &G,
     ) -> Result<u64, RecvError>
-        ensures stopped { IsErrOf result RecvError.Stopped ↔ IsTrue self.old.has_stopped }
-        ensures unchanged { IsErrOf result RecvError.Stopped → (self.new ≡ self.old) × (taker.new ≡ taker.old) }
-        ensures stops { self.new.has_stopped ≡ true }
-        ensures config { self.new.config ≡ self.old.config }
-        ensures handed { IfOk result (FinishHands (on_handed T.took_phase T.took) self.old taker.old taker.new) }
-        ensures front { IsErrOf result RecvError.Taker
-            → FinishBreaks (on_handed T.took_phase T.took) (on_handed T.broke_phase T.broke) self.old taker.old
-            taker.new }
-        ensures chosen { FinishChooses self.old self.new }
-        ensures later { T.faults taker.old ≤ T.faults taker.new }
-        ensures rose { IsErrOf result RecvError.Taker
-            → Rose (T.faults taker.old) (T.faults taker.new) (T.is_last taker.new) }
-        ensures same { result ≢ Err RecvError.Taker → T.faults taker.new ≡ T.faults taker.old }
+        ensures { Finishes (on_handed T.took_phase T.took) (on_handed T.broke_phase T.broke) T.faults T.is_last
+            self.old self.new taker.old taker.new result }
     {
         let decode = |alloc: Global, params: &Params, repair: u8, words: &mut [Word], workers: u8|
             requires { IsSync R.row × IsSync G.row × (repair ≤ params.now.e) × (length words.old < 2 ^ 32)
@@ -250,19 +211,8 @@ impl Receiver {
 
     /// Does what `finish` does with no thread but the caller's, whichever calls were before.
     pub fn finish_in_order<T: ItemTaker>(&mut self, taker: &mut T) -> Result<u64, RecvError>
-        ensures stopped { IsErrOf result RecvError.Stopped ↔ IsTrue self.old.has_stopped }
-        ensures unchanged { IsErrOf result RecvError.Stopped → (self.new ≡ self.old) × (taker.new ≡ taker.old) }
-        ensures stops { self.new.has_stopped ≡ true }
-        ensures config { self.new.config ≡ self.old.config }
-        ensures handed { IfOk result (FinishHands (on_handed T.took_phase T.took) self.old taker.old taker.new) }
-        ensures front { IsErrOf result RecvError.Taker
-            → FinishBreaks (on_handed T.took_phase T.took) (on_handed T.broke_phase T.broke) self.old taker.old
-            taker.new }
-        ensures chosen { FinishChooses self.old self.new }
-        ensures later { T.faults taker.old ≤ T.faults taker.new }
-        ensures rose { IsErrOf result RecvError.Taker
-            → Rose (T.faults taker.old) (T.faults taker.new) (T.is_last taker.new) }
-        ensures same { result ≢ Err RecvError.Taker → T.faults taker.new ≡ T.faults taker.old }
+        ensures { Finishes (on_handed T.took_phase T.took) (on_handed T.broke_phase T.broke) T.faults T.is_last
+            self.old self.new taker.old taker.new result }
     {
         self.finish_by(&InOrder, taker)
     }
@@ -274,8 +224,7 @@ impl Receiver {
         taker: &mut T,
     ) -> Result<u64, RecvError>
         requires workers { P.is_ready by.now }
-        ensures stopped { IsErrOf result RecvError.Stopped ↔ IsTrue self.old.has_stopped }
-        ensures unchanged { IsErrOf result RecvError.Stopped → (self.new ≡ self.old) × (taker.new ≡ taker.old) }
+        ensures call { Calls T.faults T.is_last self.old self.new taker.old taker.new result }
         ensures stops { self.new.has_stopped ≡ true }
         ensures config { self.new.config ≡ self.old.config }
         ensures handed { IfOk result (FinishHands (on_handed T.took_phase T.took) self.old taker.old taker.new) }
@@ -283,10 +232,6 @@ impl Receiver {
             → FinishBreaks (on_handed T.took_phase T.took) (on_handed T.broke_phase T.broke) self.old taker.old
             taker.new }
         ensures chosen { FinishChooses self.old self.new }
-        ensures later { T.faults taker.old ≤ T.faults taker.new }
-        ensures rose { IsErrOf result RecvError.Taker
-            → Rose (T.faults taker.old) (T.faults taker.new) (T.is_last taker.new) }
-        ensures same { result ≢ Err RecvError.Taker → T.faults taker.new ≡ T.faults taker.old }
     {
         if self.has_stopped {
             return Err(RecvError::Stopped);

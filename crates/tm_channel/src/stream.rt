@@ -45,7 +45,7 @@ impl BitStream {
         ensures stands { StandsForBits result [] }
     {
         BitStream {
-            receiver: BitReceiver::new(search, batch),
+            receiver: BitReceiver { search, batch },
         }
     }
 
@@ -99,7 +99,7 @@ impl BitStream {
         ensures part { OnErr result (ReceivedLastPart T.took T.broke self.old taker.old taker.new) }
         ensures cause { HasCause (T.faults taker.old) (T.faults taker.new) (T.is_last taker.new) result }
     {
-        match self.receiver.hand_last(by, taker) {
+        match self.receiver.hand_all(by, taker) {
             Ok(()) => Ok(()),
             Err(Failed) => Err(Failed),
         }

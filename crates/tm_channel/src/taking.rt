@@ -1,7 +1,6 @@
 // Octets through both stages of a receiver: the inner code, and the search for codeblocks in its bits.
 ghost use Rattle.std.specs.Prelude.{◌≡◌, ◌+◌, ◌*◌, ◌≤◌, ◌==◌, ℕ, List, [], true, false, drop, length, map, IsTrue, OnOk, OnErr};
 ghost use Rattle.std.specs.Option.{is_some};
-ghost use Rattle.tm_base.specs.Bits.{bits_of};
 ghost use Rattle.tm_base.specs.Handed.{Handed, on_handed};
 ghost use Rattle.tm_base.specs.Outside.{HasCause};
 ghost use Rattle.tm_base.specs.Takers.{HandedOver, HandedPart};
@@ -9,6 +8,7 @@ ghost use Rattle.tm_inner.specs.Inner.{nearest_bit, plain_bits};
 ghost use Rattle.tm_inner.specs.Phase.{IsChosen, in_turn};
 ghost use Rattle.tm_inner.specs.Receiving.{Hands, HandsFront, StandsFor as InnerStandsFor};
 ghost use Rattle.tm_viterbi.specs.WindowBlock.{WindowBlock};
+ghost use Rattle.tm_channel.specs.Calls.{TakesBits, TakesOctets};
 ghost use Rattle.tm_channel.specs.Receiving.{waiting_bits};
 ghost use Rattle.tm_channel.specs.OctetReceiving.{Ends, FirstWith, Gathers, Grows, Received, ReceivedPart, StagesFor, received_bits};
 
@@ -41,17 +41,9 @@ pub fn take<P: Workers, T: ItemTaker>(
     requires of { stream.old.batch.config ≡ inner.old.config }
     requires room { waiting_bits inner.old.config inner.old.config.batch + 3 * (inner.old.config.keep + inner.old.config.ahead)
         + 7 + 4096 ≤ kept.old.size }
-    ensures inner { inner.new.config ≡ inner.old.config }
-    ensures fresh { inner.new.has_stopped ≡ false }
-    ensures room { kept.new.size ≡ kept.old.size }
-    ensures stream { stream.new.batch.config ≡ stream.old.batch.config }
-    ensures handed { OnOk result (Hands (on_handed T.took_phase T.took) StagesFor
-        (record { inner = inner.old; bits = stream.old })
-        (record { inner = inner.new; bits = stream.new }) taker.old taker.new octets.now) }
-    ensures front { OnErr result (HandsFront (on_handed T.took_phase T.took) (on_handed T.broke_phase T.broke) StagesFor
-        (FirstWith inner.old.config inner.new.phased.chosen)
-        (record { inner = inner.old; bits = stream.old }) taker.old taker.new octets.now) }
-    ensures cause { HasCause (T.faults taker.old) (T.faults taker.new) (T.is_last taker.new) result }
+    ensures { TakesOctets (on_handed T.took_phase T.took) (on_handed T.broke_phase T.broke) T.faults T.is_last
+        (record { inner = inner.old; bits = stream.old }) (record { inner = inner.new; bits = stream.new })
+        kept.old.size kept.new.size taker.old taker.new octets.now result }
 {
     closed_windows_law();
     whole_window_law();
@@ -191,10 +183,13 @@ fn take_behind<P: Workers, T: ItemTaker>(
         (drop skip (plain_bits inner.now.config octets.now))) }
     ensures cause { HasCause (T.faults taker.old) (T.faults taker.new) (T.is_last taker.new) result }
 {
-    if inner.is_packed() {
-        take_packed(stream, skip, by, octets, taker)
-    } else {
-        take_nearest(inner, stream, skip, by, octets, taker)
+    if !inner.is_packed() {
+        return take_nearest(inner, stream, skip, by, octets, taker);
+    }
+    let from = skip.min(8 * octets.len() as u64) as usize;
+    match stream.receive(by, octets, from, taker) {
+        Ok(()) => Ok(()),
+        Err(Failed) => Err(Failed),
     }
 }
 
@@ -209,40 +204,12 @@ fn take_nearest<P: Workers, T: ItemTaker>(
 ) -> Result<(), Failed>
     requires workers { P.is_ready by.now }
     requires most { length octets.now ≤ 4096 }
-    ensures stream { stream.new.batch.config ≡ stream.old.batch.config }
-    ensures handed { OnOk result (Received T.took stream.old stream.new taker.old taker.new
-        (drop skip (map (nearest_bit inner.now.config) octets.now))) }
-    ensures part { OnErr result (ReceivedPart T.took T.broke stream.old stream.new taker.old taker.new
-        (drop skip (map (nearest_bit inner.now.config) octets.now))) }
-    ensures cause { HasCause (T.faults taker.old) (T.faults taker.new) (T.is_last taker.new) result }
+    ensures { TakesBits T.took T.broke T.faults T.is_last stream.old stream.new taker.old taker.new
+        (drop skip (map (nearest_bit inner.now.config) octets.now)) result }
 {
     let from = skip.min(octets.len() as u64) as usize;
     let mut room = [0; PIECE];
     let bits = &mut room[..octets.len() - from];
     inner.nearest_bits(&octets[from..], bits);
     take_bits(stream, by, bits, taker)
-}
-
-// The same of octets that hold eight bits each.
-fn take_packed<P: Workers, T: ItemTaker>(
-    stream: &mut BitStream,
-    skip: u64,
-    by: &P,
-    octets: &[u8],
-    taker: &mut T,
-) -> Result<(), Failed>
-    requires workers { P.is_ready by.now }
-    requires most { length octets.now ≤ 4096 }
-    ensures stream { stream.new.batch.config ≡ stream.old.batch.config }
-    ensures handed { OnOk result (Received T.took stream.old stream.new taker.old taker.new
-        (drop skip (bits_of octets.now))) }
-    ensures part { OnErr result (ReceivedPart T.took T.broke stream.old stream.new taker.old taker.new
-        (drop skip (bits_of octets.now))) }
-    ensures cause { HasCause (T.faults taker.old) (T.faults taker.new) (T.is_last taker.new) result }
-{
-    let from = skip.min(8 * octets.len() as u64) as usize;
-    match stream.receive(by, octets, from, taker) {
-        Ok(()) => Ok(()),
-        Err(Failed) => Err(Failed),
-    }
 }

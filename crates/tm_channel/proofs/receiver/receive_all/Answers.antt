@@ -27,7 +27,7 @@ taker_alone Stopped h = absurd (h refl)
 pub returns-in_default-feed-clause-front : goal.returns-in_default-feed-clause-front
 returns-in_default-feed-clause-front g c = λ _.
     let fresh = c.in-Ok.ensures.fresh in
-    let fed = c.in_default-feed.ensures.front (taker_alone c.in_default-feed.field-0 (λ is. (let stopped = c.in_default-feed.ensures.stopped.0 is in absurd cc))) in
+    let fed = c.in_default-feed.ensures.front (taker_alone c.in_default-feed.field-0 (λ is. (let stopped = c.in_default-feed.ensures.call.stopped.0 is in absurd cc))) in
     let octets = c.args.octets.now in (
       fed.0,
       fed.1,
@@ -39,7 +39,7 @@ returns-clause-front g c = λ _.
     let fed = c.in-Ok-feed.ensures.handed in
     let none : IsTrue c.feed.new.self.has_stopped → ⊥ = λ stopped. c.in-Ok-feed.ensures.stops.0 stopped in
     let octets = c.args.octets.now in
-    let last = c.in-Err.ensures.front (taker_alone c.in-Err.field-0 (λ is. none (c.in-Err.ensures.stopped.0 is))) in (
+    let last = c.in-Err.ensures.front (taker_alone c.in-Err.field-0 (λ is. none (c.in-Err.ensures.call.stopped.0 is))) in (
       fed.0 ++ last.0,
       HandedPart-after _ _ c.args.taker.now c.feed.new.taker c.finish.new.taker fed.0 last.0 fed.1 last.1,
       λ few.
@@ -50,5 +50,5 @@ returns-clause-front g c = λ _.
 pub returns-clause-rose : goal.returns-clause-rose
 returns-clause-rose g c = λ _.
     let none : IsTrue c.feed.new.self.has_stopped → ⊥ = λ stopped. c.in-Ok-feed.ensures.stops.0 stopped in
-    let rose = c.in-Err.ensures.rose (taker_alone c.in-Err.field-0 (λ is. none (c.in-Err.ensures.stopped.0 is))) in
-    subst (λ (n : ℕ). Rose n (g.T.ItemTaker.faults c.finish.new.taker) (g.T.ItemTaker.is_last c.finish.new.taker)) (c.in-Ok-feed.ensures.same (λ e. absurd cc)) rose
+    let rose = c.in-Err.ensures.call.rose (taker_alone c.in-Err.field-0 (λ is. none (c.in-Err.ensures.call.stopped.0 is))) in
+    subst (λ (n : ℕ). Rose n (g.T.ItemTaker.faults c.finish.new.taker) (g.T.ItemTaker.is_last c.finish.new.taker)) (c.in-Ok-feed.ensures.call.same (λ e. absurd cc)) rose

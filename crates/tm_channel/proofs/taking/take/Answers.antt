@@ -1,4 +1,4 @@
-use Rattle.std.proofs.Common.{◌≡◌, ◌++◌, ◌+◌, ◌-◌, ◌∙◌, take, drop, arith, refl, ap, subst, take-append-drop}
+use Rattle.std.proofs.Common.{rules, ◌≡◌, ◌++◌, ◌+◌, ◌-◌, ◌∙◌, take, drop, arith, refl, ap, subst, take-append-drop}
 use Rattle.std.proofs.lemmas.List.{take_all}
 use Rattle.tm_base.specs.Handed.{on_handed}
 use Rattle.tm_config.specs.Configuration.{Configuration}
@@ -40,8 +40,8 @@ loop-done-preserved g c =
           (hands-more took StagesFor start before now c.args.taker.now c.loop-done.taker c.take_piece.new.taker (take at octets) next i.handed c.in-Ok.ensures.handed);
     }
 
-pub returns-in-Err-clause-front : goal.returns-in-Err-clause-front
-returns-in-Err-clause-front g c =
+pub returns-in-Err : goal.returns-in-Err
+returns-in-Err g c =
     let i = c.loop-done.invariant in
     let at = c.loop-done.done in
     let octets = c.args.octets.now in
@@ -55,14 +55,31 @@ returns-in-Err-clause-front g c =
     let first = FirstWith c.args.inner.now.config chosen in
     let part = subst (λ (k : Configuration). HandsFront took broke StagesFor (FirstWith k chosen) before c.loop-done.taker c.take_piece.new.taker next) i.inner c.in-Err.ensures.front in
     let whole : (take at octets ++ next) ++ rest ≡ octets = ap (λ l. l ++ rest) (piece-joined at c.min.result octets) ∙ take-append-drop (at + c.min.result) octets in
-    subst (HandsFront took broke StagesFor first start c.args.taker.now c.take_piece.new.taker) whole
-    (hands-longer took broke StagesFor first start c.args.taker.now c.take_piece.new.taker (take at octets ++ next) rest
-    (first_with-stays c.whole_window_law.ensures.front c.closed_windows_law.ensures c.args.inner.now.config chosen)
-    (hands-front took broke StagesFor first start before c.args.taker.now c.loop-done.taker c.take_piece.new.taker (take at octets) next i.handed part))
+    record {
+      inner = c.take_piece.ensures.inner ∙ i.inner;
+      fresh = c.take_piece.ensures.fresh;
+      room = c.take_piece.ensures.room ∙ i.room;
+      stream = c.take_piece.ensures.stream ∙ i.stream;
+      handed = search rules;
+      front = subst (HandsFront took broke StagesFor first start c.args.taker.now c.take_piece.new.taker) whole
+          (hands-longer took broke StagesFor first start c.args.taker.now c.take_piece.new.taker (take at octets ++ next) rest
+          (first_with-stays c.whole_window_law.ensures.front c.closed_windows_law.ensures c.args.inner.now.config chosen)
+          (hands-front took broke StagesFor first start before c.args.taker.now c.loop-done.taker c.take_piece.new.taker (take at octets) next i.handed part));
+      cause = search rules;
+    }
 
-pub returns-clause-handed : goal.returns-clause-handed
-returns-clause-handed g c =
+pub returns : goal.returns
+returns g c =
+    let i = c.loop-done.invariant in
     let start : Stages = record { inner = c.args.inner.now; bits = c.args.stream.now } in
     let now : Stages = record { inner = c.loop-done.inner; bits = c.loop-done.stream } in
-    subst (Hands (on_handed g.T.ItemTaker.took_phase g.T.ItemTaker.took) StagesFor start now c.args.taker.now c.loop-done.taker) (take_all c.loop-done.done c.args.octets.now c.loop-done-test.false)
-    c.loop-done.invariant.handed
+    record {
+      inner = i.inner;
+      fresh = i.fresh;
+      room = i.room;
+      stream = i.stream;
+      handed = subst (Hands (on_handed g.T.ItemTaker.took_phase g.T.ItemTaker.took) StagesFor start now c.args.taker.now c.loop-done.taker) (take_all c.loop-done.done c.args.octets.now c.loop-done-test.false)
+          c.loop-done.invariant.handed;
+      front = search rules;
+      cause = search rules;
+    }

@@ -1,16 +1,16 @@
-use Rattle.std.proofs.Common.{subst, OnOk, OnErr}
+use Rattle.std.proofs.Common.{rules, subst, OnOk, OnErr}
 use Rattle.tm_inner.proofs.PlainBits.{nearest-behind}
 use Rattle.tm_channel.specs.OctetReceiving.{Received, ReceivedPart}
 use Rattle.tm_channel.proofs.taking.take_nearest.Goals as goal
 
-pub returns-clause-handed : goal.returns-clause-handed
-returns-clause-handed g c =
-    subst (λ l. OnOk c.take_bits.result (Received g.T.ItemTaker.took c.args.stream.now c.take_bits.new.stream c.args.taker.now c.take_bits.new.taker l))
-    (nearest-behind c.args.inner.now.config c.args.skip c.min-from.result c.args.octets.now c.nearest_bits.new.bits c.min-from.ensures c.nearest_bits.ensures.bits)
-    c.take_bits.ensures.handed
-
-pub returns-clause-part : goal.returns-clause-part
-returns-clause-part g c =
-    subst (λ l. OnErr c.take_bits.result (ReceivedPart g.T.ItemTaker.took g.T.ItemTaker.broke c.args.stream.now c.take_bits.new.stream c.args.taker.now c.take_bits.new.taker l))
-    (nearest-behind c.args.inner.now.config c.args.skip c.min-from.result c.args.octets.now c.nearest_bits.new.bits c.min-from.ensures c.nearest_bits.ensures.bits)
-    c.take_bits.ensures.part
+pub returns : goal.returns
+returns g c =
+    let t = g.T.ItemTaker in
+    let now = c.take_bits.new in
+    let same = nearest-behind c.args.inner.now.config c.args.skip c.min-from.result c.args.octets.now c.nearest_bits.new.bits c.min-from.ensures c.nearest_bits.ensures.bits in
+    record {
+      config = c.take_bits.ensures.config;
+      handed = subst (λ l. OnOk c.take_bits.result (Received t.took c.args.stream.now now.stream c.args.taker.now now.taker l)) same c.take_bits.ensures.handed;
+      part = subst (λ l. OnErr c.take_bits.result (ReceivedPart t.took t.broke c.args.stream.now now.stream c.args.taker.now now.taker l)) same c.take_bits.ensures.part;
+      cause = search rules;
+    }

@@ -1,0 +1,69 @@
+-- What the calls of a receiver, and of its second stage, promise.
+use Rattle.std.specs.Prelude.{◌≡◌, ◌↔◌, ℕ, Bool, true, false, List, Result, IfOk, OnErr, OnOk, IsErrOf, IsTrue}
+use Rattle.tm_base.specs.Calls.{CallAnswers}
+use Rattle.tm_base.specs.Handed.{Handed}
+use Rattle.tm_base.specs.Outside.{HasCause}
+use Rattle.tm_inner.specs.Receiving.{Hands, HandsFront}
+use Rattle.tm_channel.specs.declared.receiver.RecvError.{RecvError}
+use Rattle.tm_channel.specs.declared.receiver.RecvError.TheVariants.{Stopped, Taker}
+use Rattle.tm_channel.specs.Items.{ItemValue}
+use Rattle.tm_channel.specs.OctetReceiving.{BitReceiving, FeedBreaks, FeedChooses, FeedHands, FinishBreaks, FinishChooses, FinishHands, FirstWith, OctetReceiving, Received, ReceivedPart, Stages, StagesFor}
+
+-- ---- of the second stage
+
+-- the items that are due with these bits were handed over, or the first of them until the taker
+-- failed
+pub record TakesBits {T R E : Type 0} (took broke : T → ItemValue → T → Type 0) (faults : T → ℕ)
+    (is_last : T → Type 0) (before now : BitReceiving) (taker taker_now : T) (bits : List Bool)
+    (result : Result R E) : Type 0 where
+  pub config : now.batch.config ≡ before.batch.config
+  pub handed : OnOk result (Received took before now taker taker_now bits)
+  pub part : OnErr result (ReceivedPart took broke before now taker taker_now bits)
+  pub cause : HasCause (faults taker) (faults taker_now) (is_last taker_now) result
+
+-- ---- of both stages
+
+-- with these octets what is due was handed over, or the first of it until the taker failed; the
+-- first stage has not stopped, and the room for bits is as it was
+pub record TakesOctets {T R E : Type 0} (took broke : T → Handed ItemValue → T → Type 0)
+    (faults : T → ℕ) (is_last : T → Type 0) (before now : Stages) (size size_now : ℕ)
+    (taker taker_now : T) (octets : List ℕ) (result : Result R E) : Type 0 where
+  pub inner : now.inner.config ≡ before.inner.config
+  pub fresh : now.inner.has_stopped ≡ false
+  pub room : size_now ≡ size
+  pub stream : now.bits.batch.config ≡ before.bits.batch.config
+  pub handed : OnOk result (Hands took StagesFor before now taker taker_now octets)
+  pub front : OnErr result (HandsFront took broke StagesFor
+      (FirstWith before.inner.config now.inner.phased.chosen) before taker taker_now octets)
+  pub cause : HasCause (faults taker) (faults taker_now) (is_last taker_now) result
+
+-- ---- of the receiver
+
+-- it is refused once the receiver has stopped, and fails only where the taker does
+abbrev pub Calls : {T R : Type 0} → (faults : T → ℕ) → (is_last : T → Type 0)
+    → (before now : OctetReceiving) → (taker taker_now : T) → Result R RecvError → Type 0
+Calls faults is_last before now taker taker_now result = CallAnswers Stopped Taker
+    before.has_stopped before now (taker_now ≡ taker) (faults taker) (faults taker_now)
+    (is_last taker_now) result
+
+-- with these octets what is due was handed over, or the first of it until the taker failed
+pub record Feeds {T R : Type 0} (took broke : T → Handed ItemValue → T → Type 0) (faults : T → ℕ)
+    (is_last : T → Type 0) (before now : OctetReceiving) (taker taker_now : T) (octets : List ℕ)
+    (result : Result R RecvError) : Type 0 where
+  pub call : Calls faults is_last before now taker taker_now result
+  pub stops : IsTrue now.has_stopped ↔ OnOk result ⊥
+  pub config : now.config ≡ before.config
+  pub handed : OnOk result (FeedHands took before now taker taker_now octets)
+  pub front : IsErrOf result Taker → FeedBreaks took broke before taker taker_now octets
+  pub chosen : FeedChooses before now octets
+
+-- at the end what is left was handed over, or the first of it until the taker failed
+pub record Finishes {T : Type 0} (took broke : T → Handed ItemValue → T → Type 0) (faults : T → ℕ)
+    (is_last : T → Type 0) (before now : OctetReceiving) (taker taker_now : T)
+    (result : Result ℕ RecvError) : Type 0 where
+  pub call : Calls faults is_last before now taker taker_now result
+  pub stops : now.has_stopped ≡ true
+  pub config : now.config ≡ before.config
+  pub handed : IfOk result (FinishHands took before taker taker_now)
+  pub front : IsErrOf result Taker → FinishBreaks took broke before taker taker_now
+  pub chosen : FinishChooses before now
