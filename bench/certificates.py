@@ -55,12 +55,12 @@ class Code:
         return [[sum(255 - o if s else o for o, s in zip(octets, sent[r][b])) for b in (0, 1)] for r in range(64)]
 
 
-def behind(register, bit):
+def after(register, bit):
     return register // 2 + 32 * bit
 
 
 # the registers from which one comes to each
-FROM = [[r for r in range(64) if behind(r, s // 32) == s] for s in range(64)]
+FROM = [[r for r in range(64) if after(r, s // 32) == s] for s in range(64)]
 
 
 def window(code, t, starts, octets, steps):
@@ -102,7 +102,7 @@ def write(code, soft):
         out += b"".join(struct.pack(">64I", *column) for column in columns)
         register = start
         for bit in bits[:kept]:
-            register = behind(register, bit)
+            register = after(register, bit)
         at += code.span(t, kept)
         t += kept
         starts = [register]
@@ -121,7 +121,7 @@ def judge(code, t, starts, octets, columns, bits, start, metric):
         edge = code.edges((t + k) % len(code.first), octets[at : at + size])
         at += size
         cost += edge[register][bit]
-        register = behind(register, bit)
+        register = after(register, bit)
         if wrong is None:
             undercut = (s for s in range(64) for r in FROM[s] if columns[k + 1][s] > columns[k][r] + edge[r][s // 32])
             first = next(undercut, None)
@@ -144,7 +144,7 @@ class Place:
 
 
 def check_window(code, text, place):
-    """The place behind the window that begins at a place, or what is told where it fails or is cut."""
+    """The place after the window that begins at a place, or what is reported where it fails or is cut."""
     at, t, most = place.at, place.t, code.keep + code.ahead
     bad = lambda reason: "bad %d %s" % (place.number, reason)
     cut = "cut at block %d" % place.number
@@ -177,16 +177,16 @@ def check_window(code, text, place):
         return bad(reason)
     register = start
     for bit in bits[:kept]:
-        register = behind(register, bit)
-    front = code.span(t, kept)
+        register = after(register, bit)
+    so_far = code.span(t, kept)
     then = Place(code)
     then.at, then.t = at + 256 * (steps + 1), t + kept
     then.number, then.kept = place.number + 1, place.kept + kept
-    then.starts, then.tail = [register], octets[front:]
+    then.starts, then.tail = [register], octets[so_far:]
     then.must_follow = kept < steps
     then.may_follow = then.must_follow or steps == most and code.ahead == 0
     then.lines = place.lines + ["block %d steps %d kept %d metric %d" % (place.number, steps, kept, metric)]
-    then.out = place.out + octets[:front]
+    then.out = place.out + octets[:so_far]
     return then
 
 

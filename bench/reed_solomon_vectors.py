@@ -242,7 +242,7 @@ def hex_of(numbers):
 
 
 def print_table(about, name, lines):
-    """A static text with these lines. No line of the file begins with a space, which would be lost behind a backslash."""
+    """A static text with these lines. No line of the file begins with a space, which would be lost after a backslash."""
     print(f"// Written by bench/reed_solomon_vectors.py. {about}\npub static {name}: &str = \"\\")
     for line in lines:
         print("\\\n".join(re.findall(r"\S.{0,118} ?", line)) + "\\n\\")

@@ -19,7 +19,7 @@ def lines(texts):
     return "".join(text + "\n" for text in texts).encode()
 
 # Each command that reads answers output, notes and status for the octets of its input. Where the
-# input goes on behind these, past the limit (`ended` is False), it answers what is due for them.
+# input goes on after these, past the limit (`ended` is False), it answers what is due for them.
 
 def encode(data, ended, c):
     frames = [data[at:at + c.length] for at in range(0, len(data) - c.length + 1, c.length)]
@@ -107,11 +107,10 @@ def soak(c):
         units += unit
     r = received(on_the_link(units, c), True, c)
     found = items(r.bits, c)
-    bad = any(frame is None for frame, _, _ in found)
-    return lines([last_line(found, r.bits)]), b"", 1 if bad else 0
+    return lines([last_line(found, r.bits)]), b"", int(any(frame is None for frame, _, _ in found))
 
 def run(words, read):
-    """Output, notes and status for the words behind the program's name. `read` gives the input,
+    """Output, notes and status for the words after the program's name. `read` gives the input,
     up to a number of octets."""
     try:
         command, c = read_words([os.fsencode(text).decode() for text in words])

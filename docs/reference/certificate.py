@@ -42,10 +42,10 @@ def path_cost(bits, register, soft, first, c):
 
 def checked_windows(octets, c):
     """Of each window that passes its steps, kept steps and metric, and the soft octets of the
-    kept steps. Behind these `Refused` comes where a window fails, `Ends` where one is missing."""
+    kept steps. After these `Refused` comes where a window fails, `Ends` where one is missing."""
     stream, whole, first = BytesIO(octets), c.keep + c.ahead, 0
     starts = range(64) if c.start_any else (0,)
-    follows, last, ahead = False, False, b""  # whether one has to, or none may; octets told before
+    follows, last, ahead = False, False, b""  # whether one has to, or none may; octets seen before
     while follows or stream.tell() < len(octets):
         require(not last, "shape")
         steps, kept, start, metric = unpack(">IIBQ", take(stream, 17))

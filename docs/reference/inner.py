@@ -21,7 +21,7 @@ def next_register(register, bit):
     return bit << 5 | register >> 1
 
 def soft_form(octets, c):
-    """Octets turned from the unsigned form to that of --soft, or back."""
+    """Octets converted from the unsigned form to that of --soft, or back."""
     return bytes(octet ^ 128 for octet in octets) if c.signed else bytes(octets)
 
 def symbols(bits, c):
@@ -43,8 +43,7 @@ def on_the_link(units, c):
 def cut_steps(octets, c):
     """The soft octets of each whole step, and how many octets are left over."""
     steps, at = [], 0
-    while at + sum(sent(len(steps), c)) <= len(octets):
-        size = sum(sent(len(steps), c))
+    while at + (size := sum(sent(len(steps), c))) <= len(octets):
         steps.append(octets[at:at + size])
         at += size
     return steps, len(octets) - at
@@ -62,12 +61,11 @@ TRELLIS = [[(2 * register % 64 + lost, sums(2 * register % 64 + lost, register >
 
 def path_metrics(steps, first, starts, c):
     """The path metrics of all registers before the first of the steps, which is step `first` of
-    the stream, and behind each. A path from a register that is not in `starts` costs 2^30 more."""
+    the stream, and after each. A path from a register that is not in `starts` costs 2^30 more."""
     columns = [[0 if register in starts else 2 ** 30 for register in range(64)]]
     for t, soft in enumerate(steps, first):
-        cost, before = branch_metrics(soft, t, c), columns[-1]
-        columns.append([min(before[a] + cost[x], before[b] + cost[y])
-                        for (a, x), (b, y) in TRELLIS])
+        cost, last = branch_metrics(soft, t, c), columns[-1]
+        columns.append([min(last[a] + cost[x], last[b] + cost[y]) for (a, x), (b, y) in TRELLIS])
     return columns
 
 def traceback(columns, steps, first, c):
@@ -106,10 +104,9 @@ def symbol_phase(octets, ended, c):
     return costs.index(min(costs)), min(costs)
 
 def received(data, ended, c):
-    """The windows and bits of an input, or where it goes on those that are due, and the lines
-    that come first and last where they are told."""
-    r = SimpleNamespace(phase=(0, 0), windows=[], leftover=0)
-    octets = soft_form(data, c)[c.skip:]
+    """The windows and bits of an input, or where it goes on those that are due, and the first and
+    the last line of a report or a trace, where they are due."""
+    r, octets = SimpleNamespace(phase=(0, 0), windows=[], leftover=0), soft_form(data, c)[c.skip:]
     if c.packed:
         r.bits = bits_of(data)[c.skip:]
     elif c.inner == "none":

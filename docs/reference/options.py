@@ -51,8 +51,7 @@ def number(given, name, least, most, default):
 
 def configuration(given):
     """What the options say, tested in the order of the reasons."""
-    c = SimpleNamespace()
-    errors = {"rs16": 16, "rs8": 8, "none": 0}
+    c, errors = SimpleNamespace(), {"rs16": 16, "rs8": 8, "none": 0}
     c.E = errors[chosen(given, "code", errors, "rs16")]
     c.depth = number(given, "depth", 1, 8 if c.E else 1, 1)
     require(c.depth in (1, 2, 3, 4, 5, 8), "depth")

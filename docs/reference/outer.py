@@ -2,8 +2,7 @@
 from functools import reduce
 from operator import xor
 
-# CCSDS 131.0-B, "Frame synchronization": the attached sync marker.
-MARKER = bytes.fromhex("1ACFFC1D")
+MARKER = bytes.fromhex("1ACFFC1D")  # CCSDS 131.0-B, "Frame synchronization"
 
 def bits_of(octets):
     """The bits of octets, from the most significant one of each."""
@@ -36,9 +35,9 @@ def polynomial_product(a, b):
             result[i + k] ^= product(x, y)
     return result
 
-# The dual basis ("Reed-Solomon coding", symbol representation): z_i = Tr(u alpha^(117 i)).
+# The dual basis ("Reed-Solomon coding", symbol representation): z_i = Tr(u alpha^(117 i)), where
+# Tr(v) is the sum of v raised to the powers 1, 2, 4, .., 128: 0 or 1.
 def trace(v):
-    """The sum of v raised to the powers 1, 2, 4, .., 128: 0 or 1."""
     return reduce(xor, (POWER[LOG[v] * 2 ** k % 255] for k in range(8))) if v else 0
 
 DUAL = bytes(sum(trace(product(u, POWER[117 * i % 255])) << (7 - i) for i in range(8))
@@ -64,9 +63,6 @@ def check_symbols(data, E):
             rest[at + k] ^= product(factor, coefficient)
     return rest[len(data):]
 
-def syndromes(word, E):
-    return [value(word, root) for root in ROOTS[E]]
-
 def error_locator(syndrome, erased):
     """Berlekamp-Massey, begun with the locator of the erased places, and the length reached."""
     locator = reduce(polynomial_product, ([1, place] for place in erased), [1])
@@ -86,7 +82,7 @@ def nearest_codeword(word, erased, E, repair):
     where twice their number and that of the erased ones is at most 2E; with it how many places
     differ that are not erased, and how many that are. None where there is no such codeword."""
     place = [POWER[11 * (len(word) - 1 - i) % 255] for i in range(len(word))]
-    syndrome = syndromes(word, E)
+    syndrome = [value(word, root) for root in ROOTS[E]]
     locator, length = error_locator(syndrome, [place[i] for i in erased])
     wrong = [i for i in range(len(word)) if value(locator[::-1], inverse(place[i])) == 0]
     if len(wrong) != length:
@@ -100,7 +96,8 @@ def nearest_codeword(word, erased, E, repair):
         codeword[i] ^= product(error, POWER[LOG[x] * (127 - E) % 255])
     differ = [i for i in range(len(word)) if codeword[i] != word[i]]
     elsewhere = sum(i not in erased for i in differ)
-    if any(syndromes(codeword, E)) or elsewhere > repair or 2 * elsewhere + len(erased) > 2 * E:
+    is_near = elsewhere <= repair and 2 * elsewhere + len(erased) <= 2 * E
+    if not is_near or any(value(codeword, root) for root in ROOTS[E]):
         return None
     return codeword, elsewhere, len(differ) - elsewhere
 

@@ -6,22 +6,22 @@ MARKER_BITS = bits_of(MARKER)
 def places(bits, c):
     """Of each codeblock its place, the wrong bits of its marker, whether it was bridged, and
     whether it is inverted."""
-    found, at, bridged, inverted, behind = [], 0, 0, False, False  # behind: a codeblock ends here
+    found, at, bridged, inverted, follows = [], 0, 0, False, False  # follows: a codeblock ends here
     while at + 32 + 8 * c.codeblock <= len(bits):
         wrong = sum(x != y for x, y in zip(MARKER_BITS, bits[at:at + 32]))
         if wrong <= c.tolerance or (c.find_polarity and 32 - wrong <= c.tolerance):
             bridged, inverted = 0, wrong > c.tolerance
-        elif behind and bridged < c.fly:
+        elif follows and bridged < c.fly:
             bridged += 1
         else:
-            at, behind = at + 1, False
+            at, follows = at + 1, False
             continue
         found.append((at, 32 - wrong if inverted else wrong, bridged > 0, inverted))
-        at, behind = at + 32 + 8 * c.codeblock, True
+        at, follows = at + 32 + 8 * c.codeblock, True
     return found
 
 def repaired(block, c):
-    """The frame of a received codeblock, None where a column is beyond repair, and for each
+    """The frame of a received codeblock, None where a column is uncorrectable, and for each
     column how many symbols were wrong."""
     if not c.E:
         return block, []
@@ -46,7 +46,6 @@ def items(bits, c):
     return found
 
 def last_line(found, bits):
-    """The end of a report."""
     bad = sum(frame is None for frame, _, _ in found)
     fixed = sum(n for _, _, counts in found for n in counts if n != "x")
     return f"frames {len(found) - bad} bad {bad} fixed {fixed} bits {len(bits)}"
