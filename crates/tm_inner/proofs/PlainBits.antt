@@ -2,7 +2,7 @@
 use Rattle.std.proofs.Common.{◌≡◌, ℕ, ◌+◌, ◌-◌, ◌*◌, ◌/◌, ◌%◌, ◌^◌, ◌≤◌, ◌<◌, ◌==◌, nat_le, if◌then◌else◌, Bool, true, false, List, [], ◌∷◌, ◌++◌, length, take, drop, map, min, Option, Some, None, refl, sym, ap, ◌∙◌, arith}
 use Rattle.std.proofs.lemmas.List.{drop_all, drop-map, drop_min, length-map, map-append, take_rest}
 use Rattle.std.proofs.lemmas.Bool.Decides.{nat_tests}
-use Rattle.tm_base.specs.Bits.{bits_of, octets_of, bit_number}
+use Rattle.tm_base.specs.Bits.{bits_of, bit_number}
 use Rattle.tm_base.proofs.Packing.{bits_of-append, bits_of-octets_of, length-bits_of}
 use Rattle.tm_config.specs.Configuration.{Configuration, is_signed}
 use Rattle.tm_config.specs.declared.values.SoftForm.{SoftForm}
@@ -10,7 +10,7 @@ use Rattle.tm_config.specs.declared.values.SoftForm.TheVariants.{Unsigned, Signe
 use Rattle.tm_conv.specs.declared.rates.Rate.{Rate}
 use Rattle.tm_conv.specs.Encoding.{bit_numbers, level, levels}
 use Rattle.tm_inner.specs.Symbols.{low_level, plain_symbols}
-use Rattle.tm_inner.specs.Inner.{soft_value, nearest_bit, plain_bits_by, plain_bits, plain_count, bits_at}
+use Rattle.tm_inner.specs.Inner.{nearest_bit, plain_bits_by, plain_bits, plain_count, bits_at}
 
 -- ---- one list behind another
 
