@@ -150,10 +150,7 @@ fn send_bits<O: Sink>(low: u8, octets: &[u8], out: &mut O) -> Result<(), Failed>
         let end = done + PIECE.min(octets.len() - done);
         let piece = &octets[done..end];
         spread(low, piece, &mut room);
-        match put_all(out, &room[..8 * piece.len()]) {
-            Ok(()) => {}
-            Err(Failed) => return Err(Failed),
-        }
+        put_all(out, &room[..8 * piece.len()])?;
         done = end;
     }
     Ok(())
@@ -179,10 +176,7 @@ fn send_symbols<O: Sink>(
     while done < octets.len() {
         let end = done + PIECE.min(octets.len() - done);
         let count = encoder.encode(&octets[done..end], low, &mut room);
-        match put_all(out, &room[..count]) {
-            Ok(()) => {}
-            Err(Failed) => return Err(Failed),
-        }
+        put_all(out, &room[..count])?;
         done = end;
     }
     Ok(())

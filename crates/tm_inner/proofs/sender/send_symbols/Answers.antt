@@ -7,6 +7,7 @@ use Rattle.tm_conv.specs.Encoding.{Encoding}
 use Rattle.tm_inner.specs.Sending.{EncodesFor, encoded}
 use Rattle.tm_inner.proofs.Symbols.{encoded-goes_on}
 use Rattle.tm_inner.proofs.Coding.{GoesOnBy, fed-piece, fed-piece_front, joined}
+use Rattle.tm_viterbi.proofs.Handing.{on_err_of}
 use Rattle.tm_inner.proofs.sender.send_symbols.Goals as goal
 
 -- the same, where rate and inversion are those of an encoder before
@@ -22,8 +23,8 @@ same-code_front before here low taken taken_now piece rate invert fed =
     subst (λ (i : Bool). FedFront EncodesFor (encoded before.rate i low) here taken taken_now piece) invert
     (subst (λ (r : Rate). FedFront EncodesFor (encoded r here.invert low) here taken taken_now piece) rate fed)
 
-pub returns-in-Err-clause-front : goal.returns-in-Err-clause-front
-returns-in-Err-clause-front g c =
+pub returns-in_err-put_all-clause-front : goal.returns-in_err-put_all-clause-front
+returns-in_err-put_all-clause-front g c =
     let before = c.args.encoder.now in
     let here = c.loop-done.encoder in
     let low = c.args.low in
@@ -36,14 +37,16 @@ returns-in-Err-clause-front g c =
     let taken = g.O.Sink.taken c.args.out.now in
     let taken_now = g.O.Sink.taken c.put_all.new.out in
     let by : GoesOnBy here c.encode-count.new.self low piece symbols = record { stands = c.encode-count.ensures.stands; sent = c.encode-count.ensures.sent } in
-    let part = c.in-Err.ensures.err in
+    let part = c.in_err-put_all.ensures.err in
     let one =
     same-code_front before here low (g.O.Sink.taken c.loop-done.out) taken_now piece c.loop-done.invariant.rate c.loop-done.invariant.invert
     (fed-piece_front here c.encode-count.new.self low piece symbols (g.O.Sink.taken c.loop-done.out) taken_now by (part.0, part.2)) in
+    on_err_of c.from_residual.result _ c.from_residual.ensures.0 (
     subst (FedFront EncodesFor due before taken taken_now) (take-append-drop end octets)
     (fed-front_of_longer EncodesFor due on before taken taken_now (take end octets) (drop end octets)
     (subst (FedFront EncodesFor due before taken taken_now) (joined c.loop-done.done c.min.result octets)
     (fed-front EncodesFor due on before here taken (g.O.Sink.taken c.loop-done.out) taken_now (take c.loop-done.done octets) piece c.loop-done.invariant.fed one)))
+    )
 
 pub loop-done-preserved : goal.loop-done-preserved
 loop-done-preserved g c =
@@ -62,7 +65,7 @@ loop-done-preserved g c =
     let by : GoesOnBy here now low piece symbols = record { stands = c.encode-count.ensures.stands; sent = c.encode-count.ensures.sent } in
     let one =
     same-code before here now low (g.O.Sink.taken c.loop-done.out) taken_now piece c.loop-done.invariant.rate c.loop-done.invariant.invert
-    (fed-piece here now low piece symbols (g.O.Sink.taken c.loop-done.out) taken_now by c.in-Ok.ensures.ok) in
+    (fed-piece here now low piece symbols (g.O.Sink.taken c.loop-done.out) taken_now by c.in_ok-put_all.ensures.ok) in
     record {
       within = grind (arith, common_steps);
       room = c.encode-count.ensures.length ∙ c.loop-done.invariant.room;
