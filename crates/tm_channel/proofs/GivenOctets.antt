@@ -34,7 +34,7 @@ use Rattle.tm_channel.specs.Items.{ItemValue, AreItemsOf, AreFirstItemsOf, AreIt
 use Rattle.tm_channel.specs.Due.{due}
 use Rattle.tm_channel.specs.Handing.{phase_from, phase_of, AreReceived, AreReceivedDue, AreReceivedFirst, AreReceivedFront}
 use Rattle.tm_channel.specs.Receiving.{beyond, waiting_bits, AreFurther, AreFirstFurther, AreFirstDue}
-use Rattle.tm_channel.specs.OctetReceiving.{BitReceiving, OctetReceiving, StandsFor, FirstWith, StandsForBits, Stages, StagesFor, Keeping, Keeps, KeepsPhase, AreSpare, AreWaiting, Gathers, Grows, Ends, Received, ReceivedPart, ReceivedLast, ReceivedLastPart, bits_found, received_bits}
+use Rattle.tm_channel.specs.OctetReceiving.{BitReceiving, OctetReceiving, StandsFor, FirstWith, StandsForBits, Stages, StagesFor, StagesHand, StagesOn, Keeping, Keeps, KeepsPhase, AreSpare, AreWaiting, Gathers, Grows, Ends, Received, ReceivedPart, ReceivedLast, ReceivedLastPart, bits_found, received_bits}
 use Rattle.tm_channel.proofs.Streaming.{first-longer, first-more, first-then, items-then}
 use Rattle.tm_channel.proofs.AllBits.{beyond-nil, all-items, some-items, few-items, due-nil}
 use Rattle.tm_channel.proofs.ReceivedPieces.{all_bits, all_bits-append}
@@ -84,7 +84,7 @@ found-none c (Some rate) skip kept octets is = absurd cc
 
 -- ---- the bits of further octets
 
-further-at : (rate : Option Rate) (c : Configuration) (given octets : List ℕ) (blocks more : List WindowBlock) (kept : List ℕ) (skip : ℕ) → skip ≡ c.skip - plain_count c (length given)
+pub further-at : (rate : Option Rate) (c : Configuration) (given octets : List ℕ) (blocks more : List WindowBlock) (kept : List ℕ) (skip : ℕ) → skip ≡ c.skip - plain_count c (length given)
     → kept ≡ kept_bits more → bits_at rate c (given ++ octets) (blocks ++ more) ≡ bits_at rate c given blocks ++ bits_found c rate skip kept octets
 further-at None c given octets blocks more kept skip is same =
     let left : c.skip - length (plain_bits c given) ≡ skip = omega (arith, is, length-plain c given) in
@@ -151,7 +151,7 @@ last-at None c phase given blocks last left are =
 last-at (Some rate) c phase given blocks last left are = all_bits-append blocks last
 
 -- the blocks of what was handed over
-turn-items : {I : Type 0} (chosen : Option Chosen) (items : List I) (handed : List (Handed I)) → handed ≡ in_turn chosen items → items_of handed ≡ items
+pub turn-items : {I : Type 0} (chosen : Option Chosen) (items : List I) (handed : List (Handed I)) → handed ≡ in_turn chosen items → items_of handed ≡ items
 turn-items chosen items handed are = ap items_of are ∙ items_of-in_turn chosen items
 
 -- the last blocks add these bits
@@ -355,32 +355,35 @@ onward s now room octets phase piece roomy grows given done few stood =
     }
 
 -- all that is due with the octets was handed over
-stages-more : {T : Type 0} (took : T → ItemValue → T → Type 0) (s now : Stages) (middle taker_now : T) (room : ℕ) (octets : List ℕ) (phase : Option Chosen) (piece : List Bool)
+stages-due : {T : Type 0} (took : T → ItemValue → T → Type 0) (s now : Stages) (middle taker_now : T) (room : ℕ) (octets : List ℕ) (phase : Option Chosen) (piece : List Bool)
     → IsOf s → IsRoomy s (length octets) room → now.inner.config ≡ s.inner.config → Grows s.inner now.inner room octets phase piece → (p : Received took s.bits now.bits middle taker_now piece)
-    → (given : List ℕ) (done : List (Handed ItemValue)) → length given + length octets < 2 ^ 60 → StagesFor s given done
-    → StagesFor now (given ++ octets) (done ++ (in_turn phase [] ++ map Item p.items))
-stages-more took s now middle taker_now room octets phase piece of roomy same grows p given done few stood =
+    → (given : List ℕ) (done : List (Handed ItemValue)) → length given + length octets < 2 ^ 60 → (stood : StagesFor s given done)
+    → StagesOn now (given ++ octets) (done ++ (in_turn phase [] ++ map Item p.items)) stood.handed
+stages-due took s now middle taker_now room octets phase piece of roomy same grows p given done few stood =
     let c = s.inner.config in
     let f = onward s now.inner room octets phase piece roomy grows given done few stood in
     let handed = stood.handed ++ f.more in
     let bits = inner_bits c given (items_of stood.handed) in
     let more = subst (λ (k : Configuration). AreFurther k bits piece p.items) of (p.due bits f.few stood.bits) in
     let items = subst (λ (l : List Bool). AreItemsOf c l (due c l) (stood.items ++ p.items)) (sym f.is) (due-further c bits piece stood.items p.items stood.are_items more) in
-    let stands = subst (StandsForBits now.bits) (sym f.is) (p.stands bits f.few stood.bits) in
-    record {
-      handed = handed;
-      inner = f.stands;
-      waiting = [];
-      are_due = subst (λ (k : Configuration). AreWaiting k (given ++ octets) handed []) (sym same) (subst (AreHandedDue c (given ++ octets)) (sym (append-nil handed)) f.due);
-      few = omega arith;
-      none_due = ap (λ (l : List WindowBlock). due now.inner.config (inner_bits now.inner.config (given ++ octets) l)) (append-nil (items_of handed));
-      bits = subst (λ (k : Configuration). StandsForBits now.bits (inner_bits k (given ++ octets) (items_of handed))) (sym same) stands;
-      items = stood.items ++ p.items;
-      are_items = subst (λ (k : Configuration). AreItemsOf k (inner_bits k (given ++ octets) (items_of handed)) (due k (inner_bits k (given ++ octets) (items_of handed))) (stood.items ++ p.items))
-          (sym same) items;
-      are = turn-more c given stood.handed stood.waiting f.more done stood.items p.items phase stood.are_due stood.are_items stood.are
-          (once-due c given octets stood.handed stood.waiting f.more stood.are_due f.due) f.is_phase;
-    }
+    let stands = subst (StandsForBits now.bits) (sym f.is) (p.stands bits f.few stood.bits) in (
+      record {
+        handed = handed;
+        inner = f.stands;
+        waiting = [];
+        are_due = subst (λ (k : Configuration). AreWaiting k (given ++ octets) handed []) (sym same) (subst (AreHandedDue c (given ++ octets)) (sym (append-nil handed)) f.due);
+        few = omega arith;
+        none_due = ap (λ (l : List WindowBlock). due now.inner.config (inner_bits now.inner.config (given ++ octets) l)) (append-nil (items_of handed));
+        bits = subst (λ (k : Configuration). StandsForBits now.bits (inner_bits k (given ++ octets) (items_of handed))) (sym same) stands;
+        items = stood.items ++ p.items;
+        are_items = subst (λ (k : Configuration). AreItemsOf k (inner_bits k (given ++ octets) (items_of handed)) (due k (inner_bits k (given ++ octets) (items_of handed))) (stood.items ++ p.items))
+            (sym same) items;
+        are = turn-more c given stood.handed stood.waiting f.more done stood.items p.items phase stood.are_due stood.are_items stood.are
+            (once-due c given octets stood.handed stood.waiting f.more stood.are_due f.due) f.is_phase;
+      },
+      f.more,
+      refl,
+    )
 
 -- the octets wait in the first stage
 kept-coded : (rate : Option Rate) (c : Configuration) (given octets : List ℕ) (blocks : List WindowBlock) → is_some rate ≡ true → bits_at rate c (given ++ octets) blocks ≡ bits_at rate c given blocks
@@ -395,8 +398,8 @@ with-waiting (Some rate) c given blocks waiting = (all_bits waiting, all_bits-ap
 
 stages-wait : (s : Stages) (now : InnerReceiving) (octets : List ℕ) (spare : ℕ) → IsOf s → now.config ≡ s.inner.config → is_some s.inner.config.inner ≡ true
     → AreSpare s.bits spare → spare ≤ waiting_bits s.bits.batch.config s.bits.batch.config.batch → Gathers s.inner now octets spare
-    → (given : List ℕ) (done : List (Handed ItemValue)) → length given + length octets < 2 ^ 60 → StagesFor s given done
-    → StagesFor (record { inner = now; bits = s.bits }) (given ++ octets) (done ++ [])
+    → (given : List ℕ) (done : List (Handed ItemValue)) → length given + length octets < 2 ^ 60 → (stood : StagesFor s given done)
+    → StagesOn (record { inner = now; bits = s.bits }) (given ++ octets) (done ++ []) stood.handed
 stages-wait s now octets spare of same coded none most gathers given done few stood =
     let c = s.inner.config in
     let f = gathers given stood.handed few stood.inner in
@@ -407,23 +410,26 @@ stages-wait s now octets spare of same coded none most gathers given done few st
     let stands = subst (StandsForBits s.bits) (sym is) stood.bits in
     let none_due = subst (λ (k : Configuration). due k (inner_bits c (given ++ octets) blocks ++ more.0) ≡ due k (inner_bits c (given ++ octets) blocks)) of
     (none (inner_bits c (given ++ octets) blocks) more.0 stands (omega (arith, more.2, f.1.1))) in
-    let items = subst (λ (l : List Bool). AreItemsOf c l (due c l) stood.items) (sym is) stood.are_items in
-    record {
-      handed = stood.handed;
-      inner = f.0;
-      waiting = waiting;
-      are_due = subst (λ (k : Configuration). AreWaiting k (given ++ octets) stood.handed waiting) (sym same) f.1.2;
-      few = omega (arith, f.1.1, most, ap (λ (k : Configuration). waiting_bits k k.batch) of, ap (λ (k : Configuration). waiting_bits k k.batch) same);
-      none_due = subst (λ (k : Configuration). due k (inner_bits k (given ++ octets) (blocks ++ waiting)) ≡ due k (inner_bits k (given ++ octets) blocks)) (sym same) (ap (due c) more.1 ∙ none_due);
-      bits = subst (λ (k : Configuration). StandsForBits s.bits (inner_bits k (given ++ octets) blocks)) (sym same) stands;
-      items = stood.items;
-      are_items = subst (λ (k : Configuration). AreItemsOf k (inner_bits k (given ++ octets) blocks) (due k (inner_bits k (given ++ octets) blocks)) stood.items) (sym same) items;
-      are = append-nil done ∙ stood.are;
-    }
+    let items = subst (λ (l : List Bool). AreItemsOf c l (due c l) stood.items) (sym is) stood.are_items in (
+      record {
+        handed = stood.handed;
+        inner = f.0;
+        waiting = waiting;
+        are_due = subst (λ (k : Configuration). AreWaiting k (given ++ octets) stood.handed waiting) (sym same) f.1.2;
+        few = omega (arith, f.1.1, most, ap (λ (k : Configuration). waiting_bits k k.batch) of, ap (λ (k : Configuration). waiting_bits k k.batch) same);
+        none_due = subst (λ (k : Configuration). due k (inner_bits k (given ++ octets) (blocks ++ waiting)) ≡ due k (inner_bits k (given ++ octets) blocks)) (sym same) (ap (due c) more.1 ∙ none_due);
+        bits = subst (λ (k : Configuration). StandsForBits s.bits (inner_bits k (given ++ octets) blocks)) (sym same) stands;
+        items = stood.items;
+        are_items = subst (λ (k : Configuration). AreItemsOf k (inner_bits k (given ++ octets) blocks) (due k (inner_bits k (given ++ octets) blocks)) stood.items) (sym same) items;
+        are = append-nil done ∙ stood.are;
+      },
+      [],
+      sym (append-nil stood.handed),
+    )
 
 pub hands-wait : {T : Type 0} (took : T → Handed ItemValue → T → Type 0) (s : Stages) (now : InnerReceiving) (taker : T) (octets : List ℕ) (spare : ℕ)
     → IsOf s → now.config ≡ s.inner.config → is_some s.inner.config.inner ≡ true → AreSpare s.bits spare → spare ≤ waiting_bits s.bits.batch.config s.bits.batch.config.batch
-    → Gathers s.inner now octets spare → Hands took StagesFor s (record { inner = now; bits = s.bits }) taker taker octets
+    → Gathers s.inner now octets spare → StagesHand took s (record { inner = now; bits = s.bits }) taker taker octets
 hands-wait took s now taker octets spare of same coded none most gathers = record {
   more = [];
   handed = refl;
@@ -472,12 +478,12 @@ stages-front s now room octets phase piece tried of roomy grows first some given
 
 pub hands-due : {T : Type 0} (took_phase : T → ℕ → ℕ → T → Type 0) (took : T → ItemValue → T → Type 0) (s now : Stages) (taker middle taker_now : T) (room : ℕ) (octets : List ℕ) (phase : Option Chosen) (piece : List Bool)
     → IsOf s → IsRoomy s (length octets) room → now.inner.config ≡ s.inner.config → Grows s.inner now.inner room octets phase piece → HandedOver (on_handed took_phase took) taker (in_turn phase []) middle
-    → Received took s.bits now.bits middle taker_now piece → Hands (on_handed took_phase took) StagesFor s now taker taker_now octets
+    → Received took s.bits now.bits middle taker_now piece → StagesHand (on_handed took_phase took) s now taker taker_now octets
 hands-due took_phase took s now taker middle taker_now room octets phase piece of roomy same grows first p = record {
   more = in_turn phase [] ++ map Item p.items;
   handed = HandedOver-append (on_handed took_phase took) taker middle taker_now (in_turn phase []) (map Item p.items) first
       (HandedOver-items took_phase took middle taker_now p.items p.handed);
-  stands = stages-more took s now middle taker_now room octets phase piece of roomy same grows p;
+  stands = stages-due took s now middle taker_now room octets phase piece of roomy same grows p;
 }
 
 -- the taker failed at the phase
@@ -509,6 +515,41 @@ front-due took_phase broke_phase took broke s now bits_now taker middle taker_no
       first = stages-front s now room octets phase piece p.tried of roomy grows p.first
           (part-some (on_handed took_phase took) (on_handed broke_phase broke) taker taker_now (in_turn phase [] ++ map Item p.tried) part);
     }
+
+-- ---- one piece after another
+
+pub stages-none : {T : Type 0} (took : T → Handed ItemValue → T → Type 0) (s : Stages) (taker : T) → StagesHand took s s taker taker []
+stages-none took s taker = record {
+  more = [];
+  handed = refl;
+  stands = λ given done few stood.
+      subst (λ (l : List ℕ). StagesOn s l (done ++ []) stood.handed) (sym (append-nil given))
+      (subst (λ (l : List (Handed ItemValue)). StagesOn s given l stood.handed) (sym (append-nil done)) (stood, [], sym (append-nil stood.handed)));
+}
+
+joined : {A : Type 0} (front middle all more last : List A) → all ≡ middle ++ last → middle ≡ front ++ more → all ≡ front ++ (more ++ last)
+joined front middle all more last is before = is ∙ ap (λ l. l ++ last) before ∙ append_assoc front more last
+
+pub stages-more : {T : Type 0} (took : T → Handed ItemValue → T → Type 0) (a b c : Stages) (taker middle now : T) (first second : List ℕ)
+    → StagesHand took a b taker middle first → StagesHand took b c middle now second → StagesHand took a c taker now (first ++ second)
+stages-more took a b c taker middle now first second p q = record {
+  more = p.more ++ q.more;
+  handed = HandedOver-append took taker middle now p.more q.more p.handed q.handed;
+  stands = λ given done few stood.
+      let there = p.stands given done (omega (arith, few, length-append first second)) stood in
+      let last = q.stands (given ++ first) (done ++ p.more) (omega (arith, few, length-append first second, length-append given first)) there.0 in
+      let on : StagesOn c ((given ++ first) ++ second) ((done ++ p.more) ++ q.more) stood.handed = (
+        last.0,
+        there.1 ++ last.1,
+        joined stood.handed there.0.handed last.0.handed there.1 last.1 last.2 there.2,
+      ) in
+      subst (λ (l : List ℕ). StagesOn c l (done ++ (p.more ++ q.more)) stood.handed) (append_assoc given first second)
+      (subst (λ (l : List (Handed ItemValue)). StagesOn c ((given ++ first) ++ second) l stood.handed) (append_assoc done p.more q.more) on);
+}
+
+pub stages-hand : {T : Type 0} (took : T → Handed ItemValue → T → Type 0) (s now : Stages) (taker taker_now : T) (octets : List ℕ) → StagesHand took s now taker taker_now octets
+    → Hands took StagesFor s now taker taker_now octets
+stages-hand took s now taker taker_now octets p = record { more = p.more; handed = p.handed; stands = λ given done few stood. (p.stands given done few stood).0 }
 
 -- what both stages have handed over is due
 pub received-due : (s : Stages) (given : List ℕ) (done : List (Handed ItemValue)) → StagesFor s given done → AreReceivedDue s.inner.config given done
@@ -610,17 +651,17 @@ chosen-at_end r now chosen view same is =
     (λ given done stood _. subst (λ (k : Configuration). IsChosen k given chosen) same (is given stood.handed stood.inner))
 
 -- the phase and the bits of the end of the octets
-record Ended (s : Stages) (given : List ℕ) (done : List (Handed ItemValue)) (stood : StagesFor s given done) (phase : Option Chosen) (piece : List Bool) (count : ℕ) : Type 0 where
-  chosen : Option Chosen
-  choice : IsChosen s.inner.config given chosen
-  bits : List Bool
-  inner : Inner s.inner.config (skip_of chosen) given bits
-  is : bits ≡ inner_bits s.inner.config given (items_of stood.handed) ++ piece
-  few : length (inner_bits s.inner.config given (items_of stood.handed) ++ piece) < 2 ^ 63
-  counted : count ≡ length bits
-  turn : (others : List ItemValue) → done ++ (in_turn phase [] ++ map Item others) ≡ in_turn chosen (stood.items ++ others)
+pub record Ended (s : Stages) (given : List ℕ) (done : List (Handed ItemValue)) (stood : StagesFor s given done) (phase : Option Chosen) (piece : List Bool) (count : ℕ) : Type 0 where
+  pub chosen : Option Chosen
+  pub choice : IsChosen s.inner.config given chosen
+  pub bits : List Bool
+  pub inner : Inner s.inner.config (skip_of chosen) given bits
+  pub is : bits ≡ inner_bits s.inner.config given (items_of stood.handed) ++ piece
+  pub few : length (inner_bits s.inner.config given (items_of stood.handed) ++ piece) < 2 ^ 63
+  pub counted : count ≡ length bits
+  pub turn : (others : List ItemValue) → done ++ (in_turn phase [] ++ map Item others) ≡ in_turn chosen (stood.items ++ others)
 
-ended : (s : Stages) (given : List ℕ) (done : List (Handed ItemValue)) (stood : StagesFor s given done) (room : ℕ) (phase : Option Chosen) (piece : List Bool) (count : ℕ) → IsRoomy s 0 room → Ends s.inner room phase piece count
+pub ended : (s : Stages) (given : List ℕ) (done : List (Handed ItemValue)) (stood : StagesFor s given done) (room : ℕ) (phase : Option Chosen) (piece : List Bool) (count : ℕ) → IsRoomy s 0 room → Ends s.inner room phase piece count
     → Ended s given done stood phase piece count
 ended s given done stood room phase piece count roomy ends =
     let c = s.inner.config in
@@ -642,6 +683,22 @@ ended s given done stood room phase piece count roomy ends =
           (once-last c given stood.handed stood.waiting e.last e.left stood.are_due h) e.is_phase ∙ ap (λ (o : Option Chosen). in_turn o (stood.items ++ others)) chosen;
     }
 
+-- the items of all bits
+pub items-ended : {T : Type 0} (took : T → ItemValue → T → Type 0) (s : Stages) (bits_now : BitReceiving) (taker middle now : T) (piece : List Bool) → IsOf s
+    → (p : Received took s.bits bits_now taker middle piece) (q : ReceivedLast took bits_now middle now) (given : List ℕ) (done : List (Handed ItemValue)) (stood : StagesFor s given done)
+    → length (inner_bits s.inner.config given (items_of stood.handed) ++ piece) < 2 ^ 63
+    → AreItems s.inner.config (inner_bits s.inner.config given (items_of stood.handed) ++ piece) (stood.items ++ (p.items ++ q.items))
+items-ended took s bits_now taker middle now piece of p q given done stood few =
+    let c = s.inner.config in
+    let bits = inner_bits c given (items_of stood.handed) in
+    let more = subst (λ (k : Configuration). AreFurther k bits piece p.items) of (p.due bits few stood.bits) in
+    let due_items = due-further c bits piece stood.items p.items stood.are_items more in
+    let last = subst (λ (k : Configuration). AreItemsOf k (bits ++ piece) (beyond (due k (bits ++ piece)) (places (rules_of k) (bits ++ piece))) q.items)
+    (p.config ∙ of) (q.last (bits ++ piece) (p.stands bits few stood.bits)) in
+    let items = all-items c (bits ++ piece) (stood.items ++ p.items) q.items
+    (subst (λ (fs : List Found). AreItemsOf c (bits ++ piece) fs (stood.items ++ p.items)) (sym (beyond-nil c (due c (bits ++ piece)))) due_items) last in
+    subst (AreItems c (bits ++ piece)) (append_assoc stood.items p.items q.items) items
+
 pub ends : {T : Type 0} (took : T → ItemValue → T → Type 0) (s : Stages) (bits_now : BitReceiving) (taker middle now : T) (room : ℕ) (phase : Option Chosen) (piece : List Bool) (count : ℕ)
     → IsOf s → IsRoomy s 0 room → Ends s.inner room phase piece count → (p : Received took s.bits bits_now taker middle piece) (q : ReceivedLast took bits_now middle now)
     → (given : List ℕ) (done : List (Handed ItemValue)) → StagesFor s given done
@@ -649,13 +706,6 @@ pub ends : {T : Type 0} (took : T → ItemValue → T → Type 0) (s : Stages) (
 ends took s bits_now taker middle now room phase piece count of roomy ended_with p q given done stood =
     let c = s.inner.config in
     let e = ended s given done stood room phase piece count roomy ended_with in
-    let bits = inner_bits c given (items_of stood.handed) in
-    let more = subst (λ (k : Configuration). AreFurther k bits piece p.items) of (p.due bits e.few stood.bits) in
-    let due_items = due-further c bits piece stood.items p.items stood.are_items more in
-    let last = subst (λ (k : Configuration). AreItemsOf k (bits ++ piece) (beyond (due k (bits ++ piece)) (places (rules_of k) (bits ++ piece))) q.items)
-    (p.config ∙ of) (q.last (bits ++ piece) (p.stands bits e.few stood.bits)) in
-    let items = all-items c (bits ++ piece) (stood.items ++ p.items) q.items
-    (subst (λ (fs : List Found). AreItemsOf c (bits ++ piece) fs (stood.items ++ p.items)) (sym (beyond-nil c (due c (bits ++ piece)))) due_items) last in
     record {
       chosen = e.chosen;
       choice = e.choice;
@@ -664,7 +714,7 @@ ends took s bits_now taker middle now room phase piece count of roomy ended_with
         e.bits,
         e.inner,
         e.counted,
-        subst (λ (l : List Bool). AreItems c l (stood.items ++ (p.items ++ q.items))) (sym e.is) (subst (AreItems c (bits ++ piece)) (append_assoc stood.items p.items q.items) items),
+        subst (λ (l : List Bool). AreItems c l (stood.items ++ (p.items ++ q.items))) (sym e.is) (items-ended took s bits_now taker middle now piece of p q given done stood e.few),
       );
       are = e.turn (p.items ++ q.items);
     }

@@ -25,5 +25,6 @@ pub mod ReceivedPieces
 pub mod Spare
 pub mod Turns
 pub mod GivenOctets
+mod FewItems
 pub mod ColumnsRead
 pub mod Repaired

@@ -181,17 +181,21 @@ length-in_polarity : (inverted : Bool) (bits : List Bool) → length (in_polarit
 length-in_polarity false bits = refl
 length-in_polarity true bits = length-complement bits
 
--- a received codeblock has as many octets
-pub length-codeblock_in : (c : Configuration) (inverted : Bool) (bits : List Bool) → length bits ≡ 8 * codeblock_length c → length (codeblock_in c inverted bits) ≡ codeblock_length c
+-- how many octets received bits come to
+pub octets-received : (c : Configuration) (inverted : Bool) (bits : List Bool) → length (codeblock_in c inverted bits) ≡ length bits / 8
 unfolding codeblock_in
-length-codeblock_in c inverted bits long = go c.randomize
+octets-received c inverted bits = go c.randomize
   where
-    packed : length (octets_of (in_polarity inverted bits)) ≡ codeblock_length c
-    packed = length-octets_of (in_polarity inverted bits) ∙ ap (λ n. n / 8) (length-in_polarity inverted bits) ∙ omega (arith, long)
+    packed : length (octets_of (in_polarity inverted bits)) ≡ length bits / 8
+    packed = length-octets_of (in_polarity inverted bits) ∙ ap (λ n. n / 8) (length-in_polarity inverted bits)
 
-    go : (on : Bool) → length (cond on (masked (octets_of (in_polarity inverted bits))) (octets_of (in_polarity inverted bits))) ≡ codeblock_length c
+    go : (on : Bool) → length (cond on (masked (octets_of (in_polarity inverted bits))) (octets_of (in_polarity inverted bits))) ≡ length bits / 8
     go true = length-masked (octets_of (in_polarity inverted bits)) ∙ packed
     go false = packed
+
+-- a received codeblock has as many octets
+pub length-codeblock_in : (c : Configuration) (inverted : Bool) (bits : List Bool) → length bits ≡ 8 * codeblock_length c → length (codeblock_in c inverted bits) ≡ codeblock_length c
+length-codeblock_in c inverted bits long = octets-received c inverted bits ∙ omega (arith, long)
 
 -- ---- all columns
 

@@ -3,11 +3,11 @@ use Rattle.std.specs.Prelude.{◌≡◌, ◌↔◌, ℕ, Bool, true, false, List
 use Rattle.tm_base.specs.Calls.{CallAnswers}
 use Rattle.tm_base.specs.Handed.{Handed}
 use Rattle.tm_base.specs.Outside.{HasCause}
-use Rattle.tm_inner.specs.Receiving.{Hands, HandsFront}
+use Rattle.tm_inner.specs.Receiving.{HandsFront}
 use Rattle.tm_channel.specs.declared.receiver.RecvError.{RecvError}
 use Rattle.tm_channel.specs.declared.receiver.RecvError.TheVariants.{Stopped, Taker}
 use Rattle.tm_channel.specs.Items.{ItemValue}
-use Rattle.tm_channel.specs.OctetReceiving.{BitReceiving, FeedBreaks, FeedChooses, FeedHands, FinishBreaks, FinishChooses, FinishHands, FirstWith, OctetReceiving, Received, ReceivedPart, Stages, StagesFor}
+use Rattle.tm_channel.specs.OctetReceiving.{BitReceiving, FeedBreaks, FeedChooses, FeedHands, FinishBreaks, FinishChooses, FinishHands, FirstWith, OctetReceiving, Received, ReceivedPart, Stages, StagesFor, StagesHand}
 
 -- ---- of the second stage
 
@@ -32,7 +32,7 @@ pub record TakesOctets {T R E : Type 0} (took broke : T → Handed ItemValue →
   pub fresh : now.inner.has_stopped ≡ false
   pub room : size_now ≡ size
   pub stream : now.bits.batch.config ≡ before.bits.batch.config
-  pub handed : OnOk result (Hands took StagesFor before now taker taker_now octets)
+  pub handed : OnOk result (StagesHand took before now taker taker_now octets)
   pub front : OnErr result (HandsFront took broke StagesFor
       (FirstWith before.inner.config now.inner.phased.chosen) before taker taker_now octets)
   pub cause : HasCause (faults taker) (faults taker_now) (is_last taker_now) result

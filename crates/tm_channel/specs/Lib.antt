@@ -6,6 +6,7 @@ pub mod Handing
 pub mod SentStream
 pub mod Disturbed
 pub mod Receiving
+pub mod Most
 pub mod OctetReceiving
 pub mod ColumnWords
 pub mod Storing

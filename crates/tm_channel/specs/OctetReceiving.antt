@@ -16,6 +16,7 @@ use Rattle.tm_inner.specs.Receiving.{InnerReceiving, StandsFor as InnerStandsFor
 use Rattle.tm_channel.specs.Items.{ItemValue, AreItemsOf}
 use Rattle.tm_channel.specs.Due.{due}
 use Rattle.tm_channel.specs.Handing.{phase_of, AreReceived, AreReceivedDue, AreReceivedFirst, AreReceivedFront}
+use Rattle.tm_channel.specs.Most.{AreFew}
 use Rattle.tm_channel.specs.Receiving.{Batching, Stands, waiting_bits, GoesOn, AreDue, AreFirstDue, AreLast, AreFirstLast}
 
 -- what contracts see of a receiver of bits
@@ -51,6 +52,21 @@ pub record StagesFor (s : Stages) (given : List ℕ) (done : List (Handed ItemVa
       (due s.inner.config (inner_bits s.inner.config given (items_of handed))) items
   pub are : done ≡ in_turn (phase_of handed) items
 
+-- stages that were given these octets and have handed over this, whose first stage has handed over
+-- more behind these blocks
+abbrev pub StagesOn : Stages → List ℕ → List (Handed ItemValue) → List (Handed WindowBlock)
+    → Type 0
+StagesOn s given done blocks = (stands : StagesFor s given done)
+    × (more : List (Handed WindowBlock)) × (stands.handed ≡ blocks ++ more)
+
+-- given the octets, fewer than 2^60 with those before, both stages go on and hand over more
+pub record StagesHand {T : Type 0} (took : T → Handed ItemValue → T → Type 0) (before now : Stages) (taker taker_now : T) (octets : List ℕ) : Type 0 where
+  pub more : List (Handed ItemValue)
+  pub handed : HandedOver took taker more taker_now
+  pub stands : (given : List ℕ) (done : List (Handed ItemValue)) → length given + length octets < 2 ^ 60
+      → (stood : StagesFor before given done)
+      → StagesOn now (given ++ octets) (done ++ more) stood.handed
+
 -- the first of what is handed over of these octets, whatever octets come, and the phase that is
 -- chosen of them
 abbrev pub FirstWith : Configuration → Option Chosen → List ℕ → List (Handed ItemValue) → Type 0
@@ -69,7 +85,8 @@ StandsFor r = StagesFor r.stages
 
 -- ---- what a call of a receiver hands over
 
--- with these octets what is due was handed over, and the receiver stands for them too
+-- with these octets what is due was handed over, and the receiver stands for them too; whatever it
+-- was given before, these are few items
 abbrev pub FeedHands : {T : Type 0} → (T → Handed ItemValue → T → Type 0) → OctetReceiving
     → OctetReceiving → T → T → List ℕ → Type 0
 FeedHands took before now taker taker_now octets = (more : List (Handed ItemValue))
@@ -78,6 +95,8 @@ FeedHands took before now taker taker_now octets = (more : List (Handed ItemValu
     → StandsFor before given done
     → StandsFor now (given ++ octets) (done ++ more)
     × AreReceivedDue before.config (given ++ octets) (done ++ more))
+    × ((given : List ℕ) (done : List (Handed ItemValue)) → length given + length octets < 2 ^ 60
+    → StandsFor before given done → AreFew before.config (length octets) (items_of more))
 
 -- the taker failed at something of what is due with these octets
 abbrev pub FeedBreaks : {T : Type 0} → (T → Handed ItemValue → T → Type 0)
@@ -95,13 +114,15 @@ FeedChooses before now octets = (given : List ℕ) (done : List (Handed ItemValu
     → StandsFor before given done → before.has_stopped ≡ false
     → IsChosenSoFar before.config (given ++ octets) now.stages.inner.phased.chosen
 
--- at the end what is left was handed over, and so many bits were received
+-- at the end what is left was handed over, and so many bits were received; these are few items too
 abbrev pub FinishHands : {T : Type 0} → (T → Handed ItemValue → T → Type 0) → OctetReceiving → T → T
     → ℕ → Type 0
 FinishHands took before taker taker_now count = (last : List (Handed ItemValue))
     × HandedOver took taker last taker_now
     × ((given : List ℕ) (done : List (Handed ItemValue)) → StandsFor before given done
     → AreReceived before.config given (done ++ last) count)
+    × ((given : List ℕ) (done : List (Handed ItemValue)) → StandsFor before given done
+    → AreFew before.config 0 (items_of last))
 
 -- the taker failed at something of what is left
 abbrev pub FinishBreaks : {T : Type 0} → (T → Handed ItemValue → T → Type 0)

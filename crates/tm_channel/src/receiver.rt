@@ -62,6 +62,7 @@ pub struct Receiver {
 
 impl Model for Receiver {
     ghost use Rattle.std.specs.Prelude.{◌≡◌, ◌≤◌, ◌+◌, ◌*◌, false};
+    ghost use Rattle.tm_config.specs.Accepted.{IsAccepted};
     ghost use Rattle.tm_channel.specs.Receiving.{waiting_bits};
     ghost use Rattle.tm_channel.specs.OctetReceiving.{OctetReceiving};
 
@@ -74,7 +75,7 @@ impl Model for Receiver {
     } };
 
     ghost invariant = { λ r. (r.inner.config ≡ r.config) × (r.stream.batch.config ≡ r.config) × (r.has_stopped ≡ false → r.inner.has_stopped ≡ false)
-        × (waiting_bits r.inner.config r.inner.config.batch + 3 * (r.inner.config.keep + r.inner.config.ahead) + 7 + 4096 ≤ r.kept.size) };
+        × (waiting_bits r.inner.config r.inner.config.batch + 3 * (r.inner.config.keep + r.inner.config.ahead) + 7 + 4096 ≤ r.kept.size) × IsAccepted r.config };
 }
 
 impl Receiver {
@@ -86,7 +87,19 @@ impl Receiver {
         ensures workers { IfOk result (λ r. HasWorkers config.workers config.keep config.ahead
             r.stages.inner.phased.decoder) }
     {
-        let Ok(inner) = InnerReceiver::open_for(alloc, &config, config.workers() as u8) else {
+        Receiver::open_for(alloc, config, config.workers() as u8)
+    }
+
+    /// The same with windows of the inner code for so many workers, 1 to 64, whatever the configuration says.
+    pub fn open_for(alloc: Global, config: Config, workers: u8) -> Result<Receiver, NoMemory>
+        requires workers { (0 < workers) × (workers ≤ 64) }
+        ensures config { IfOk result (λ r. r.config ≡ config) }
+        ensures fresh { IfOk result (λ r. r.has_stopped ≡ false) }
+        ensures stands { IfOk result (λ r. StandsFor r [] []) }
+        ensures workers { IfOk result (λ r. HasWorkers workers config.keep config.ahead
+            r.stages.inner.phased.decoder) }
+    {
+        let Ok(inner) = InnerReceiver::open_for(alloc, &config, workers) else {
             return Err(NoMemory);
         };
         let Ok(batch) = Codeblocks::open(alloc, config) else {

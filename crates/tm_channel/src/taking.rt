@@ -6,11 +6,11 @@ ghost use Rattle.tm_base.specs.Outside.{HasCause};
 ghost use Rattle.tm_base.specs.Takers.{HandedOver, HandedPart};
 ghost use Rattle.tm_inner.specs.Inner.{nearest_bit, plain_bits};
 ghost use Rattle.tm_inner.specs.Phase.{IsChosen, in_turn};
-ghost use Rattle.tm_inner.specs.Receiving.{Hands, HandsFront, StandsFor as InnerStandsFor};
+ghost use Rattle.tm_inner.specs.Receiving.{HandsFront, StandsFor as InnerStandsFor};
 ghost use Rattle.tm_viterbi.specs.WindowBlock.{WindowBlock};
 ghost use Rattle.tm_channel.specs.Calls.{TakesBits, TakesOctets};
 ghost use Rattle.tm_channel.specs.Receiving.{waiting_bits};
-ghost use Rattle.tm_channel.specs.OctetReceiving.{Ends, FirstWith, Gathers, Grows, Received, ReceivedPart, StagesFor, received_bits};
+ghost use Rattle.tm_channel.specs.OctetReceiving.{Ends, FirstWith, Gathers, Grows, Received, ReceivedPart, StagesFor, StagesHand, received_bits};
 
 use crate::item::ItemTaker;
 use crate::kept::KeptBits;
@@ -78,7 +78,7 @@ fn take_piece<P: Workers, T: ItemTaker>(
     ensures fresh { inner.new.has_stopped ≡ false }
     ensures room { kept.new.size ≡ kept.old.size }
     ensures stream { stream.new.batch.config ≡ stream.old.batch.config }
-    ensures handed { OnOk result (Hands (on_handed T.took_phase T.took) StagesFor
+    ensures handed { OnOk result (StagesHand (on_handed T.took_phase T.took)
         (record { inner = inner.old; bits = stream.old })
         (record { inner = inner.new; bits = stream.new }) taker.old taker.new octets.now) }
     ensures front { OnErr result (HandsFront (on_handed T.took_phase T.took) (on_handed T.broke_phase T.broke) StagesFor

@@ -2,10 +2,10 @@ use Rattle.std.proofs.Common.{rules, ◌≡◌, ◌++◌, ◌+◌, ◌-◌, ◌�
 use Rattle.std.proofs.lemmas.List.{take_all}
 use Rattle.tm_base.specs.Handed.{on_handed}
 use Rattle.tm_config.specs.Configuration.{Configuration}
-use Rattle.tm_inner.specs.Receiving.{Hands, HandsFront}
-use Rattle.tm_inner.proofs.GivenPieces.{hands-none, hands-more, hands-front, hands-longer}
-use Rattle.tm_channel.specs.OctetReceiving.{FirstWith, Stages, StagesFor}
-use Rattle.tm_channel.proofs.GivenOctets.{first_with-stays, piece-joined}
+use Rattle.tm_inner.specs.Receiving.{HandsFront}
+use Rattle.tm_inner.proofs.GivenPieces.{hands-front, hands-longer}
+use Rattle.tm_channel.specs.OctetReceiving.{FirstWith, Stages, StagesFor, StagesHand}
+use Rattle.tm_channel.proofs.GivenOctets.{first_with-stays, piece-joined, stages-hand, stages-more, stages-none}
 use Rattle.tm_channel.proofs.taking.take.Goals as goal
 
 pub loop-done-init : goal.loop-done-init
@@ -16,7 +16,7 @@ loop-done-init g c = record {
   room = refl;
   stream = refl;
   faults = refl;
-  handed = hands-none (on_handed g.T.ItemTaker.took_phase g.T.ItemTaker.took) StagesFor (record { inner = c.args.inner.now; bits = c.args.stream.now }) c.args.taker.now;
+  handed = stages-none (on_handed g.T.ItemTaker.took_phase g.T.ItemTaker.took) (record { inner = c.args.inner.now; bits = c.args.stream.now }) c.args.taker.now;
 }
 
 pub loop-done-preserved : goal.loop-done-preserved
@@ -36,8 +36,8 @@ loop-done-preserved g c =
       room = c.take_piece.ensures.room ∙ i.room;
       stream = c.take_piece.ensures.stream ∙ i.stream;
       faults = c.in-Ok.ensures.cause.same ∙ i.faults;
-      handed = subst (Hands took StagesFor start now c.args.taker.now c.take_piece.new.taker) (piece-joined at c.min.result octets)
-          (hands-more took StagesFor start before now c.args.taker.now c.loop-done.taker c.take_piece.new.taker (take at octets) next i.handed c.in-Ok.ensures.handed);
+      handed = subst (StagesHand took start now c.args.taker.now c.take_piece.new.taker) (piece-joined at c.min.result octets)
+          (stages-more took start before now c.args.taker.now c.loop-done.taker c.take_piece.new.taker (take at octets) next i.handed c.in-Ok.ensures.handed);
     }
 
 pub returns-in-Err : goal.returns-in-Err
@@ -64,7 +64,8 @@ returns-in-Err g c =
       front = subst (HandsFront took broke StagesFor first start c.args.taker.now c.take_piece.new.taker) whole
           (hands-longer took broke StagesFor first start c.args.taker.now c.take_piece.new.taker (take at octets ++ next) rest
           (first_with-stays c.whole_window_law.ensures.front c.closed_windows_law.ensures c.args.inner.now.config chosen)
-          (hands-front took broke StagesFor first start before c.args.taker.now c.loop-done.taker c.take_piece.new.taker (take at octets) next i.handed part));
+          (hands-front took broke StagesFor first start before c.args.taker.now c.loop-done.taker c.take_piece.new.taker (take at octets) next
+          (stages-hand took start before c.args.taker.now c.loop-done.taker (take at octets) i.handed) part));
       cause = search rules;
     }
 
@@ -78,7 +79,7 @@ returns g c =
       fresh = i.fresh;
       room = i.room;
       stream = i.stream;
-      handed = subst (Hands (on_handed g.T.ItemTaker.took_phase g.T.ItemTaker.took) StagesFor start now c.args.taker.now c.loop-done.taker) (take_all c.loop-done.done c.args.octets.now c.loop-done-test.false)
+      handed = subst (StagesHand (on_handed g.T.ItemTaker.took_phase g.T.ItemTaker.took) start now c.args.taker.now c.loop-done.taker) (take_all c.loop-done.done c.args.octets.now c.loop-done-test.false)
           c.loop-done.invariant.handed;
       front = search rules;
       cause = search rules;

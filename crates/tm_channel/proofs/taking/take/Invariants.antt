@@ -1,7 +1,6 @@
 use Rattle.std.proofs.Common.{◌≡◌, ◌≤◌, ◌-◌, false, take, length}
 use Rattle.tm_base.specs.Handed.{on_handed}
-use Rattle.tm_inner.specs.Receiving.{Hands}
-use Rattle.tm_channel.specs.OctetReceiving.{StagesFor}
+use Rattle.tm_channel.specs.OctetReceiving.{StagesHand}
 use Rattle.tm_channel.proofs.taking.take.Given as goal
 
 abbrev pub invariant-loop-done : goal.invariant-loop-done
@@ -12,7 +11,7 @@ invariant-loop-done g l = record {
   room : l.kept.size ≡ l.initial.kept.size;
   stream : l.stream.batch.config ≡ l.initial.stream.batch.config;
   faults : g.T.ItemTaker.faults l.taker ≡ g.T.ItemTaker.faults l.initial.taker;
-  handed : Hands (on_handed g.T.ItemTaker.took_phase g.T.ItemTaker.took) StagesFor (record { inner = l.initial.inner; bits = l.initial.stream }) (record { inner = l.inner; bits = l.stream })
+  handed : StagesHand (on_handed g.T.ItemTaker.took_phase g.T.ItemTaker.took) (record { inner = l.initial.inner; bits = l.initial.stream }) (record { inner = l.inner; bits = l.stream })
       l.initial.taker l.taker (take l.done l.octets);
 }
 

@@ -1,12 +1,15 @@
-use Rattle.std.proofs.Common.{◌≡◌, ◌++◌, ◌+◌, ◌^◌, ◌<◌, ◌∙◌, ℕ, List, length, false, subst}
-use Rattle.tm_base.specs.Handed.{Handed, on_handed}
-use Rattle.tm_base.specs.Takers.{HandedOver, HandedPart}
+use Rattle.std.proofs.Common.{◌≡◌, ◌++◌, ◌+◌, ◌^◌, ◌<◌, ◌∙◌, ℕ, List, length, false, sym, subst}
+use Rattle.tm_base.specs.Handed.{Handed, items_of, on_handed}
+use Rattle.tm_base.specs.Takers.{HandedPart}
 use Rattle.tm_config.specs.Configuration.{Configuration}
+use Rattle.tm_config.specs.Accepted.{IsAccepted}
 use Rattle.tm_inner.specs.Phase.{IsChosenSoFar}
 use Rattle.tm_inner.proofs.HandedPieces.{stands-so-far}
 use Rattle.tm_channel.specs.Items.{ItemValue}
 use Rattle.tm_channel.specs.Handing.{AreReceivedDue, AreReceivedFirst}
-use Rattle.tm_channel.specs.OctetReceiving.{OctetReceiving, Stages, StandsFor}
+use Rattle.tm_channel.specs.Most.{AreFew}
+use Rattle.tm_channel.specs.OctetReceiving.{FeedHands, OctetReceiving, Stages, StandsFor}
+use Rattle.tm_channel.proofs.FewItems.{stages-few}
 use Rattle.tm_channel.proofs.GivenOctets.{received-due}
 use Rattle.tm_channel.proofs.receiver.Receiver.feed_by.Goals as goal
 
@@ -17,17 +20,18 @@ returns-in-Ok-clause-handed g c =
     let now : OctetReceiving = record { config = s.config; has_stopped = s.has_stopped; stages = record { inner = c.take.new.inner; bits = c.take.new.stream } } in
     let p = c.in-Ok.ensures.handed in
     let took = on_handed g.T.ItemTaker.took_phase g.T.ItemTaker.took in
-    subst (λ (r : OctetReceiving). (more : List (Handed ItemValue)) × HandedOver took c.args.taker.now more c.take.new.taker
-    × ((given : List ℕ) (done : List (Handed ItemValue)) → length given + length octets < 2 ^ 60 → StandsFor r given done
-    → StandsFor now (given ++ octets) (done ++ more) × AreReceivedDue r.config (given ++ octets) (done ++ more))) c.self.view_is (
+    let ok = subst IsAccepted (sym c.self.invariant.0) c.self.invariant.4 in
+    subst (λ (r : OctetReceiving). FeedHands took r now c.args.taker.now c.take.new.taker octets) c.self.view_is (
       p.more,
       p.handed,
       λ given done few stood.
-          let there = p.stands given done few stood in (
+          let there = (p.stands given done few stood).0 in (
             there,
             subst (λ (k : Configuration). AreReceivedDue k (given ++ octets) (done ++ p.more)) (c.take.ensures.inner ∙ c.self.invariant.0)
                 (received-due now.stages (given ++ octets) (done ++ p.more) there),
           ),
+      λ given done few stood. subst (λ (k : Configuration). AreFew k (length octets) (items_of p.more)) c.self.invariant.0
+          (stages-few (record { inner = s.inner; bits = s.stream }) now.stages given octets done p.more ok c.take.ensures.inner stood (p.stands given done few stood)),
     )
 
 pub returns-in-Err-clause-front : goal.returns-in-Err-clause-front
@@ -53,7 +57,7 @@ returns-in-Ok-clause-chosen g c =
     subst (λ (r : OctetReceiving). (given : List ℕ) (done : List (Handed ItemValue)) → length given + length octets < 2 ^ 60 → StandsFor r given done
     → r.has_stopped ≡ false → IsChosenSoFar r.config (given ++ octets) chosen) c.self.view_is
     (λ given done few stood _.
-    let there = p.stands given done few stood in
+    let there = (p.stands given done few stood).0 in
     subst (λ (k : Configuration). IsChosenSoFar k (given ++ octets) chosen) (c.take.ensures.inner ∙ c.self.invariant.0)
     (stands-so-far now.inner (given ++ octets) there.handed there.inner))
 

@@ -1,16 +1,19 @@
 use Rattle.std.proofs.Common.{◌==◌, ◌++◌, ◌+◌, ◌*◌, ◌≤◌, ◌∙◌, arith, ℕ, List, [], map, sym, subst, Result, Ok, Err, IfOk, IsErrOf}
-use Rattle.tm_base.specs.Handed.{Handed, Item, on_handed}
-use Rattle.tm_base.specs.Takers.{HandedOver, HandedPart}
+use Rattle.tm_base.specs.Handed.{Handed, Item, items_of, on_handed}
+use Rattle.tm_base.specs.Takers.{HandedPart}
 use Rattle.tm_base.proofs.Handing.{HandedOver-append, HandedPart-after}
 use Rattle.tm_base.proofs.HandedItems.{HandedOver-items, HandedPart-items}
 use Rattle.tm_config.specs.Configuration.{Configuration}
+use Rattle.tm_config.specs.Accepted.{IsAccepted}
 use Rattle.tm_inner.specs.Phase.{in_turn}
 use Rattle.tm_channel.specs.Items.{ItemValue}
 use Rattle.tm_channel.specs.Handing.{AreReceived, AreReceivedFront}
 use Rattle.tm_channel.specs.Receiving.{waiting_bits}
-use Rattle.tm_channel.specs.OctetReceiving.{OctetReceiving, StandsFor, Stages, Ends}
+use Rattle.tm_channel.specs.Most.{AreFew}
+use Rattle.tm_channel.specs.OctetReceiving.{FinishHands, OctetReceiving, StandsFor, Stages, Ends}
 use Rattle.tm_channel.specs.declared.receiver.RecvError.{RecvError}
 use Rattle.tm_channel.specs.declared.receiver.RecvError.TheVariants.{Taker}
+use Rattle.tm_channel.proofs.FewItems.{ends-few}
 use Rattle.tm_channel.proofs.GivenOctets.{chosen-at_end, ends, ends-front, ends-part, ends-phase}
 use Rattle.tm_channel.proofs.receiver.Receiver.finish_by.Goals as goal
 use Rattle.tm_channel.proofs.receiver.Receiver.finish_by.Goals.{in-Ok-hand_last, in-Err-hand_last}
@@ -75,8 +78,8 @@ returns-clause-handed g c =
     let count = c.end-count.result in
     let over = subst (λ (l : List ℕ). Ends s.inner s.kept.size phase (map (λ bit. bit == 1) l) count) (sym c.bits.ensures) c.end-count.ensures.ends in
     let p = c.in-Ok-take_bits.ensures.handed in
-    let Said : OctetReceiving → Result ℕ RecvError → Type 0 = λ r result. IfOk result (λ n. (all : List (Handed ItemValue)) × HandedOver took start all last
-    × ((given : List ℕ) (done : List (Handed ItemValue)) → StandsFor r given done → AreReceived r.config given (done ++ all) n)) in
+    let ok = subst IsAccepted (sym c.self.invariant.0) c.self.invariant.4 in
+    let Said : OctetReceiving → Result ℕ RecvError → Type 0 = λ r result. IfOk result (FinishHands took r start last) in
     subst (λ (r : OctetReceiving). Said r c.match-hand_last.result) c.self.view_is (elim c.match-hand_last.branch as (λ _. Said before c.match-hand_last.result) [
       | in-Ok-hand_last w ↦ (
           let q = w.in-Ok-hand_last.ensures.handed in
@@ -88,6 +91,9 @@ returns-clause-handed g c =
                 (HandedOver-append g.T.ItemTaker.took first middle last p.items q.items p.handed q.handed)),
             λ given done stood. subst (λ (k : Configuration). AreReceived k given (done ++ all) count) c.self.invariant.0
                 (ends g.T.ItemTaker.took before.stages c.take_bits.new.stream first middle last s.kept.size phase piece count
+                (c.self.invariant.1 ∙ sym c.self.invariant.0) (roomy s.kept.size (waiting_bits s.inner.config s.inner.config.batch) (s.inner.config.keep + s.inner.config.ahead) c.self.invariant.3) over p q given done stood),
+            λ given done stood. subst (λ (k : Configuration). AreFew k 0 (items_of all)) c.self.invariant.0
+                (ends-few g.T.ItemTaker.took before.stages c.take_bits.new.stream first middle last s.kept.size phase piece count ok
                 (c.self.invariant.1 ∙ sym c.self.invariant.0) (roomy s.kept.size (waiting_bits s.inner.config s.inner.config.batch) (s.inner.config.keep + s.inner.config.ahead) c.self.invariant.3) over p q given done stood),
           ) in
           subst (Said before) (sym w.result-is) said

@@ -1,7 +1,7 @@
 use Rattle.std.proofs.Common.{ap, arith}
 use Rattle.tm_config.specs.Configuration.{Configuration}
 use Rattle.tm_channel.proofs.GivenOctets.{stands-fresh}
-use Rattle.tm_channel.proofs.receiver.Receiver.open.Goals as goal
+use Rattle.tm_channel.proofs.receiver.Receiver.open_for.Goals as goal
 
 pub returns-clause-stands : goal.returns-clause-stands
 returns-clause-stands c =

@@ -1,0 +1,28 @@
+-- How many bits and items come of received octets at most, whatever was received before.
+use Rattle.std.specs.Prelude.{ℕ, ◌+◌, ◌*◌, ◌/◌, ◌≤◌, List, length, Option, Some, None}
+use Rattle.tm_config.specs.Configuration.{Configuration}
+use Rattle.tm_conv.specs.declared.rates.Rate.{Rate}
+use Rattle.tm_inner.specs.Inner.{plain_count}
+use Rattle.tm_codeblock.specs.ReceivedCodeblock.{rules_of}
+use Rattle.tm_channel.specs.Items.{ItemValue, frames_of}
+use Rattle.tm_channel.specs.Receiving.{waiting_bits}
+
+-- how many bits come of so many octets, or of none at the end: those of the blocks that wait, of
+-- the octets that wait for the phase, of a window and of these octets; with no inner code those that
+-- the octets hold
+abbrev pub most_bits_at : Option Rate → Configuration → ℕ → ℕ
+most_bits_at None c octets = plain_count c octets
+most_bits_at (Some rate) c octets = waiting_bits c c.batch + 3 * (c.keep + c.ahead) + 7 + octets
+
+abbrev pub most_bits : Configuration → ℕ → ℕ
+most_bits c = most_bits_at c.inner c
+
+-- how many items are handed over with so many octets, or at the end: as many as there are codeblocks
+-- in these bits, that of the codeblock under way, and those that wait for their batch to be full
+abbrev pub most_items : Configuration → ℕ → ℕ
+most_items c octets = most_bits c octets / (32 + (rules_of c).block_bits) + c.batch
+
+-- these are no more items than that, and their frames have no more octets than as many frames
+abbrev pub AreFew : Configuration → ℕ → List ItemValue → Type 0
+AreFew c octets items = (length items ≤ most_items c octets)
+    × (length (frames_of items) ≤ most_items c octets * c.frame_length)
