@@ -1,12 +1,19 @@
 -- One item after another, in arrays.
-use Rattle.std.proofs.Common.{◌≡◌, ◌⊎◌, inl, inr, ◌≤◌, ◌<◌, ◌+◌, ℕ, Bool, true, false, List, [], ◌∷◌, ◌++◌, length, take, refl, sym, ap, ◌∙◌, subst, arith, append_assoc, length-append, length-take, min, suc, if◌then◌else◌, true≢false, Some, None}
+use Rattle.std.proofs.Common.{◌≡◌, ◌⊎◌, inl, inr, ◌≤◌, ◌<◌, ◌+◌, ◌*◌, ◌/◌, ◌^◌, nat_le, ℕ, Bool, true, false, List, [], ◌∷◌, ◌++◌, length, take, refl, sym, ap, ◌∙◌, subst, arith, append_assoc, length-append, length-take, mul-le-mul_right, min, suc, if◌then◌else◌, true≢false, Option, Some, None}
+use Rattle.std.proofs.Math.Nat.{div-mul-le_self}
+use Rattle.std.proofs.lemmas.Nat.{le-div}
 use Rattle.std.proofs.lemmas.List.{append-nil}
 use Rattle.std.proofs.lemmas.Bool.{cases_lt}
 use Rattle.tm_base.specs.Handed.{Handed, Phase, Item, items_of, on_handed}
 use Rattle.tm_base.specs.Takers.{HandedOver}
+use Rattle.tm_config.specs.Configuration.{Configuration}
+use Rattle.tm_conv.specs.declared.rates.Rate.{Rate}
+use Rattle.tm_codeblock.specs.ReceivedCodeblock.{rules_of}
 use Rattle.tm_channel.specs.Items.{ItemValue, frames_of}
+use Rattle.tm_channel.specs.Most.{AreFew, most_bits, most_bits_at, most_items}
 use Rattle.tm_buffers.specs.Reports.{AreReports}
 use Rattle.tm_buffers.specs.Items.{Collected, Collects, Tells, collected, none_yet}
+use Rattle.tm_buffers.specs.Receiving.{HasRoom, IsEnough, items_room}
 use Rattle.tm_buffers.specs.declared.items.BufferItems.{BufferItems}
 use Rattle.tm_buffers.specs.declared.items.Report.{Report}
 
@@ -101,3 +108,35 @@ tells frames reports b items all = by_short b.is_short refl
         | inr short ↦ absurd (true≢false (is ∙ all.enough refl (omega (arith, few, all.report_room)) (omega (arith, short, all.frame_room))))
       ]
     ]
+
+-- ---- room that is enough
+
+has-room : (c : Configuration) (told : Bool) (most : ℕ) (frames : List ℕ) (reports : List Report) → HasRoom c (if told then Some most else None) frames reports
+    → (most ≤ length reports) × (most * c.frame_length ≤ length frames)
+has-room c true most frames reports room = room
+has-room c false most frames reports room = absurd room
+
+count-more : (pack : Bool) (m n : ℕ) → m ≤ n → (if pack then 8 * m else m) ≤ (if pack then 8 * n else n)
+count-more true m n more = omega (arith, more)
+count-more false m n more = more
+
+bits-more : (rate : Option Rate) (c : Configuration) (m n : ℕ) → m ≤ n → most_bits_at rate c m ≤ most_bits_at rate c n
+bits-more None c m n more = count-more c.pack m n more
+bits-more (Some rate) c m n more = omega (arith, more)
+
+items-more : (c : Configuration) (m n : ℕ) → m ≤ n → most_items c m ≤ most_items c n
+items-more c m n more =
+    let unit = 32 + (rules_of c).block_bits in
+    let below = div-mul-le_self (most_bits c m) unit in
+    let whole = le-div (most_bits c m / unit) (most_bits c n) unit (omega arith) (omega (arith, below, bits-more c.inner c m n more)) in
+    omega (arith, whole)
+
+-- with the room that is told all items were written
+pub enough : (c : Configuration) (octets : ℕ) (count : Option ℕ) (frames : List ℕ) (reports : List Report) (items : List ItemValue) → AreFew c octets items → Tells count frames reports items
+    → IsEnough c octets count frames reports
+enough c octets (Some count) frames reports items few tells most more room = refl
+enough c octets None frames reports items few tells most more room =
+    let is = has-room c (nat_le most (2 ^ 40)) (most_items c most) frames reports room in
+    let items_few = items-more c octets most more in
+    let frames_few = mul-le-mul_right c.frame_length items_few in
+    absurd (elim tells as (λ _. ⊥) [ | inl many ↦ omega (arith, many, few.0, items_few, is.0) | inr many ↦ omega (arith, many, few.1, frames_few, is.1) ])

@@ -1,29 +1,50 @@
 -- A receiver whose items go to buffers.
-use Rattle.std.specs.Prelude.{◌≡◌, ℕ, false, List, ◌++◌, Option}
+use Rattle.std.specs.Prelude.{◌≡◌, ℕ, ◌*◌, ◌^◌, ◌≤◌, nat_le, false, if◌then◌else◌, List, ◌++◌, length, Option, Some, None, IsSome}
 use Rattle.tm_base.specs.Handed.{Handed, items_of}
 use Rattle.tm_channel.specs.Handing.{AreReceived, AreReceivedDue}
+use Rattle.tm_config.specs.Configuration.{Configuration}
 use Rattle.tm_channel.specs.Items.{ItemValue}
+use Rattle.tm_channel.specs.Most.{most_items}
 use Rattle.tm_channel.specs.OctetReceiving.{OctetReceiving, StandsFor}
 use Rattle.tm_inner.specs.Phase.{IsChosen}
 use Rattle.tm_buffers.specs.Items.{Tells}
 use Rattle.tm_buffers.specs.declared.items.Report.{Report}
+
+-- For how many items there has to be room where so many more octets are given, or fewer, and at the
+-- end, whatever was given before. It is told for no more than 2^40 octets at a time.
+abbrev pub items_room : Configuration → ℕ → Option ℕ
+items_room c count = if nat_le count (2 ^ 40) then Some (most_items c count) else None
+
+-- there is room for a report and a frame of each of so many items
+abbrev pub HasRoom : Configuration → Option ℕ → List ℕ → List Report → Type 0
+HasRoom c None frames reports = ⊥
+HasRoom c (Some items) frames reports =
+    (items ≤ length reports) × (items * c.frame_length ≤ length frames)
+
+-- where there is the room that is told for so many octets or for more, all items were written
+abbrev pub IsEnough : Configuration → ℕ → Option ℕ → List ℕ → List Report → Type 0
+IsEnough c octets count frames reports = (most : ℕ) → octets ≤ most
+    → HasRoom c (items_room c most) frames reports → IsSome count
 
 -- a receiver that was given these octets and no others, and has handed over this
 pub record IsReceiving (receiver : OctetReceiving) (given : List ℕ) (done : List (Handed ItemValue)) : Type 0 where
   pub going : receiver.has_stopped ≡ false
   pub stands : StandsFor receiver given done
 
--- given further octets, a receiver goes on, and what is due with them was written
+-- given further octets, a receiver goes on, and what is due with them was written, all of it where
+-- there is the room that is told
 pub record Receives (receiver now : OctetReceiving) (given octets : List ℕ) (done : List (Handed ItemValue)) (count : Option ℕ) (frames : List ℕ) (reports : List Report) : Type 0 where
   pub more : List (Handed ItemValue)
   pub receiving : IsReceiving now (given ++ octets) (done ++ more)
   pub due : AreReceivedDue receiver.config (given ++ octets) (done ++ more)
   pub tells : Tells count frames reports (items_of more)
+  pub enough : IsEnough receiver.config (length octets) count frames reports
 
--- at the end of its octets, which came to so many bits, what is left was written, and the phase is
--- chosen, where it is to be found
+-- at the end of its octets, which came to so many bits, what is left was written in the same way, and
+-- the phase is chosen, where it is to be found
 pub record ReceivesLast (receiver now : OctetReceiving) (given : List ℕ) (done : List (Handed ItemValue)) (count : Option ℕ) (bits : ℕ) (frames : List ℕ) (reports : List Report) : Type 0 where
   pub last : List (Handed ItemValue)
   pub all : AreReceived receiver.config given (done ++ last) bits
   pub tells : Tells count frames reports (items_of last)
+  pub enough : IsEnough receiver.config 0 count frames reports
   pub chosen : IsChosen receiver.config given now.stages.inner.phased.chosen

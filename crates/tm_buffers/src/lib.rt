@@ -14,6 +14,6 @@ mod sink;
 
 pub use decoding::{BufferDecoder, bits_room};
 pub use items::Report;
-pub use receiving::BufferReceiver;
+pub use receiving::{BufferReceiver, items_room};
 pub use searching::{find_in_bits, find_in_octets};
 pub use sending::{BufferSender, symbols_room};

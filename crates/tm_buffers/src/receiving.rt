@@ -1,15 +1,22 @@
 // Received octets in, frames and reports out into buffers.
 ghost use Rattle.std.specs.Prelude.{◌≡◌, ℕ, ◌+◌, ◌^◌, ◌<◌, ◌≤◌, List, [], length, IfOk, IfSome, None, Some, if◌then◌else◌};
 ghost use Rattle.tm_base.specs.Handed.{Handed};
+ghost use Rattle.tm_config.specs.Accepted.{IsAccepted};
+ghost use Rattle.tm_codeblock.specs.ReceivedCodeblock.{rules_of};
 ghost use Rattle.tm_channel.specs.Items.{ItemValue};
+ghost use Rattle.tm_channel.specs.Most.{most_bits};
+ghost use Rattle.tm_channel.specs.Receiving.{waiting_bits};
+ghost use Rattle.tm_inner.specs.InnerDecoding.{HasWorkers};
 ghost use Rattle.tm_inner.specs.Phase.{IsChosenSoFar};
-ghost use Rattle.tm_buffers.specs.Receiving.{IsReceiving, Receives, ReceivesLast};
+ghost use Rattle.tm_buffers.specs.Receiving.{IsReceiving, Receives, ReceivesLast, items_room};
 
 use crate::items::{BufferItems, Report};
+use crate::room::MOST;
 use std::alloc::Global;
 use std::marker::Model;
 use tm_base::NoMemory;
 use tm_channel::Receiver;
+use tm_codeblock::codeblock_size;
 use tm_config::Config;
 use tm_phase::Chosen;
 
@@ -28,19 +35,22 @@ impl Model for BufferReceiver {
 }
 
 impl BufferReceiver {
-    /// A receiver that was given nothing yet. It takes all its memory here, and fails only where there isn't enough.
+    /// A receiver that was given nothing yet. It takes all its memory here, that of one window of the inner code at a
+    /// time whatever the workers are, and fails only where there isn't enough.
     pub fn open(alloc: Global, config: Config) -> Result<BufferReceiver, NoMemory>
         ensures config { IfOk result (λ receiver. receiver.config ≡ config) }
         ensures fresh { IfOk result (λ receiver. IsReceiving receiver [] []) }
+        ensures workers { IfOk result (λ receiver. HasWorkers 1 config.keep config.ahead
+            receiver.stages.inner.phased.decoder) }
     {
-        let receiver = Receiver::open(alloc, config)?;
+        let receiver = Receiver::open_for(alloc, config, 1)?;
         Ok(BufferReceiver { receiver })
     }
 
     /// Takes the next octets, and writes the frames of the items that are due with them to the front of `frames`, one
     /// behind the other, and what else is said of each to `reports`. Answers how many items these are; or None where
-    /// there was no room for all: from the first one on that did not fit they are lost. What stands behind is left
-    /// open.
+    /// there was no room for all: from the first one on that did not fit they are lost. With the room that `items_room`
+    /// tells there is room for all. What stands behind is left open.
     ///
     /// The octets given in all are to be below 2^60.
     pub fn feed(
@@ -114,4 +124,53 @@ fn counted(count: usize, is_short: bool) -> Option<usize>
     ensures { result ≡ (if is_short then None else Some count) }
 {
     if is_short { None } else { Some(count) }
+}
+
+/// For how many items buffers have to have room where so many more octets are given, or fewer, and at the end, whatever
+/// was given before: as many reports, and as many frames. None where the octets are more than 2^40.
+pub fn items_room(config: &Config, count: usize) -> Option<usize>
+    ensures value { result ≡ items_room config.now count }
+    ensures most { IfSome result (λ items. items ≤ 2 ^ 45) }
+    ensures accepted { IsAccepted config.now }
+{
+    let batch = config.batch();
+    if count > MOST {
+        return None;
+    }
+    Some((most_bits(config, count as u64) / unit_bits(config) + batch) as usize)
+}
+
+// How many bits come of so many octets at most.
+fn most_bits(config: &Config, count: u64) -> u64
+    requires { count ≤ 2 ^ 40 }
+    ensures value { result ≡ most_bits config.now count }
+    ensures most { result ≤ 2 ^ 44 }
+{
+    if config.values().inner.is_some() {
+        waiting_bits(config) + 3 * (config.keep() + config.ahead()) + 7 + count
+    } else if config.values().pack {
+        8 * count
+    } else {
+        count
+    }
+}
+
+// How many bits of the inner code may wait, where several workers decode.
+fn waiting_bits(config: &Config) -> u64
+    ensures value { result ≡ waiting_bits config.now config.now.batch }
+    ensures most { result ≤ 2 ^ 20 }
+{
+    if config.workers() > 1 {
+        config.batch() * unit_bits(config)
+    } else {
+        0
+    }
+}
+
+// The bits of a marker and a codeblock.
+fn unit_bits(config: &Config) -> u64
+    ensures value { result ≡ 32 + (rules_of config.now).block_bits }
+    ensures most { result ≤ 2 ^ 15 }
+{
+    32 + 8 * codeblock_size(config) as u64
 }

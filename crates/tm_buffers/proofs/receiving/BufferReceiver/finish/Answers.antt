@@ -3,9 +3,10 @@ use Rattle.tm_base.specs.Handed.{items_of}
 use Rattle.tm_channel.specs.OctetReceiving.{OctetReceiving, StandsFor}
 use Rattle.tm_channel.specs.Handing.{AreReceived}
 use Rattle.tm_inner.specs.Phase.{IsChosen}
+use Rattle.tm_channel.specs.Most.{AreFew}
 use Rattle.tm_buffers.specs.Items.{Collected, collected}
 use Rattle.tm_buffers.specs.declared.items.BufferItems.{BufferItems}
-use Rattle.tm_buffers.proofs.ItemsInTurn.{All, handled, tells}
+use Rattle.tm_buffers.proofs.ItemsInTurn.{All, enough, handled, tells}
 use Rattle.tm_buffers.proofs.receiving.BufferReceiver.finish.Goals as goal
 use Rattle.tm_buffers.proofs.receiving.BufferReceiver.finish.Goals.{in-Ok, in-Err}
 
@@ -26,6 +27,7 @@ returns-clause-received c = λ given done is.
           let chosen = subst (λ (r : OctetReceiving). IsChosen r.config given c.finish_in_order-ended.new.self.stages.inner.phased.chosen) c.self.view_is (w.in-Ok.ensures.chosen given done stood going) in
           let all_new = subst (λ (a : Collected). All a (collected taker) (items_of h.0)) c.over-taker.ensures.none took.all in
           let written = tells c.args.frames.now c.args.reports.now taker (items_of h.0) all_new in
-          record { last = h.0; all = subst (λ n. AreReceived c.args.self.now.config given (done ++ h.0) n) (sym w.bits-is) all; tells = search rules; chosen = chosen }
+          let few_items = subst (λ (r : OctetReceiving). AreFew r.config 0 (items_of h.0)) c.self.view_is (h.3 given done stood) in
+          record { last = h.0; all = subst (λ n. AreReceived c.args.self.now.config given (done ++ h.0) n) (sym w.bits-is) all; tells = search rules; enough = enough c.args.self.now.config 0 _ _ _ (items_of h.0) few_items (search rules); chosen = chosen }
       | in-Err w ↦ absurd (search rules)
     ]
