@@ -161,7 +161,7 @@ typedef struct {
     uint64_t soft;      /* soft octets: 0 (default): 0 is the surest 0 and 255 the surest 1; 1: in two's complement, -128 and 127 */
     uint64_t start;     /* the decoder's first path starts from register zero: 0 (default), or from any: 1 */
     uint64_t skip;      /* how many soft octets, or bits with no inner code, are dropped from the front: 0 (default) to 15 */
-    uint64_t workers;   /* 1 (default) to 64: no thread is started here, and more than 1 only take a receiver more memory */
+    uint64_t workers;   /* 1 (default) to 64: no thread is started here; with more than 1 tmchan_receiver_room tells more */
     uint64_t limit;     /* 1 to 2^40 (default 2^32): has no effect here */
     uint64_t fly;       /* flywheel: how many markers in a row may be missing, 0 (default) to 15 */
     uint64_t keep;      /* steps of a decoder's window that are kept: 64 to 65,536, default 8,192 */
@@ -188,8 +188,8 @@ int32_t tmchan_frame_length(const tmchan_config *config);
  * answered TMCHAN_CLOSED, and may be opened again. Handles may be moved in memory, and not copied.
  *
  * What a push writes stands at the front of its arrays; what stands behind it is left open, and may have changed. How large the arrays have to
- * be a call tells before: tmchan_sender_room and tmchan_decoder_room. No push takes more than 2^40 elements (TMCHAN_ROOM). The octets of a
- * decoder or a receiver in all are to be below 2^60. */
+ * be a call tells before: tmchan_sender_room, tmchan_decoder_room and tmchan_receiver_room; none tells it for more than 2^40 elements, and a sender
+ * or a decoder takes no more at a time (TMCHAN_ROOM). The octets of a decoder or a receiver in all are to be below 2^60. */
 typedef struct {
     uint64_t is_open;
     void *at;
@@ -253,16 +253,19 @@ typedef struct {
     uint8_t repaired[8];   /* for each column how many symbols were wrong, or 255 where it is uncorrectable; of others nothing is said */
 } tmchan_report;
 
+/* For how many reports a push of so many octets, or of fewer, and the finish need room: enough for any receiver of this configuration, whatever
+ * was pushed before, and so mostly more than are written. For how many octets of frames, as many frames, it writes to *frames_length.
+ *
+ * Answers the number of reports; TMCHAN_BAD_.., TMCHAN_ROOM (of more than 2^40 octets): *frames_length is as it was then. */
+int64_t tmchan_receiver_room(const tmchan_config *config, size_t octets_length, uint64_t *frames_length);
+
 /* Opens a receiver. Answers 0; TMCHAN_OPEN, TMCHAN_BAD_.., TMCHAN_MEMORY. */
 int32_t tmchan_receiver_open(tmchan_stream *stream, const tmchan_config *config);
 
 /* Takes the next octets, and writes the frames of the codeblocks that are handed over, one behind the other, to frames, and a report of each to
  * reports; frames_length is in octets, reports_length in reports. Answers how many codeblocks these are; TMCHAN_CLOSED: nothing was taken then;
- * TMCHAN_ROOM: the octets were taken, and all codeblocks from the first that had no room on are lost.
- *
- * For that not to be, have room for (m + 8n) / b + 33 reports and as many frames, where n is octets_length, m is 3 (keep + ahead) + 7, and b is
- * the bits of a marker and a codeblock, 8 times what tmchan_cadu_length answers. (That TMCHAN_ROOM comes only where there is less room than
- * codeblocks is proved; that this is room enough is not.) */
+ * TMCHAN_ROOM: the octets were taken, and all codeblocks from the first that had no room on are lost. That never comes with the room that
+ * tmchan_receiver_room tells. */
 int64_t tmchan_receiver_push(tmchan_stream *stream, const uint8_t *octets, size_t octets_length, uint8_t *frames, size_t frames_length,
                              tmchan_report *reports, size_t reports_length);
 
@@ -270,7 +273,7 @@ int64_t tmchan_receiver_push(tmchan_stream *stream, const uint8_t *octets, size_
 int32_t tmchan_receiver_phase(tmchan_stream *stream, tmchan_phase *phase);
 
 /* Writes the codeblocks that are left in the same way, tells how many bits were received and the phase, and closes the receiver. Answers how
- * many codeblocks these are; TMCHAN_CLOSED; TMCHAN_ROOM, as of a push with n = 0. */
+ * many codeblocks these are; TMCHAN_CLOSED; TMCHAN_ROOM, as of a push: the receiver is closed all the same. */
 int64_t tmchan_receiver_finish(tmchan_stream *stream, uint8_t *frames, size_t frames_length, tmchan_report *reports, size_t reports_length,
                                uint64_t *bits, tmchan_phase *phase);
 

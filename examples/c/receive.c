@@ -42,17 +42,16 @@ int main(int argc, char **argv) {
     tmchan_stream receiver = {0};
     int32_t opened = tmchan_receiver_open(&receiver, &config);
     if (opened) return fprintf(stderr, "refused: %" PRId32 "\n", opened), 2;
-    uint64_t depth = config.depth, size = tmchan_frame_length(&config);
-    uint64_t block = 8 * (uint64_t)tmchan_cadu_length(config.code, depth, size);
-    size_t room = (3 * (config.keep + config.ahead) + 7 + 8 * PIECE) / block + 33;
+    uint64_t octets; /* of frames */
+    int64_t room = tmchan_receiver_room(&config, PIECE, &octets);
     tmchan_report *reports = calloc(room, sizeof *reports);
-    uint8_t *frames = malloc(room * size), *piece = malloc(PIECE);
+    uint8_t *frames = malloc(octets), *piece = malloc(PIECE);
     if (!reports || !frames || !piece) return 5;
     for (size_t count; (count = fread(piece, 1, PIECE, stdin)) > 0;)
-        if (show(tmchan_receiver_push(&receiver, piece, count, frames, room * size, reports, room), frames, reports)) return 4;
+        if (show(tmchan_receiver_push(&receiver, piece, count, frames, octets, reports, room), frames, reports)) return 4;
     uint64_t bits;
     tmchan_phase phase;
-    if (show(tmchan_receiver_finish(&receiver, frames, room * size, reports, room, &bits, &phase), frames, reports)) return 4;
+    if (show(tmchan_receiver_finish(&receiver, frames, octets, reports, room, &bits, &phase), frames, reports)) return 4;
     fprintf(stderr, "bits %" PRIu64 "\n", bits);
     free(reports), free(frames), free(piece);
     return 0;

@@ -37,7 +37,7 @@ class Phase(ctypes.Structure):
     _fields_ = [("is_chosen", ctypes.c_uint32), ("skip", ctypes.c_uint32), ("cost", ctypes.c_uint64)]
 
 
-for name in ("sender_room", "sender_push", "receiver_push", "receiver_finish"):
+for name in ("sender_room", "sender_push", "receiver_room", "receiver_push", "receiver_finish"):
     getattr(LIBRARY, "tmchan_" + name).restype = ANSWER
 
 
@@ -69,10 +69,9 @@ class Receive(gr.sync_block):
     def __init__(self, made):
         gr.sync_block.__init__(self, "tmchan receiver", [numpy.uint8], None)
         self.stream, self.frames, self.reports = Stream(), [], []
-        size = LIBRARY.tmchan_frame_length(ctypes.byref(made))
-        unit = LIBRARY.tmchan_cadu_length(ctypes.c_uint32(made.code), ctypes.c_uint32(made.depth), SIZE(size))
-        self.room = (3 * (made.keep + made.ahead) + 7 + 8 * self.PIECE) // (8 * unit) + 33
-        self.octets, self.told = (ctypes.c_uint8 * (self.room * size))(), (Report * self.room)()
+        octets = ctypes.c_uint64()
+        room = LIBRARY.tmchan_receiver_room(ctypes.byref(made), SIZE(self.PIECE), ctypes.byref(octets))
+        self.octets, self.told = (ctypes.c_uint8 * octets.value)(), (Report * room)()
         if LIBRARY.tmchan_receiver_open(ctypes.byref(self.stream), ctypes.byref(made)):
             raise MemoryError
 
@@ -87,7 +86,7 @@ class Receive(gr.sync_block):
             at += report.frame_length
 
     def arrays(self):
-        return self.octets, SIZE(len(self.octets)), self.told, SIZE(self.room)
+        return self.octets, SIZE(len(self.octets)), self.told, SIZE(len(self.told))
 
     def work(self, input_items, output_items):
         octets = numpy.ascontiguousarray(input_items[0][:self.PIECE])

@@ -67,20 +67,23 @@ static void receive(const tmchan_config *config, const uint8_t *given, size_t gi
     size_t count = 0, decoded = 0;
     uint64_t bits = 0;
     tmchan_phase phase, decoder_phase;
-    int32_t size = tmchan_frame_length(config), unit = tmchan_cadu_length(config->code, config->depth, size);
-    size_t most = (3 * (config->keep + config->ahead) + 7 + 8 * piece) / (8 * unit) + 33;
+    int32_t size = tmchan_frame_length(config);
     expect(tmchan_receiver_open(&receiver, config) == 0, "the receiver does not open");
     expect(tmchan_decoder_open(&decoder, config) == 0, "the decoder does not open");
     for (size_t at = 0; at <= given_length; at += piece) {
         size_t length = given_length - at < piece ? given_length - at : piece;
         int last = at + piece > given_length;
-        uint8_t *octets = room(length), *frames = room(most * size);
-        tmchan_report *reports = room(most * sizeof *reports);
+        uint8_t *octets = room(length);
         memcpy(octets, given + at, length);
         for (int ending = 0; ending <= last; ending++) {
-            int64_t answer = ending ? tmchan_receiver_finish(&receiver, frames, most * size, reports, most, &bits, &phase)
-                                    : tmchan_receiver_push(&receiver, octets, length, frames, most * size, reports, most);
-            expect(answer >= 0, "the receiver refuses");
+            uint64_t frames_length = 0;
+            int64_t most = tmchan_receiver_room(config, ending ? 0 : length, &frames_length);
+            expect(most >= 0 && frames_length == (uint64_t)most * size, "a room has a wrong answer");
+            uint8_t *frames = room(frames_length);
+            tmchan_report *reports = room(most * sizeof *reports);
+            int64_t answer = ending ? tmchan_receiver_finish(&receiver, frames, frames_length, reports, most, &bits, &phase)
+                                    : tmchan_receiver_push(&receiver, octets, length, frames, frames_length, reports, most);
+            expect(answer >= 0 && answer <= most, "the receiver refuses");
             size_t written = 0;
             for (int64_t i = 0; i < answer; i++) {
                 int uncorrectable = 0;
@@ -90,6 +93,7 @@ static void receive(const tmchan_config *config, const uint8_t *given, size_t gi
             }
             if (count + written <= wanted_length) memcpy(received + count, frames, written);
             count += written;
+            free(frames), free(reports);
             int64_t needed = tmchan_decoder_room(config, ending ? 0 : length);
             uint8_t *its_bits = room(needed);
             answer = ending ? tmchan_decoder_finish(&decoder, its_bits, needed, &decoder_phase) : tmchan_decoder_push(&decoder, octets, length, its_bits, needed);
@@ -98,7 +102,7 @@ static void receive(const tmchan_config *config, const uint8_t *given, size_t gi
             decoded += answer;
             free(its_bits);
         }
-        free(octets), free(frames), free(reports);
+        free(octets);
     }
     expect(count == wanted_length && !memcmp(received, wanted, count), "other frames were received");
     expect(config->inner == 0 ? decoded == 0 : decoded == bits, "another number of bits was decoded");
@@ -117,7 +121,9 @@ static void make_row(char *line) {
         expect(tmchan_config_check(&config) == wanted && tmchan_frame_length(&config) == wanted, "the check has a wrong answer");
         expect(tmchan_sender_open(&stream, &config) == wanted && tmchan_decoder_open(&stream, &config) == wanted && tmchan_receiver_open(&stream, &config) == wanted,
                "an open has a wrong answer");
+        uint64_t frames_length = 7;
         expect(tmchan_sender_room(&config, 1) == wanted && tmchan_decoder_room(&config, 1) == wanted, "a room has a wrong answer");
+        expect(tmchan_receiver_room(&config, 1, &frames_length) == wanted && frames_length == 7, "a receiver's room has a wrong answer");
         return;
     }
     expect(tmchan_config_check(&config) == 0, "the check refuses");
@@ -139,6 +145,14 @@ static void make_refusals(void) {
     tmchan_config_defaults(&config);
     line_number = 0;
     expect(tmchan_config_check(&config) == 0 && tmchan_frame_length(&config) == 223, "the defaults");
+    /* 3 * 8448 + 7 + 1000 bits are 12 units of 2,072 bits and a part, and a batch has 32; with four workers the bits of a batch may wait. */
+    expect(tmchan_receiver_room(&config, 1000, &bits) == 44 && bits == 44 * 223, "the room of the defaults");
+    config.workers = 4;
+    expect(tmchan_receiver_room(&config, 1000, &bits) == 76 && tmchan_receiver_room(&config, 0, &bits) == 76 && bits == 76 * 223, "with workers");
+    expect(tmchan_receiver_room(&config, ((size_t)1 << 40) + 1, &bits) == TMCHAN_ROOM && bits == 76 * 223, "too many octets");
+    config.workers = 1, config.inner = 0;
+    expect(tmchan_receiver_room(&config, 1000, &bits) == 35 && tmchan_receiver_room(&config, 0, &bits) == 32 && bits == 32 * 223, "with no inner code");
+    config.inner = 12;
     for (int round = 0; round < 2; round++) {
         expect(tmchan_sender_push(&s, some, 1, some, 64) == TMCHAN_CLOSED && tmchan_sender_finish(&s) == TMCHAN_CLOSED, "a closed sender");
         expect(tmchan_decoder_push(&s, some, 1, some, 64) == TMCHAN_CLOSED && tmchan_decoder_finish(&s, some, 64, &phase) == TMCHAN_CLOSED, "a closed decoder");

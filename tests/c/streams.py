@@ -9,7 +9,8 @@ import sys
 LIBRARY = ctypes.CDLL(sys.argv[1])
 SIZE, NUMBERS = ctypes.c_size_t, ctypes.c_uint64 * 21
 PIECE = 3000
-for name in ("sender_room", "sender_push", "sender_finish", "decoder_room", "decoder_push", "decoder_finish", "receiver_push", "receiver_finish"):
+for name in ("sender_room", "sender_push", "sender_finish", "decoder_room", "decoder_push", "decoder_finish", "receiver_room",
+             "receiver_push", "receiver_finish"):
     getattr(LIBRARY, "tmchan_" + name).restype = ctypes.c_int64
 
 
@@ -34,14 +35,15 @@ def send(config, given):
 
 
 def receive(config, given):
-    stream, received, bits = NUMBERS(), b"", ctypes.c_uint64()
-    size, room = call("frame_length", config), 2000
-    frames, reports = ctypes.create_string_buffer(room * size), (ctypes.c_uint64 * 4 * room)()
-    arrays = frames, SIZE(room * size), reports, SIZE(room)
+    stream, received, bits, octets = NUMBERS(), b"", ctypes.c_uint64(), ctypes.c_uint64()
     assert call("receiver_open", stream, config) == 0
     for piece in pieces(given) + [None]:
+        room = call("receiver_room", config, SIZE(len(piece or b"")), ctypes.byref(octets))
+        frames, reports = ctypes.create_string_buffer(octets.value), (ctypes.c_uint64 * 4 * room)()
+        arrays = frames, SIZE(octets.value), reports, SIZE(room)
         count = (call("receiver_push", stream, piece, SIZE(len(piece)), *arrays) if piece is not None
                  else call("receiver_finish", stream, *arrays, ctypes.byref(bits), NUMBERS()))
+        assert count >= 0
         received += frames.raw[:sum(report[1] for report in reports[:count])]
     return received
 

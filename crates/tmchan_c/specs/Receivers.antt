@@ -1,5 +1,5 @@
 -- What a call does with the receiver behind a handle.
-use Rattle.std.specs.Prelude.{◌≡◌, ℕ, ℤ, List, ◌++◌, Option, Some, None, IsSomeAnd}
+use Rattle.std.specs.Prelude.{◌≡◌, ℕ, ℤ, List, ◌++◌, length, Option, Some, None, IsSomeAnd}
 use Rattle.tm_base.specs.Handed.{Handed, items_of}
 use Rattle.tm_config.specs.Configuration.{Configuration}
 use Rattle.tm_channel.specs.Handing.{AreReceived, AreReceivedDue}
@@ -7,7 +7,7 @@ use Rattle.tm_channel.specs.Items.{ItemValue}
 use Rattle.tm_channel.specs.OctetReceiving.{OctetReceiving}
 use Rattle.tm_inner.specs.Phase.{IsChosen}
 use Rattle.tm_buffers.specs.Items.{Tells}
-use Rattle.tm_buffers.specs.Receiving.{IsReceiving}
+use Rattle.tm_buffers.specs.Receiving.{IsEnough, IsReceiving}
 use Rattle.tm_buffers.specs.declared.items.Report.{Report}
 use Rattle.tmchan_c.specs.Phases.{chosen_of}
 use Rattle.tmchan_c.specs.Refusal.{number_answer}
@@ -36,7 +36,8 @@ pub record WroteItems (answer : ℤ) (frames : List ℕ) (reports : List Report)
   pub answers : answer ≡ number_answer None count
   pub tells : Tells count frames reports items
 
--- a receiver that was given octets goes on to further ones, and what is due with them was written
+-- a receiver that was given octets goes on to further ones, and what is due with them was written,
+-- all of it where there is the room that is told
 pub record ReceivesInto (c : Configuration) (given octets : List ℕ)
     (done : List (Handed ItemValue)) (now : Option Stream) (answer : ℤ) (frames : List ℕ)
     (reports : List Report) : Type 0 where
@@ -44,13 +45,15 @@ pub record ReceivesInto (c : Configuration) (given octets : List ℕ)
   pub receiver : IsReceiver now c (given ++ octets) (done ++ more)
   pub due : AreReceivedDue c (given ++ octets) (done ++ more)
   pub wrote : WroteItems answer frames reports (items_of more)
+  pub enough : IsEnough c (length octets) wrote.count frames reports
 
--- at the end of its octets, which came to so many bits, what is left was written, and the phase was
--- told
+-- at the end of its octets, which came to so many bits, what is left was written in the same way, and
+-- the phase was told
 pub record ReceivesLastInto (c : Configuration) (given : List ℕ)
     (done : List (Handed ItemValue)) (answer : ℤ) (frames : List ℕ) (reports : List Report)
     (bits : ℕ) (phase : PhaseState) : Type 0 where
   pub last : List (Handed ItemValue)
   pub all : AreReceived c given (done ++ last) bits
   pub wrote : WroteItems answer frames reports (items_of last)
+  pub enough : IsEnough c 0 wrote.count frames reports
   pub chosen : IsChosen c given (chosen_of phase)

@@ -1,23 +1,50 @@
 // The receiver: symbols in; frames and what is said of them out.
-ghost use Rattle.std.specs.Prelude.{◌≡◌, ◌+◌, ◌^◌, ◌<◌, ℕ, List, [], None, length, pos};
+ghost use Rattle.std.specs.Prelude.{◌≡◌, ◌+◌, ◌*◌, ◌^◌, ◌<◌, ◌<ℤ◌, ℕ, List, [], None, length, pos};
 ghost use Rattle.std.specs.Option.{is_some};
 ghost use Rattle.tm_base.specs.Handed.{Handed};
 ghost use Rattle.tm_config.specs.Configuration.{Configuration};
 ghost use Rattle.tm_channel.specs.Items.{ItemValue};
 ghost use Rattle.tm_inner.specs.Phase.{IsChosenSoFar};
-ghost use Rattle.tmchan_c.specs.Options.{configuration};
+ghost use Rattle.tm_buffers.specs.Receiving.{items_room};
+ghost use Rattle.tmchan_c.specs.Options.{configuration, raw_of};
 ghost use Rattle.tmchan_c.specs.Phases.{chosen_of};
 ghost use Rattle.tmchan_c.specs.Receivers.{IsReceiver, ReceivesInto, ReceivesLastInto, receiver_in};
-ghost use Rattle.tmchan_c.specs.Refusal.{Refuses};
+ghost use Rattle.tmchan_c.specs.Refusal.{Refuses, number_answer, values_refusal};
 ghost use Rattle.tmchan_c.specs.Streams.{Opens, closed_refusal, open_refusal};
 
-use crate::config::Options;
+use crate::config::{Options, checked, raw};
 use crate::handle::{Handle, open, put, take, to_open};
 use crate::phase::{PhaseState, phase_state};
 use crate::refusal::{Refusal, number_answer};
 use crate::stream::Stream;
 use std::alloc::Global;
-use tm_buffers::{BufferReceiver, Report};
+use tm_buffers::{BufferReceiver, Report, items_room};
+
+/// For how many reports a push of so many octets, or fewer, and the finish need room, whatever was pushed before; and
+/// for how many octets of frames. Or why no such room is told.
+#[unsafe(no_mangle)]
+pub extern "C" fn tmchan_receiver_room(
+    options: &Options,
+    octets_length: usize,
+    frames_length: &mut u64,
+) -> i64
+    ensures answer { result ≡ number_answer (values_refusal (raw_of options.now))
+        (items_room (configuration options.now) octets_length) }
+    ensures frames { (items : ℕ) → result ≡ pos items
+        → frames_length.new ≡ items * (configuration options.now).frame_length }
+    ensures unchanged { result <ℤ pos 0 → frames_length.new ≡ frames_length.old }
+{
+    match checked(&raw(options)) {
+        Err(refusal) => refusal.long_answer(),
+        Ok(config) => match items_room(&config, octets_length) {
+            Some(items) => {
+                *frames_length = items as u64 * config.length();
+                items as i64
+            }
+            None => Refusal::Room.long_answer(),
+        },
+    }
+}
 
 /// Opens a receiver that was given nothing yet. Answers 0, or why it is refused.
 #[unsafe(no_mangle)]

@@ -5,7 +5,9 @@ use crate::config::{Options, tmchan_config_check, tmchan_config_defaults};
 use crate::handle::{Handle, tmchan_close};
 use crate::kept::Kept;
 use crate::phase::PhaseState;
-use crate::receiver::{tmchan_receiver_finish, tmchan_receiver_open, tmchan_receiver_push};
+use crate::receiver::{
+    tmchan_receiver_finish, tmchan_receiver_open, tmchan_receiver_push, tmchan_receiver_room,
+};
 use crate::reed_solomon::{tmchan_rs_decode, tmchan_rs_decode_erased, tmchan_rs_encode};
 use crate::sender::{
     tmchan_sender_finish, tmchan_sender_open, tmchan_sender_push, tmchan_sender_room,
@@ -135,6 +137,8 @@ fn frames_are_sent_and_received_behind_handles(rt: HostRuntime) {
         skip: 1,
         cost: 1,
     };
+    assert_eq!(rt; tmchan_receiver_room(&options, 7, &mut bits), 33);
+    assert_eq!(rt; bits, 99);
     assert_eq!(rt; tmchan_receiver_open(alloc, &mut handle, &options), 0);
     let received = &symbols[..7];
     assert_eq!(rt;

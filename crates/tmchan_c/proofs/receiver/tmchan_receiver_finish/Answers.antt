@@ -21,6 +21,7 @@ returns-in-Receiver-clause-finished c = λ config given done is.
         last = there.last;
         all = subst (λ (k : Configuration). AreReceived k given (done ++ there.last) c.finish-count.new.bits) receiver.0 there.all;
         wrote = record { count = c.finish-count.result; answers = answers; tells = there.tells };
+        enough = λ most more room. there.enough most more (search rules);
         chosen = subst (λ (k : Configuration). IsChosen k given (chosen_of c.phase_state.result)) receiver.0 chosen;
       },
       c.take.ensures.left,

@@ -28,6 +28,7 @@ returns-clause-pushed c = λ config given done is few.
             receiver = subst (λ (o : Option Stream). IsReceiver o config (given ++ octets) (done ++ there.more)) (sym now) (w.feed.ensures.config ∙ receiver.0, there.receiving);
             due = subst (λ (k : Configuration). AreReceivedDue k (given ++ octets) (done ++ there.more)) receiver.0 there.due;
             wrote = record { count = w.feed.result; answers = answers; tells = tells };
+            enough = λ most more room. there.enough most more (search rules);
           }
       | in_default-deref_mut w ↦ absurd (search rules)
     ]
