@@ -5,11 +5,11 @@ ghost use Rattle.tm_workers.specs.Words.{Decodes, DecodesErased};
 ghost use Rattle.tm_workers.specs.Working.{all_drawn, put_all};
 
 use crate::draws::{Drawn, call_each};
-use crate::gate::{Gate, OpenGate};
 use crate::split::{decode_part, split_evenly};
 use crate::words::{ErasedWord, InPlace, Word};
 use std::alloc::{AllocError, Global};
 use std::thread::Threads;
+use tm_base::{Gate, OpenGate};
 use tm_rs_code::Params;
 
 // Puts each word in its place.

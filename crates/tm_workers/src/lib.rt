@@ -5,7 +5,6 @@
 
 mod batch;
 mod draws;
-mod gate;
 mod outcome;
 mod rule;
 mod schedule;
@@ -15,10 +14,10 @@ mod tickets;
 mod words;
 
 pub use batch::{decode_all, decode_batch, decode_erased_batch, decode_in_order};
-pub use gate::{Gate, OpenGate};
 pub use outcome::one_outcome_law;
 pub use schedule::schedule_law;
 pub use seats::Seat;
 pub use split::split_evenly;
 pub use tickets::Tickets;
+pub use tm_base::{Gate, OpenGate};
 pub use words::{ErasedWord, InPlace, Word};

@@ -3,9 +3,9 @@ ghost use Rattle.std.specs.Prelude.{◌≡◌, ◌+◌, ◌<◌, ◌≤◌, ◌^
 ghost use Rattle.std.specs.Thread.{IsSend, IsSync};
 ghost use Rattle.tm_workers.specs.Batch.{EachBecomes};
 
-use crate::gate::Gate;
 use crate::words::InPlace;
 use std::thread::{Threads, join_mut};
+use tm_base::Gate;
 use tm_rs_code::Params;
 
 /// Decodes words one after another. The first has the number `first`.
