@@ -26,16 +26,6 @@ pub(crate) struct Stream {
     ghost sizes: { (64 ≤ flow.window.keep) × (flow.window.keep + flow.window.ahead ≤ 69632) },
 }
 
-// How many steps the pattern of a rate has. They send one symbol more, wherever they begin.
-#[inline(always)]
-fn period_len(rate: Rate) -> usize
-    ensures period { result ≡ period rate }
-    ensures some { 0 < result }
-    ensures small { result ≤ 7 }
-{
-    usize::from(period(rate))
-}
-
 // How many whole steps the next octets have from step t on, at most `limit`, and how many octets these steps take.
 #[inline(always)]
 fn count_steps(rate: Rate, t: u64, limit: usize, len: usize) -> (usize, usize)
@@ -46,7 +36,8 @@ fn count_steps(rate: Rate, t: u64, limit: usize, len: usize) -> (usize, usize)
     ensures size { result.1 ≡ steps_size rate t result.0 }
     ensures fits { result.1 ≤ len }
 {
-    let period = period_len(rate);
+    // A period sends one symbol more than it has steps, wherever it begins.
+    let period = usize::from(period(rate));
     let mut count = 1usize;
     let mut size = step_len(rate, t);
     while limit - count >= period && len - size > period {

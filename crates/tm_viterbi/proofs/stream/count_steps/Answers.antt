@@ -20,8 +20,8 @@ loop-count-preserved c =
       size = omega (
         arith,
         i.size,
-        period_more c.args.rate c.args.t c.loop-count.count c.period_len-period.result
-            c.period_len-period.ensures.period,
+        period_more c.args.rate c.args.t c.loop-count.count c.from-period.result
+            (c.from-period.ensures ∙ c.period.ensures.period),
       );
       fits = omega arith;
     }
