@@ -90,26 +90,58 @@ fn check_workers<R: Abort + Threads + Sync>(
     octets: &[u8],
     wanted: &Wanted<'_>,
 ) -> Result<(), Fail> {
+    check_threads(rt, alloc, config, octets, wanted)?;
+    let mut taker = Collector::new(alloc, 9);
+    let mut receiver = InnerReceiver::open_for(alloc, config, 3)?;
+    receiver.feed(octets, &mut taker)?;
+    assert_eq!(rt; receiver.finish(&mut taker)?, wanted.end);
+    assert_eq!(rt; taker.kept(), wanted.blocks);
+    Ok(())
+}
+
+// The same octets by three workers, with threads.
+fn check_threads<R: Abort + Threads + Sync>(
+    rt: &R,
+    alloc: Global,
+    config: &Config,
+    octets: &[u8],
+    wanted: &Wanted<'_>,
+) -> Result<(), Fail> {
     let mut taker = Collector::new(alloc, 9);
     let mut receiver = InnerReceiver::open_for(alloc, config, 3)?;
     receiver.feed_with(rt, octets, &mut taker)?;
     assert_eq!(rt; receiver.finish_with(rt, &mut taker)?, wanted.end);
+    check_taken(rt, &taker, wanted);
+    check_stopped_threads(rt, &mut receiver, octets, &mut taker);
+    Ok(())
+}
+
+fn check_taken(rt: &impl Abort, taker: &Collector, wanted: &Wanted<'_>) {
     assert_eq!(rt; taker.phase(), wanted.phase);
     assert_eq!(rt; taker.kept(), wanted.blocks);
+}
+
+fn check_stopped_threads<R: Abort + Threads + Sync>(
+    rt: &R,
+    receiver: &mut InnerReceiver,
+    octets: &[u8],
+    taker: &mut Collector,
+) {
     assert_eq!(rt;
-        receiver.feed_with(rt, octets, &mut taker),
+        receiver.feed_with(rt, octets, taker),
         Err(FeedError::Stopped)
     );
-    assert_eq!(rt;
-        receiver.finish_with(rt, &mut taker),
-        Err(FeedError::Stopped)
-    );
-    let mut others = Collector::new(alloc, 9);
-    let mut alone = InnerReceiver::open_for(alloc, config, 3)?;
-    alone.feed(octets, &mut others)?;
-    assert_eq!(rt; alone.finish(&mut others)?, wanted.end);
-    assert_eq!(rt; others.kept(), wanted.blocks);
-    Ok(())
+    assert_eq!(rt; receiver.finish_with(rt, taker), Err(FeedError::Stopped));
+}
+
+fn check_stopped(
+    rt: &impl Abort,
+    receiver: &mut InnerReceiver,
+    octets: &[u8],
+    taker: &mut Collector,
+) {
+    assert_eq!(rt; receiver.feed(octets, taker), Err(FeedError::Stopped));
+    assert_eq!(rt; receiver.finish(taker), Err(FeedError::Stopped));
 }
 
 fn check_pieces(
@@ -128,10 +160,8 @@ fn check_pieces(
         receiver.feed(piece, &mut taker)?;
     }
     assert_eq!(rt; receiver.finish(&mut taker)?, wanted.end);
-    assert_eq!(rt; taker.phase(), wanted.phase);
-    assert_eq!(rt; taker.kept(), wanted.blocks);
-    assert_eq!(rt; receiver.feed(octets, &mut taker), Err(FeedError::Stopped));
-    assert_eq!(rt; receiver.finish(&mut taker), Err(FeedError::Stopped));
+    check_taken(rt, &taker, wanted);
+    check_stopped(rt, &mut receiver, octets, &mut taker);
     Ok(())
 }
 
@@ -374,32 +404,62 @@ fn phase_without_an_inner_code(rt: HostRuntime) -> Result<(), Fail> {
     Ok(())
 }
 
+// Octets wait at a receiver of two workers, close three windows, and go on with a step.
+fn check_gathered(rt: &impl Abort, receiver: &mut InnerReceiver, octets: &[u8]) {
+    assert_eq!(rt; receiver.gather(octets), octets.len());
+    assert_eq!(rt; receiver.count_due(), 3);
+}
+
+// They are decoded with the next ones, though there are none, and then none waits.
+fn check_fed<R: Abort + Threads + Sync>(
+    rt: &R,
+    receiver: &mut InnerReceiver,
+    taker: &mut Collector,
+) -> Result<(), Fail> {
+    receiver.feed_with(rt, &[], taker)?;
+    assert_eq!(rt; taker.kept().len(), 3);
+    assert_eq!(rt; receiver.count_due(), 0);
+    Ok(())
+}
+
+fn check_finished<R: Abort + Threads + Sync>(
+    rt: &R,
+    receiver: &mut InnerReceiver,
+    taker: &mut Collector,
+) -> Result<(), Fail> {
+    let end = receiver.finish_with(rt, taker)?;
+    assert_eq!(rt; end.bits, 3 * 1024 + 64 + 1);
+    assert_eq!(rt; taker.kept().len(), 4);
+    Ok(())
+}
+
+fn check_waiting<R: Abort + Threads + Sync>(
+    rt: &R,
+    alloc: Global,
+    soft: u64,
+    octets: &[u8],
+) -> Result<(), Fail> {
+    let config = Config::check(&Raw {
+        soft,
+        keep: 1024,
+        ahead: 64,
+        ..Raw::default()
+    })?;
+    let mut taker = Collector::new(alloc, 9);
+    let mut receiver = InnerReceiver::open_for(alloc, &config, 2)?;
+    check_gathered(rt, &mut receiver, octets);
+    check_fed(rt, &mut receiver, &mut taker)?;
+    check_finished(rt, &mut receiver, &mut taker)?;
+    assert_eq!(rt; receiver.gather(octets), 0);
+    let mut one = InnerReceiver::open(alloc, &config)?;
+    assert_eq!(rt; one.gather(octets), 0);
+    Ok(())
+}
+
 // Octets that close three windows wait, signed or not, where there are two workers.
 #[test]
 fn octets_that_wait(rt: HostRuntime) -> Result<(), Fail> {
-    let alloc = rt.alloc();
-    let octets = repeated(alloc, (127, 127), 3 * 1024 + 64 + 1)?;
-    for soft in [0, 1] {
-        let raw = Raw {
-            soft,
-            keep: 1024,
-            ahead: 64,
-            ..Raw::default()
-        };
-        let config = Config::check(&raw)?;
-        let mut taker = Collector::new(alloc, 9);
-        let mut receiver = InnerReceiver::open_for(alloc, &config, 2)?;
-        assert_eq!(rt; receiver.gather(&octets), octets.len());
-        assert_eq!(rt; receiver.count_due(), 3);
-        receiver.feed_with(&rt, &[], &mut taker)?;
-        assert_eq!(rt; taker.kept().len(), 3);
-        assert_eq!(rt; receiver.count_due(), 0);
-        let end = receiver.finish_with(&rt, &mut taker)?;
-        assert_eq!(rt; end.bits, 3 * 1024 + 64 + 1);
-        assert_eq!(rt; taker.kept().len(), 4);
-        assert_eq!(rt; receiver.gather(&octets), 0);
-        let mut one = InnerReceiver::open(alloc, &config)?;
-        assert_eq!(rt; one.gather(&octets), 0);
-    }
-    Ok(())
+    let octets = repeated(rt.alloc(), (127, 127), 3 * 1024 + 64 + 1)?;
+    check_waiting(&rt, rt.alloc(), 0, &octets)?;
+    check_waiting(&rt, rt.alloc(), 1, &octets)
 }
