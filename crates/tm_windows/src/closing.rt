@@ -9,6 +9,7 @@ use crate::candidate::Candidate;
 use crate::decoding::decode_run;
 use crate::sharing::decode_evenly;
 use std::thread::Threads;
+use tm_base::OpenGate;
 use tm_viterbi::{WindowDecoder, WindowShape};
 
 pub(crate) trait Closing {
@@ -63,6 +64,7 @@ impl<'a, R: Threads + Sync> Closing for SideBySide<'a, R> {
     ) {
         decode_evenly(
             self.rt,
+            &OpenGate,
             shape,
             decoders,
             Some(starts),
@@ -90,6 +92,14 @@ impl Closing for OneByOne {
         t: u64,
         octets: &[u8],
     ) {
-        decode_run(&mut decoders[0], shape, candidates, starts, t, octets);
+        decode_run(
+            &OpenGate,
+            &mut decoders[0],
+            shape,
+            candidates,
+            starts,
+            t,
+            octets,
+        );
     }
 }

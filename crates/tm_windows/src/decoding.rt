@@ -5,6 +5,7 @@ ghost use Rattle.tm_conv.specs.Path.{steps_size};
 ghost use Rattle.tm_windows.specs.Candidates.{IsCandidate, AreCandidates, HaveRoom};
 
 use crate::candidate::Candidate;
+use tm_base::Gate;
 use tm_conv::steps_len;
 use tm_viterbi::{WindowDecoder, WindowShape};
 
@@ -33,8 +34,10 @@ pub(crate) fn decode_window(
 }
 
 /// Decodes a window for each candidate, one behind another: the first from step t on and from these registers, and each
-/// other one from the register behind the one before it.
-pub(crate) fn decode_run(
+/// other one from the register behind the one before it. The gate is entered before each with the window's number in
+/// the stream, up to 2^32-1.
+pub(crate) fn decode_run<G: Gate>(
+    gate: &G,
     decoder: &mut WindowDecoder,
     shape: WindowShape,
     candidates: &mut [Candidate],
@@ -55,6 +58,8 @@ pub(crate) fn decode_run(
     let mut now = t;
     let mut at = 0usize;
     for j in 0..candidates.len() {
+        let number = now / shape.keep.max(1) as u64;
+        gate.enter(number.min(u64::from(u32::MAX)) as u32);
         decode_window(
             decoder,
             shape,

@@ -10,11 +10,13 @@ use crate::candidate::Candidate;
 use crate::decoding::decode_run;
 use crate::guessing::known_or_guessed;
 use std::thread::{Threads, join_mut};
+use tm_base::Gate;
 use tm_conv::steps_len;
 use tm_viterbi::{WindowDecoder, WindowShape};
 
 // One worker's windows, one behind another.
-fn decode_part(
+fn decode_part<G: Gate>(
+    gate: &G,
     shape: WindowShape,
     decoder: &mut WindowDecoder,
     known: Option<Option<u8>>,
@@ -38,15 +40,17 @@ fn decode_part(
         return;
     }
     let starts = known_or_guessed(decoder, shape, &mut candidates[0], known, t, octets, at);
-    decode_run(decoder, shape, candidates, starts, t, &octets[at..]);
+    decode_run(gate, decoder, shape, candidates, starts, t, &octets[at..]);
 }
 
 /// Decodes a window for each candidate, by at most as many workers as there are decoders: each has one part of the
 /// windows, and the parts are nearly equal. The first window begins at step t, and its octets at place `at`; `known` is
-/// its start set. Each worker but the first begins with a guess. It takes no memory.
+/// its start set. Each worker but the first begins with a guess. Workers enter the gate before each window. It takes no
+/// memory.
 #[cycle(parts)]
-pub(crate) fn decode_evenly<R: Threads + Sync>(
+pub(crate) fn decode_evenly<R: Threads + Sync, G: Gate + Sync>(
     rt: &R,
+    gate: &G,
     shape: WindowShape,
     decoders: &mut [WindowDecoder],
     known: Option<Option<u8>>,
@@ -70,7 +74,16 @@ pub(crate) fn decode_evenly<R: Threads + Sync>(
 {
     let workers = decoders.len();
     if workers < 2 || candidates.len() < 2 {
-        decode_part(shape, &mut decoders[0], known, t, octets, at, candidates);
+        decode_part(
+            gate,
+            shape,
+            &mut decoders[0],
+            known,
+            t,
+            octets,
+            at,
+            candidates,
+        );
         return;
     }
     let some = workers.div_ceil(2);
@@ -81,14 +94,15 @@ pub(crate) fn decode_evenly<R: Threads + Sync>(
     let (first, others) = decoders.split_at_mut(some);
     let (front, back) = candidates.split_at_mut(middle);
     decode_both(
-        rt, shape, known, octets, first, t, at, front, others, behind, place, back,
+        rt, gate, shape, known, octets, first, t, at, front, others, behind, place, back,
     );
 }
 
 // The two parts side by side. It is a function of its own, so that what the closures require is what it is given.
 #[cycle(parts)]
-fn decode_both<R: Threads + Sync>(
+fn decode_both<R: Threads + Sync, G: Gate + Sync>(
     rt: &R,
+    gate: &G,
     shape: WindowShape,
     known: Option<Option<u8>>,
     octets: &[u8],
@@ -119,7 +133,7 @@ fn decode_both<R: Threads + Sync>(
         × HaveRoom (shape.keep + shape.ahead) back.new × All (λ d. d ≡ shape) others.new }
 {
     let mut decode_front = ||
-        requires { IsSync R.row × ForSome known (λ starts. ForSome starts (λ register. register < 64))
+        requires { IsSync R.row × IsSync G.row × ForSome known (λ starts. ForSome starts (λ register. register < 64))
             × (length octets.now ≤ 2 ^ 62)
             × ((0 < length first.now) × (length first.now ≤ 64)) × All (λ d. d ≡ shape) first.now
             × HaveRoom (shape.keep + shape.ahead) front.now × (length front.now ≤ 2 ^ 32) × (at ≤ length octets.now)
@@ -127,9 +141,9 @@ fn decode_both<R: Threads + Sync>(
             × (t + length front.now * shape.keep < 2 ^ 61) }
         ensures { AreCandidates shape t (drop at octets.entry.now) 0 (length front.entry.now) front.exit.now
             × HaveRoom (shape.keep + shape.ahead) front.exit.now × All (λ d. d ≡ shape) first.exit.now }
-    { decode_evenly(rt, shape, first, known, t, octets, at, front) };
+    { decode_evenly(rt, gate, shape, first, known, t, octets, at, front) };
     let mut decode_back = ||
-        requires { IsSync R.row × (length octets.now ≤ 2 ^ 62)
+        requires { IsSync R.row × IsSync G.row × (length octets.now ≤ 2 ^ 62)
             × ((0 < length others.now) × (length others.now ≤ 64)) × All (λ d. d ≡ shape) others.now
             × HaveRoom (shape.keep + shape.ahead) back.now × (length back.now ≤ 2 ^ 32) × (place ≤ length octets.now)
             × (place + steps_size shape.rate behind
@@ -137,6 +151,6 @@ fn decode_both<R: Threads + Sync>(
             × (behind + length back.now * shape.keep < 2 ^ 61) }
         ensures { AreCandidates shape behind (drop place octets.entry.now) 0 (length back.entry.now) back.exit.now
             × HaveRoom (shape.keep + shape.ahead) back.exit.now × All (λ d. d ≡ shape) others.exit.now }
-    { decode_evenly(rt, shape, others, None, behind, octets, place, back) };
+    { decode_evenly(rt, gate, shape, others, None, behind, octets, place, back) };
     join_mut(rt, &mut decode_front, &mut decode_back);
 }

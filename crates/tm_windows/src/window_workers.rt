@@ -11,12 +11,13 @@ ghost use Rattle.tm_windows.specs.Candidates.{HaveRoom};
 ghost use Rattle.tm_windows.specs.ClosedRun.{CanClose, ClosedRun};
 
 use crate::candidate::Candidate;
-use crate::closing::{Closing, OneByOne, SideBySide};
+use crate::closing::{Closing, OneByOne};
 use crate::settling::{hand_last, settle_run};
+use crate::sharing::decode_evenly;
 use std::alloc::{AllocError, Global};
 use std::marker::Model;
 use std::thread::Threads;
-use tm_base::{Failed, NoMemory};
+use tm_base::{Failed, Gate, NoMemory};
 use tm_viterbi::{BlockTaker, WindowDecoder, WindowShape};
 
 /// Workers that decode windows side by side, each with a decoder of its own, and room for the blocks of some windows.
@@ -104,6 +105,38 @@ fn close_run<C: Closing, B: BlockTaker>(
     settle_run(run, &mut decoders[0], shape, starts, t, octets, blocks)
 }
 
+// The same side by side, past a gate. No method of a `Closing` could hand a gate on to threads.
+fn close_side_by_side<R: Threads + Sync, B: BlockTaker, G: Gate + Sync>(
+    rt: &R,
+    gate: &G,
+    shape: WindowShape,
+    decoders: &mut [WindowDecoder],
+    candidates: &mut [Candidate],
+    starts: Option<u8>,
+    t: u64,
+    octets: &[u8],
+    count: usize,
+    blocks: &mut B,
+) -> Result<Option<u8>, Failed>
+    requires some { (0 < length decoders.old) × (length decoders.old ≤ 64) }
+    requires long { length octets.now ≤ 2 ^ 62 }
+    requires shape { All (λ d. d ≡ shape) decoders.old }
+    requires small { shape.keep + shape.ahead ≤ 69632 }
+    requires most { (count ≤ length candidates.old) × (length candidates.old ≤ 2 ^ 32) }
+    requires bits { HaveRoom (shape.keep + shape.ahead) candidates.old }
+    requires start { ForSome starts (λ register. register < 64) }
+    requires room { steps_size shape.rate t (count * shape.keep + shape.ahead + 1) ≤ length octets.now }
+    requires few { t + count * shape.keep < 2 ^ 61 }
+    ensures closed { ClosedRun shape starts t octets.now count
+        (taker_call B.took B.broke B.faults B.is_last blocks.old blocks.new) result }
+    ensures bits { HaveRoom (shape.keep + shape.ahead) candidates.new }
+    ensures shape { All (λ d. d ≡ shape) decoders.new }
+{
+    let (part, _) = candidates.split_at_mut(count);
+    decode_evenly(rt, gate, shape, decoders, Some(starts), t, octets, 0, part);
+    settle_run(part, &mut decoders[0], shape, starts, t, octets, blocks)
+}
+
 impl WindowWorkers {
     /// So many workers, 1 to 64, for windows of this shape, which have at most 69,632 steps, and room for `most`
     /// windows at a time, at most 2^32. It fails only where there isn't enough memory.
@@ -134,10 +167,11 @@ impl WindowWorkers {
     /// Closes the next `count` windows side by side and hands over their blocks in order: the first window begins at
     /// step `t` with `octets`, and starts from the register `starts` or from any; the last has one more step behind
     /// it. The octets are at most 2^62, and the steps below 2^61. Answers the register from which the window behind
-    /// them starts. The blocks are the same for any number of workers.
+    /// them starts. The blocks are the same for any number of workers. A worker enters `gate` before each window, with
+    /// the window's number in a stream whose windows all keep as many steps.
     ///
     /// `Failed` comes only where the taker's count of faults rose; a front of the blocks was then handed over.
-    pub fn close<R: Threads + Sync, B: BlockTaker>(
+    pub fn close<R: Threads + Sync, B: BlockTaker, G: Gate + Sync>(
         &mut self,
         rt: &R,
         starts: Option<u8>,
@@ -145,6 +179,7 @@ impl WindowWorkers {
         octets: &[u8],
         count: usize,
         blocks: &mut B,
+        gate: &G,
     ) -> Result<Option<u8>, Failed>
         requires long { length octets.now ≤ 2 ^ 62 }
         requires closes { CanClose self.old starts t octets.now count }
@@ -152,7 +187,11 @@ impl WindowWorkers {
             (taker_call B.took B.broke B.faults B.is_last blocks.old blocks.new) result }
         ensures same { self.new ≡ self.old }
     {
-        self.close_by(&SideBySide { rt }, starts, t, octets, count, blocks)
+        let decoders = self.decoders.as_mut_slice();
+        let candidates = self.candidates.as_mut_slice();
+        close_side_by_side(
+            rt, gate, self.shape, decoders, candidates, starts, t, octets, count, blocks,
+        )
     }
 
     /// Closes the next `count` windows as `close` does, but one behind another, with no thread.

@@ -8,7 +8,7 @@ use std::alloc::Global;
 use std::process::Abort;
 use std::test::Fail;
 use std::thread::Threads;
-use tm_base::Failed;
+use tm_base::{Failed, OpenGate};
 use tm_conv::{Rate, steps_len};
 use tm_viterbi::{Decoder, Start, WindowShape};
 use tm_windows::WindowWorkers;
@@ -45,7 +45,7 @@ fn close_batches<R: Threads + Sync>(
         if steps_len(shape.rate, t, steps + shape.ahead + 1) > rest.len() {
             return Ok(());
         }
-        starts = workers.close(rt, starts, t, rest, count, digest)?;
+        starts = workers.close(rt, starts, t, rest, count, digest, &OpenGate)?;
         let size = steps_len(shape.rate, t, steps).min(rest.len());
         rest = &rest[size..];
         t += steps as u64;

@@ -9,7 +9,7 @@ use Rattle.tm_windows.proofs.Runs.{more_times, room_of, further, few_symbols, on
 use Rattle.tm_windows.proofs.decoding.decode_run.Goals as goal
 
 pub loop-j-init : goal.loop-j-init
-loop-j-init c =
+loop-j-init g c =
     let s = c.args.shape in
     let none : 0 * s.keep ≡ 0 = omega arith in
     record {
@@ -23,21 +23,21 @@ loop-j-init c =
     }
 
 pub decode_window-requires-clause-room : goal.decode_window-requires-clause-room
-decode_window-requires-clause-room c =
+decode_window-requires-clause-room g c =
     let l = c.loop-j in
     let octets = c.args.octets.now in
     let room = room_of c.args.shape c.args.t (length c.args.candidates.now) l.j l.now l.at octets l.invariant.now l.invariant.at (omega (arith, c.loop-j-test.true, l.auto.j-end)) c.requires.room in
     omega (arith, room.room, ap length (take_rest octets l.at))
 
 pub overflow_add-at : goal.overflow_add-at
-overflow_add-at c =
+overflow_add-at g c =
     let s = c.args.shape in
     let l = c.loop-j in
     let sum = further s c.args.t l.j l.now l.at c.steps_len-at.result l.invariant.now l.invariant.at c.steps_len-at.ensures in
     record { fits = few_symbols s c.args.t l.j (length c.args.candidates.now) _ sum (omega (arith, c.loop-j-test.true, l.auto.j-end)) c.requires.few }
 
 pub loop-j-preserved : goal.loop-j-preserved
-loop-j-preserved c =
+loop-j-preserved g c =
     let s = c.args.shape in
     let t = c.args.t in
     let octets = c.args.octets.now in

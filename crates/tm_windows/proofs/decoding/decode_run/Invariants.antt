@@ -5,7 +5,7 @@ use Rattle.tm_windows.specs.Candidates.{AreCandidates, HaveRoom}
 use Rattle.tm_windows.proofs.decoding.decode_run.Given as goal
 
 abbrev pub invariant-loop-j : goal.invariant-loop-j
-invariant-loop-j l = record {
+invariant-loop-j g l = record {
   shape : l.decoder ≡ l.shape;
   now : l.now ≡ l.t + l.j * l.shape.keep;
   at : l.at ≡ steps_size l.shape.rate l.t (l.j * l.shape.keep);
