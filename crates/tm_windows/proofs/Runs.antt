@@ -1,7 +1,6 @@
 -- Windows one behind another.
-use Rattle.std.proofs.Common.{◌≡◌, ℕ, ◌+◌, ◌-◌, ◌*◌, ◌/◌, ◌^◌, ◌<◌, ◌≤◌, ◌∙◌, ◌++◌, ◌∷◌, [], ◌⊎◌, inl, inr, All, length-append, sym, ap, subst, arith, List, Option, Some, length, drop, drop-drop, length-drop, get_or, get_or-append-add, set, add-mul, mul-le-mul_right}
+use Rattle.std.proofs.Common.{◌≡◌, ℕ, ◌+◌, ◌-◌, ◌*◌, ◌^◌, ◌<◌, ◌≤◌, ◌∙◌, ◌++◌, ◌∷◌, [], ◌⊎◌, inl, inr, All, length-append, sym, ap, subst, arith, List, Option, Some, length, drop, drop-drop, length-drop, get_or, get_or-append-add, set, add-mul, mul-le-mul_right}
 use Rattle.std.specs.Option.{ForSome}
-use Rattle.std.proofs.Math.Nat.{div-le_of_le-mul, mul-le-mul_left, mul_comm}
 use Rattle.std.proofs.lemmas.Bool.{cases_lt}
 use Rattle.std.proofs.lemmas.List.{get_or-set_same, get_or-set_other, get_or_append_left}
 use Rattle.tm_conv.specs.Path.{steps_size}
@@ -104,9 +103,6 @@ push_closed s from more starts now at size next octets block ee ek es closed clo
     subst (λ (p : Place). ClosedWith s from (more ++ block ∷ []) p) there (Closed-push s.rate s.invert s.keep s.ahead from here more block closed closes)
 
 -- ---- two parts, side by side
-pub share_fits : (n some workers : ℕ) → some ≤ workers → n * some / workers ≤ n
-share_fits n some workers le = div-le_of_le-mul workers (subst (λ (v : ℕ). n * some ≤ v) (mul_comm n workers) (mul-le-mul_left n le))
-
 pub All-front : (P : Candidate → Type 0) (all front back : List Candidate) → all ≡ front ++ back → All P all → All P front
 All-front P all front back is h =
     let whole = subst (λ (v : List Candidate). All P v) is h in

@@ -72,8 +72,8 @@ pub(crate) fn decode_evenly<R: Threads + Sync, G: Gate + Sync>(
     ensures bits { HaveRoom (shape.keep + shape.ahead) candidates.new }
     ensures shape { All (λ d. d ≡ shape) decoders.new }
 {
-    let workers = decoders.len();
-    if workers < 2 || candidates.len() < 2 {
+    let parts = decoders.len().min(candidates.len());
+    if parts < 2 {
         decode_part(
             gate,
             shape,
@@ -86,12 +86,13 @@ pub(crate) fn decode_evenly<R: Threads + Sync, G: Gate + Sync>(
         );
         return;
     }
-    let some = workers.div_ceil(2);
-    let middle = candidates.len() * some / workers;
+    // A thread is made for the first part alone, and the caller goes on with the others: a thread begins late, and none
+    // is to wait for one that another makes.
+    let middle = candidates.len() / parts;
     let steps = middle * shape.keep;
     let behind = t + steps as u64;
     let place = at + steps_len(shape.rate, t, steps);
-    let (first, others) = decoders.split_at_mut(some);
+    let (first, others) = decoders.split_at_mut(1);
     let (front, back) = candidates.split_at_mut(middle);
     decode_both(
         rt, gate, shape, known, octets, first, t, at, front, others, behind, place, back,

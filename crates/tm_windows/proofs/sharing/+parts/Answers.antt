@@ -1,16 +1,17 @@
 use Rattle.std.proofs.Common.{◌≡◌, ◌+◌, ◌-◌, ◌*◌, ◌/◌, ◌≤◌, ◌∙◌, ℕ, sym, ap, arith, length, length-append, vec_len}
+use Rattle.std.proofs.Math.Nat.{div-le_self}
 use Rattle.std.proofs.lemmas.List.Elements.{All-append}
 use Rattle.tm_conv.specs.Path.{steps_size}
 use Rattle.tm_viterbi.specs.declared.window_decoder.WindowShape.{WindowShape}
 use Rattle.tm_windows.specs.declared.candidate.Candidate.{Candidate}
-use Rattle.tm_windows.proofs.Runs.{parts_of, share_fits, joined, All-front, All-back}
+use Rattle.tm_windows.proofs.Runs.{parts_of, joined, All-front, All-back}
 use Rattle.tm_windows.proofs.sharing.+parts.Goals as goal
 
 pub decode_evenly-overflow_add-place : goal.decode_evenly-overflow_add-place
 decode_evenly-overflow_add-place g t c =
     let n = length c.args.candidates.now in
-    let low = n * c.div_ceil-some.result / length c.args.decoders.now in
-    let le : low ≤ n = share_fits n c.div_ceil-some.result (length c.args.decoders.now) (omega (arith, c.div_ceil-some.ensures)) in
+    let low = n / c.min-parts.result in
+    let le : low ≤ n = div-le_self n c.min-parts.result in
     let parts = parts_of c.args.shape c.args.t c.args.at low (n - low) n c.steps_len.result (length c.args.octets.now) (omega (arith, le)) c.steps_len.ensures c.requires.room c.requires.few in
     record { fits = omega (arith, parts.within, c.requires.long.1) }
 
