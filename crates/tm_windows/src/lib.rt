@@ -12,6 +12,8 @@ mod parallel_decoder;
 mod settling;
 mod sharing;
 mod window_workers;
+#[cfg(test)]
+mod wrong_registers;
 
 pub use parallel_decoder::ParallelDecoder;
 pub use window_workers::WindowWorkers;

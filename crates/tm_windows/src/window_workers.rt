@@ -62,7 +62,11 @@ fn new_decoders(
     Ok(decoders)
 }
 
-fn new_candidates(alloc: Global, steps: usize, count: usize) -> Result<Vec<Candidate>, AllocError>
+pub(crate) fn new_candidates(
+    alloc: Global,
+    steps: usize,
+    count: usize,
+) -> Result<Vec<Candidate>, AllocError>
     ensures room { IfOk result (λ candidates. HaveRoom steps candidates.items) }
     ensures count { IfOk result (λ candidates. vec_len candidates ≡ count) }
 {

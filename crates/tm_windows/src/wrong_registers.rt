@@ -1,0 +1,159 @@
+// Windows of which each was begun from a wrong register, settled: the blocks are those of the decoder of one thread.
+ghost use Rattle.std.specs.Prelude.{◌+◌, ◌*◌, ◌^◌, ◌<◌, ◌≤◌, ◌≡◌, length};
+ghost use Rattle.tm_conv.specs.Path.{steps_size};
+ghost use Rattle.tm_windows.specs.Candidates.{AreCandidates, HaveRoom};
+
+use crate::candidate::Candidate;
+use crate::decoding::decode_window;
+use crate::settling::settle_run;
+use crate::window_workers::new_candidates;
+use std::test::Fail;
+use tm_base::Failed;
+use tm_conv::{Rate, steps_len};
+use tm_viterbi::{Block, BlockTaker, Decoder, Start, WindowDecoder, WindowShape};
+
+const KEEP: usize = 64;
+
+const AHEAD: usize = 33;
+
+const WINDOWS: usize = 8;
+
+// A number to which every part of each block, and their order, contribute.
+#[derive(Debug, PartialEq, Eq, Drop)]
+struct Digest {
+    blocks: u64,
+    value: u64,
+}
+
+impl BlockTaker for Digest {
+    ghost faults = { λ digest. 0 };
+
+    ghost is_last = { λ digest. ⊥ };
+
+    ghost took = { λ before block now. Unit {0} };
+
+    ghost broke = { λ before block now. ⊥ };
+
+    ghost took_phase = { λ before skip cost now. Unit {0} };
+
+    ghost broke_phase = { λ before skip cost now. ⊥ };
+
+    fn block(&mut self, b: &Block<'_>) -> Result<(), Failed> {
+        self.blocks = self.blocks.wrapping_add(1);
+        let mut value = self.value;
+        for part in [
+            u64::from(b.start),
+            u64::from(b.steps),
+            u64::from(b.kept),
+            b.metric,
+            u64::from(b.end_state),
+        ] {
+            value = mixed(value, part);
+        }
+        for bit in b.bits {
+            value = mixed(value, u64::from(*bit));
+        }
+        self.value = value;
+        Ok(())
+    }
+
+    fn phase(&mut self, _skip: u8, _cost: u64) -> Result<(), Failed> {
+        Ok(())
+    }
+}
+
+fn mixed(value: u64, part: u64) -> u64 {
+    (value ^ part).wrapping_mul(1099511628211)
+}
+
+// Decodes a window for each candidate: the first from register 63, and each other one from another register than that
+// behind the one before it.
+fn decode_wrongly(
+    decoder: &mut WindowDecoder,
+    shape: WindowShape,
+    candidates: &mut [Candidate],
+    t: u64,
+    octets: &[u8],
+)
+    requires shape { decoder.old ≡ shape }
+    requires bits { HaveRoom (shape.keep + shape.ahead) candidates.old }
+    requires room { steps_size shape.rate t (length candidates.old * shape.keep + shape.ahead + 1) ≤ length octets.now }
+    requires few { t + length candidates.old * shape.keep < 2 ^ 61 }
+    ensures candidates { AreCandidates shape t octets.now 0 (length candidates.old) candidates.new }
+    ensures bits { HaveRoom (shape.keep + shape.ahead) candidates.new }
+    ensures same { decoder.new ≡ shape }
+{
+    let mut starts = Some(63);
+    let mut now = t;
+    let mut at = 0usize;
+    for j in 0..candidates.len() {
+        decode_window(
+            decoder,
+            shape,
+            &mut candidates[j],
+            starts,
+            now,
+            &octets[at..],
+        );
+        starts = Some(63 - candidates[j].path.end_state);
+        at += steps_len(shape.rate, now, shape.keep);
+        now += shape.keep as u64;
+    }
+}
+
+#[test]
+fn windows_from_wrong_registers_are_decoded_again(rt: HostRuntime) -> Result<(), Fail> {
+    let alloc = rt.alloc();
+    let mut drawn = [0; 1092];
+    let mut x = 1u64;
+    for k in 0..drawn.len() {
+        x = x
+            .wrapping_mul(6364136223846793005)
+            .wrapping_add(1442695040888963407);
+        drawn[k] = (x >> 56) as u8;
+    }
+    for rate in [Rate::R12, Rate::R78] {
+        let size = steps_len(rate, 0, WINDOWS * KEEP + AHEAD + 1);
+        assert!(rt; size <= drawn.len());
+        let octets = &drawn[..size];
+        let mut wanted = Digest {
+            blocks: 0,
+            value: 1,
+        };
+        let mut alone = Decoder::open(alloc, rate, false, Start::Zero, KEEP as u32, AHEAD as u32)?;
+        alone.feed(octets, &mut wanted)?;
+        let shape = WindowShape {
+            rate,
+            invert: false,
+            keep: KEEP,
+            ahead: AHEAD,
+        };
+        let mut decoder = WindowDecoder::new(alloc, shape)?;
+        let mut room = new_candidates(alloc, KEEP + AHEAD, WINDOWS)?;
+        let candidates = room.as_mut_slice();
+        decode_wrongly(&mut decoder, shape, candidates, 0, octets);
+        let mut taken = [None; WINDOWS];
+        for k in 0..WINDOWS {
+            taken[k] = candidates[k].starts;
+        }
+        let mut digest = Digest {
+            blocks: 0,
+            value: 1,
+        };
+        settle_run(
+            candidates,
+            &mut decoder,
+            shape,
+            Some(0),
+            0,
+            octets,
+            &mut digest,
+        )?;
+        for k in 0..WINDOWS {
+            assert!(rt; candidates[k].starts != taken[k]);
+        }
+        assert_eq!(rt; wanted.blocks, WINDOWS as u64);
+        assert_eq!(rt; digest, wanted);
+    }
+    Ok(())
+}
