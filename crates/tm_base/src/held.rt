@@ -4,7 +4,7 @@ ghost use Rattle.std.specs.Prelude.{◌≡◌, ◌↔◌, ◌++◌, ◌+◌, ◌
 use std::alloc::{AllocError, Global};
 use std::marker::Model;
 
-/// So many octets, each 0. It fails only where there isn't enough memory.
+/// So many octets. It fails only where there isn't enough memory.
 pub fn zeros(alloc: Global, count: usize) -> Result<Vec<u8>, AllocError>
     ensures { IfOk result (λ v. vec_len v ≡ count) }
 {
