@@ -139,4 +139,4 @@ enough c octets None frames reports items few tells most more room =
     let is = has-room c (nat_le most (2 ^ 40)) (most_items c most) frames reports room in
     let items_few = items-more c octets most more in
     let frames_few = mul-le-mul_right c.frame_length items_few in
-    absurd (elim tells as (λ _. ⊥) [ | inl many ↦ omega (arith, many, few.0, items_few, is.0) | inr many ↦ omega (arith, many, few.1, frames_few, is.1) ])
+    absurd (elim tells as (λ _. ⊥) [ inl many ↦ omega (arith, many, few.0, items_few, is.0) | inr many ↦ omega (arith, many, few.1, frames_few, is.1) ])
