@@ -13,7 +13,7 @@ use Rattle.tm_channel.specs.Items.{ItemValue, frames_of}
 use Rattle.tm_channel.specs.Most.{AreFew, most_bits, most_bits_at, most_items}
 use Rattle.tm_buffers.specs.Reports.{AreReports}
 use Rattle.tm_buffers.specs.Items.{Collected, Collects, Tells, collected, none_yet}
-use Rattle.tm_buffers.specs.Receiving.{HasRoom, IsEnough, items_room}
+use Rattle.tm_buffers.specs.Receiving.{HasRoom, IsEnough}
 use Rattle.tm_buffers.specs.declared.items.BufferItems.{BufferItems}
 use Rattle.tm_buffers.specs.declared.items.Report.{Report}
 

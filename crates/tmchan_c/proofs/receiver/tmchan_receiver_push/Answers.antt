@@ -1,4 +1,4 @@
-use Rattle.std.proofs.Common.{rules, ◌≡◌, ◌++◌, ◌∙◌, List, Option, Some, None, sym, subst, w64, to_z}
+use Rattle.std.proofs.Common.{rules, ◌≡◌, ◌++◌, ◌∙◌, Option, Some, None, sym, subst, w64, to_z}
 use Rattle.tm_base.specs.Handed.{items_of}
 use Rattle.tm_config.specs.Configuration.{Configuration}
 use Rattle.tm_channel.specs.Handing.{AreReceivedDue}

@@ -1,4 +1,4 @@
-use Rattle.std.proofs.Common.{rules, ◌≡◌, ◌++◌, ◌∙◌, ℤ, length, List, Option, Some, None, true, sym, subst, w64, to_z}
+use Rattle.std.proofs.Common.{rules, ◌≡◌, ◌++◌, ◌∙◌, length, Option, Some, None, true, sym, subst, w64, to_z}
 use Rattle.tm_base.specs.Pieces.{further}
 use Rattle.tm_config.specs.Configuration.{Configuration}
 use Rattle.tm_channel.specs.Sent.{sent}

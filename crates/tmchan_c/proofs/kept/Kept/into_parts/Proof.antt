@@ -1,14 +1,14 @@
 -- `into_parts` moves two fields, and what they own goes with them.
 use mathlib.Core.Path.{◌≡◌, refl, sym, subst}
 use contract.Monad.{fact}
-use Rattle.std.specs.Prelude.{Option, Some, None, is_some, true, false}
+use Rattle.std.specs.Prelude.{Option, Some, None, is_some, true}
 use Rattle.std.proofs.Common.{true≢false}
 use Rattle.tmchan_c.specs.contracts.kept.Kept as Kept
 use Rattle.tmchan_c.specs.contracts.stream.Stream as Home
 use mathlib.Core.List.{List, [], ◌∷◌, ◌++◌}
 use seplogic.Ra.Ura.{Ura}
 use mir.Val.{Val}
-use base.Logic.{SProp, ent, emp, id⊢}
+use base.Logic.{SProp, ent, id⊢}
 use base.Fml.{ftrue, fsep}
 use prog.Memory.{Memory}
 use prog.Routine.{Routine}

@@ -1,6 +1,5 @@
 -- `none` owns nothing.
-use mathlib.Core.Path.{◌≡◌, refl, sym, subst}
-use contract.Monad.{fact}
+use mathlib.Core.Path.{refl, sym, subst}
 use Rattle.std.specs.Prelude.{None}
 use Rattle.tmchan_c.specs.contracts.kept.Kept as Kept
 use Rattle.std_heap.specs.contracts.Global as Heap
@@ -19,7 +18,7 @@ use mathlib.Core.Bool.{true, ◌&&◌}
 use lib.Dec.{T}
 use Rattle.core.proofs.cell.Inside.{Good}
 use mir.Val.{WT, Val, vstruct, vcons, vnil, has_ty}
-use base.Logic.{SProp, ent, emp, id⊢}
+use base.Logic.{SProp, ent, emp}
 use base.Fml.{ftrue, fsep}
 use prog.Memory.{Memory}
 use prog.Routine.{Routine}
@@ -29,17 +28,14 @@ use contract.Monad.{Fun}
 use contract.Running.{tables, tables_of}
 use sound.WpLaws.{WpFn-mono}
 use types.Kit.{feq_i, fpack, Item, ‵, raw, ◌⊛◌, ◌$◌, ◌∵◌, !, qed, by, move, drop, use1, join, split, fsplit, fjoin, suffices, done}
-use types.Part.{whole, sub, agg}
-use types.Run.{lit, stop, fld, no_more, and_then, of_opd, returns, enter}
-use types.ByLocal.{alloc_all, pass_all, free_all, look_at, get, get_in, sets}
+use types.Part.{agg}
+use types.Run.{lit, no_more, and_then, returns, enter}
+use types.ByLocal.{alloc_all, pass_all, free_all, look_at, get, sets}
 use denote.Exit.{yes}
-use denote.Signature.{type_at}
-use denote.Steps.{nothing, heard}
+use denote.Steps.{nothing}
 use denote.Triple.Spec.{triple_of}
 use denote.Triple.Table.{entered}
 use denote.Triple.Walked.{says, Stays, stay_dropped, walk_of, ends_at, Goes-dropped, walk_Meets}
-use Rattle.std_alloc.proofs.BoxSteps.Form.{D, B, word, box_typed}
-use Rattle.std_alloc.proofs.BoxSteps.Steps.{box_out, box_in}
 use Rattle.tmchan_c.proofs.AsBox.{E, FromHeap as From}
 use Rattle.tmchan_c.specs.contracts.kept.Kept.none as F
 use Rattle.tmchan_c.specs.contracts.kept.Kept.none.Key.{name as #self}
