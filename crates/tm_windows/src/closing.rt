@@ -12,6 +12,10 @@ use std::thread::Threads;
 use tm_base::OpenGate;
 use tm_viterbi::{WindowDecoder, WindowShape};
 
+// The least steps of windows that are shared out: one worker decodes fewer in the millisecond that a thread may take to
+// begin.
+const LEAST_SHARED: usize = 65_536;
+
 pub(crate) trait Closing {
     /// Whether windows of so many octets can be decoded in this way.
     ghost is_ready: { Self → ℕ → Type 0 };
@@ -41,7 +45,7 @@ pub(crate) trait Closing {
         ensures shape { All (λ d. d ≡ shape) decoders.new };
 }
 
-/// By all workers.
+/// By all workers, where there is enough to share out.
 #[derive(Drop)]
 pub(crate) struct SideBySide<'a, R: Threads + Sync> {
     pub(crate) rt: &'a R,
@@ -62,6 +66,10 @@ impl<'a, R: Threads + Sync> Closing for SideBySide<'a, R> {
         t: u64,
         octets: &[u8],
     ) {
+        if candidates.len() * shape.keep < LEAST_SHARED {
+            OneByOne.decode(shape, decoders, candidates, starts, t, octets);
+            return;
+        }
         decode_evenly(
             self.rt,
             &OpenGate,
