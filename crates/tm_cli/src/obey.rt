@@ -48,7 +48,7 @@ pub fn obey<R: Threads + Sync, S: Source, O: Sink, N: Sink>(
         JobKind::Encode => Ok(encode(config, source, out, notes)),
         JobKind::Decode => decode(rt, alloc, config, source, out, notes),
         JobKind::Report => report(rt, alloc, config, source, out),
-        JobKind::Trace => trace(rt, alloc, config, source, out),
+        JobKind::Trace => trace(alloc, config, source, out),
         JobKind::Word => Ok(word(config, job.hex.as_bytes(), out)),
         JobKind::Soak => soak(rt, alloc, config, job.seed, job.frames, job.hits, out),
         JobKind::Erased => erased(rt, alloc, config, source, out, notes),

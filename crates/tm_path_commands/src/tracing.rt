@@ -1,5 +1,5 @@
 // The command `trace`: the symbol phase, where it is to be found, and the windows of the soft decoder, a line each.
-ghost use Rattle.std.specs.Prelude.{◌≡◌, ◌<◌, ◌≤◌, false, true, OnOk, OnErr, IfOk};
+ghost use Rattle.std.specs.Prelude.{◌≡◌, false, true, OnOk, OnErr, IfOk};
 ghost use Rattle.tm_base.specs.Outside.{HasCause};
 ghost use Rattle.tm_driver.specs.Answered.{AnsweredAlone};
 ghost use Rattle.tm_driver.specs.Courses.{sink_call, sink_state, source_call};
@@ -8,7 +8,6 @@ ghost use Rattle.tm_path_commands.specs.Tracing.{CutsTrace, EndsTrace};
 
 use crate::trace_lines::{Trace, end_trace};
 use std::alloc::Global;
-use std::thread::Threads;
 use tm_base::{Failed, NoMemory, Sink, Source};
 use tm_config::Config;
 use tm_driver::{Ending, Feed, Outcome, Stop, drive};
@@ -16,27 +15,14 @@ use tm_inner::InnerReceiver;
 use tm_phase::{phase_law, whole_window_law};
 use tm_viterbi::{closed_windows_law, due_law, one_list_law};
 
-// How many octets a turn reads at most.
-const TURN: u64 = 4096;
-
-// How many of the configuration's workers have a window to decode: in a turn at most so many windows are closed, since
-// a step takes an octet at least, and none may wait for the next.
-fn worker_count(config: &Config) -> u8
-    ensures { (0 < result) × (result ≤ 64) }
-{
-    config.workers().min(TURN / config.keep() + 1) as u8
+// An inner receiver, and what takes its phase and windows.
+struct Tracing<'a, 'b, O> {
+    receiver: &'a mut InnerReceiver,
+    trace: Trace<'b, O>,
 }
 
-// An inner receiver, its threads, and what takes its phase and windows.
-struct Tracing<'a, 'b, 'c, R, O> {
-    rt: &'a R,
-    receiver: &'b mut InnerReceiver,
-    trace: Trace<'c, O>,
-}
-
-impl<'a, 'b, 'c, R: Threads + Sync, O: Sink> Feed for Tracing<'a, 'b, 'c, R, O> {
+impl<'a, 'b, O: Sink> Feed for Tracing<'a, 'b, O> {
     ghost use Rattle.std.specs.Prelude.{◌≡◌, false, refl, []};
-    ghost use Rattle.std.specs.Thread.{IsSync};
     ghost use Rattle.std.proofs.Common.{◌∙◌};
     ghost use Rattle.tm_config.specs.Configuration.{Configuration};
     ghost use Rattle.tm_driver.specs.Courses.{SinkWent, sink_call, sink_state};
@@ -79,7 +65,7 @@ impl<'a, 'b, 'c, R: Threads + Sync, O: Sink> Feed for Tracing<'a, 'b, 'c, R, O> 
     ghost same = { λ a b. (b.receiver.ghost_name ≡ a.receiver.ghost_name)
         × (b.trace.lines.ghost_name ≡ a.trace.lines.ghost_name) };
 
-    ghost is_ready = { λ e. IsSync R.row × (e.receiver.now.has_stopped ≡ false) };
+    ghost is_ready = { λ e. e.receiver.now.has_stopped ≡ false };
 
     ghost same_none = { λ a. (refl, refl) };
 
@@ -105,14 +91,14 @@ impl<'a, 'b, 'c, R: Threads + Sync, O: Sink> Feed for Tracing<'a, 'b, 'c, R, O> 
         (O.is_last b.trace.lines.now) (O.is_last c.trace.lines.now) p q };
 
     fn feed(&mut self, piece: &[u8]) -> Result<(), Stop> {
-        match self.receiver.feed_with(self.rt, piece, &mut self.trace) {
+        match self.receiver.feed(piece, &mut self.trace) {
             Ok(()) => Ok(()),
             Err(_) => Err(Stop::SinkFault),
         }
     }
 
     fn finish(&mut self) -> Result<Outcome, Failed> {
-        match trace_end(self.rt, self.receiver, &mut self.trace) {
+        match trace_end(self.receiver, &mut self.trace) {
             Ok(()) => Ok(Outcome::Done),
             Err(Failed) => Err(Failed),
         }
@@ -120,11 +106,7 @@ impl<'a, 'b, 'c, R: Threads + Sync, O: Sink> Feed for Tracing<'a, 'b, 'c, R, O> 
 }
 
 // Traces what is left at the end, and writes the end of the trace.
-fn trace_end<R: Threads + Sync, O: Sink>(
-    rt: &R,
-    receiver: &mut InnerReceiver,
-    trace: &mut Trace<'_, O>,
-) -> Result<(), Failed>
+fn trace_end<O: Sink>(receiver: &mut InnerReceiver, trace: &mut Trace<'_, O>) -> Result<(), Failed>
     requires { receiver.old.has_stopped ≡ false }
     ensures whole { OnOk result (EndsTrace receiver.old trace.old.count
         (sink_state (O.taken trace.old.lines.now) (O.faults trace.old.lines.now))
@@ -138,7 +120,7 @@ fn trace_end<R: Threads + Sync, O: Sink>(
 {
     one_list_law();
     due_law();
-    match receiver.finish_with(rt, trace) {
+    match receiver.finish(trace) {
         Ok(end) => end_trace(trace.lines, trace.count, end.bits, end.leftover),
         Err(_) => Err(Failed),
     }
@@ -146,10 +128,8 @@ fn trace_end<R: Threads + Sync, O: Sink>(
 
 /// Writes a line for the symbol phase of the soft octets of the source, where it is to be found, and one for each
 /// window, up to the limit in octets, and at the end of the input the end of the trace. After a fault nothing more is
-/// read or written. It takes all its memory before it reads. Workers share out the windows that one turn of reading
-/// closes.
-pub fn trace<R: Threads + Sync, S: Source, O: Sink>(
-    rt: &R,
+/// read or written. It takes all its memory before it reads.
+pub fn trace<S: Source, O: Sink>(
     alloc: Global,
     config: &Config,
     source: &mut S,
@@ -165,11 +145,10 @@ pub fn trace<R: Threads + Sync, S: Source, O: Sink>(
     closed_windows_law();
     phase_law();
     whole_window_law();
-    let Ok(mut receiver) = InnerReceiver::open_for(alloc, config, worker_count(config)) else {
+    let Ok(mut receiver) = InnerReceiver::open(alloc, config) else {
         return Err(NoMemory);
     };
     let mut tracing = Tracing {
-        rt,
         receiver: &mut receiver,
         trace: Trace {
             lines: out,
@@ -178,7 +157,6 @@ pub fn trace<R: Threads + Sync, S: Source, O: Sink>(
     };
     let ending = drive(config.limit(), source, &mut tracing);
     let Tracing {
-        rt: _,
         receiver: _,
         trace: Trace { lines: _, count: _ },
     } = tracing;

@@ -11,7 +11,7 @@ pub returns-in-Ok-clause-whole : goal.returns-in-Ok-clause-whole
 returns-in-Ok-clause-whole g c =
     let h = c.in-Ok.ensures.handed in
     let was = c.args.trace.now in
-    let now = c.finish_with.new.blocks in
+    let now = c.finish.new.blocks in
     let name = λ (t : Trace g.row.O.Denot). t.lines.ghost_name in
     let lines : Trace g.row.O.Denot → SinkState = λ t. sink_state (g.O.Sink.taken t.lines.now)
     (g.O.Sink.faults t.lines.now) in
@@ -27,7 +27,7 @@ pub returns-in-Ok-clause-front : goal.returns-in-Ok-clause-front
 returns-in-Ok-clause-front g c =
     let h = c.in-Ok.ensures.handed in
     let was = c.args.trace.now in
-    let now = c.finish_with.new.blocks in
+    let now = c.finish.new.blocks in
     let name = λ (t : Trace g.row.O.Denot). t.lines.ghost_name in
     let lines : Trace g.row.O.Denot → SinkState = λ t. sink_state (g.O.Sink.taken t.lines.now)
     (g.O.Sink.faults t.lines.now) in
@@ -45,13 +45,13 @@ returns-in-Ok-clause-same g c =
     let h = c.in-Ok.ensures.handed in
     same-along (λ (t : Trace g.row.O.Denot). t.lines.ghost_name)
     (λ t. sink_state (g.O.Sink.taken t.lines.now) (g.O.Sink.faults t.lines.now)) (λ t. t.count)
-    h.0 c.args.trace.now c.finish_with.new.blocks h.1
+    h.0 c.args.trace.now c.finish.new.blocks h.1
 
 pub returns-in-Err-clause-front : goal.returns-in-Err-clause-front
 returns-in-Err-clause-front g c = λ config start octets accepted t.
     let h = c.in-Err.ensures.front (taker_alone c.in-Err.field-0 (λ stopped. absurd (search rules))) in
     let was = c.args.trace.now in
-    let now = c.finish_with.new.blocks in
+    let now = c.finish.new.blocks in
     let name = λ (t : Trace g.row.O.Denot). t.lines.ghost_name in
     let lines : Trace g.row.O.Denot → SinkState = λ t. sink_state (g.O.Sink.taken t.lines.now)
     (g.O.Sink.faults t.lines.now) in
@@ -66,4 +66,4 @@ returns-in-Err-clause-same g c =
     let h = c.in-Err.ensures.front (taker_alone c.in-Err.field-0 (λ stopped. absurd (search rules))) in
     same-part (λ (t : Trace g.row.O.Denot). t.lines.ghost_name)
     (λ t. sink_state (g.O.Sink.taken t.lines.now) (g.O.Sink.faults t.lines.now))
-    (λ t. g.O.Sink.is_last t.lines.now) (λ t. t.count) h.0 c.args.trace.now c.finish_with.new.blocks h.1
+    (λ t. g.O.Sink.is_last t.lines.now) (λ t. t.count) h.0 c.args.trace.now c.finish.new.blocks h.1
