@@ -90,7 +90,7 @@ uint32_t tmchan_version(void);
 int32_t tmchan_rs_encode(uint32_t code, uint32_t basis, const uint8_t *data, size_t data_length, uint8_t *checks, size_t checks_length);
 
 /* Repairs a word, 2E + 1 to 255 octets, in place: where a codeword differs from it in at most `repair` octets, it becomes that codeword.
- * There is at most one. repair is 0 to E; 0 tells whether the word is a codeword.
+ * There is at most one. repair is 0 to E; 0 says whether the word is a codeword.
  *
  * Answers the number of octets that were wrong, 0 to repair; TMCHAN_BEYOND where there is no such codeword;
  * TMCHAN_BAD_CODE, TMCHAN_BAD_LENGTH (of the word), TMCHAN_BAD_BASIS, TMCHAN_BAD_REPAIR. */
@@ -160,12 +160,12 @@ typedef struct {
     uint64_t repair;    /* how many symbols of a codeword are repaired at most, 0 to E. TMCHAN_UNSET (default): E */
     uint64_t soft;      /* soft octets: 0 (default): 0 is the surest 0 and 255 the surest 1; 1: in two's complement, -128 and 127 */
     uint64_t start;     /* the decoder's first path starts from register zero: 0 (default), or from any: 1 */
-    uint64_t skip;      /* how many soft octets, or bits with no inner code, are dropped from the front: 0 (default) to 15 */
-    uint64_t workers;   /* 1 (default) to 64: no thread is started here; with more than 1 tmchan_receiver_room tells more */
+    uint64_t skip;      /* how many soft octets, or bits with no inner code, are dropped first: 0 (default) to 15 */
+    uint64_t workers;   /* 1 (default) to 64: no thread is started here; with more than 1 tmchan_receiver_room says more */
     uint64_t limit;     /* 1 to 2^40 (default 2^32): has no effect here */
     uint64_t fly;       /* flywheel: how many markers in a row may be missing, 0 (default) to 15 */
     uint64_t keep;      /* steps of a decoder's window that are kept: 64 to 65,536, default 8,192 */
-    uint64_t ahead;     /* steps behind these: 0 to 4,096, default 256 */
+    uint64_t ahead;     /* steps after these: 0 to 4,096, default 256 */
     uint64_t phase;     /* the symbol phase is given: 0 (default), or to be found: 1 */
     uint64_t polarity;  /* the polarity of the bits is given: 0 (default), or to be found: 1 */
     uint64_t batch;     /* how many codeblocks a receiver repairs and hands over at once: 1 to 32 (default) */
@@ -187,15 +187,15 @@ int32_t tmchan_frame_length(const tmchan_config *config);
  * call allocates. tmchan_close, and the finish of each kind of stream, close it and give the memory back, so that a handle after either is
  * answered TMCHAN_CLOSED, and may be opened again. Handles may be moved in memory, and not copied.
  *
- * What a push writes stands at the front of its arrays; what stands behind it is left open, and may have changed. How large the arrays have to
- * be a call tells before: tmchan_sender_room, tmchan_decoder_room and tmchan_receiver_room; none tells it for more than 2^40 elements, and a sender
+ * What a push writes stands at the start of its arrays; what follows it is left open, and may have changed. How large the arrays have to
+ * be a call says before: tmchan_sender_room, tmchan_decoder_room and tmchan_receiver_room; none says it for more than 2^40 elements, and a sender
  * or a decoder takes no more at a time (TMCHAN_ROOM). The octets of a decoder or a receiver in all are to be below 2^60. */
 typedef struct {
     uint64_t is_open;
     void *at;
 } tmchan_stream;
 
-/* The symbol phase: how many soft octets stand before the first step's symbols, and what the best path behind them costs. */
+/* The symbol phase: how many soft octets stand before the first step's symbols, and what the best path after them costs. */
 typedef struct {
     uint32_t is_chosen; /* 0: not chosen yet, or the phase is given */
     uint32_t skip;
@@ -218,7 +218,7 @@ int32_t tmchan_sender_open(tmchan_stream *stream, const tmchan_config *config);
 /* Takes the next octets of the frames. Answers how many symbols were written; TMCHAN_CLOSED, TMCHAN_ROOM: nothing was taken then. */
 int64_t tmchan_sender_push(tmchan_stream *stream, const uint8_t *octets, size_t octets_length, uint8_t *symbols, size_t symbols_length);
 
-/* Closes a sender. Answers how many octets stand behind the last whole frame, which were not sent; TMCHAN_CLOSED. */
+/* Closes a sender. Answers how many octets follow the last whole frame, which were not sent; TMCHAN_CLOSED. */
 int64_t tmchan_sender_finish(tmchan_stream *stream);
 
 /* The soft decoder of the convolutional code: soft octets in pieces of any length, and the decoded bits, an octet for each, 0 or 1. With
@@ -233,10 +233,10 @@ int32_t tmchan_decoder_open(tmchan_stream *stream, const tmchan_config *config);
 /* Takes the next soft octets. Answers how many bits were written; TMCHAN_CLOSED, TMCHAN_ROOM: nothing was taken then. */
 int64_t tmchan_decoder_push(tmchan_stream *stream, const uint8_t *octets, size_t octets_length, uint8_t *bits, size_t bits_length);
 
-/* Tells the phase so far. Answers 0; TMCHAN_CLOSED. */
+/* Gives the phase so far. Answers 0; TMCHAN_CLOSED. */
 int32_t tmchan_decoder_phase(tmchan_stream *stream, tmchan_phase *phase);
 
-/* Writes the bits that are left, tells the phase, and closes the decoder. Answers how many bits were written; TMCHAN_CLOSED, TMCHAN_ROOM: the
+/* Writes the bits that are left, gives the phase, and closes the decoder. Answers how many bits were written; TMCHAN_CLOSED, TMCHAN_ROOM: the
  * decoder is still open then. */
 int64_t tmchan_decoder_finish(tmchan_stream *stream, uint8_t *bits, size_t bits_length, tmchan_phase *phase);
 
@@ -247,7 +247,7 @@ typedef struct {
     uint64_t place;        /* how many received bits stand before its marker */
     uint64_t frame_length; /* the octets of its frame; 0 where a column is uncorrectable: it has none then */
     uint8_t distance;      /* how many of the marker's 32 bits are wrong, in the codeblock's polarity */
-    uint8_t bridged;       /* 1: no marker stands there, and its place was taken since it stands right behind a codeblock */
+    uint8_t bridged;       /* 1: no marker stands there, and its place was taken since it directly follows a codeblock */
     uint8_t inverted;      /* 1: the codeblock was received inverted */
     uint8_t columns;       /* how many columns it has: the depth, or 0 with no code */
     uint8_t repaired[8];   /* for each column how many symbols were wrong, or 255 where it is uncorrectable; of others nothing is said */
@@ -262,22 +262,22 @@ int64_t tmchan_receiver_room(const tmchan_config *config, size_t octets_length, 
 /* Opens a receiver. Answers 0; TMCHAN_OPEN, TMCHAN_BAD_.., TMCHAN_MEMORY. */
 int32_t tmchan_receiver_open(tmchan_stream *stream, const tmchan_config *config);
 
-/* Takes the next octets, and writes the frames of the codeblocks that are handed over, one behind the other, to frames, and a report of each to
+/* Takes the next octets, and writes the frames of the codeblocks that are handed over, one after the other, to frames, and a report of each to
  * reports; frames_length is in octets, reports_length in reports. Answers how many codeblocks these are; TMCHAN_CLOSED: nothing was taken then;
  * TMCHAN_ROOM: the octets were taken, and all codeblocks from the first that had no room on are lost. That never comes with the room that
- * tmchan_receiver_room tells. */
+ * tmchan_receiver_room says. */
 int64_t tmchan_receiver_push(tmchan_stream *stream, const uint8_t *octets, size_t octets_length, uint8_t *frames, size_t frames_length,
                              tmchan_report *reports, size_t reports_length);
 
-/* Tells the phase so far. Answers 0; TMCHAN_CLOSED. */
+/* Gives the phase so far. Answers 0; TMCHAN_CLOSED. */
 int32_t tmchan_receiver_phase(tmchan_stream *stream, tmchan_phase *phase);
 
-/* Writes the codeblocks that are left in the same way, tells how many bits were received and the phase, and closes the receiver. Answers how
+/* Writes the codeblocks that are left in the same way, gives the number of bits received and the phase, and closes the receiver. Answers how
  * many codeblocks these are; TMCHAN_CLOSED; TMCHAN_ROOM, as of a push: the receiver is closed all the same. */
 int64_t tmchan_receiver_finish(tmchan_stream *stream, uint8_t *frames, size_t frames_length, tmchan_report *reports, size_t reports_length,
                                uint64_t *bits, tmchan_phase *phase);
 
-/* The search for sync markers: in bits, or in octets, which marker has a whole codeblock behind it. It takes no memory: what it keeps stands in
+/* The search for sync markers: in bits, or in octets, which marker has a whole codeblock after it. It takes no memory: what it keeps stands in
  * the caller's struct, which begins as {0} and only calls change. Searches may be copied. */
 typedef struct {
     uint64_t is_open, pushed, start, place;
@@ -289,7 +289,7 @@ typedef struct {
 typedef struct {
     uint64_t place;   /* how many bits stand before the marker */
     uint8_t distance; /* how many of its 32 bits are wrong, in its polarity */
-    uint8_t bridged;  /* 1: no marker stands there, and the place was taken since it stands right behind a codeblock */
+    uint8_t bridged;  /* 1: no marker stands there, and the place was taken since it directly follows a codeblock */
     uint8_t inverted; /* 1: the marker is inverted */
 } tmchan_place;
 
@@ -299,7 +299,7 @@ typedef struct {
 int32_t tmchan_search_open(tmchan_search *search, uint32_t tolerance, uint32_t fly, uint32_t either, uint32_t block_bits);
 
 /* Takes bits of an array, each 0, or any other number for 1, from number *at on, up to the end of the first codeblock that is whole, or all;
- * *at is how many of the array are taken then. Answers 1 where a codeblock is whole, whose place it tells; 0 where all are taken;
+ * *at is how many of the array are taken then. Answers 1 where a codeblock is whole, whose place it gives; 0 where all are taken;
  * TMCHAN_CLOSED, TMCHAN_ROOM (*at is beyond the array, or that has more than 2^40 elements): nothing was taken then. So this takes an array:
  *
  *     uint64_t at = 0;

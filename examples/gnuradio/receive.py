@@ -5,7 +5,7 @@ into the library's receiver by an embedded block.
     make lib                                     at the top of the repository
     examples/gnuradio/receive.py [FRAMES] [DECIBEL]     frames, 64 by default, and Eb/N0 of a frame's bits, 5 by default
 
-It tells how many frames came back as they were sent, and its status is 0 where all did.
+It says how many frames came back as they were sent, and its status is 0 where all did.
 """
 import ctypes
 import math

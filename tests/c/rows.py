@@ -16,7 +16,7 @@ def function(name, *arguments):
     return found
 
 
-# By call: how many numbers come first, and of each array behind them whether it is written.
+# By call: how many numbers come first, and of each array after them whether it is written.
 CALLS = {
     "encode": ("rs_encode", 2, "rw"),
     "decode": ("rs_decode", 3, "w"),

@@ -57,7 +57,7 @@ static void send(const tmchan_config *config, const uint8_t *given, size_t given
     expect(count == wanted_length && !memcmp(sent, wanted, count), "other symbols were sent");
     int32_t size = tmchan_frame_length(config);
     expect(tmchan_sender_finish(&sender) == (int64_t)(given_length % size), "another number is left over");
-    expect(tmchan_close(&sender) == TMCHAN_CLOSED, "the sender is open behind its finish");
+    expect(tmchan_close(&sender) == TMCHAN_CLOSED, "the sender is open after its finish");
     free(sent);
 }
 
@@ -107,7 +107,7 @@ static void receive(const tmchan_config *config, const uint8_t *given, size_t gi
     expect(count == wanted_length && !memcmp(received, wanted, count), "other frames were received");
     expect(config->inner == 0 ? decoded == 0 : decoded == bits, "another number of bits was decoded");
     expect(!memcmp(&phase, &decoder_phase, sizeof phase) || config->inner == 0, "the phases differ");
-    expect(tmchan_close(&receiver) == TMCHAN_CLOSED && tmchan_close(&decoder) == TMCHAN_CLOSED, "one is open behind its finish");
+    expect(tmchan_close(&receiver) == TMCHAN_CLOSED && tmchan_close(&decoder) == TMCHAN_CLOSED, "one is open after its finish");
     free(received);
 }
 
@@ -182,7 +182,7 @@ static void make_refusals(void) {
     expect(tmchan_search_bits(&search, some, 8, &at, &place) == TMCHAN_ROOM && at == 9, "beyond the array");
 }
 
-/* Two markers, the second inverted, each before a codeblock of 20 bits and behind 5 bits: found alike in bits and in octets, cut at any place. */
+/* Two markers, the second inverted, each before a codeblock of 20 bits and after 5 bits: found alike in bits and in octets, cut at any place. */
 static void make_searches(void) {
     static const char marker[] = "00011010110011111111110000011101";
     uint8_t bits[120] = {0}, packed[15] = {0};

@@ -37,7 +37,7 @@ unfolding low_bits
 length-low_bits zero number = refl
 length-low_bits (suc count) number = ap suc (length-low_bits count number)
 
--- a bit behind the others
+-- a bit after the others
 pub low_bits-push : (count number : ℕ) (bit : Bool) → low_bits (suc count) (number * 2 + bit_number bit) ≡ low_bits count number ++ bit ∷ []
 unfolding low_bits
 low_bits-push zero number bit = ap (λ b. b ∷ []) (ap (λ n. n % 2 == 1) (div-one (number * 2 + bit_number bit)) ∙ last number bit)

@@ -55,7 +55,7 @@ fed-front stands_for due on a b taken_a taken_b taken_c first second p q = recor
       );
 }
 
--- a front of what is due for a piece is one of what is due for a longer piece
+-- a prefix of what is due for a piece is one of what is due for a longer piece
 pub fed-front_of_longer : {S : Type 0} (stands_for : S → List ℕ → Type 0) (due : List ℕ → List ℕ) → GoesOn due → (a : S) (taken taken_now : Option (List ℕ)) (first second : List ℕ)
     → FedFront stands_for due a taken taken_now first → FedFront stands_for due a taken taken_now (first ++ second)
 fed-front_of_longer stands_for due on a taken taken_now first second p = record {

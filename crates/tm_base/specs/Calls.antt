@@ -14,7 +14,7 @@ pub record TakerCall (I : Type 0) : Type 1 where
   pub now : ℕ
   pub is_last : Type 0
 
--- by what a taker tells of itself
+-- by what a taker says of itself
 abbrev pub taker_call : {T I : Type 0} → (took broke : T → I → T → Type 0) → (faults : T → ℕ)
     → (is_last : T → Type 0) → (before now : T) → TakerCall I
 taker_call took broke faults is_last before now = record {

@@ -1,7 +1,7 @@
 -- What a taker is handed where a symbol phase may come before the items.
 use Rattle.std.specs.Prelude.{ℕ, List, [], ◌∷◌}
 
--- a symbol phase, how many octets are skipped and what the best path behind them costs, or an item
+-- a symbol phase, how many octets are skipped and what the best path after them costs, or an item
 pub data Handed (I : Type 0) : Type 0 where
   Phase : ℕ → ℕ → Handed I
   Item : I → Handed I

@@ -1,4 +1,4 @@
--- What calls of a source and of a sink do to the lists that these tell, and when a fault may be answered.
+-- What calls of a source and of a sink do to the lists that these give, and when a fault may be answered.
 use Rattle.std.specs.Prelude.{◌≡◌, ◌⊎◌, ◌==◌, ◌&&◌, ℕ, ◌<◌, ◌≤◌, Bool, false, nat_lt, List, [], length, take, Result, Ok, Err, OnErr, OnOk, IsTrue}
 
 -- a count of faults has risen in a call, or stands at the last value of its type

@@ -1,8 +1,8 @@
--- What is fed in pieces and writes as it goes. It keeps no history: a relation tells for which lists, given so far, it stands.
+-- What is fed in pieces and writes as it goes. It keeps no history: a relation says for which lists, given so far, it stands.
 use Rattle.std.specs.Prelude.{◌≡◌, ℕ, List, ◌++◌, drop, length, Option}
 use Rattle.tm_base.specs.Written.{Wrote, WroteFront}
 
--- what stands in `all` behind a front as long as `front`
+-- what stands in `all` after a prefix as long as `front`
 abbrev pub beyond : List ℕ → List ℕ → List ℕ
 beyond front all = drop (length front) all
 
@@ -10,7 +10,7 @@ beyond front all = drop (length front) all
 abbrev pub further : (List ℕ → List ℕ) → List ℕ → List ℕ → List ℕ
 further due given piece = beyond (due given) (due (given ++ piece))
 
--- what is due for a longer list goes on from what is due for a front of it
+-- what is due for a longer list goes on from what is due for a prefix of it
 abbrev pub GoesOn : (List ℕ → List ℕ) → Type 0
 GoesOn due = (given piece : List ℕ) → due (given ++ piece) ≡ due given ++ further due given piece
 
@@ -19,6 +19,6 @@ pub record Fed {S : Type 0} (stands_for : S → List ℕ → Type 0) (due : List
   pub stands : (given : List ℕ) → stands_for before given → stands_for now (given ++ piece)
   pub written : (given : List ℕ) → stands_for before given → Wrote taken taken_now (further due given piece)
 
--- fed the piece, a value has written a front of what is due beyond
+-- fed the piece, a value has written a prefix of what is due beyond
 pub record FedFront {S : Type 0} (stands_for : S → List ℕ → Type 0) (due : List ℕ → List ℕ) (before : S) (taken taken_now : Option (List ℕ)) (piece : List ℕ) : Type 0 where
   pub front : (given : List ℕ) → stands_for before given → WroteFront taken taken_now (further due given piece)

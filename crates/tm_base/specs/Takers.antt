@@ -7,7 +7,7 @@ use Rattle.std.specs.List.{FoldsTo}
 abbrev pub HandedOver : {T I : Type 0} → (T → I → T → Type 0) → T → List I → T → Type 0
 HandedOver took before items now = FoldsTo took before items now
 
--- the items of a front were taken, and the taker failed at the next one
+-- the items of a prefix were taken, and the taker failed at the next one
 pub record HandedPart {T I : Type 0} (took broke : T → I → T → Type 0) (before : T) (items : List I) (now : T) : Type 0 where
   pub front : List I
   pub next : I

@@ -1,4 +1,4 @@
--- What was written to a sink, and what a source gave, where they tell it.
+-- What was written to a sink, and what a source gave, where they say which.
 use Rattle.std.specs.Prelude.{◌≡◌, ℕ, List, take, Option}
 use Rattle.std.specs.Io.KnownBytes.{append_known, prepend_known}
 
@@ -6,7 +6,7 @@ use Rattle.std.specs.Io.KnownBytes.{append_known, prepend_known}
 abbrev pub Wrote : Option (List ℕ) → Option (List ℕ) → List ℕ → Type 0
 Wrote before now text = now ≡ append_known before text
 
--- a front of a text was taken
+-- a prefix of a text was taken
 abbrev pub WroteFront : Option (List ℕ) → Option (List ℕ) → List ℕ → Type 0
 WroteFront before now text = (count : ℕ) × Wrote before now (take count text)
 

@@ -72,7 +72,7 @@ impl Held {
         count
     }
 
-    /// Drops octets from the front, as many as there are.
+    /// Drops the first octets, as many as there are.
     pub fn drop_front(&mut self, count: usize)
         ensures octets { self.new.octets ≡ drop count self.old.octets }
         ensures room { self.new.room ≡ self.old.room }

@@ -14,13 +14,13 @@ pub struct NoMemory;
 
 /// What gives octets until it ends. It counts its faults, and the count never falls.
 pub trait Source {
-    /// The octets that it has given, where it tells them.
+    /// The octets that it has given, where it says which.
     ghost given: { Self → Option (List ℕ) };
 
-    /// The octets that are left, where it tells them.
+    /// The octets that are left, where it says which.
     ghost left: { Self → Option (List ℕ) };
 
-    /// Whether it has told that nothing is left.
+    /// Whether it has said that nothing is left.
     ghost ended: { Self → Bool };
 
     /// How often a read has failed.
@@ -29,7 +29,7 @@ pub trait Source {
     /// The count of faults stands at its last value, so that it can't rise.
     ghost is_last: { Self → Type 0 };
 
-    /// Fills the front of `buf` with the octets that come next, and answers how many it gave. With room in `buf`, `Ok(0)`
+    /// Fills the start of `buf` with the octets that come next, and answers how many it gave. With room in `buf`, `Ok(0)`
     /// is the end of the input. `Failed` comes only where the count of faults rose, and gives nothing.
     fn read(&mut self, buf: &mut [u8]) -> Result<usize, Failed>
         ensures bound { ReadsAtMost result buf.new }
@@ -42,7 +42,7 @@ pub trait Source {
 
 /// What takes octets. It counts its faults, and the count never falls.
 pub trait Sink {
-    /// The octets that it has taken, where it tells them.
+    /// The octets that it has taken, where it says which.
     ghost taken: { Self → Option (List ℕ) };
 
     /// How often a write has failed, or has taken nothing of a piece.
@@ -51,7 +51,7 @@ pub trait Sink {
     /// The count of faults stands at its last value, so that it can't rise.
     ghost is_last: { Self → Type 0 };
 
-    /// Takes octets from the front of `piece`, and answers how many it took. `Ok(0)` for a piece that isn't empty, and
+    /// Takes octets from the start of `piece`, and answers how many it took. `Ok(0)` for a piece that isn't empty, and
     /// `Failed`, come only where the count of faults rose, and take nothing.
     fn write(&mut self, piece: &[u8]) -> Result<usize, Failed>
         ensures bound { WritesAtMost result piece.now }
@@ -59,7 +59,8 @@ pub trait Sink {
         ensures cause { HasWriteCause (faults self.old) (faults self.new) (is_last self.new) result piece.now };
 }
 
-/// Writes the whole piece. `Failed` comes only where the count of faults rose, and then a front of the piece was written.
+/// Writes the whole piece. `Failed` comes only where the count of faults rose, and then a prefix of the piece was
+/// written.
 #[tactic(auto, using(crate::proofs::Known::put_steps))]
 pub fn put_all<O: Sink>(out: &mut O, piece: &[u8]) -> Result<(), Failed>
     ensures ok { OnOk result (O.taken out.new ≡ append_known (O.taken out.old) piece.now) }

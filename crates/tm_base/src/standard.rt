@@ -1,4 +1,4 @@
-// A source and a sink over std's readers and writers. They tell no octets.
+// A source and a sink over std's readers and writers. They do not say which octets.
 ghost use Rattle.std.specs.Prelude.{◌≡◌, ◌^◌, ◌-◌, None, false};
 
 use crate::{Failed, Sink, Source};

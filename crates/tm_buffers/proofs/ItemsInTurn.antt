@@ -59,7 +59,7 @@ same-length [] (report ∷ reports) are = absurd are
 same-length (item ∷ items) [] are = absurd are
 same-length (item ∷ items) (report ∷ reports) are = ap suc (same-length items reports are.1)
 
--- what is known of a taker behind all that was handed over, by its loans and what it has collected
+-- what is known of a taker after all that was handed over, by its loans and what it has collected
 pub record Handled {T : Type 0} (frames reports : T → ℕ) (state : T → Collected) (a b : T) (items : List ItemValue) : Type 0 where
   pub frames_loan : frames b ≡ frames a
   pub reports_loan : reports b ≡ reports a

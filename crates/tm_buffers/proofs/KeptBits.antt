@@ -8,7 +8,7 @@ use Rattle.tm_viterbi.specs.WindowBlock.{WindowBlock}
 use Rattle.tm_buffers.specs.Buffer.{Fills}
 use Rattle.tm_buffers.specs.Decoding.{KeepsBits}
 
--- what is known of the taker behind all that was handed over
+-- what is known of the taker after all that was handed over
 pub record Kept (name name' size size' : ℕ) (bits bits' : List ℕ) (more : List (Handed WindowBlock)) : Type 0 where
   pub loan : name' ≡ name
   pub same : size' ≡ size

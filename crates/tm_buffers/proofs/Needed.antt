@@ -1,4 +1,4 @@
--- Room that is told before.
+-- Room that is said before.
 use Rattle.std.proofs.Common.{◌≡◌, ◌≤◌, ℕ, Bool, true, false, if◌then◌else◌, nat_le, Some, None, arith}
 use Rattle.std.proofs.lemmas.Bool.Decides.{nat_tests}
 use Rattle.tm_buffers.specs.Buffer.{has_room}

@@ -51,7 +51,7 @@ in-octet (suc (suc (suc (suc (suc (suc zero)))))) x rest below = refl
 in-octet (suc (suc (suc (suc (suc (suc (suc zero))))))) x rest below = refl
 in-octet (suc (suc (suc (suc (suc (suc (suc (suc odd)))))))) x rest below = absurd (omega (arith, below))
 
--- the bits behind the first ones of an octet
+-- the bits after the first ones of an octet
 rest-of : (odd x : ℕ) (octets : List ℕ) → odd ≤ 8 → 0 < length octets → drop odd (bits_of_octet (get_or octets 0 x)) ++ bits_of (drop 1 octets) ≡ drop odd (bits_of octets)
 rest-of odd x [] few some = absurd (omega arith)
 rest-of odd x (octet ∷ octets) few some = sym (drop-append-le odd (bits_of_octet octet) (bits_of octets) (omega (arith, few, length-low_bits 8 octet)))
@@ -75,7 +75,7 @@ span-octets at first whole octets is =
     ap (λ n. take n (drop at (bits_of octets))) (let size : at + 8 * whole - at ≡ 8 * whole = omega arith in size)
     ∙ ap (λ n. take (8 * whole) (drop n (bits_of octets))) is ∙ ap (take (8 * whole)) (sym (bits_of-drop first octets)) ∙ sym (bits_of-take whole (drop first octets))
 
--- ---- bits that are taken behind others
+-- ---- bits that are taken after others
 
 pub taken-more : {T : Type 0} (P : List T → Type 0) (from at to : ℕ) (given items more : List T) → from ≤ at → at ≤ to → span at to items ≡ more
     → P ((given ++ span from at items) ++ more) → P (given ++ span from to items)

@@ -19,7 +19,7 @@ held name name' buffer buffer' count text is =
     let same : name' ∷ length buffer' ∷ take count buffer' ≡ name ∷ length buffer ∷ text = cc in
     record { loan = cc; size = cc; front = cc }
 
--- a buffer is not full of a front of what is shorter
+-- a buffer is not full of a prefix of what is shorter
 pub not-full : (name name' : ℕ) (buffer buffer' : List ℕ) (count : ℕ) (full : Bool) (text : List ℕ) → WroteFront (Some (told name buffer 0)) (Some (told name' buffer' count)) text
     → (full ≡ true → count ≡ length buffer') → Rose 0 (if full then 1 else 0) (full ≡ true) → length text < length buffer → ⊥
 not-full name name' buffer buffer' count false text wrote at (inl more) short = absurd (omega arith)

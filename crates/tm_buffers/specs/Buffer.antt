@@ -1,7 +1,7 @@
--- What is written to the front of a buffer.
+-- What is written to the start of a buffer.
 use Rattle.std.specs.Prelude.{◌≡◌, ℕ, Bool, false, nat_le, List, ◌∷◌, ◌++◌, [], length, take, Option, Some, None}
 
--- what a sink over a buffer tells: which loan of a buffer it is, for how many octets that has room,
+-- what a sink over a buffer says: which loan of a buffer it is, for how many octets that has room,
 -- and the octets that were written
 abbrev pub told : ℕ → List ℕ → ℕ → List ℕ
 told name buffer count = (name ∷ length buffer ∷ []) ++ take count buffer
@@ -11,7 +11,7 @@ abbrev pub has_room : Option ℕ → ℕ → Bool
 has_room None room = false
 has_room (Some needed) room = nat_le needed room
 
--- a call has written this to the front of a buffer, and answers how much it is
+-- a call has written this to the start of a buffer, and answers how much it is
 abbrev pub Fills : {T : Type 0} → Option ℕ → List T → List T → Type 0
 Fills None buffer items = ⊥
 Fills (Some count) buffer items = (count ≡ length items) × (take count buffer ≡ items)

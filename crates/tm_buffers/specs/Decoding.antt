@@ -15,7 +15,7 @@ use Rattle.tm_buffers.specs.Buffer.{Fills}
 abbrev pub bits_room : Configuration → ℕ → Option ℕ
 bits_room c count = if nat_le count (2 ^ 40) then Some (3 * (c.keep + c.ahead) + 7 + count) else None
 
--- the bits that a block keeps stand behind the others, where there is room for them
+-- the bits that a block keeps follow the others, where there is room for them
 pub record KeepsBits (size : ℕ) (bits : List ℕ) (block : WindowBlock) (size_now : ℕ) (bits_now : List ℕ) : Type 0 where
   pub same : size_now ≡ size
   pub kept : length bits + length (take block.kept block.bits) ≤ size

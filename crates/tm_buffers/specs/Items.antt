@@ -42,7 +42,7 @@ pub record Collects (before : Collected) (item : ItemValue) (now : Collected) : 
   pub enough : before.is_short ≡ false → length before.reports < before.report_room
       → length before.frames + length item.frame ≤ before.frame_room → now.is_short ≡ false
 
--- a call has written the frames and the reports of these items to the fronts of two buffers, and
+-- a call has written the frames and the reports of these items to the start of two buffers, and
 -- answers how many items they are; or there was no room for them all
 abbrev pub Tells : Option ℕ → List ℕ → List Report → List ItemValue → Type 0
 Tells None frames reports items = (length reports < length items) ⊎

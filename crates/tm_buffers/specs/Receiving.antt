@@ -11,7 +11,7 @@ use Rattle.tm_buffers.specs.Items.{Tells}
 use Rattle.tm_buffers.specs.declared.items.Report.{Report}
 
 -- For how many items there has to be room where so many more octets are given, or fewer, and at the
--- end, whatever was given before. It is told for no more than 2^40 octets at a time.
+-- end, whatever was given before. It is said for no more than 2^40 octets at a time.
 abbrev pub items_room : Configuration → ℕ → Option ℕ
 items_room c count = if nat_le count (2 ^ 40) then Some (most_items c count) else None
 
@@ -21,7 +21,7 @@ HasRoom c None frames reports = ⊥
 HasRoom c (Some items) frames reports =
     (items ≤ length reports) × (items * c.frame_length ≤ length frames)
 
--- where there is the room that is told for so many octets or for more, all items were written
+-- where there is the room that is said for so many octets or for more, all items were written
 abbrev pub IsEnough : Configuration → ℕ → Option ℕ → List ℕ → List Report → Type 0
 IsEnough c octets count frames reports = (most : ℕ) → octets ≤ most
     → HasRoom c (items_room c most) frames reports → IsSome count
@@ -32,7 +32,7 @@ pub record IsReceiving (receiver : OctetReceiving) (given : List ℕ) (done : Li
   pub stands : StandsFor receiver given done
 
 -- given further octets, a receiver goes on, and what is due with them was written, all of it where
--- there is the room that is told
+-- there is the room that is said
 pub record Receives (receiver now : OctetReceiving) (given octets : List ℕ) (done : List (Handed ItemValue)) (count : Option ℕ) (frames : List ℕ) (reports : List Report) : Type 0 where
   pub more : List (Handed ItemValue)
   pub receiving : IsReceiving now (given ++ octets) (done ++ more)

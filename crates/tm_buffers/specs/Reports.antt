@@ -6,7 +6,7 @@ use Rattle.tm_rs_solve.specs.declared.answers.Answer.TheVariants.{Fixed, Beyond}
 use Rattle.tm_channel.specs.Items.{ItemValue}
 use Rattle.tm_buffers.specs.declared.items.Report.{Report}
 
--- how many symbols of a column were wrong, or 255 where it is beyond repair
+-- how many symbols of a column were wrong, or 255 where it is uncorrectable
 abbrev pub repaired_of : Answer → ℕ
 repaired_of (Fixed count) = count
 repaired_of Beyond = 255

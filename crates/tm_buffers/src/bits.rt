@@ -1,10 +1,10 @@
-// Bits that blocks keep, at the front of a buffer.
+// Bits that blocks keep, at the start of a buffer.
 ghost use Rattle.std.specs.Prelude.{◌≤◌, length};
 
 use tm_base::Failed;
 use tm_viterbi::{Block, BlockTaker};
 
-/// Writes the bits that blocks keep to a buffer, from its front on. It never fails: bits for which there is no room are
+/// Writes the bits that blocks keep to a buffer, from its start on. It never fails: bits for which there is no room are
 /// dropped.
 #[derive(Drop)]
 pub struct BufferBits<'a> {

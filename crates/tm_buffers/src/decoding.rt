@@ -48,9 +48,9 @@ impl BufferDecoder {
         Ok(BufferDecoder { config, inner })
     }
 
-    /// Takes the next soft octets, and writes the bits that are due with them to the front of `bits`, an octet for
+    /// Takes the next soft octets, and writes the bits that are due with them to the start of `bits`, an octet for
     /// each, 0 or 1. Answers how many these are; or None where `bits` has not the room, and takes nothing then. What
-    /// stands behind the bits is left open.
+    /// follows the bits is left open.
     ///
     /// The octets given in all are to be below 2^60.
     pub fn feed(&mut self, octets: &[u8], bits: &mut [u8]) -> Option<usize>

@@ -12,21 +12,21 @@ use tm_channel::{Answer, Item, ItemTaker};
 pub struct Report {
     /// How many received bits stand before its marker.
     pub place: u64,
-    /// The octets of its frame; 0 where a column is beyond repair.
+    /// The octets of its frame; 0 where a column is uncorrectable.
     pub frame_length: u64,
     /// How many of the marker's 32 bits are wrong, in the codeblock's polarity.
     pub distance: u8,
-    /// 1 where the marker matches in no way, and its place was taken since it stands right behind a codeblock.
+    /// 1 where the marker matches in no way, and its place was taken since it directly follows a codeblock.
     pub bridged: u8,
     /// 1 where the codeblock was received inverted.
     pub inverted: u8,
     /// How many columns it has; 0 with no outer code.
     pub columns: u8,
-    /// For each of them how many symbols were wrong, or 255 where it is beyond repair.
+    /// For each of them how many symbols were wrong, or 255 where it is uncorrectable.
     pub repaired: [u8; 8],
 }
 
-/// Writes the frames of items to a buffer and what else is said of them to an array, from their fronts on. It never
+/// Writes the frames of items to a buffer and what else is said of them to an array, from their start on. It never
 /// fails: from the first item on for which there is no room, all are dropped.
 #[derive(Drop)]
 pub struct BufferItems<'a, 'b> {

@@ -1,5 +1,5 @@
-//! The streams of the codec over buffers: what comes of octets that are given in pieces is written to the front of a
-//! buffer that the caller lends, and how large that has to be is told before. No call here fails but for want of room;
+//! The streams of the codec over buffers: what comes of octets that are given in pieces is written to the start of a
+//! buffer that the caller lends, and how large that has to be is said before. No call here fails but for want of room;
 //! what takes memory is opened.
 #![tactic(auto)]
 

@@ -47,10 +47,10 @@ impl BufferReceiver {
         Ok(BufferReceiver { receiver })
     }
 
-    /// Takes the next octets, and writes the frames of the items that are due with them to the front of `frames`, one
-    /// behind the other, and what else is said of each to `reports`. Answers how many items these are; or None where
+    /// Takes the next octets, and writes the frames of the items that are due with them to the start of `frames`, one
+    /// after the other, and what else is said of each to `reports`. Answers how many items these are; or None where
     /// there was no room for all: from the first one on that did not fit they are lost. With the room that `items_room`
-    /// tells there is room for all. What stands behind is left open.
+    /// tells there is room for all. What follows is left open.
     ///
     /// The octets given in all are to be below 2^60.
     pub fn feed(
@@ -79,8 +79,8 @@ impl BufferReceiver {
         }
     }
 
-    /// Writes what is left, as `feed` does, and tells how many bits were received. It is called once, at the end of the
-    /// octets.
+    /// Writes what is left, as `feed` does, and answers how many bits were received. It is called once, at the end of
+    /// the octets.
     pub fn finish(
         &mut self,
         frames: &mut [u8],

@@ -1,4 +1,4 @@
-// Room that is told before.
+// Room that is said before.
 ghost use Rattle.std.specs.Prelude.{◌≡◌};
 ghost use Rattle.tm_buffers.specs.Buffer.{has_room};
 

@@ -44,9 +44,9 @@ impl BufferSender {
         }
     }
 
-    /// Takes the next octets of the frames, and writes the symbols of each frame that is whole now to the front of
+    /// Takes the next octets of the frames, and writes the symbols of each frame that is whole now to the start of
     /// `symbols`. Answers how many these are; or None where `symbols` has not the room, and takes nothing then. What
-    /// stands behind the symbols is left open.
+    /// follows the symbols is left open.
     pub fn push(&mut self, octets: &[u8], symbols: &mut [u8]) -> Option<usize>
         ensures config { self.new.config ≡ self.old.config }
         ensures within { IfSome result (λ count. count ≤ length symbols.old) }
@@ -78,7 +78,7 @@ impl BufferSender {
         }
     }
 
-    /// How many octets stand behind the last whole frame.
+    /// How many octets follow the last whole frame.
     pub fn left_over(&self) -> u32
         ensures { (given : List ℕ) → IsSending self.now given
             → result ≡ length (behind_frames self.now.config.frame_length given) }

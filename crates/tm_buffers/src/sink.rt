@@ -1,9 +1,9 @@
-// A sink over the front of a buffer.
+// A sink over the start of a buffer.
 ghost use Rattle.std.specs.Prelude.{◌≡◌, ◌≤◌, [], length, true, false};
 
 use tm_base::{Failed, Sink};
 
-/// Writes octets to a buffer, from its front on. It fails only where the buffer is full.
+/// Writes octets to a buffer, from its start on. It fails only where the buffer is full.
 #[derive(Drop)]
 pub struct BufferSink<'a> {
     pub buffer: &'a mut [u8],

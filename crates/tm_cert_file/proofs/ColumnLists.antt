@@ -1,4 +1,4 @@
--- Columns of a window, one behind the other, and how far they are written.
+-- Columns of a window, one after the other, and how far they are written.
 use Rattle.std.proofs.Common.{◌≡◌, ℕ, zero, suc, ◌+◌, ◌-◌, ◌<◌, ◌≤◌, ◌∙◌, refl, sym, ap, subst, arith, List, [], ◌∷◌, ◌++◌, Bool, Option, take, drop, length, get_or, length-append, append_assoc, inl, inr}
 use Rattle.std.proofs.lemmas.Bool.{cases_lt}
 use Rattle.std.proofs.lemmas.List.{append-nil, get_or_append_left, length-take-le}
@@ -52,7 +52,7 @@ columns-push rate invert starts t steps octets column columns are is = record {
       ];
 }
 
--- columns behind one more than the others
+-- columns after one more than the others
 columns-behind : (rate : Rate) (invert : Bool) (starts : Option ℕ) (t steps more : ℕ) (octets : List ℕ) (columns : List (List ℕ)) (column : List ℕ) (rest : List (List ℕ))
     → AreColumns rate invert starts t (steps + 1 + more) octets ((columns ++ column ∷ []) ++ rest) → AreColumns rate invert starts t (steps + suc more) octets (columns ++ (column ∷ rest))
 columns-behind rate invert starts t steps more octets columns column rest are =
@@ -93,7 +93,7 @@ columns-all exists rate invert starts t steps octets there =
 
 -- ---- what is written of them
 
--- the columns before and behind the first steps were taken
+-- the columns before and after the first steps were taken
 pub record TookColumns (rate : Rate) (invert : Bool) (starts : Option ℕ) (t steps : ℕ) (octets : List ℕ) (taken taken_now : Option (List ℕ)) : Type 0 where
   pub columns : List (List ℕ)
   pub are : AreColumns rate invert starts t steps octets columns
@@ -120,7 +120,7 @@ took-push rate invert starts t steps octets column taken middle taken_now took i
   wrote = wrote-more taken middle taken_now (flat_map column_octets took.columns) (column_octets column) took.wrote wrote ∙ ap (append_known taken) (sym (flat-push took.columns column));
 }
 
--- a front of all columns was taken
+-- a prefix of all columns was taken
 abbrev pub TookFront : Rate → Bool → Option ℕ → ℕ → ℕ → List ℕ → Option (List ℕ) → Option (List ℕ) → Type 0
 TookFront rate invert starts t steps octets taken taken_now =
     (columns : List (List ℕ)) × AreColumns rate invert starts t steps octets columns × WroteFront taken taken_now (flat_map column_octets columns)

@@ -1,4 +1,4 @@
--- Closed windows and the blocks behind them, whatever octets come.
+-- Closed windows and the blocks after them, whatever octets come.
 use Rattle.std.proofs.Common.{◌≡◌, ℕ, suc, ◌+◌, ◌-◌, ◌*◌, ◌<◌, ◌≤◌, ◌∙◌, refl, sym, ap, subst, arith, List, [], ◌∷◌, ◌++◌, Bool, take, drop, length, length-append, length-drop, map, get_or}
 use Rattle.std.proofs.lemmas.List.{take-append-le, drop-append-le, take_all}
 use Rattle.tm_base.specs.Handed.{Handed, Item, on_handed}
@@ -27,7 +27,7 @@ closed-only rate invert keep ahead from to till [] closed again = sym closed ∙
 closed-only rate invert keep ahead from to till (block ∷ blocks) closed again =
     closed-only rate invert keep ahead (behind rate from block) to till blocks closed.1 again.1
 
--- behind the first of them are the others
+-- after the first of them are the others
 pub closed-rest : (rate : Rate) (invert : Bool) (keep ahead : ℕ) (from at to : Place) (first rest : List WindowBlock)
     → Closed rate invert keep ahead from first at → Closed rate invert keep ahead from (first ++ rest) to → Closed rate invert keep ahead at rest to
 closed-rest rate invert keep ahead from at to [] rest closed all = subst (λ (p : Place). Closed rate invert keep ahead p rest to) closed all
@@ -55,7 +55,7 @@ closed-longer rate invert keep ahead from to (block ∷ blocks) more closed =
       subst (λ (v : List ℕ). Closed rate invert keep ahead (place v) blocks (longer to more)) back (closed-longer rate invert keep ahead (behind rate from block) to blocks more closed.1),
     )
 
--- the blocks of whole steps behind closed windows
+-- the blocks of whole steps after closed windows
 pub blocks-rest : (rate : Rate) (invert : Bool) (keep ahead n : ℕ) (from at : Place) (first rest : List WindowBlock) → Closed rate invert keep ahead from first at
     → steps_size rate from.t n ≤ length from.octets → AreBlocks rate invert keep ahead from.starts from.t n from.octets (first ++ rest)
     → (steps : ℕ) × (steps_size rate at.t steps ≤ length at.octets) × AreBlocks rate invert keep ahead at.starts at.t steps at.octets rest

@@ -1,4 +1,4 @@
--- What octets hold of a window is what a front of them holds that is long enough.
+-- What octets hold of a window is what a prefix of them holds that is long enough.
 use Rattle.std.proofs.Common.{◌≡◌, ℕ, zero, suc, ◌+◌, ◌*◌, ◌≤◌, List, ◌∷◌, ◌++◌, length, take, drop, get_or, refl, ap, ◌∙◌, arith}
 use Rattle.std.proofs.lemmas.List.{get_or_append_left, drop-append-le, take-append-le, length-drop}
 use Rattle.std.specs.Int.{w32, w64, from_be_bytes}
@@ -75,7 +75,7 @@ columns_in-front (suc count) xs ys long =
     = ap (columns_in count) (drop-append-le 256 xs ys (omega arith)) ∙ columns_in-front count (drop 256 xs) ys (omega (arith, length-drop 256 xs)) in
     λ i. first i ∷ rest i
 
--- a whole window is the same whatever comes behind it
+-- a whole window is the same whatever comes after it
 pub window_in-front : (rate : Rate) (t : ℕ) (xs ys : List ℕ) → window_size rate t (steps_in xs) ≤ length xs → window_in rate t (xs ++ ys) ≡ window_in rate t xs
 window_in-front rate t xs ys long =
     let n = steps_in xs in

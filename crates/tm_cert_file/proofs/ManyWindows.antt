@@ -1,4 +1,4 @@
--- The windows of blocks, one behind the other, and their certificate.
+-- The windows of blocks, one after the other, and their certificate.
 use Rattle.std.proofs.Common.{◌≡◌, ℕ, ◌+◌, ◌-◌, ◌≤◌, ◌∙◌, refl, sym, ap, subst, arith, List, [], ◌∷◌, ◌++◌, Bool, Option, Some, take, drop, length, length-drop, append_assoc}
 use Rattle.std.proofs.lemmas.Bool.Decides.{nat_tests}
 use Rattle.std.proofs.lemmas.List.{ext_get_or, take-append-le, drop-append-le, length-take-le}
@@ -45,7 +45,7 @@ there-block rate invert keep ahead n at block whole is = record {
 pub kept-inside : (rate : Rate) (at : Place) (block : WindowBlock) → IsThere rate at block → steps_size rate at.t block.kept ≤ length at.octets
 kept-inside rate at block there = omega (arith, there.octets, steps_size-le rate at.t block.kept block.steps there.kept)
 
--- what is left of whole steps behind the kept ones
+-- what is left of whole steps after the kept ones
 pub whole-behind : (rate : Rate) (invert : Bool) (keep ahead n : ℕ) (at : Place) (block : WindowBlock) → steps_size rate at.t n ≤ length at.octets
     → IsBlock rate invert keep ahead at.starts at.t n at.octets block → steps_size rate (at.t + block.kept) (n - block.kept) ≤ length (drop (steps_size rate at.t block.kept) at.octets)
 whole-behind rate invert keep ahead n at block whole is =

@@ -1,4 +1,4 @@
--- Windows that pass, one behind the other.
+-- Windows that pass, one after the other.
 use Rattle.std.proofs.Common.{◌≡◌, ◌≤◌, List, [], ◌∷◌, ◌++◌, ℕ, length, drop, refl, sym, subst, ap, ◌∙◌, arith}
 use Rattle.std.proofs.lemmas.List.{length-append, drop-append-le}
 use Rattle.tm_conv.specs.Path.{steps_size}
@@ -11,7 +11,7 @@ use Rattle.tm_cert_file.specs.File.{ArePassed}
 use Rattle.tm_cert_file.proofs.Fronts.{steps_in-front, window_in-front}
 use Rattle.tm_cert_file.proofs.Stages.{Holds-from_none, Holds-behind, none-from_Holds}
 
--- what is seen of a whole window is seen of it whatever octets come behind it
+-- what is seen of a whole window is seen of it whatever octets come after it
 pub judged-more : (rules : Rules) (before : Before) (octets more : List ℕ) (verdict : Verdict) → IsJudged rules before octets verdict → IsJudged rules before (octets ++ more) verdict
 judged-more rules before octets more verdict judged =
     let whole = judged.whole in
@@ -23,7 +23,7 @@ judged-more rules before octets more verdict judged =
       is_verdict = subst (λ (w : Window). IsVerdictOn rules before w verdict) (sym (window_in-front rules.rate before.t octets more whole)) judged.is_verdict;
     }
 
--- with more octets behind them
+-- with more octets after them
 pub passed-more : (rules : Rules) (from to : Before) (octets rest more : List ℕ) (windows : List Window)
     → ArePassed rules from octets windows to rest → ArePassed rules from (octets ++ more) windows to (rest ++ more)
 passed-more rules from to octets rest more [] are = (are.0, ap (λ v. v ++ more) are.1)

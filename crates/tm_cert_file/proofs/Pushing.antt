@@ -41,7 +41,7 @@ stands_more rules rules' before before' octets octets' more a b c given windows 
 
 -- ---- the next window
 
--- behind some of the soft octets
+-- after some of the soft octets
 pub rest_of : (place some all width : ℕ) (octets : List ℕ) → some ≤ all → width ≡ all - some → take width (drop (place + some) octets) ≡ drop some (take all (drop place octets))
 rest_of place some all width octets le is =
     let sum : some + width ≡ all = omega arith in

@@ -1,4 +1,4 @@
--- Octets are read as one list of windows that pass, and one thing is seen behind them.
+-- Octets are read as one list of windows that pass, and one thing is seen after them.
 use Rattle.std.proofs.Common.{◌≡◌, ℕ, ◌<◌, List, [], ◌∷◌, ◌++◌, length, drop, zero, suc, refl, sym, ap, ◌∙◌, subst, arith, length-drop, append-nil}
 use Rattle.tm_cert_file.specs.declared.seen.Reason.{Reason}
 use Rattle.tm_cert_file.specs.declared.seen.Seen.{Seen}
@@ -27,7 +27,7 @@ HasRead rules from octets = (windows : List Window) × (seen : Seen) × IsReadFr
 read-none : (rules : Rules) (from : Before) (octets : List ℕ) (seen : Seen) → IsSeen rules from octets seen → (seen ≡ Passed → ⊥) → HasRead rules from octets
 read-none rules from octets seen is stops = ([], seen, record { to = from; rest = octets; passed = (refl, refl); is_seen = is; stops = stops })
 
--- behind a window that passes fewer octets are left
+-- after a window that passes fewer octets are left
 read-next : (rules : Rules) (from : Before) (octets : List ℕ) (n : ℕ) → length octets < suc n
     → ((next : Before) (left : List ℕ) → length left < n → HasRead rules next left)
     → (seen : Seen) → IsSeen rules from octets seen → HasRead rules from octets
@@ -55,7 +55,7 @@ has-read has rules octets =
 
 -- ---- as one list of windows
 
--- windows that pass and windows behind which something else is seen: the first are a front of the others
+-- windows that pass and windows after which something else is seen: the first are a prefix of the others
 record IsFront (rules : Rules) (windows all : List Window) (to to_all : Before) (rest rest_all : List ℕ) : Type 0 where
   others : List Window
   is_all : all ≡ windows ++ others
@@ -81,7 +81,7 @@ front-of one rules from to to_all octets rest rest_all (w ∷ windows) (v ∷ al
     let found = front-of one rules (behind rules from w) to to_all (drop (window_size rules.rate from.t w.steps) octets) rest rest_all windows all last are.2 moved is stops in
     record { others = found.others; is_all = (λ i. same i ∷ found.is_all i); passed = found.passed }
 
--- where something else than a window that passes is seen behind both, they are the same
+-- where something else than a window that passes is seen after both, they are the same
 no-others : OneVerdict → (rules : Rules) (to to_all : Before) (rest rest_all : List ℕ) (others : List Window) (seen : Seen)
     → ArePassed rules to rest others to_all rest_all → IsSeen rules to rest seen → (seen ≡ Passed → ⊥)
     → (others ≡ []) × (to ≡ to_all) × (rest ≡ rest_all)
@@ -97,7 +97,7 @@ one-read one rules octets windows others seen other read again =
     let there = subst (λ (place : Before). IsSeen rules place again.rest seen) none.1 (subst (λ (left : List ℕ). IsSeen rules read.before left seen) none.2 read.is_seen) in
     (sym (front.is_all ∙ ap (λ v. windows ++ v) none.0 ∙ append-nil windows), one-seen one rules again.before again.rest seen other there again.is_seen, none.1, none.2)
 
--- ---- with octets behind
+-- ---- with octets after
 
 pub read-longer : OneVerdict → (rules : Rules) (octets more : List ℕ) (windows all : List Window) (seen last : Seen)
     → IsRead rules octets windows seen → IsRead rules (octets ++ more) all last → (rest : List Window) × (all ≡ windows ++ rest)

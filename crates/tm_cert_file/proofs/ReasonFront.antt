@@ -1,4 +1,4 @@
--- A reason against a window that shows in octets stays with octets behind them.
+-- A reason against a window that shows in octets stays with octets after them.
 use Rattle.std.proofs.Common.{◌≡◌, ◌⊎◌, inl, inr, ℕ, ◌<◌, ◌≤◌, Bool, true, false, not, if◌then◌else◌, nat_lt, List, [], ◌∷◌, ◌++◌, length, Option, Some, None, refl, sym, ap, ◌∙◌, subst, arith, length-append, le-ltb, ltb-false}
 use Rattle.tm_cert_file.specs.declared.seen.Reason.{Reason}
 use Rattle.tm_cert_file.specs.declared.seen.Reason.TheVariants.{Shape, Joint}

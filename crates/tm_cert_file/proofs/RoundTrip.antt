@@ -58,7 +58,7 @@ pub record IsWritten (rate : Rate) (t : ℕ) (w : Window) : Type 0 where
   pub count : length w.columns ≡ w.steps + 1
   pub columns : All IsWide w.columns
 
--- what stands behind the header
+-- what follows the header
 tail_of : Window → List ℕ → List ℕ
 tail_of w rest = w.bits ++ (w.octets ++ (flat_map column_octets w.columns ++ rest))
 

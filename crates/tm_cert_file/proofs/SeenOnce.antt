@@ -1,4 +1,4 @@
--- What is seen of a window: it is there, it is one, and once it fails octets behind change nothing.
+-- What is seen of a window: it is there, it is one, and once it fails octets after change nothing.
 use Rattle.std.proofs.Common.{◌≡◌, inl, inr, ℕ, List, ◌++◌, length, Some, None, refl, sym, ap, ◌∙◌, arith}
 use Rattle.std.proofs.lemmas.Bool.{cases_lt}
 use Rattle.tm_path_cert.specs.declared.verdicts.Verdict.{Verdict}
@@ -86,7 +86,7 @@ one-seen one rules before octets (Failed Joint) other is again = only-reason rul
 one-seen one rules before octets (Failed (Edge column register)) other is again = only-judged one rules before octets (No column register) other is again
 one-seen one rules before octets (Failed (Sum sum)) other is again = only-judged one rules before octets (SumOf sum) other is again
 
--- ---- with octets behind
+-- ---- with octets after
 
 pub failed-longer : (rules : Rules) (before : Before) (octets more : List ℕ) (reason : Reason)
     → IsSeen rules before octets (Failed reason) → IsSeen rules before (octets ++ more) (Failed reason)

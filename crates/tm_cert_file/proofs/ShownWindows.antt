@@ -1,4 +1,4 @@
--- What windows show that pass, one behind the other, to the end of a certificate.
+-- What windows show that pass, one after the other, to the end of a certificate.
 use Rattle.std.proofs.Common.{◌≡◌, ℕ, ◌+◌, ◌-◌, ◌<◌, ◌≤◌, ◌∙◌, ◌⊎◌, inl, inr, sym, ap, subst, refl, arith, Bool, true, false, not, cond, ◌&&◌, ◌||◌, ltb, eqb, leb, IsTrue, List, [], ◌∷◌, ◌++◌, map, Option, Some, None, length, length-append, length-drop, length-take-le, take, drop, take_all, take_at, drop_at, take-append-drop, append_assoc}
 use Rattle.std.proofs.lemmas.Bool.{cases_lt, both_ways, not-true, not-false, and_parts, or_cases, or_left, or_right, cond-true, cond-false, cond_below, cond_above, ltb-true, leb-true, eqb-true, lt-ltb, le-ltb}
 use Rattle.std.proofs.lemmas.Bool.Decides.{Decides-eqb}
@@ -60,7 +60,7 @@ record IsRight (rules : Rules) (before : Before) (w : Window) : Type 0 where
   columns : length w.columns ≡ w.steps + 1
   verdict : IsVerdictOn rules before w Yes
 
--- where no reason is found a test against the window failed, and none is found behind it
+-- where no reason is found a test against the window failed, and none is found after it
 not_refused : (test : Bool) (reason : Reason) (rest : Option Reason) → cond test (Some reason) rest ≡ None → (test ≡ false) × (rest ≡ None)
 not_refused true reason rest e = absurd cc
 not_refused false reason rest e = (refl, e)
@@ -168,7 +168,7 @@ record ShowAll (rules : Rules) (from : Before) (windows : List Window) : Type 0 
   enough : is_due from.next ≡ true → rules.ahead < steps_kept windows
   begins : is_due from.next ≡ true → (rest : List ℕ) × (all_kept rules.rate from.t windows ≡ from.octets ++ rest)
 
--- the steps that are not kept come again, or all are kept and no window follows, or none of them stands behind those that are kept
+-- the steps that are not kept come again, or all are kept and no window follows, or none of them follows those that are kept
 next_is : (rules : Rules) (steps kept : ℕ) → steps ≤ rules.keep + rules.ahead → KeepsSteps rules steps kept
     → ((kept ≡ rules.keep) × (steps ≡ rules.keep + rules.ahead) × (is_due (next_after rules steps kept) ≡ true))
     ⊎ ((kept ≡ steps) × ((is_over (next_after rules steps kept) ≡ true) ⊎ ((rules.ahead ≡ 0) × (steps ≡ rules.keep))))
@@ -196,7 +196,7 @@ next_is rules steps kept most keeps = elim (cases_lt kept steps) [
     last : Next
     last = cond (ltb steps (rules.keep + rules.ahead) || ltb 0 rules.ahead) Never May
 
--- a window and those behind it keep so many steps that it is the one that is due there, and its octets come first among those that are kept
+-- a window and those after it keep so many steps that it is the one that is due there, and its octets come first among those that are kept
 record Leads (rules : Rules) (t : ℕ) (w : Window) (windows : List Window) : Type 0 where
   steps : w.steps ≡ window_steps rules.keep rules.ahead (w.kept + steps_kept windows)
   kept : w.kept ≡ kept_steps rules.keep rules.ahead (w.kept + steps_kept windows)

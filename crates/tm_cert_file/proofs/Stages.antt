@@ -1,4 +1,4 @@
--- What is seen of a window, stage by stage: behind its header, its bits, its soft octets and its columns.
+-- What is seen of a window, stage by stage: after its header, its bits, its soft octets and its columns.
 use Rattle.std.proofs.Common.{◌≡◌, ℕ, ◌+◌, ◌-◌, ◌<◌, ◌≤◌, Bool, true, false, not, cond, List, [], ◌∷◌, ◌++◌, Option, Some, None, length, take, drop, refl, sym, ap, subst, ◌∙◌, arith, ltb}
 use Rattle.std.proofs.lemmas.Bool.{le-ltb, ltb-false}
 use Rattle.std.proofs.lemmas.List.{length-append, length-take-le, take-append-drop}

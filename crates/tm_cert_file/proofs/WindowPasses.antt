@@ -68,7 +68,7 @@ judged rules before all w back whole over shape bits joined verdict =
 
 -- ---- the parts
 
--- a window may come where so many steps remain: none behind the last, and more than those ahead where some were not kept
+-- a window may come where so many steps remain: none after the last, and more than those ahead where some were not kept
 abbrev pub MayCome : ℕ → Next → ℕ → Type 0
 MayCome ahead May remaining = Unit {0}
 MayCome ahead Must remaining = ahead < remaining
@@ -223,7 +223,7 @@ module _ (rules : Rules) (keeps : 0 < rules.keep) (small : rules.keep + rules.ah
     sym is_block.metric,
   )
 
-  -- it passes, whatever comes behind it
+  -- it passes, whatever comes after it
   pub window_passes : (rest : List ℕ)
       → IsJudged rules before (window_octets (window_for block (take (steps_size rules.rate before.t block.steps) octets) columns) ++ rest) Yes
   window_passes rest =

@@ -34,7 +34,7 @@ certified-some exists rate invert starts t octets block there =
       certified-parts rate invert starts t octets block (header_octets block.steps block.kept block.start block.metric) block.bits all.0 refl refl all.1,
     )
 
--- a front of the window was taken
+-- a prefix of the window was taken
 abbrev pub TookWindowFront : Rate → Bool → Option ℕ → ℕ → List ℕ → WindowBlock → Option (List ℕ) → Option (List ℕ) → Type 0
 TookWindowFront rate invert starts t octets block taken taken_now =
     (text : List ℕ) × IsCertified rate invert starts t octets block text × WroteFront taken taken_now text

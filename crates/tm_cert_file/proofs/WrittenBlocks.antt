@@ -96,7 +96,7 @@ place-behind c now keep ahead to (block ∷ blocks) taken taken_now fit closed w
     let next = subst P (sym one.0) (fit.1, closed.1) in
     place-behind wrote.0 now keep ahead to blocks wrote.1 taken_now next.0 next.1 wrote.3 ∙ ap (λ (v : Certifying). with_place v to) one.0
 
--- a front of the certificate was taken
+-- a prefix of the certificate was taken
 took-front : HasColumn → (c middle : Certifying) (front rest : List WindowBlock) (next : WindowBlock) (taken taken_then taken_now : Option (List ℕ)) → AllFit c (front ++ next ∷ rest)
     → WroteBlocks c middle front taken taken_then → WroteBlockFront middle next taken_then taken_now
     → (text : List ℕ) × AreNext c (front ++ next ∷ rest) text × WroteFront taken taken_now text

@@ -9,7 +9,7 @@ use Rattle.tm_cert_file.specs.declared.seen.Next.TheVariants.{May, Must, Never}
 use Rattle.tm_cert_file.specs.Window.{Window}
 
 -- the rate, whether each second sum was sent inverted, where the first path may start, and how many steps of a window are kept and how many
--- stand behind them
+-- follow them
 pub record Rules : Type 0 where
   pub rate : Rate
   pub invert : Bool
@@ -28,15 +28,15 @@ pub record Before : Type 0 where
 abbrev pub at_first : Rules → Before
 at_first rules = record { t = 0; starts = rules.starts; octets = []; next = May }
 
--- whether a window comes behind one of so many steps, of which so many are kept: where some are not kept; a window of fewer steps than
--- there may be, or with all of its steps kept, is the last; where no steps stand behind the kept ones nothing tells
+-- whether a window comes after one of so many steps, of which so many are kept: where some are not kept; a window of fewer steps than
+-- there may be, or with all of its steps kept, is the last; where no steps follow the kept ones nothing says so
 abbrev pub next_after : Rules → (steps kept : ℕ) → Next
 next_after rules steps kept =
     if nat_lt kept steps then Must
     else if nat_lt steps (rules.keep + rules.ahead) || nat_lt 0 rules.ahead then Never
     else May
 
--- behind a window: the next one begins behind the kept steps, from the register after them alone
+-- after a window: the next one begins after the kept steps, from the register after them alone
 abbrev pub behind : Rules → Before → Window → Before
 behind rules before w = record {
   t = before.t + w.kept;

@@ -29,7 +29,7 @@ pub record IsCertified (rate : Rate) (invert : Bool) (starts : Option ℕ) (t : 
     columns = columns;
   })
 
--- the same of blocks, one behind the other: each next window begins behind the kept steps, from the register after them alone
+-- the same of blocks, one after the other: each next window begins after the kept steps, from the register after them alone
 abbrev pub AreCertified : Rate → Bool → Option ℕ → ℕ → List ℕ → List WindowBlock → List ℕ → Type 0
 AreCertified rate invert starts t octets [] text = text ≡ []
 AreCertified rate invert starts t octets (block ∷ blocks) text =

@@ -22,7 +22,7 @@ with_place c place = record { rate = c.rate; invert = c.invert; place = place; r
 abbrev pub with_octets : Certifying → List ℕ → Certifying
 with_octets c octets = with_place c (record { starts = c.place.starts; t = c.place.t; octets = octets })
 
--- behind the kept steps of a block
+-- after the kept steps of a block
 abbrev pub turned : Certifying → WindowBlock → Certifying
 turned c block = with_place c (behind c.rate c.place block)
 
@@ -48,11 +48,11 @@ WroteBlock before now block taken taken_now =
     (Fits before block → (now ≡ turned before block) × (text : List ℕ) × IsNext before block text × Wrote taken taken_now text)
     × ((Fits before block → ⊥) → (now ≡ before) × (taken_now ≡ taken))
 
--- a sink took a front of it
+-- a sink took a prefix of it
 abbrev pub WroteBlockFront : Certifying → WindowBlock → (taken taken_now : Option (List ℕ)) → Type 0
 WroteBlockFront before block taken taken_now = Fits before block × (text : List ℕ) × IsNext before block text × WroteFront taken taken_now text
 
--- the windows that certify blocks, one behind the other
+-- the windows that certify blocks, one after the other
 abbrev pub AreNext : Certifying → List WindowBlock → List ℕ → Type 0
 AreNext c = AreCertified c.rate c.invert c.place.starts c.place.t c.place.octets
 
@@ -62,7 +62,7 @@ WroteBlocks before now [] taken taken_now = (now ≡ before) × (taken_now ≡ t
 WroteBlocks before now (block ∷ blocks) taken taken_now =
     (middle : Certifying) × (taken_then : Option (List ℕ)) × WroteBlock before middle block taken taken_then × WroteBlocks middle now blocks taken_then taken_now
 
--- a sink took the windows of some of the blocks, and a front of the next one
+-- a sink took the windows of some of the blocks, and a prefix of the next one
 pub record WroteBlocksFront (before : Certifying) (blocks : List WindowBlock) (taken taken_now : Option (List ℕ)) : Type 0 where
   pub front : List WindowBlock
   pub next : WindowBlock

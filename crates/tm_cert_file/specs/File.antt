@@ -1,4 +1,4 @@
--- A certificate as it is read: the windows that pass, and what is seen behind them.
+-- A certificate as it is read: the windows that pass, and what is seen after them.
 use Rattle.std.specs.Prelude.{◌≡◌, ℕ, ◌+◌, Bool, true, false, List, [], ◌∷◌, ◌++◌, drop, take}
 use Rattle.tm_conv.specs.declared.rates.Rate.{Rate}
 use Rattle.tm_conv.specs.Path.{steps_size}
@@ -10,7 +10,7 @@ use Rattle.tm_cert_file.specs.Window.{Window, window_in, window_size}
 use Rattle.tm_cert_file.specs.Before.{Rules, Before, at_first, behind}
 use Rattle.tm_cert_file.specs.Seen.{IsSeen, is_due}
 
--- the octets begin with windows that pass, one behind the other, from one place to another; behind them the octets of `rest` are left
+-- the octets begin with windows that pass, one after the other, from one place to another; after them the octets of `rest` are left
 abbrev pub ArePassed : Rules → Before → List ℕ → List Window → Before → List ℕ → Type 0
 ArePassed rules from octets [] to rest = (to ≡ from) × (rest ≡ octets)
 ArePassed rules from octets (w ∷ windows) to rest =
@@ -25,7 +25,7 @@ pub record IsRead (rules : Rules) (octets : List ℕ) (windows : List Window) (s
   pub is_seen : IsSeen rules before rest seen
   pub stops : seen ≡ Passed → ⊥
 
--- the window behind those that pass fails, for this reason
+-- the window after those that pass fails, for this reason
 abbrev pub IsBroken : Rules → List ℕ → List Window → Reason → Type 0
 IsBroken rules octets windows reason = IsRead rules octets windows (Failed reason)
 
@@ -34,7 +34,7 @@ abbrev pub is_cut : Next → List ℕ → Bool
 is_cut next [] = is_due next
 is_cut next (octet ∷ octets) = true
 
--- no window fails, and the certificate ends inside of a window or where one is missing, or behind one that may be the last
+-- no window fails, and the certificate ends inside of a window or where one is missing, or after one that may be the last
 abbrev pub IsEnded : Bool → Rules → List ℕ → List Window → Type 0
 IsEnded cut rules octets windows = (read : IsRead rules octets windows More) × (is_cut read.before.next read.rest ≡ cut)
 

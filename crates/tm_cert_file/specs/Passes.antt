@@ -1,4 +1,4 @@
--- What a certificate that was written is read by, and which block a window of it tells of.
+-- What a certificate that was written is read by, and of which block a window of it is.
 use Rattle.std.specs.Prelude.{take}
 use Rattle.tm_conv.specs.Path.{register_after}
 use Rattle.tm_path_cert.specs.declared.verdicts.Starts.{Starts}

@@ -16,7 +16,7 @@ pub record Reading : Type 0 where
 abbrev pub IsOpen : Reading → Type 0
 IsOpen r = IsSeen r.rules r.before r.octets More
 
--- the window passed, and no octet behind it was taken
+-- the window passed, and no octet after it was taken
 pub record HasPassed (r : Reading) : Type 0 where
   pub passed : IsSeen r.rules r.before r.octets Passed
   pub just : length r.octets ≡ window_size r.rules.rate r.before.t (steps_in r.octets)

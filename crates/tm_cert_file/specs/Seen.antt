@@ -25,7 +25,7 @@ is_over Must = false
 is_over Never = true
 
 -- There are steps, at most those of a window, and either all are kept, or those that are kept of a whole window. The register is one. A window
--- behind steps that are not kept has more than these.
+-- after steps that are not kept has more than these.
 abbrev pub has_shape : Rules → Next → (steps kept start : ℕ) → Bool
 has_shape rules next steps kept start =
     nat_lt 0 steps && nat_le steps (rules.keep + rules.ahead)
@@ -35,7 +35,7 @@ has_shape rules next steps kept start =
 abbrev pub are_bits : List ℕ → Bool
 are_bits bits = list_all (λ bit. nat_lt bit 2) bits
 
--- the path starts where it may, and the soft octets begin with those behind the kept ones before
+-- the path starts where it may, and the soft octets begin with those after the kept ones before
 abbrev pub is_joined : Before → (start : ℕ) → List ℕ → Bool
 is_joined before start octets = is_start before.starts start && starts_with nat_eq octets before.octets
 

@@ -21,7 +21,7 @@ pub record IsShown (rules : Rules) (starts : Starts) (t remaining : ℕ) (octets
       → IsCandidate (is_start starts) rules.rate rules.invert t (take (steps_size rules.rate t w.steps) octets) other others
       → w.metric ≤ cost (path rules.rate rules.invert t other others) (take (steps_size rules.rate t w.steps) octets)
 
--- all windows of the remaining steps: each next one begins behind the kept steps, from the register after them alone
+-- all windows of the remaining steps: each next one begins after the kept steps, from the register after them alone
 abbrev pub AreShown : Rules → Starts → (t remaining : ℕ) → List ℕ → List Window → Type 0
 AreShown rules starts t remaining octets [] = remaining ≡ 0
 AreShown rules starts t remaining octets (w ∷ windows) =

@@ -5,7 +5,7 @@ use Rattle.tm_conv.specs.declared.rates.Rate.{Rate}
 use Rattle.tm_conv.specs.Path.{steps_size}
 
 -- its steps and how many of them are kept, the register its path starts from, what the path costs and its bits, the soft octets of the
--- window, and a column of 64 numbers before its first step and one behind each
+-- window, and a column of 64 numbers before its first step and one after each
 pub record Window : Type 0 where
   pub steps : ℕ
   pub kept : ℕ

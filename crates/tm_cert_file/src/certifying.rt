@@ -66,7 +66,7 @@ impl Certifying {
           room = 2 * (keep + ahead) + 264;
         }) }
     {
-        // The octets of a window and of a step behind it, or those by which the symbol phase is chosen, and a piece.
+        // The octets of a window and of a step after it, or those by which the symbol phase is chosen, and a piece.
         let room = 2 * (keep + ahead) as usize + 8 + PIECE;
         let Ok(octets) = Held::open(alloc, room) else {
             return Err(NoMemory);
@@ -107,9 +107,9 @@ impl Certifying {
             && block.end_state < 64
     }
 
-    /// Writes the window of the next block, whose octets are there, and begins the next window behind its kept steps. Of a block whose
-    /// octets are not there it writes nothing, and nothing changes. `Failed` comes only where the sink's count of faults rose; a front of
-    /// the window was then written.
+    /// Writes the window of the next block, whose octets are there, and begins the next window after its kept steps. Of a block whose
+    /// octets are not there it writes nothing, and nothing changes. `Failed` comes only where the sink's count of
+    /// faults rose; a prefix of the window was then written.
     pub fn write<O: Sink>(&mut self, block: &Block<'_>, out: &mut O) -> Result<(), Failed>
         ensures ok { OnOk result (WroteBlock self.old self.new block.now (O.taken out.old) (O.taken out.new)) }
         ensures err { OnErr result (WroteBlockFront self.old block.now (O.taken out.old) (O.taken out.new)) }

@@ -41,14 +41,14 @@ pub(crate) fn are_bits(bits: &[u8]) -> bool
     true
 }
 
-/// Whether a path starts where it may, and the soft octets begin with those behind the kept ones before.
+/// Whether a path starts where it may, and the soft octets begin with those after the kept ones before.
 pub(crate) fn is_joined(starts: Starts, start: u8, octets: &[u8], tail: &[u8]) -> bool
     ensures { (rest : before.Before) → rest.starts ≡ starts → rest.octets ≡ tail.now → result ≡ seen.is_joined rest start octets.now }
 {
     is_start(starts, start) && octets.starts_with(tail)
 }
 
-/// Whether a window comes behind one of so many steps, of which so many are kept.
+/// Whether a window comes after one of so many steps, of which so many are kept.
 pub(crate) fn next_after(keep: u32, ahead: u32, steps: u32, kept: u32) -> Next
     requires { (keep ≤ 65536) × (ahead ≤ 4096) }
     ensures { (rules : before.Rules) → rules.keep ≡ keep → rules.ahead ≡ ahead → result ≡ before.next_after rules steps kept }
@@ -62,7 +62,7 @@ pub(crate) fn next_after(keep: u32, ahead: u32, steps: u32, kept: u32) -> Next
     }
 }
 
-/// The register behind these bits.
+/// The register after these bits.
 pub(crate) fn register_after(start: u8, bits: &[u8]) -> u8
     requires register { start < 64 }
     requires bits { AreBits bits.now }

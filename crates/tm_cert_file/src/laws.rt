@@ -22,7 +22,7 @@ ghost use Rattle.tm_cert_file.specs.Certifying.{Certifying, AreNext, WroteBlocks
 use tm_conv::columns_law;
 use tm_path_cert::verdict_law;
 
-/// The blocks of soft octets have one certificate. That of the blocks of closed windows stands in front of that of blocks behind them,
+/// The blocks of soft octets have one certificate. That of the blocks of closed windows precedes that of blocks after them,
 /// and stays the same whatever octets come. Where a sink takes windows of keep, at most 65,536, and ahead, at most 4,096, steps one after
 /// another, it takes the certificate of their blocks. It does nothing.
 pub fn certified_law()
@@ -60,7 +60,7 @@ pub fn certified_law()
     columns_law();
 }
 
-/// Any octets are read as windows that pass and one thing that is seen behind them, in one way. Octets behind others take none of
+/// Any octets are read as windows that pass and one thing that is seen after them, in one way. Octets after others take none of
 /// these windows back, and no reason. It does nothing.
 pub fn read_law()
     ensures exists { (rules : Rules) (octets : List ℕ) → (windows : List Window) × (seen : Seen) × IsRead rules octets windows seen }
@@ -88,7 +88,7 @@ pub fn shown_law()
     verdict_law();
 }
 
-/// The certificate of all blocks of soft octets passes, read by the same settings: it is whole, its windows tell of these blocks, and
+/// The certificate of all blocks of soft octets passes, read by the same settings: it is whole, its windows are of these blocks, and
 /// their kept octets are all but those left over. A window keeps a step or more, and has 69,632 steps at most. It does nothing.
 pub fn passes_law()
     ensures { (s : Settings) (octets : List ℕ) (blocks : List WindowBlock) (left : ℕ) (text : List ℕ)

@@ -21,7 +21,7 @@ use tm_conv::Rate;
 use tm_path_cert::Starts;
 
 /// Reads a certificate in pieces, and checks each of its windows once it is whole. It keeps the octets of one window, and of the one before
-/// those behind its kept steps. It takes its memory at `open`: 259 octets for each step of a window, two for each step behind the kept
+/// those after its kept steps. It takes its memory at `open`: 259 octets for each step of a window, two for each step after the kept
 /// ones, and 273.
 #[derive(Drop)]
 pub struct Reader {
@@ -95,7 +95,7 @@ impl Reader {
         })
     }
 
-    /// Takes octets from the front of `piece`, until something is seen of the window, and answers how many and what is seen by them. It may be called
+    /// Takes octets from the start of `piece`, until something is seen of the window, and answers how many and what is seen by them. It may be called
     /// while nothing is seen yet.
     pub fn push(&mut self, piece: &[u8]) -> (usize, Seen)
         requires open { IsOpen self.old }
@@ -253,7 +253,7 @@ impl Reader {
         &self.octets.as_slice()[first..first + size]
     }
 
-    /// Begins the next window, behind the kept steps of the one that passed. Of all windows fewer than 2^43 steps are to be kept.
+    /// Begins the next window, after the kept steps of the one that passed. Of all windows fewer than 2^43 steps are to be kept.
     pub fn turn(&mut self)
         requires { HasPassed self.old }
         ensures rules { self.new.rules ≡ self.old.rules }

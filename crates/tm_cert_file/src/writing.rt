@@ -48,7 +48,7 @@ fn write_columns<O: Sink>(
 
 /// Writes the window that certifies a block: its soft octets, of which 0 is the surest 0 and 255 the surest 1, are those of the block's
 /// steps, at most 69,632, from step `first` on, at most 2^44. Paths start from the register `start`, below 64, or from any at `None`.
-/// `Failed` comes only where the sink's count of faults rose; a front of the window was then written.
+/// `Failed` comes only where the sink's count of faults rose; a prefix of the window was then written.
 pub fn write_window<O: Sink>(
     out: &mut O,
     rate: Rate,

@@ -11,7 +11,7 @@ use Rattle.tm_channel.specs.Due.{in_batches, due_count, due}
 pub batches-le : (size n : ℕ) → in_batches size n ≤ n
 batches-le size n = mul-div-le n size
 
--- behind whole batches stand fewer than one
+-- after whole batches stand fewer than one
 pub not_full : (size m n : ℕ) → in_batches size m ≤ n → n - in_batches size m < size → in_batches size n ≡ in_batches size m
 not_full size m n least few =
     let count = m / size in

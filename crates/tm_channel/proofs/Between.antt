@@ -58,7 +58,7 @@ first-left n [] within = absurd (omega arith)
 first-left zero (x ∷ xs) within = refl
 first-left (suc n) (x ∷ xs) within = first-left n xs (omega arith)
 
--- the rest of an octet's bits, and those of the octets behind it
+-- the rest of an octet's bits, and those of the octets after it
 octet-left : (first odd : ℕ) (octets : List ℕ) → first < length octets → odd ≤ 8
     → drop (8 * first + odd) (bits_of octets) ≡ drop odd (bits_of_octet (get_or octets first 0)) ++ bits_of
     (drop (first + 1) octets)

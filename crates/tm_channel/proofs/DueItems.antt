@@ -33,7 +33,7 @@ split c bits (f ∷ fs) gs (item ∷ items) are =
     let more = split c bits fs gs items are.1 in
     record { first = item ∷ more.first; rest = more.rest; parts = ap (λ l. item ∷ l) more.parts; are_first = (are.0, more.are_first) }
 
--- a codeblock that ends within the front of bits is the same in them all
+-- a codeblock that ends within the prefix of bits is the same in them all
 codeblock-front : (c : Configuration) (front rest : List Bool) (f : Found) → f.place + 32 + 8 * codeblock_length c ≤ length front → codeblock_at c (front ++ rest) f ≡ codeblock_at c front f
 codeblock-front c front rest f within =
     ap (codeblock_in c f.inverted)

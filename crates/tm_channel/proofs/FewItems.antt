@@ -65,7 +65,7 @@ frames-few c bits (f ∷ fs) [] ok are = absurd are
 frames-few c bits (f ∷ fs) (item ∷ items) ok are =
     omega (arith, length-append item.frame (frames_of items), item-few c bits f item ok are.0, frames-few c bits fs items ok are.1, suc-mul (length items) c.frame_length)
 
--- those behind others
+-- those after others
 behind-few : (c : Configuration) (bits : List Bool) (fs : List Found) (before items : List ItemValue) → IsAccepted c → AreItemsOf c bits fs (before ++ items) → length (frames_of items) ≤ length items * c.frame_length
 behind-few c bits fs [] items ok are = frames-few c bits fs items ok are
 behind-few c bits [] (item ∷ before) items ok are = absurd are
@@ -79,7 +79,7 @@ as-many c bits [] (item ∷ items) are = absurd are
 as-many c bits (f ∷ fs) [] are = absurd are
 as-many c bits (f ∷ fs) (item ∷ items) are = ap suc (as-many c bits fs items are.1)
 
--- behind the items that were due there are these, where so few bits came
+-- after the items that were due there are these, where so few bits came
 items-few : (c : Configuration) (bits piece : List Bool) (before items : List ItemValue) (fs : List Found) (octets : ℕ) → IsAccepted c → AreItemsOf c bits (due c bits) before
     → AreItemsOf c (bits ++ piece) fs (before ++ items) → length fs ≤ length (places (rules_of c) (bits ++ piece)) → length piece ≤ most_bits c octets → AreFew c octets items
 items-few c bits piece before items fs octets ok were are within few =

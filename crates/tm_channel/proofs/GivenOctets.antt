@@ -205,7 +205,7 @@ first-of-more c bits piece done items are also =
     few-items c (bits ++ piece) (done ++ items)
     (first-then c [] bits piece done items (subst (λ (fs : List Found). AreItemsOf c bits fs done) (sym (beyond-nil c (due c bits))) are) also)
 
--- first items of a front of the bits are first items of all
+-- first items of a prefix of the bits are first items of all
 first-beyond : (c : Configuration) (bits rest : List Bool) (items : List ItemValue) → AreFirstItemsOf c bits (places (rules_of c) bits) items
     → AreFirstItemsOf c (bits ++ rest) (places (rules_of c) (bits ++ rest)) items
 first-beyond c bits rest items are =
@@ -215,7 +215,7 @@ first-beyond c bits rest items are =
 
 -- ---- the phase comes once
 
--- where blocks wait behind what was handed over, no further phase comes
+-- where blocks wait after what was handed over, no further phase comes
 once : (c : Configuration) (soft soft_now : List ℕ) (chosen other : Option Chosen) (blocks waiting all : List WindowBlock) (handed more : List (Handed WindowBlock))
     → IsChosenBy c soft chosen → IsChosenBy c soft_now other → handed ++ map Item waiting ≡ in_turn chosen blocks → handed ++ more ≡ in_turn other all → phase_of more ≡ None
 once c soft soft_now None None blocks waiting all handed more is now are same = none-behind None handed more (ap phase_of same ∙ phase_of-in_turn None all)
@@ -501,7 +501,7 @@ front-phase took_phase broke_phase took broke s now taker taker_now room octets 
           (λ none. part-some (on_handed took_phase took) (on_handed broke_phase broke) taker taker_now (in_turn phase []) part (sym all ∙ none)) given done few stood);
     }
 
--- it failed at an item behind it
+-- it failed at an item after it
 pub front-due : {T : Type 0} (took_phase broke_phase : T → ℕ → ℕ → T → Type 0) (took broke : T → ItemValue → T → Type 0) (s : Stages) (now : InnerReceiving) (bits_now : BitReceiving)
     (taker middle taker_now : T) (room : ℕ) (octets : List ℕ) (phase : Option Chosen) (piece : List Bool) → IsOf s → IsRoomy s (length octets) room → Grows s.inner now room octets phase piece
     → HandedOver (on_handed took_phase took) taker (in_turn phase []) middle → ReceivedPart took broke s.bits bits_now middle taker_now piece
@@ -719,7 +719,7 @@ ends took s bits_now taker middle now room phase piece count of roomy ended_with
       are = e.turn (p.items ++ q.items);
     }
 
--- a front of all, where these are first items of the bits
+-- a prefix of all, where these are first items of the bits
 ends-first : (s : Stages) (phase : Option Chosen) (piece : List Bool) (count : ℕ) (given : List ℕ) (done : List (Handed ItemValue)) (stood : StagesFor s given done)
     → Ended s given done stood phase piece count → (tried : List ItemValue)
     → AreFirstItemsOf s.inner.config (inner_bits s.inner.config given (items_of stood.handed) ++ piece)

@@ -77,7 +77,7 @@ columns-short c codeblock ok long = elim (coded c ok) [
       (short-from c codeblock 0 c.depth long some.1 (omega arith))
 ]
 
--- a codeblock stands whole behind a place
+-- a codeblock stands whole after a place
 codeblock-whole : (c : Configuration) (bits : List Bool) (f : Found) → f.place + 32 + 8 * codeblock_length c ≤ length bits → length (codeblock_at c bits f) ≡ codeblock_length c
 codeblock-whole c bits f within =
     let rest = drop (f.place + 32) bits in

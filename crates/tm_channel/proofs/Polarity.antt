@@ -1,4 +1,4 @@
--- The items of bits that were all turned over.
+-- The items of bits that were all complemented.
 use Rattle.std.proofs.Common.{◌≡◌, ◌+◌, ◌*◌, ℕ, Bool, true, List, [], ◌∷◌, take, drop, map, refl, sym, ap, ◌∙◌, subst, arith}
 use Rattle.tm_base.specs.Bits.{octets_of}
 use Rattle.tm_config.specs.Configuration.{Configuration, codeblock_length, is_sought}

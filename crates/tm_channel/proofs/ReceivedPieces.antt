@@ -116,7 +116,7 @@ part-then took broke a b c taker middle now bits more p q = record {
       (subst (λ (c : Configuration). AreFirstDue c (StandsForBits b) more q.tried) p.config q.first);
 }
 
--- bits at which the taker fails, with others behind them
+-- bits at which the taker fails, with others after them
 pub part-all : {T : Type 0} (took broke : T → ItemValue → T → Type 0) (a b : BitReceiving) (taker now : T) (bits more : List Bool)
     → ReceivedPart took broke a b taker now bits → ReceivedPart took broke a b taker now (bits ++ more)
 part-all took broke a b taker now bits more p = record {

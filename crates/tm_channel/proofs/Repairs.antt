@@ -69,7 +69,7 @@ words-are c columns others answers words ok codes within nearest = absurd (assum
 
 -- ---- codeblocks
 
--- the codeblock behind an entry's place is the entry's block
+-- the codeblock after an entry's place is the entry's block
 codeblock-is : (c : Configuration) (at : ℕ) (before : Option Before) (e : Entry) (front rest : List Bool) → length front ≡ at → length e.marker ≡ 32 → length e.block ≡ 8 * codeblock_length c
     → codeblock_at c (front ++ (e.gap ++ (e.marker ++ (e.block ++ rest)))) (place_of (rules_of c) at before e) ≡ codeblock_in c (place_of (rules_of c) at before e).inverted e.block
 codeblock-is c at before e front rest long mark size =
@@ -84,7 +84,7 @@ codeblock-is c at before e front rest long mark size =
     whole : front ++ (e.gap ++ (e.marker ++ (e.block ++ rest))) ≡ (front ++ (e.gap ++ e.marker)) ++ (e.block ++ rest)
     whole = ap (λ l. front ++ l) (sym (append_assoc e.gap e.marker (e.block ++ rest))) ∙ sym (append_assoc front (e.gap ++ e.marker) (e.block ++ rest))
 
--- what stands behind an entry, and where
+-- what follows an entry, and where
 next-front : (c : Configuration) (at : ℕ) (before : Option Before) (e : Entry) (front rest : List Bool) → length front ≡ at → length e.marker ≡ 32 → length e.block ≡ 8 * codeblock_length c
     → (front ++ (e.gap ++ (e.marker ++ (e.block ++ rest))) ≡ (front ++ (e.gap ++ (e.marker ++ e.block))) ++ rest)
     × (length (front ++ (e.gap ++ (e.marker ++ e.block))) ≡ (place_of (rules_of c) at before e).place + 32 + 8 * codeblock_length c)

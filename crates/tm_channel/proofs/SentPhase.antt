@@ -1,4 +1,4 @@
--- The phase of octets that were sent and not disturbed, or turned over.
+-- The phase of octets that were sent and not disturbed, or complemented.
 use Rattle.std.proofs.Common.{◌≡◌, ℕ, zero, suc, ◌+◌, ◌-◌, ◌%◌, ◌<◌, ◌≤◌, ◌==◌, cond, if◌then◌else◌, Bool, true, false, List, [], ◌∷◌, ◌++◌, length, take, drop, map, Option, Some, None, refl, sym, ap, ◌∙◌, subst, arith, take-append-drop, length-drop, inl, inr}
 use Rattle.std.proofs.lemmas.Bool.{cases_lt}
 use Rattle.std.proofs.lemmas.List.{length-take-le, take_at}
@@ -104,9 +104,9 @@ phase-at best (Some rate) c bits chosen none p =
     phase-free best rate (is_inverted rate c.invert) (c.keep + c.ahead) 0 (bit_numbers bits) chosen (omega arith) (AreBits-bit_numbers bits)
     (subst (λ (l : List ℕ). IsPhase rate (is_inverted rate c.invert) (c.keep + c.ahead) l chosen) (soft-sent c rate bits none) p)
 
--- ---- symbols turned over
+-- ---- symbols complemented
 
--- the bits and the register turned over have the symbols turned over
+-- the bits and the register complemented have the complemented symbols
 abbrev pub Complements : Type 0
 Complements = (rate : Rate) (invert : Bool) (t register : ℕ) (bits : List ℕ) → register < 64 → AreBits bits
     → path rate invert t (63 - register) (complement bits) ≡ complement (path rate invert t register bits)

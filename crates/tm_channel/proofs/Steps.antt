@@ -20,7 +20,7 @@ frames-none s taken partial = record {
   inner = sends-none s.inner taken;
 }
 
--- octets behind which the frame is not whole yet
+-- octets after which the frame is not whole yet
 pub frames-held : (a b : Sending) (taken : Option (List ℕ)) (octets : List ℕ) → b.config ≡ a.config → b.inner ≡ a.inner → b.held ≡ a.held ++ octets → length b.held < a.config.frame_length
     → SendsFrames a b taken taken octets
 frames-held a b taken octets same inner held partial = record {
@@ -88,7 +88,7 @@ frames-front a b taken_a taken_b taken_c first second p q = record {
       (sends-front a.inner b.inner taken_a taken_b taken_c (flat_map (cadu a.config) p.frames) (flat_map (cadu a.config) q.frames) p.inner then);
 }
 
--- a front of what is due for a piece is one of what is due for a longer piece
+-- a prefix of what is due for a piece is one of what is due for a longer piece
 pub frames-front_of_longer : (a : Sending) (taken taken_now : Option (List ℕ)) (first second : List ℕ) → 0 < a.config.frame_length
     → SendsFramesFront a taken taken_now first → SendsFramesFront a taken taken_now (first ++ second)
 frames-front_of_longer a taken taken_now first second some p =

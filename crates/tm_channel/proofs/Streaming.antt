@@ -113,7 +113,7 @@ stands-kept c stands stands' old part now kept kept' handed bits more f h w is n
       parts = sym (append-nil (bits ++ more)) ∙ ap (λ l. (bits ++ more) ++ l) (sym none);
     }
 
--- items of a front of the places are first ones
+-- items of a prefix of the places are first ones
 pub first-of : (c : Configuration) (bits : List Bool) (count : ℕ) (fs : List Found) (items : List ItemValue)
     → AreItemsOf c bits (take count fs) items → AreFirstItemsOf c bits fs items
 first-of c bits count fs [] are = tt
@@ -131,7 +131,7 @@ waiting-count c stands part kept handed bits h =
     ap length h.waiting ∙ length-map (drop handed (places (rules_of c) bits)) (kept_at c bits)
     ∙ length-drop handed (places (rules_of c) bits)
 
--- what stands behind the places of a front that are due
+-- what follows the places of a front that are due
 behind-due : (c : Configuration) (bits : List Bool) (fs : List Found)
     → beyond (due c bits) fs ≡ drop (due_count c bits) fs
 behind-due c bits fs =
@@ -215,7 +215,7 @@ turn-broke c stands part kept bits all count items h many are =
     (subst (λ (ks : List Kept). AreItemsFor c ks items)
     (ap (take count) h.waiting ∙ take-map' (kept_at c all) count waiting) are)))
 
--- ---- items of a front of the places
+-- ---- items of a prefix of the places
 pub first-longer : (c : Configuration) (bits : List Bool) (fs gs : List Found) (items : List ItemValue) → AreFirstItemsOf c bits fs items → AreFirstItemsOf c bits (fs ++ gs) items
 first-longer c bits fs gs [] are = tt
 first-longer c bits [] gs (item ∷ items) are = absurd are

@@ -1,4 +1,4 @@
--- The items of octets that were turned over.
+-- The items of octets that were complemented.
 use Rattle.std.proofs.Common.{◌≡◌, ◌<◌, ◌≤◌, ◌+◌, ◌-◌, ◌%◌, ◌==◌, cond, eqb, nat_le, if◌then◌else◌, inl, inr, ℕ, Bool, true, false, List, [], ◌∷◌, ◌++◌, length, drop, map, refl, sym, ap, ◌∙◌, subst, arith, Option, Some, None, ◌⊎◌}
 use Rattle.std.proofs.lemmas.List.{length-map, map-append}
 use Rattle.std.proofs.lemmas.Bool.{cases_Bool}
@@ -41,7 +41,7 @@ numbers_pass : all_below 256 (λ octet. eqb (number_of (complement (bits_of_octe
 unfolding low_bits
 numbers_pass = refl
 
--- the bits of an octet turned over
+-- the bits of an octet complemented
 octet-turned : (octet : ℕ) → octet < 256 → bits_of_octet (255 - octet) ≡ complement (bits_of_octet octet)
 octet-turned octet small =
     let bits = complement (bits_of_octet octet) in
@@ -62,7 +62,7 @@ turned-test a b sum = elim (cases_Bool (nat_le 128 b)) [
   | inr none ↦ (let other : nat_le 128 a ≡ true = grind (arith, nat_tests) in other ∙ ap flip (sym none))
 ]
 
--- the bit that an octet turned over is nearest to
+-- the bit that an octet complemented is nearest to
 nearest-turned : (c : Configuration) (octet : ℕ) → octet < 256 → nearest_bit c (255 - octet) ≡ flip (nearest_bit c octet)
 nearest-turned c octet small = turned-test (soft_value c (255 - octet)) (soft_value c octet) (go (is_signed c.soft))
   where
@@ -99,7 +99,7 @@ received-turned c phase octets items ok none find small r =
 
 -- ---- at rate 1/2
 
--- the blocks of symbols turned over keep the bits turned over
+-- the blocks of symbols complemented keep the bits complemented
 abbrev pub TurnedBlocks : Type 0
 TurnedBlocks = (s : Settings) (register : ℕ) (bits : List ℕ) (blocks : List WindowBlock) (left : ℕ) → 64 ≤ s.keep → AreBits bits
     → s.start ≡ Any → s.rate ≡ R12 → register < 64 → (bits ≡ []) ⊎ (6 ≤ length bits)

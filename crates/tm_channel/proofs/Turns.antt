@@ -1,4 +1,4 @@
--- What is handed over in turn: a phase that may come, and items behind it.
+-- What is handed over in turn: a phase that may come, and items after it.
 use Rattle.std.proofs.Common.{◌≡◌, List, [], ◌∷◌, ◌++◌, map, refl, sym, ap, ◌∙◌, Option, Some, None}
 use Rattle.tm_base.specs.Handed.{Handed, Phase, Item}
 use Rattle.tm_base.specs.Takers.{HandedPart}
@@ -40,13 +40,13 @@ phase_from-none before [] none = refl
 phase_from-none before (Phase skip cost ∷ handed) none = absurd (phase_from-some (record { skip = skip; cost = cost }) handed none)
 phase_from-none before (Item item ∷ handed) none = phase_from-none before handed none
 
--- ---- items behind it
+-- ---- items after it
 
 pub in_turn-split : {I : Type 0} (chosen : Option Chosen) (items : List I) → in_turn chosen items ≡ in_turn chosen [] ++ map Item items
 in_turn-split None items = refl
 in_turn-split (Some chosen) items = refl
 
--- further items behind what was handed over, with no further phase
+-- further items after what was handed over, with no further phase
 pub turn-further : {I J : Type 0} (before : Option Chosen) (more : List (Handed J)) (done : List (Handed I)) (items others : List I) → phase_of more ≡ None → done ≡ in_turn before items
     → done ++ (in_turn (phase_of more) [] ++ map Item others) ≡ in_turn (phase_from before more) (items ++ others)
 turn-further before more done items others none are =

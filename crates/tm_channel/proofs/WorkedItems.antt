@@ -46,7 +46,7 @@ coded = record bare { code = Rs16; basis = Poly; repair = 1 }
 abbrev interleaved_two : Configuration
 interleaved_two = record coded { depth = 2; frame_length = 4 }
 
--- a marker with two wrong bits right behind a codeblock is bridged
+-- a marker with two wrong bits right after a codeblock is bridged
 row_bridged : AreItems bare (bits_of (0x1A ∷ 0xCF ∷ 0xFC ∷ 0x1D ∷ 0x7B ∷ 0x1A ∷ 0xCF ∷ 0xFC ∷ 0x1E ∷ 0x01 ∷ []))
     (record { found = record { place = 0; distance = 0; bridged = false; inverted = false }; answers = []; frame = 0x7B ∷ [] }
     ∷ record { found = record { place = 40; distance = 2; bridged = true; inverted = false }; answers = []; frame = 0x01 ∷ [] } ∷ [])

@@ -28,7 +28,7 @@ link = record (configuration_of default_raw) {
 }
 
 -- a unit with a wrong bit in its marker and one in its third symbol; one with zeros for its marker;
--- behind a bit that is no part of a unit one that is inverted; and seven bits more
+-- after a bit that is no part of a unit one that is inverted; and seven bits more
 abbrev pub octets : List ℕ
 octets = 0x1B ∷ 0xCF ∷ 0xFC ∷ 0x1D ∷ 0 ∷ 0 ∷ 1 ∷ replicate 35 0
     ++ (0xF2 ∷ 0x98 ∷ 0x01 ∷ 0xF1 ∷ 0x7F ∷ replicate 17 0xFF)

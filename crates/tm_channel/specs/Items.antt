@@ -55,7 +55,7 @@ AreFirstItemsOf c bits (f ∷ fs) (item ∷ items) =
 abbrev pub AreItems : Configuration → List Bool → List ItemValue → Type 0
 AreItems c bits items = AreItemsOf c bits (places (rules_of c) bits) items
 
--- the frames of items, one behind the other
+-- the frames of items, one after the other
 abbrev pub frames_of : List ItemValue → List ℕ
 frames_of [] = []
 frames_of (item ∷ items) = item.frame ++ frames_of items

@@ -53,7 +53,7 @@ pub record StagesFor (s : Stages) (given : List ℕ) (done : List (Handed ItemVa
   pub are : done ≡ in_turn (phase_of handed) items
 
 -- stages that were given these octets and have handed over this, whose first stage has handed over
--- more behind these blocks
+-- more after these blocks
 abbrev pub StagesOn : Stages → List ℕ → List (Handed ItemValue) → List (Handed WindowBlock)
     → Type 0
 StagesOn s given done blocks = (stands : StagesFor s given done)
@@ -178,7 +178,7 @@ pub record Keeping : Type 0 where
   pub size : ℕ
   pub phase : Option Chosen
 
--- the bits that a block keeps stand behind the others, where there is room for them
+-- the bits that a block keeps follow the others, where there is room for them
 pub record Keeps (before : Keeping) (block : WindowBlock) (now : Keeping) : Type 0 where
   pub size : now.size ≡ before.size
   pub phase : now.phase ≡ before.phase
@@ -192,7 +192,7 @@ KeepsPhase before skip cost now = now ≡ record before {
       (record { skip = skip; cost = cost });
 }
 
--- the bits that come of octets: those that the first stage keeps, or with no inner code all behind
+-- the bits that come of octets: those that the first stage keeps, or with no inner code all after
 -- those that are still to be skipped
 abbrev pub bits_found : Configuration → Option Rate → ℕ → List ℕ → List ℕ → List Bool
 bits_found c None skip kept octets = drop skip (plain_bits c octets)

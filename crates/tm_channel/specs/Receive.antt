@@ -1,4 +1,4 @@
--- The items of received octets, and those of them that are due whatever octets come behind.
+-- The items of received octets, and those of them that are due whatever octets follow.
 use Rattle.std.specs.Prelude.{ℕ, Bool, List}
 use Rattle.tm_config.specs.Configuration.{Configuration}
 use Rattle.tm_inner.specs.Inner.{Inner, AreInnerDue, inner_bits}

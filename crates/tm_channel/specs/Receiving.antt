@@ -11,7 +11,7 @@ use Rattle.tm_channel.specs.Due.{due_count, due}
 
 -- ---- when an item is handed over
 
--- what stands in `all` behind a front as long as `front`
+-- what stands in `all` after a prefix as long as `front`
 abbrev pub beyond : {A : Type 0} → List A → List A → List A
 beyond front all = drop (length front) all
 
@@ -154,6 +154,6 @@ waiting_bits c count = if nat_lt 1 c.workers then count * (32 + (rules_of c).blo
 
 -- ---- bits that are taken
 
--- the bits of octets behind the first `from` ones, up to bit `to`
+-- the bits of octets after the first `from` ones, up to bit `to`
 abbrev pub bits_between : ℕ → ℕ → List ℕ → List Bool
 bits_between from to octets = take (to - from) (drop from (bits_of octets))

@@ -6,13 +6,13 @@ use Rattle.tm_inner.specs.Sending.{InnerSending, StandsFor as InnerStandsFor}
 use Rattle.tm_codeblock.specs.Frames.{behind_frames}
 use Rattle.tm_channel.specs.Sent.{cadus, sent}
 
--- what contracts see of a sender: its configuration, the front of a frame, and its last stage
+-- what contracts see of a sender: its configuration, a prefix of a frame, and its last stage
 pub record Sending : Type 0 where
   pub config : Configuration
   pub held : List ℕ
   pub inner : InnerSending
 
--- it holds what stands behind the last whole frame, and its last stage was given the whole frames'
+-- it holds what follows the last whole frame, and its last stage was given the whole frames'
 -- units
 pub record StandsFor (sender : Sending) (octets : List ℕ) : Type 0 where
   pub held : sender.held ≡ behind_frames sender.config.frame_length octets
@@ -23,7 +23,7 @@ pub record Sends (before now : Sending) (taken taken_now : Option (List ℕ)) (o
   pub config : now.config ≡ before.config
   pub fed : Fed StandsFor (sent before.config) before now taken taken_now octets
 
--- given these octets, a sender wrote a front of what is due for them
+-- given these octets, a sender wrote a prefix of what is due for them
 abbrev pub SendsFront : Sending → Option (List ℕ) → Option (List ℕ) → List ℕ → Type 0
 SendsFront before taken taken_now octets =
     FedFront StandsFor (sent before.config) before taken taken_now octets

@@ -15,6 +15,6 @@ abbrev pub sent : Configuration → List ℕ → List ℕ
 sent c octets = symbols_of_octets c (cadus c octets)
 
 -- Their phase, where it is to be found and they are not disturbed: none of them is skipped, and the
--- path costs nothing. It is also that of the symbols turned over.
+-- path costs nothing. It is also that of the complemented symbols.
 abbrev pub sent_phase : Configuration → Option Chosen
 sent_phase c = if is_sought c.phase then Some (record { skip = 0; cost = 0 }) else None

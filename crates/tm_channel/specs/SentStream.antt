@@ -28,7 +28,7 @@ pub record SentUnit : Type 0 where
 abbrev pub entries_of : List SentUnit → List Entry
 entries_of units = map (λ (u : SentUnit). u.received) units
 
--- the bits are these units, and behind them a last gap
+-- the bits are these units, and after them a last gap
 pub record IsSent (c : Configuration) (bits : List Bool) (units : List SentUnit) (last : List Bool) : Type 0 where
   pub marked : IsMarked (rules_of c) bits (entries_of units) last
   pub frames : AllByRecursion (λ u. IsFrame c u.frame) units
@@ -87,7 +87,7 @@ AreNear c [] [] = Unit {0}
 AreNear c (f ∷ fs) (u ∷ units) = IsNear c u.frame (unit_codeblock c f u) × AreNear c fs units
 AreNear c fs units = ⊥
 
--- the frames that were sent, one behind the other
+-- the frames that were sent, one after the other
 abbrev pub unit_frames : List SentUnit → List ℕ
 unit_frames [] = []
 unit_frames (u ∷ units) = u.frame ++ unit_frames units
@@ -103,7 +103,7 @@ sent_bits c (frame ∷ frames) = bits_of (cadu c frame) ++ sent_bits c frames
 abbrev pub clean_answers : Configuration → List Answer
 clean_answers c = if is_uncoded c.code then [] else replicate c.depth (Fixed 0)
 
--- the items of these frames, sent behind `at` bits: one behind the other, and nothing wrong
+-- the items of these frames, sent after `at` bits: one after the other, and nothing wrong
 abbrev pub clean_items : Configuration → ℕ → List (List ℕ) → List ItemValue
 clean_items c at [] = []
 clean_items c at (frame ∷ frames) = record {

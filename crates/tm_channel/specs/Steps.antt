@@ -14,7 +14,7 @@ pub record SendsFrames (before now : Sending) (taken taken_now : Option (List �
   pub inner : InnerSends before.inner now.inner taken taken_now
       (flat_map (cadu before.config) frames)
 
--- the same, but of the frames' units the last stage wrote a front
+-- the same, but of the frames' units the last stage wrote a prefix
 pub record SendsFramesFront (before : Sending) (taken taken_now : Option (List ℕ)) (octets : List ℕ) : Type 0 where
   pub frames : List (List ℕ)
   pub rest : List ℕ

@@ -31,7 +31,7 @@ abbrev pub answers_of : List Word → List Answer
 answers_of words = map (λ (w : Word). unwrap_or w.answer Beyond) words
 
 -- the words of a codeblock, of so many columns, by its number: those of all codeblocks stand one
--- behind the other
+-- after the other
 abbrev pub words_at : ℕ → List Word → ℕ → List Word
 words_at count words index = take count (drop (index * count) words)
 

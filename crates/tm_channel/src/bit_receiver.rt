@@ -35,7 +35,7 @@ fn hand_over<T: ItemTaker>(batch: &Codeblocks, taker: &mut T) -> Result<(), Fail
     Ok(())
 }
 
-/// Searches the markers in a stream of bits, and keeps the codeblocks behind them until a batch of them is full. The
+/// Searches the markers in a stream of bits, and keeps the codeblocks after them until a batch of them is full. The
 /// batch is then repaired and handed over.
 #[derive(Drop)]
 pub struct BitReceiver {
@@ -44,7 +44,7 @@ pub struct BitReceiver {
 }
 
 impl BitReceiver {
-    /// Takes the bits of octets behind the first `from` ones, has each batch that is full with them repaired, and hands
+    /// Takes the bits of octets after the first `from` ones, has each batch that is full with them repaired, and hands
     /// over its items.
     pub fn receive<P: Workers, T: ItemTaker>(
         &mut self,
@@ -79,7 +79,7 @@ impl BitReceiver {
         Ok(())
     }
 
-    // Takes the bits of octets behind the first `from` ones, until the batch is full or the octets end. Answers up to
+    // Takes the bits of octets after the first `from` ones, until the batch is full or the octets end. Answers up to
     // which of their bits it took them.
     fn take(&mut self, octets: &[u8], from: usize) -> usize
         requires from { from < 8 * length octets.now }
@@ -104,7 +104,7 @@ impl BitReceiver {
         at
     }
 
-    // Gives bits of octets behind the first `at` ones to the search, and to the codeblock that they stand in: the
+    // Gives bits of octets after the first `at` ones to the search, and to the codeblock that they stand in: the
     // octets that the codeblock under way lacks, a whole octet where none is under way, or one bit. Answers how many
     // bits.
     fn push(&mut self, octets: &[u8], at: usize) -> usize
@@ -171,7 +171,7 @@ impl BitReceiver {
         self.search.push_octets(octets);
     }
 
-    // Gives an octet to the search where no codeblock is under way, and its bits behind a marker to the codeblock that
+    // Gives an octet to the search where no codeblock is under way, and its bits after a marker to the codeblock that
     // they begin.
     fn push_octet(&mut self, octet: u8)
         requires ready { IsReady self.old.search self.old.batch }

@@ -15,13 +15,13 @@ pub struct Item<'a> {
     pub place: u64,
     /// How many of the marker's 32 bits are wrong, in the codeblock's polarity.
     pub distance: u8,
-    /// Whether the marker matches in no way, and its place was taken since it stands right behind a codeblock.
+    /// Whether the marker matches in no way, and its place was taken since it directly follows a codeblock.
     pub bridged: bool,
     /// Whether the codeblock was received inverted.
     pub inverted: bool,
     /// What became of each column; none with no outer code.
     pub answers: &'a [Answer],
-    /// The octets of the transfer frame; none where a column is beyond repair.
+    /// The octets of the transfer frame; none where a column is uncorrectable.
     pub frame: &'a [u8],
 }
 
@@ -55,7 +55,7 @@ pub trait ItemTaker {
     /// What an item does at which the taker fails.
     ghost broke: { Self → ItemValue → Self → Type 0 };
 
-    /// What taking the symbol phase does: how many octets are skipped, and what the best path behind them costs.
+    /// What taking the symbol phase does: how many octets are skipped, and what the best path after them costs.
     ghost took_phase: { Self → ℕ → ℕ → Self → Type 0 };
 
     /// What a symbol phase does at which the taker fails.
@@ -67,7 +67,7 @@ pub trait ItemTaker {
         ensures err { OnErr result (broke self.old item.now self.new) }
         ensures cause { HasCause (faults self.old) (faults self.new) (is_last self.new) result };
 
-    /// Takes the symbol phase that was chosen: `skip` octets, behind which the best path costs `cost`. `Failed` comes
+    /// Takes the symbol phase that was chosen: `skip` octets, after which the best path costs `cost`. `Failed` comes
     /// only where the count of faults rose.
     fn phase(&mut self, skip: u8, cost: u64) -> Result<(), Failed>
         ensures ok { OnOk result (took_phase self.old skip cost self.new) }

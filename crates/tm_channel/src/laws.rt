@@ -36,7 +36,7 @@ pub fn items_law()
     inner_law();
 }
 
-/// The items that are due for octets stand first among the items of these octets with any others behind. It does
+/// The items that are due for octets stand first among the items of these octets with any others after them. It does
 /// nothing.
 pub fn due_items_law()
     ensures { (c : Configuration) (phase : ℕ) (octets more : List ℕ) (due items : List ItemValue) → IsAccepted c
@@ -46,8 +46,8 @@ pub fn due_items_law()
     due_bits_law();
 }
 
-/// Items that are first ones for octets stand first among the items of these octets with any others behind, and those
-/// that are first ones at the end of octets among the items of these. It does nothing.
+/// Items that are first ones for octets stand first among the items of these octets with any others after them, and
+/// those that are first ones at the end of octets among the items of these. It does nothing.
 pub fn first_items_law()
     ensures feed { (c : Configuration) (phase : ℕ) (octets more : List ℕ) (first items : List ItemValue) → IsAccepted c
         → ReceiveFirst c phase octets first → Receive c phase (octets ++ more) items
@@ -62,7 +62,7 @@ pub fn first_items_law()
 }
 
 /// What is handed over for received octets, their phase where it is to be found and then items, is one list, which
-/// there is. What is due, and the first of what is handed over, stand first in it, whatever octets come behind. It does
+/// there is. What is due, and the first of what is handed over, stand first in it, whatever octets follow. It does
 /// nothing.
 pub fn received_law()
     ensures exists { (c : Configuration) (octets : List ℕ) → IsAccepted c
@@ -93,7 +93,7 @@ pub fn received_law()
     whole_window_law();
 }
 
-/// However the units of frames were disturbed, with gaps before and behind them, their items stand exactly at their
+/// However the units of frames were disturbed, with gaps before and after them, their items stand exactly at their
 /// markers, with distances, bridges and polarities, and each column that is within the repair bound answers how many of
 /// its symbols were wrong. Where that is so of every column, the frames come out in order. It does nothing.
 pub fn disturbed_law()
@@ -110,8 +110,8 @@ pub fn disturbed_law()
 }
 
 /// There are octets of which `disturbed_law` speaks: of an accepted configuration with no inner code and a given phase.
-/// In them stands a unit with a wrong bit in its marker and a wrong symbol, right behind it one whose marker is
-/// bridged, and behind a gap an inverted one. No column is disturbed beyond the repair bound. It does nothing.
+/// In them stands a unit with a wrong bit in its marker and a wrong symbol, right after it one whose marker is
+/// bridged, and after a gap an inverted one. No column is disturbed beyond the repair bound. It does nothing.
 pub fn disturbed_octets_law()
     ensures accepted { IsAccepted disturbed.link }
     ensures phase { IsChosen disturbed.link disturbed.octets None }
@@ -147,9 +147,9 @@ pub fn clean_law()
     best_path_law();
 }
 
-/// Where inverted markers match too: with no inner code, the items of octets with each bit turned over are those of the
-/// octets, each in the other polarity. At rate 1/2, where paths start from any register and none is skipped, so are
-/// those of the symbols that are sent for octets, each turned over. Their phase is that of the symbols as they are
+/// Where inverted markers match too: with no inner code, the items of octets with each bit complemented are those of
+/// the octets, each in the other polarity. At rate 1/2, where paths start from any register and none is skipped, so are
+/// those of the symbols that are sent for octets, each complemented. Their phase is that of the symbols as they are
 /// sent, at any rate. It does nothing.
 pub fn polarity_law()
     ensures uncoded { (c : Configuration) (phase : ℕ) (octets : List ℕ) (items : List ItemValue) → IsAccepted c

@@ -54,7 +54,7 @@ fn take_run<P: Workers, T: ItemTaker>(
         (map (λ bit. bit == 1) bits.now) result }
 {
     if bits.len() < 8 {
-        // They stand behind others in an octet, which are left out.
+        // They follow others in an octet, which are left out.
         let from = 8 - bits.len();
         let mut eight = [0; 8];
         eight[from..].copy_from_slice(bits);

@@ -131,8 +131,8 @@ impl Receiver {
     /// of a window can be compared, or with no inner code at the first octet. Then it is handed over, once, before any
     /// item.
     ///
-    /// `Taker` comes where `taker` fails; a front of what is due was then handed over. `Stopped` comes where an earlier
-    /// call answered `Taker` or the receiver was finished; nothing is handed over then.
+    /// `Taker` comes where `taker` fails; a prefix of what is due was then handed over. `Stopped` comes where an
+    /// earlier call answered `Taker` or the receiver was finished; nothing is handed over then.
     ///
     /// The octets given in all are to be below 2^60. Workers enter `gate` before each word that they decode.
     pub fn feed<R: Threads + Sync, T: ItemTaker, G: Gate + Sync>(
@@ -206,7 +206,7 @@ impl Receiver {
     /// Hands over what is left: the symbol phase, where it is to be found and was not chosen yet, and the last items.
     /// Answers how many bits were received. It is called once, at the end of the octets.
     ///
-    /// `Taker` comes where `taker` fails; a front of all was then handed over. `Stopped` comes where an earlier call
+    /// `Taker` comes where `taker` fails; a prefix of all was then handed over. `Stopped` comes where an earlier call
     /// answered `Taker` or the receiver was finished; nothing is handed over then.
     pub fn finish<R: Threads + Sync, T: ItemTaker, G: Gate + Sync>(
         &mut self,
@@ -282,7 +282,7 @@ impl Receiver {
 /// many bits were received.
 ///
 /// `Memory` comes only where there isn't enough of it; nothing is handed over then. `Taker` comes where `taker` fails;
-/// a front of all was then handed over. Workers enter `OpenGate`.
+/// a prefix of all was then handed over. Workers enter `OpenGate`.
 pub fn receive_all<R: Threads + Sync, T: ItemTaker>(
     rt: &R,
     alloc: Global,

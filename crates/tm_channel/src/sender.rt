@@ -14,11 +14,11 @@ use tm_codeblock::{cadu, codeblock_size};
 use tm_config::Config;
 use tm_inner::{InnerSender, SendError};
 
-// The octets of the longest channel access data unit: a codeblock of 2,040 octets behind its marker.
+// The octets of the longest channel access data unit: a codeblock of 2,040 octets after its marker.
 const LONGEST_CADU: usize = 2044;
 
 /// Takes the octets of transfer frames in pieces, and writes the symbols of the unit of each frame once the frame is
-/// whole. It keeps the front of one frame, and no history.
+/// whole. It keeps a prefix of one frame, and no history.
 #[derive(Drop)]
 pub struct Sender {
     config: Config,
@@ -64,7 +64,7 @@ impl Sender {
 
     /// Takes the next octets of the frames, and writes the symbols of each frame that is whole now.
     ///
-    /// `Sink` comes where `out` fails, or takes nothing of what is left; a front of what is due was then written.
+    /// `Sink` comes where `out` fails, or takes nothing of what is left; a prefix of what is due was then written.
     /// `Stopped` comes where an earlier push answered `Sink`; nothing is written then.
     pub fn push<O: Sink>(&mut self, octets: &[u8], out: &mut O) -> Result<(), SendError>
         ensures stopped { IsErrOf result SendError.Stopped ↔ IsTrue self.old.inner.has_failed }
@@ -87,7 +87,7 @@ impl Sender {
         }
     }
 
-    /// How many octets stand behind the last whole frame of those given so far, where no push answered `Sink`.
+    /// How many octets follow the last whole frame of those given so far, where no push answered `Sink`.
     pub fn left_over(&self) -> u32
         ensures { (given : List ℕ) → StandsFor self.now given
             → result ≡ length (behind_frames self.now.config.frame_length given) }
@@ -96,7 +96,7 @@ impl Sender {
         held.len() as u32
     }
 
-    /// How many octets stand behind the last whole frame of those given, where no push answered `Sink`.
+    /// How many octets follow the last whole frame of those given, where no push answered `Sink`.
     pub fn finish(self) -> u32
         ensures { (given : List ℕ) → StandsFor self given
             → result ≡ length (behind_frames self.config.frame_length given) }

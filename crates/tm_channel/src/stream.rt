@@ -49,7 +49,7 @@ impl BitStream {
         }
     }
 
-    /// Takes the next bits, those of octets behind the first `from` ones, and hands over the items that are due with
+    /// Takes the next bits, those of octets after the first `from` ones, and hands over the items that are due with
     /// them. Each full batch is repaired by these workers.
     pub fn receive<P: Workers, T: ItemTaker>(
         &mut self,

@@ -165,7 +165,7 @@ pub fn end<P: Workers>(by: &P, inner: &mut InnerReceiver, kept: &mut KeptBits) -
     by.finish(inner, kept)
 }
 
-// Gives the bits of octets behind the first `skip` ones to the second stage, where there is no inner code.
+// Gives the bits of octets after the first `skip` ones to the second stage, where there is no inner code.
 fn take_behind<P: Workers, T: ItemTaker>(
     inner: &InnerReceiver,
     stream: &mut BitStream,

@@ -113,7 +113,7 @@ fn beyond_repair_there_is_no_frame(rt: HostRuntime) -> Result<(), Fail> {
     Ok(())
 }
 
-// One octet stands before the symbols, so that they are a path behind it, at no cost, and not from the first octet on.
+// One octet stands before the symbols, so that they are a path after it, at no cost, and not from the first octet on.
 #[test]
 fn the_phase_comes_before_the_item(rt: HostRuntime) -> Result<(), Fail> {
     let alloc = rt.alloc();
@@ -190,7 +190,7 @@ impl ItemTaker for Digest {
 }
 
 // 40 units, more than a batch has, of which number k has the remainder of k by 18 wrong check symbols, so that some are
-// beyond repair.
+// uncorrectable.
 fn disturbed() -> [u8; 1480] {
     let mut octets = [0; 1480];
     for k in 0..40usize {

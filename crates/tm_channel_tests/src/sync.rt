@@ -45,7 +45,7 @@ fn bits_of(alloc: Global, pieces: &[&[u8]]) -> Result<Vec<bool>, AllocError> {
     Ok(bits)
 }
 
-// The places that a search finds, and the bits behind the last one's codeblock.
+// The places that a search finds, and the bits after the last one's codeblock.
 fn searched(
     rt: &impl Abort,
     alloc: Global,
@@ -283,7 +283,7 @@ fn next_match(rules: Rules, bits: &[bool], from: usize) -> Option<Found> {
     None
 }
 
-// The places, and the bits behind the last one's codeblock.
+// The places, and the bits after the last one's codeblock.
 fn defined(alloc: Global, rules: Rules, bits: &[bool]) -> Result<(Vec<Found>, u64), AllocError> {
     let mut found = Vec::new(alloc);
     let mut from: usize = 0;

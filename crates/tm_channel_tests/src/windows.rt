@@ -5,7 +5,7 @@ use std::thread::Threads;
 use tm_base::{Failed, MemSink};
 use tm_channel::{Config, Item, ItemTaker, OpenGate, Raw, Receiver, Sender};
 
-// Keeps one number that goes on with the place and the first octet of each item, and with each turn behind it.
+// Keeps one number that goes on with the place and the first octet of each item, and with each turn after it.
 #[derive(Drop)]
 struct Digest {
     number: u64,

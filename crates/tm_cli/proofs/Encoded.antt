@@ -26,7 +26,7 @@ use Rattle.tm_driver.specs.declared.ending.Stop.TheVariants.{SinkFault as FeedFa
 use Rattle.tm_driver.proofs.SinkTexts.{wrote-nothing, wrote-front, wrote-no_front}
 use Rattle.tm_cli.specs.Encode.{encode_meaning, left_over}
 
--- how many octets stand behind the last whole frame
+-- how many octets follow the last whole frame
 length-behind : (size : ℕ) (octets : List ℕ) → length (behind_frames size octets) ≡ length octets % size
 length-behind size octets = omega (arith, length-drop (length octets / size * size) octets, div-add-mod' (length octets) size)
 
@@ -37,7 +37,7 @@ whole-output c octets = record { out = sent c octets; notes = left_over_text (le
 abbrev due-output : Configuration → List ℕ → Output
 due-output c octets = record { out = sent c octets; notes = [] }
 
--- what was sent for the octets so far is due, and a front of what is sent for more
+-- what was sent for the octets so far is due, and a prefix of what is sent for more
 early : (c : Configuration) → IsAccepted c → (octets : List ℕ) (taken taken_now noted noted_now : Option (List ℕ))
     → noted_now ≡ noted → Wrote taken taken_now (sent c octets) → WroteEarly (encode_meaning c) octets (taken_by taken taken_now noted noted_now)
 early c accepted octets taken taken_now noted noted_now same all = (
@@ -191,7 +191,7 @@ encode-driven sender out state out_last notes noted notes_last c limit a b ended
     (subst (λ (n : ℕ). DrivenTo (Fed sender out state notes) (Stopped sender out state out_last notes) (Finishes sender out notes noted) (Fails sender out notes noted notes_last) n
     a b ended unended e octets) is p)
 
--- where a sink failed: the output, and then neither were the notes written nor the end of the input told; or the notes, behind both
+-- where a sink failed: the output, and then neither were the notes written nor the end of the input told; or the notes, after both
 pub encode-stops : {F R S : Type 0} (sender : F → Sending) (out : F → R) (state : R → SinkState) (out_last : R → Type 0) (notes : F → S) (noted : S → SinkState) (notes_last : S → Type 0)
     (limit : ℕ) (a b : F) (ended unended : Type 0) (octets : List ℕ)
     → DrivenTo (Fed sender out state notes) (Stopped sender out state out_last notes) (Finishes sender out notes noted) (Fails sender out notes noted notes_last) limit a b ended unended SinkFault octets

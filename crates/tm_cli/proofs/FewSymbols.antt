@@ -52,7 +52,7 @@ size_of-few (Some rate) pack n = omega (arith, steps_size-most rate 0 (8 * n))
 pub length-symbols : (c : Configuration) (octets : List ℕ) → length (symbols_of_octets c octets) ≤ 16 * length octets
 length-symbols c octets = omega (arith, length-symbols_by c.inner c octets, size_of-few c.inner c.pack (length octets))
 
--- and of those behind others
+-- and of those after others
 pub length-further : (c : Configuration) (given piece : List ℕ) → length (further (symbols_of_octets c) given piece) ≤ 16 * length piece
 length-further c given piece =
     let both : size_of c.inner c.pack (8 * length (given ++ piece))

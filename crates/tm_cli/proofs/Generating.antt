@@ -1,4 +1,4 @@
--- The draws of a generator one behind another, and what they change.
+-- The draws of a generator one after another, and what they change.
 use Rattle.std.proofs.Common.{◌≡◌, ℕ, zero, suc, ◌+◌, ◌-◌, ◌*◌, ◌%◌, ◌<◌, ◌≤◌, List, [], ◌∷◌, ◌++◌, length, map, take, drop, set, get_or, refl, sym, ap, ◌∙◌, arith, take_all, length-drop, zero-add, add-one, suc-add, bit_xor}
 use borrow.Rule.Slice.PartMut.{put_mid}
 use Rattle.std.specs.List.{range_with_len}
@@ -39,7 +39,7 @@ drawn-more n g =
 pub drawn-drawn : (a b : ℕ) (g : Lcg) → drawn a (drawn b g) ≡ drawn (b + a) g
 drawn-drawn a b g = ap (λ (s : ℕ). record g { state = s }) (state-behind 64 multiplier_64 g.increment a b g.state)
 
--- what a generator that stands behind `n` draws gives, and where it stands then
+-- what a generator that follows `n` draws gives, and where it stands then
 pub given : (n : ℕ) (g at now : Lcg) (word : ℕ) → at ≡ drawn n g → (word, now) ≡ pcg32 at → word ≡ draw g n
 given n g at now word is drew = ap (λ (p : ℕ × Lcg). p.0) drew ∙ ap (λ (h : Lcg). (pcg32 h).0) is
 
@@ -110,13 +110,13 @@ draws-more column hits g at now is drew =
 
 -- ---- units
 
--- what is written behind the marker
+-- what is written after the marker
 pub behind-marker : (unit codeblock : List ℕ) → put_mid 4 (length unit - 4) unit codeblock ≡ take 4 unit ++ codeblock
 behind-marker unit codeblock =
     ap (λ (l : List ℕ). take 4 unit ++ (codeblock ++ l)) (drop_all (length unit - 4) (drop 4 unit) (omega (arith, length-drop 4 unit)))
     ∙ ap (λ (l : List ℕ). take 4 unit ++ l) (append-nil codeblock)
 
--- the codeblock behind the marker is changed
+-- the codeblock after the marker is changed
 pub unit-is : (c : Configuration) (hits : ℕ) (g behind : Lcg) (frame unit now codeblock : List ℕ) → frame ≡ drawn_octets c.frame_length g → unit ≡ cadu c frame
     → behind ≡ drawn c.frame_length g → codeblock ≡ changed_columns c c.depth hits behind (drop 4 unit) → now ≡ take 4 unit ++ codeblock
     → now ≡ generated_unit c hits g

@@ -56,7 +56,7 @@ abbrev OneHanded : Type 0
 OneHanded = (c : Configuration) (octets : List ℕ) (handed others : List (Handed ItemValue)) (bits count : ℕ) → IsAccepted c
     → AreReceived c octets handed bits → AreReceived c octets others count → handed ≡ others
 
--- the phase of what is sent for octets, and of that turned over
+-- the phase of what is sent for octets, and of that complemented
 abbrev SentPhase : Type 0
 SentPhase = (c : Configuration) (octets : List ℕ) (chosen : Option Chosen) → c.skip ≡ 0 → IsChosen c (sent c octets) chosen → chosen ≡ sent_phase c
 
@@ -85,7 +85,7 @@ SentFrames = (c : Configuration) (phase : ℕ) (octets : List ℕ) (bits : List 
     → IsAccepted c → Inner c phase octets bits → IsSent c bits units last → Receive c phase octets items
     → AreNear c (unit_places c units) units → frames_of items ≡ unit_frames units
 
--- the items of octets turned over, with no inner code and of symbols at rate 1/2
+-- the items of octets complemented, with no inner code and of symbols at rate 1/2
 abbrev TurnedItems : Type 0
 TurnedItems = (c : Configuration) (phase : ℕ) (octets : List ℕ) (items : List ItemValue) → IsAccepted c
     → c.inner ≡ None → c.polarity ≡ Find → AreOctets octets
@@ -96,7 +96,7 @@ TurnedSymbols = (c : Configuration) (octets : List ℕ) (items : List ItemValue)
     → c.polarity ≡ Find → c.start ≡ Any → c.skip ≡ 0 → AreOctets octets
     → Receive c 0 (turned_octets (sent c octets)) items → items ≡ map turned_item (clean_items c 0 (whole_frames c.frame_length octets))
 
--- ---- no column is beyond repair
+-- ---- no column is uncorrectable
 
 all-fixed : (count : ℕ) → are_fixed (replicate count (Fixed 0)) ≡ true
 all-fixed zero = refl
@@ -193,7 +193,7 @@ items_of-turn None items = items_of-items items
 items_of-turn (Some chosen) items = items_of-items items
 
 -- What `decode` wrote for octets with this phase: the frames and the report of the items that are received. Where none of these has a
--- column beyond repair, the status is 0.
+-- column uncorrectable, the status is 0.
 record Came (status : ℕ) (c : Configuration) (octets : List ℕ) (chosen : Option Chosen) (taken taken_now noted noted_now : Option (List ℕ)) : Type 0 where
   bits : List Bool
   items : List ItemValue
@@ -203,7 +203,7 @@ record Came (status : ℕ) (c : Configuration) (octets : List ℕ) (chosen : Opt
   notes : Wrote noted noted_now (report_text (in_turn chosen items) (length bits))
   good : bad items ≡ 0 → status ≡ 0
 
--- the status is 0 where nothing is beyond repair
+-- the status is 0 where nothing is uncorrectable
 good-status : (e : Ending) (status : ℕ) (c : Configuration) (octets : List ℕ) (taken taken_now noted noted_now : Option (List ℕ))
     → status ≡ status_of e → Ends e (decode_meaning c) c.limit octets (taken_by taken taken_now noted noted_now) → (status ≡ 0) ⊎ (status ≡ 1) → (HasBad c octets → ⊥) → status ≡ 0
 good-status Done status c octets taken taken_now noted noted_now told ends read good = told

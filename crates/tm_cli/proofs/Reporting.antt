@@ -17,7 +17,7 @@ use Rattle.tm_cli.specs.Report.{fixed_of, good, bad, handed_item_text, items_tex
 use Rattle.tm_cli.specs.Taken.{no_counts, number_of, ReportedHanded, ReportedAll, ReportBroke, handed_frames, DecodingBrokeAt, DecodingBroke}
 use Rattle.tm_cli.specs.declared.counts.Counts.{Counts}
 
--- in front of what a taker failed at there are no more items than in all
+-- before what a taker failed at there are no more items than in all
 pub front-few : {I : Type 0} (handed front rest : List (Handed I)) (next : Handed I) → handed ≡ front ++ next ∷ rest → length (items_of front) ≤ length (items_of handed)
 front-few handed front rest next split =
     let all : items_of handed ≡ items_of front ++ items_of (next ∷ rest) = ap items_of split ∙ items_of-append front (next ∷ rest) in
@@ -42,7 +42,7 @@ items_text-append n (Item x ∷ xs) ys =
 pub items_text-split : (xs ys : List (Handed ItemValue)) → items_text 0 (xs ++ ys) ≡ items_text 0 xs ++ items_text (length (items_of xs)) ys
 items_text-split xs ys = let n : 0 + length (items_of xs) ≡ length (items_of xs) = omega arith in items_text-append 0 xs ys ∙ ap (λ m. items_text 0 xs ++ items_text m ys) n
 
--- one line stands before those behind it
+-- one line stands before those after it
 text-behind : (n : ℕ) (next : Handed ItemValue) (rest : List (Handed ItemValue)) → (more : List ℕ) × (items_text n (next ∷ rest) ≡ handed_item_text n next ++ more)
 text-behind n (Phase skip cost) rest = (items_text n rest, refl)
 text-behind n (Item item) rest = (items_text (n + 1) rest, refl)
@@ -124,7 +124,7 @@ report-wrote lines counts handed a b new few over =
     let fixed_none : (counts a).fixed ≡ 0 = ap (λ (k : Counts). k.fixed) new in
     subst (λ k. ReportedAll (lines a) (lines b) k (counts b) handed) new (reported-all lines counts handed a b over (omega arith) (omega arith))
 
--- the number of the item behind those that were counted
+-- the number of the item after those that were counted
 next-number : (before now : SinkState) (counts : Counts) (handed : List (Handed ItemValue)) → ReportedAll before now no_counts counts handed → length (items_of handed) < 2 ^ 53
     → number_of counts ≡ length (items_of handed)
 next-number before now counts handed all few =

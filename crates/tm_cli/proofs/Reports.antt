@@ -136,7 +136,7 @@ abbrev pub OneList : Type 0
 OneList = (c : Configuration) (octets : List ℕ) (handed others : List (Handed ItemValue)) (bits count : ℕ) → IsAccepted c
     → AreReceived c octets handed bits → AreReceived c octets others count → handed ≡ others
 
--- what is due stands first, whatever octets come behind
+-- what is due stands first, whatever octets follow
 abbrev pub DueFirst : Type 0
 DueFirst = (c : Configuration) (octets more : List ℕ) (due all : List (Handed ItemValue)) (bits : ℕ) → IsAccepted c
     → AreReceivedDue c octets due → AreReceived c (octets ++ more) all bits → (rest : List (Handed ItemValue)) × (all ≡ due ++ rest)

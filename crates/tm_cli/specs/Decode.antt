@@ -27,7 +27,7 @@ pub record IsDecodedDue (c : Configuration) (octets : List ℕ) (frames lines : 
   pub are_frames : frames ≡ handed_frames handed
   pub are_lines : lines ≡ items_text 0 handed
 
--- a codeblock that was received with these octets has a column beyond repair
+-- a codeblock that was received with these octets has an uncorrectable column
 abbrev pub HasBad : Configuration → List ℕ → Type 0
 HasBad c octets = (handed : List (Handed ItemValue)) × ((bits : ℕ)
     × AreReceived c octets handed bits) × (bad (items_of handed) ≡ 0 → ⊥)
@@ -44,7 +44,7 @@ next_line prefix (next ∷ rest) bits = handed_item_text (length (items_of prefi
 
 -- The output took the frames of the first of what was handed over, and the notes their lines, and
 -- no more but a part of what comes next: of the next frame or, once the output has taken that, of
--- its line. Behind the last this is the end of the report.
+-- its line. After the last this is the end of the report.
 pub record AreInOrder (handed : List (Handed ItemValue)) (bits : ℕ) (taken : Taken) : Type 0 where
   pub prefix : List (Handed ItemValue)
   pub rest : List (Handed ItemValue)

@@ -32,7 +32,7 @@ changed place change octets = slice_set octets place (bit_xor (slice_index octet
 
 -- A codeblock with so many changes in a column. The first draw says at which symbol of the column
 -- they begin; they stand one after the other, and after the last symbol they go on at the first.
--- Each has a draw of its own for the bits that it turns over, one at least.
+-- Each has a draw of its own for the bits that it complements, one at least.
 unfoldable pub changed_column : Configuration → (column hits : ℕ) → Lcg → List ℕ → List ℕ
 changed_column c column zero g codeblock = codeblock
 changed_column c column (suc k) g codeblock =

@@ -14,7 +14,7 @@ marker_text bridged distance inverted =
     (if bridged then codes " bridged " else codes " marker ") ++ decimal distance ++
     (if inverted then codes " inverted" else [])
 
--- what became of a column: how many symbols were repaired, or x where it is beyond repair
+-- what became of a column: how many symbols were repaired, or x where it is uncorrectable
 abbrev pub answer_text : Answer → List ℕ
 answer_text (Fixed count) = codes " " ++ decimal count
 answer_text Beyond = codes " x"
@@ -31,7 +31,7 @@ item_text number item =
     ++ marker_text item.found.bridged item.found.distance item.found.inverted
     ++ answers_text item.answers ++ 10 ∷ []
 
--- the end of a report: the codeblocks without and with a column beyond repair, the symbols
+-- the end of a report: the codeblocks without and with an uncorrectable column, the symbols
 -- repaired, and the bits received
 abbrev pub report_end_text : (good bad fixed bits : ℕ) → List ℕ
 report_end_text good bad fixed bits =

@@ -29,7 +29,7 @@ KeepsCleanLink status c octets taken taken_now noted noted_now =
     (in_turn (sent_phase c) (clean_items c 0 (whole_frames c.frame_length input))) (8 * length
     (cadus c input)))
 
--- Where the octets behind the phase come to the bits of units, however disturbed and with gaps
+-- Where the octets after the phase come to the bits of units, however disturbed and with gaps
 -- between them, the output is the frames, and the notes are the report, of items that stand exactly
 -- at the units' markers. Where no codeblock is disturbed beyond the repair bound, the output is the
 -- frames that were sent, in order, and the status is 0.
@@ -44,7 +44,7 @@ KeepsDisturbedLink status c octets taken taken_now noted noted_now =
     × (AreNear c (unit_places c units) units → (status ≡ 0)
     × Wrote taken taken_now (unit_frames units))
 
--- With no inner code and inverted markers, the octets turned over, each 255 less what it was, have
+-- With no inner code and inverted markers, the octets complemented, each 255 less what it was, have
 -- the same frames, and the report says of each codeblock that it was received in the other polarity.
 abbrev pub KeepsTurnedInput : Configuration → List ℕ
     → (taken taken_now noted noted_now : Option (List ℕ)) → Type 0
@@ -56,7 +56,7 @@ KeepsTurnedInput c octets taken taken_now noted noted_now =
     × Wrote noted noted_now (report_text (in_turn chosen (map turned_item items)) (length bits))
 
 -- At rate 1/2 with inverted markers, where paths start from any register and none is skipped, the
--- symbols that `encode` sends for an input, each turned over, come back as its whole frames, each
+-- symbols that `encode` sends for an input, each complemented, come back as its whole frames, each
 -- in the other polarity and with nothing wrong, and the status is 0.
 abbrev pub KeepsTurnedSymbols : ℕ → Configuration → List ℕ
     → (taken taken_now noted noted_now : Option (List ℕ)) → Type 0

@@ -78,7 +78,7 @@ pub record ReceivedAll {T : Type 0} (took : T → Handed ItemValue → T
   pub within : length octets ≤ c.limit
 
 -- How receiving ended, and what was taken then: all of the octets, and the end of their report,
--- which says whether nothing in them is beyond repair; what is due for them; or a part, or all and
+-- which says whether nothing in them is uncorrectable; what is due for them; or a part, or all and
 -- a part of that end.
 abbrev pub ReceivedTo : {T : Type 0} → (took broke : T → Handed ItemValue → T → Type 0)
     → (told : T → ℕ → Bool → T → Type 0) → (broke_end : T → ℕ → T → Type 0)

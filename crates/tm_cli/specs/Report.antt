@@ -7,7 +7,7 @@ use Rattle.tm_channel.specs.Items.{ItemValue, are_fixed}
 use Rattle.tm_driver.specs.Lines.{phase_text}
 use Rattle.tm_cli.specs.Lines.{item_text, report_end_text}
 
--- how many codeblocks have no column beyond repair
+-- how many codeblocks have no uncorrectable column
 abbrev pub good : List ItemValue → ℕ
 good [] = 0
 good (item ∷ items) = (if are_fixed item.answers then 1 else 0) + good items
@@ -23,7 +23,7 @@ fixed_of [] = 0
 fixed_of (Fixed count ∷ answers) = count + fixed_of answers
 fixed_of (Beyond ∷ answers) = fixed_of answers
 
--- the sum of all counts, those of codeblocks with a column beyond repair too
+-- the sum of all counts, those of codeblocks with an uncorrectable column too
 abbrev pub fixed : List ItemValue → ℕ
 fixed [] = 0
 fixed (item ∷ items) = fixed_of item.answers + fixed items

@@ -51,8 +51,8 @@ pub record HasNoFault (call : Call) : Type 0 where
   pub out : Rose call.out.faults call.out_now.faults call.out_last → ⊥
   pub notes : Rose call.notes.faults call.notes_now.faults call.notes_last → ⊥
 
--- At a fault of a sink `encode` stops: the output failed, the end of the input was not told yet and
--- the notes are as they were; or the notes failed, and all was read and sent.
+-- At a fault of a sink `encode` stops: the output failed, the end of the input was not reported yet
+-- and the notes are as they were; or the notes failed, and all was read and sent.
 abbrev pub StopsEncoding : Call → Type 0
 StopsEncoding call =
     (SinkCourse true call.out call.out_now call.out_last
@@ -76,9 +76,10 @@ pub record Answers (status : ℕ) (command : Command) (c : Configuration) (call 
   pub sinks : SinksCourse
       (is_sink_fault ending) call.out call.out_now call.out_last call.notes call.notes_now call.notes_last
   pub stops : command ≡ Encode → ending ≡ SinkFault → StopsEncoding call
-  -- status 1 of `check` tells a window that fails alone, and so how little was read after it
+  -- status 1 of `check` says of a window alone that it fails, and so how little was read after it
   pub by_window : command ≡ Check → ending ≡ Bad → ⊥
-  -- without a fault; and where the source tells its input, which is whole and within the limit
+  -- without a fault; and where the source says which its input is, which is whole and within the
+  -- limit
   pub complete : HasNoFault call → (status ≡ 0) ⊎ (status ≡ 1) ⊎ (status ≡ 6) ⊎ (status ≡ 7)
   pub whole_input : (input : List ℕ) → call.source.left ≡ Some input → length input ≤ c.limit
       → ((meaning_of command c).is_partial input → ⊥)
@@ -99,8 +100,8 @@ pub record Answers (status : ℕ) (command : Command) (c : Configuration) (call 
   pub passes : command ≡ Check
       → PassesCertified status c octets call.notes.taken call.notes_now.taken
 
--- The words are refused: the notes took the line with the first reason and told no fault, or they
--- failed and took a prefix of it.
+-- The words are refused: the notes took the line with the first reason and reported no fault, or
+-- they failed and took a prefix of it.
 pub record IsRefused (words : List Text) (notes notes_now : SinkState)
     (notes_last : Type 0) : Type 0 where
   pub why : Refusal

@@ -10,11 +10,11 @@ use tm_channel::Answer;
 /// What a report counts. Each count stops at 2^64-1.
 #[derive(Clone, Copy, Debug, PartialEq, Eq)]
 pub struct Counts {
-    /// The codeblocks without a column beyond repair.
+    /// The codeblocks without an uncorrectable column.
     pub good: u64,
     /// The codeblocks with one.
     pub bad: u64,
-    /// The symbols repaired, those of codeblocks with a column beyond repair too.
+    /// The symbols repaired, those of codeblocks with an uncorrectable column too.
     pub fixed: u64,
 }
 
@@ -50,7 +50,7 @@ impl Counts {
     }
 }
 
-// Whether no answer is that its column is beyond repair.
+// Whether no answer is that its column is uncorrectable.
 fn are_fixed(answers: &[Answer]) -> bool
     ensures { result ≡ are_fixed answers.now }
 {

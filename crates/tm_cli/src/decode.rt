@@ -15,8 +15,8 @@ use tm_driver::Ending;
 
 /// Writes the frame of each codeblock that is found in the soft octets of the source, up to the limit in octets, and
 /// after it a line of the report on the notes; at the end of the input it writes the end of the report. Where the
-/// symbol phase is to be found, its line comes first on the notes. `Bad` comes where a codeblock has a column beyond
-/// repair. After a fault nothing more is read or written. It takes all its memory before it reads.
+/// symbol phase is to be found, its line comes first on the notes. `Bad` comes where a codeblock has an uncorrectable
+/// column. After a fault nothing more is read or written. It takes all its memory before it reads.
 pub fn decode<R: Threads + Sync, S: Source, O: Sink, N: Sink>(
     rt: &R,
     alloc: Global,

@@ -9,7 +9,7 @@ use tm_base::{Failed, Sink, Source};
 use tm_channel::{Config, Sender};
 use tm_driver::{Ending, Feed, Outcome, Stop, drive, tell_rest};
 
-// A sender, where it writes, and where what is left over is told.
+// A sender, where it writes, and where what is left over is reported.
 struct Encoding<'a, 'b, 'c, O, N> {
     sender: &'a mut Sender,
     out: &'b mut O,
@@ -84,7 +84,7 @@ impl<'a, 'b, 'c, O: Sink, N: Sink> Feed for Encoding<'a, 'b, 'c, O, N> {
     }
 }
 
-/// Sends the frames of the source, up to the limit in octets, and at the end of the input tells on the notes how many
+/// Sends the frames of the source, up to the limit in octets, and at the end of the input reports on the notes how many
 /// octets are left over after the last whole frame. After a fault nothing more is read or written.
 pub fn encode<S: Source, O: Sink, N: Sink>(
     config: &Config,

@@ -13,7 +13,7 @@ use crate::lines::frames_line;
 use tm_base::{Failed, Sink};
 
 /// Writes the end of the report of `bits` received bits, whose items gave these counts and whose lines the sink has
-/// taken. Answers whether none of them has a column beyond repair.
+/// taken. Answers whether none of them has an uncorrectable column.
 pub fn end_report<N: Sink>(lines: &mut N, counts: Counts, bits: u64) -> Result<bool, Failed>
     ensures whole { IfOk result (λ is_good. (start : SinkState) (handed : List (Handed ItemValue))
         → ReportedAll start (sink_state (N.taken lines.old) (N.faults lines.old)) no_counts counts handed

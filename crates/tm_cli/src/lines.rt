@@ -63,8 +63,8 @@ fn add_answers(line: &mut Line, answers: &[Answer])
 
 /// Writes what was received at a place, the item of this number: `frame K at P marker D words A1 .. AI`, where
 /// `bridged` stands for `marker` at a place where none matched, ` inverted` after D of an inverted codeblock, x for a
-/// column beyond repair, and `uncoded` for the columns with no outer code. `Failed` comes only where the sink's count
-/// of faults rose.
+/// column that is uncorrectable, and `uncoded` for the columns with no outer code. `Failed` comes only where the sink's
+/// count of faults rose.
 pub fn frame_line<O: Sink>(out: &mut O, number: u64, item: &Item<'_>) -> Result<(), Failed>
     ensures ok { OnOk result (Wrote (O.taken out.old) (O.taken out.new) (item_text number item.now)) }
     ensures err { OnErr result (WroteFront (O.taken out.old) (O.taken out.new) (item_text number item.now)) }
@@ -81,8 +81,8 @@ pub fn frame_line<O: Sink>(out: &mut O, number: u64, item: &Item<'_>) -> Result<
     line.put(out)
 }
 
-/// Writes the end of a report: `frames G bad B fixed S bits N`, with the codeblocks without and with a column beyond
-/// repair, the symbols repaired and the bits received. `Failed` comes only where the sink's count of faults rose.
+/// Writes the end of a report: `frames G bad B fixed S bits N`, with the codeblocks without and with an uncorrectable
+/// column, the symbols repaired and the bits received. `Failed` comes only where the sink's count of faults rose.
 pub fn frames_line<O: Sink>(
     out: &mut O,
     good: u64,

@@ -15,13 +15,13 @@ use tm_driver::{Ending, Feed, Outcome, Stop, drive};
 
 /// Takes the end of a report, after its items.
 pub trait ReportEnd {
-    /// The end of the report of so many bits was written, and whether no column was beyond repair.
+    /// The end of the report of so many bits was written, and whether no column was uncorrectable.
     ghost told: { Self → ℕ → Bool → Self → Type 0 };
 
     /// A sink failed in it.
     ghost broke_end: { Self → ℕ → Self → Type 0 };
 
-    /// Writes the end of the report of so many bits. Answers whether no column was beyond repair.
+    /// Writes the end of the report of so many bits. Answers whether no column was uncorrectable.
     fn end(&mut self, bits: u64) -> Result<bool, Failed>
         ensures told { IfOk result (λ is_good. told self.old bits is_good self.new) }
         ensures broke { OnErr result (broke_end self.old bits self.new) };

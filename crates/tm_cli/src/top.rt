@@ -28,7 +28,7 @@ use tm_path_commands::certificate_law;
 ///   symbol phase where it is to be found.
 /// - `bits` writes to `out` the received bits, eight an octet, and to the notes a line for the symbol phase where it is
 ///   to be found, and one for all.
-/// - `erased` repairs words with erased symbols, each an octet a symbol and a flag for each behind them, and writes a
+/// - `erased` repairs words with erased symbols, each an octet a symbol and a flag for each after them, and writes a
 ///   line for each to `out`: `fixed A B HEX`, or `beyond`.
 /// - `certify` writes to `out` a certificate of the windows of the soft decoder, which shows that no path costs less
 ///   than theirs.
@@ -40,11 +40,11 @@ use tm_path_commands::certificate_law;
 ///   the end of the report to `out`.
 ///
 /// The last two read nothing and write no notes. The others read in turns of at most 4,096 octets, never more than one
-/// octet past the limit, and nothing behind the end of the input or a fault. Words are repaired by so many workers as
+/// octet past the limit, and nothing after the end of the input or a fault. Words are repaired by so many workers as
 /// they are asked for. Answers the exit status, of 3, 4 and 7 the one that occurs first:
 ///
 /// - 0: the source was read to its end by a command that reads, and the whole output is written.
-/// - 1: the same, and a codeblock that `decode`, `report` or `soak` found has a column beyond repair, or the word of
+/// - 1: the same, and a codeblock that `decode`, `report` or `soak` found has an uncorrectable column, or the word of
 ///   `word` or of a record is. Or a window of the certificate of `check` fails: nothing more is read, and the notes get
 ///   the line `bad ` with its number and the reason.
 /// - 2: the words are refused. Nothing is read, and `out` stays as it was; the notes get the line `refused: ` with the
@@ -53,7 +53,7 @@ use tm_path_commands::certificate_law;
 /// - 4: `out` or `notes` failed, and nothing more is read or written. What was written is a prefix of the output.
 /// - 5: there was not enough memory. Nothing is read or written.
 /// - 6: the input of `encode` is not whole frames, or that of `erased` not whole records. All is written for those that
-///   are, and the notes get the line `left over ` with the number of octets behind them. Or the certificate of `check`
+///   are, and the notes get the line `left over ` with the number of octets after them. Or the certificate of `check`
 ///   ends inside of a window or where one is missing, and the notes get the line `cut at block ` with its number.
 /// - 7: the source gave an octet past the limit. What is due for the octets up to the limit is written.
 pub fn run<R: Threads + Sync, S: Source, O: Sink, N: Sink>(

@@ -1,4 +1,4 @@
-// The forms of the lines, what the takers write behind one another, and sinks that fail.
+// The forms of the lines, what the takers write after one another, and sinks that fail.
 use std::alloc::{AllocError, Global};
 use std::process::Abort;
 use std::test::Fail;
@@ -164,7 +164,7 @@ fn sink(rt: &impl Abort, alloc: Global, room: usize) -> MemSink {
     MemSink::new(alloc, room, Vec::new(alloc)).expect(rt, "memory")
 }
 
-// The lines, one behind another.
+// The lines, one after another.
 fn lines_of(alloc: Global, rows: &[Row]) -> Result<Vec<u8>, AllocError> {
     let mut text = Vec::new(alloc);
     for row in rows {

@@ -56,7 +56,7 @@ splits size octets pos =
       partial = let below = mod_below (length octets) size pos in omega (arith, length-drop (length octets / size * size) octets, div-add-mod' (length octets) size);
     }
 
--- what comes behind goes on from the octets that are held
+-- what comes after goes on from the octets that are held
 pub splits-more : (size : ℕ) (octets more held rest : List ℕ) (frames others : List (List ℕ)) → Splits size octets frames held → Splits size (held ++ more) others rest → Splits size (octets ++ more) (frames ++ others) rest
 splits-more size octets more held rest frames others s t = record {
   whole = ap (λ l. l ++ more) s.whole ∙ append_assoc (concat frames) held more ∙ ap (λ l. concat frames ++ l) t.whole ∙ sym (append_assoc (concat frames) (concat others) rest) ∙ ap (λ l. l ++ rest) (sym (concat-append frames others));

@@ -55,7 +55,7 @@ bit-more extra p v byte b few is value =
     low_bits-same (extra + 1) v x (ap (λ n. n % 2 ^ (extra + 1)) octet ∙ ap (λ n. x % 2 ^ n % 2 ^ (extra + 1)) eight ∙ mod-mod-pow x (7 - extra) (extra + 1))
     ∙ ap (λ n. low_bits n x) next ∙ low_bits-push extra p b
 
--- a bit behind the whole octets
+-- a bit after the whole octets
 pub push-part : (octets : List ℕ) (extra p v byte : ℕ) (b : Bool) → extra < 8 → byte ≡ bool_byte b → v ≡ bit_or (p * 2 % 256) byte
     → bits_of octets ++ low_bits (extra + 1) v ≡ (bits_of octets ++ low_bits extra p) ++ b ∷ []
 push-part octets extra p v byte b few is value =
@@ -112,18 +112,18 @@ gathered octets whole extra p bits view long most =
     let kept = length-take-le whole octets (omega arith) in
     omega arith
 
--- no bits stand behind the whole octets
+-- no bits follow the whole octets
 pub none-behind : (bits view : List Bool) (extra p : ℕ) → extra ≡ 0 → bits ++ low_bits extra p ≡ view → bits ≡ view
 none-behind bits view extra p none is = sym (append-nil bits) ∙ ap (λ l. bits ++ l) (sym (ap (λ n. low_bits n p) none ∙ low_bits-zero p)) ∙ is
 
--- octets behind whole ones
+-- octets after whole ones
 pub push-octets : (octets piece now : List ℕ) (extra p : ℕ) → extra ≡ 0 → now ≡ octets ++ piece → bits_of now ++ low_bits extra p ≡ (bits_of octets ++ low_bits extra p) ++ bits_of piece
 push-octets octets piece now extra p none grows =
     let nothing : low_bits extra p ≡ [] = ap (λ n. low_bits n p) none ∙ low_bits-zero p in
     ap (λ l. bits_of now ++ l) nothing ∙ append-nil (bits_of now) ∙ ap bits_of grows ∙ bits_of-append octets piece
     ∙ ap (λ l. l ++ bits_of piece) (sym (append-nil (bits_of octets)) ∙ ap (λ l. bits_of octets ++ l) (sym nothing))
 
--- one octet more behind others
+-- one octet more after others
 pub octets-more : (bits : List Bool) (octets : List ℕ) (x : ℕ) → (bits ++ bits_of octets) ++ bits_of_octet x ≡ bits ++ bits_of (octets ++ x ∷ [])
 octets-more bits octets x =
     append_assoc bits (bits_of octets) (bits_of_octet x)

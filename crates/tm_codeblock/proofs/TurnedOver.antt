@@ -1,4 +1,4 @@
--- Octets whose bits are turned over.
+-- Octets whose bits are complemented.
 use Rattle.std.proofs.Common.{◌≡◌, ℕ, zero, suc, ◌+◌, ◌-◌, ◌*◌, ◌/◌, ◌%◌, ◌^◌, ◌<◌, ◌==◌, Bool, true, false, List, [], ◌∷◌, ◌++◌, length, map, get_or, refl, sym, ap, ◌∙◌, arith}
 use Rattle.std.proofs.lemmas.List.{map-append}
 use Rattle.std.proofs.lemmas.List.Elements.{All-cons}
@@ -30,7 +30,7 @@ flipped (suc count) x small =
     ∙ sym (map-append flip (low_bits count h) (b ∷ []))
     ∙ ap complement (sym (ap (low_bits (suc count)) first ∙ low_bits-push count h b))
 
--- each octet's bits are turned over
+-- each octet's bits are complemented
 abbrev pub all_turned : List ℕ → List ℕ
 all_turned octets = map (λ x. 255 - x) octets
 

@@ -1,4 +1,4 @@
--- The channel access data unit of a transfer frame: its codeblock behind the attached sync marker
+-- The channel access data unit of a transfer frame: its codeblock after the attached sync marker
 -- (CCSDS 131.0-B, Reed-Solomon Coding, Pseudo-Randomizer and Frame Synchronization).
 use Rattle.std.specs.Prelude.{ℕ, if◌then◌else◌, List, ◌++◌, map}
 use Rattle.std.specs.List.{range_with_len}

@@ -1,4 +1,4 @@
--- The transfer frames of a stream of octets: one behind the other, each of `size` octets.
+-- The transfer frames of a stream of octets: one after the other, each of `size` octets.
 use Rattle.std.specs.Prelude.{◌≡◌, ℕ, zero, suc, ◌*◌, ◌/◌, ◌<◌, List, [], ◌∷◌, ◌++◌, length, take, drop}
 use Rattle.std.specs.List.{AllByRecursion, concat}
 
@@ -11,7 +11,7 @@ first_frames size (suc count) octets = take size octets ∷ first_frames size co
 unfoldable pub whole_frames : ℕ → List ℕ → List (List ℕ)
 whole_frames size octets = first_frames size (length octets / size) octets
 
--- the octets behind the last whole frame
+-- the octets after the last whole frame
 abbrev pub behind_frames : ℕ → List ℕ → List ℕ
 behind_frames size octets = drop (length octets / size * size) octets
 

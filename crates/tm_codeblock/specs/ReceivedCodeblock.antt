@@ -29,7 +29,7 @@ unmasked c octets = if c.randomize then masked octets else octets
 unfoldable pub codeblock_in : Configuration → Bool → List Bool → List ℕ
 codeblock_in c inverted bits = unmasked c (octets_of (in_polarity inverted bits))
 
--- the codeblock behind the marker of a place
+-- the codeblock after the marker of a place
 abbrev pub codeblock_at : Configuration → List Bool → Found → List ℕ
 codeblock_at c bits f = codeblock_in c f.inverted
     (take (8 * codeblock_length c) (drop (f.place + 32) bits))

@@ -1,4 +1,4 @@
-// Channel access data units: a frame's codeblock, randomized, behind the attached sync marker.
+// Channel access data units: a frame's codeblock, randomized, after the attached sync marker.
 ghost use Rattle.std.specs.Prelude.{◌≡◌, ◌≢◌, ℕ, ◌+◌, ◌-◌, ◌*◌, ◌<◌, ◌≤◌, ◌++◌, length, true, false};
 ghost use Rattle.tm_config.specs.Accepted.{IsAccepted};
 ghost use Rattle.tm_config.specs.Configuration.{correctable, word_length, codeblock_length};
@@ -21,7 +21,7 @@ const MOST_DATA: usize = 239;
 // The most check symbols of a codeword.
 const MOST_CHECKS: usize = 32;
 
-/// Writes the channel access data unit of a frame: the attached sync marker, and behind it the codeblock, whose columns
+/// Writes the channel access data unit of a frame: the attached sync marker, and after it the codeblock, whose columns
 /// are the codewords of the frame's columns in the configured basis, randomized where that is on (CCSDS 131.0-B,
 /// Reed-Solomon Coding, Pseudo-Randomizer and Frame Synchronization). With no outer code the codeblock is the frame.
 /// The frame has as many octets as the configuration says, and `out` four more than the codeblock.
@@ -98,7 +98,7 @@ fn write_column(
     put_word(checks, depth, i, octets);
 }
 
-// The octets of the check symbols behind those of a column of data.
+// The octets of the check symbols after those of a column of data.
 fn column_checks(params: &Params, basis: Basis, word: &[u8], out: &mut [u8])
     requires word { length word.now + 2 * params.now.e ≡ params.now.n }
     requires room { length out.old ≡ 2 * params.now.e }

@@ -9,7 +9,7 @@ use std::marker::Model;
 pub struct Gathering {
     octets: [u8; 2040],
     whole: usize,
-    // The bits behind the last whole octet are the lowest `extra` ones of this octet.
+    // The bits after the last whole octet are the lowest `extra` ones of this octet.
     partial: u8,
     extra: u32,
 }
@@ -112,7 +112,7 @@ impl Gathering {
     }
 }
 
-// The lowest `extra` bits of an octet, and behind them the first ones of the next octet.
+// The lowest `extra` bits of an octet, and after them the first ones of the next octet.
 fn joined(partial: u8, next: u8, extra: u32) -> u8
     requires { extra < 8 }
     ensures { low_bits 8 result ++ low_bits extra next ≡ low_bits extra partial ++ low_bits 8 next }

@@ -1,5 +1,5 @@
 //! Codeblocks, as they are sent and as they are received: the channel access data unit (CADU) of a transfer frame,
-//! which is its randomized codeblock behind the attached sync marker, the bits of a codeblock gathered into octets, and
+//! which is its randomized codeblock after the attached sync marker, the bits of a codeblock gathered into octets, and
 //! the codeblock that received octets are (CCSDS 131.0-B, Reed-Solomon Coding, Pseudo-Randomizer and Frame
 //! Synchronization).
 #![tactic(auto)]

@@ -9,7 +9,7 @@ use crate::cadus::is_randomized;
 use tm_config::{Config, Sought};
 use tm_random::mask;
 
-/// Writes the codeblock that was received as these octets: turned over where it was received inverted, and with the
+/// Writes the codeblock that was received as these octets: complemented where it was received inverted, and with the
 /// randomizer taken off where it is on (CCSDS 131.0-B, Pseudo-Randomizer). `codeblock` is as long as `received`.
 pub fn read_codeblock(config: &Config, inverted: bool, received: &[u8], codeblock: &mut [u8])
     requires { length codeblock.old ≡ length received.now }

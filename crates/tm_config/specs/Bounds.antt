@@ -17,7 +17,7 @@ longest_codeblock = 2040
 abbrev pub most_tolerance : ℕ
 most_tolerance = 8
 
--- the most symbols that are dropped from the front
+-- the most symbols that are dropped first
 abbrev pub most_skip : ℕ
 most_skip = 15
 

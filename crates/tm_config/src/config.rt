@@ -187,7 +187,7 @@ impl Config {
         }
     }
 
-    /// How many soft symbols, or bits where there is no inner code, are dropped from the front.
+    /// How many soft symbols, or bits where there is no inner code, are dropped first.
     pub fn skip(&self) -> u64
         ensures value { result ≡ self.now.skip }
         ensures accepted { IsAccepted self.now }

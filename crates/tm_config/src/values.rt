@@ -31,7 +31,7 @@ pub struct Raw {
     pub soft: u64,
     /// Where the inner decoder's paths start: 0 for register zero, 1 for any register.
     pub start: u64,
-    /// How many soft symbols, or bits where there is no inner code, are dropped from the front: up to 15.
+    /// How many soft symbols, or bits where there is no inner code, are dropped first: up to 15.
     pub skip: u64,
     /// How many workers decode: 1 to 64.
     pub workers: u64,
@@ -134,7 +134,7 @@ pub struct Values {
     pub soft: SoftForm,
     /// Where the inner decoder's first path starts.
     pub start: Start,
-    /// How many soft symbols, or bits where there is no inner code, are dropped from the front.
+    /// How many soft symbols, or bits where there is no inner code, are dropped first.
     pub skip: u64,
     pub workers: u64,
     /// The most octets that are read.

@@ -66,7 +66,7 @@ at_seven_eighths (suc (suc (suc (suc (suc zero))))) lt = record { long = refl; s
 at_seven_eighths (suc (suc (suc (suc (suc (suc zero)))))) lt = record { long = refl; small = below (get_or KEPT 17 []) refl; at_most = omega arith; kept = λ f invert register a b c d e g h i. refl }
 at_seven_eighths (suc (suc (suc (suc (suc (suc (suc phase))))))) lt = absurd (omega arith)
 
--- the places behind an octet, in the rows of a rate
+-- the places after an octet, in the rows of a rate
 abbrev pub AreNext : ℕ → Rate → Type 0
 AreNext first rate = (phase : ℕ) → phase < period rate → get_or NEXT (first + phase) 0 ≡ (phase + 8) % period rate
 

@@ -103,7 +103,7 @@ least_more starts rate invert t steps last low octets here size step ways other 
     let sum = ap (total starts rate invert t (octets ++ here) other) whole ∙ total-push starts rate invert t steps bit other octets here fronts size long in
     omega (arith, sum, ways from bit other fronts (register_after-small other fronts is.register each) is_bit goes before)
 
--- a register is reached from two, 2 * (register % 32) and the one behind it, by the bit register / 32
+-- a register is reached from two, 2 * (register % 32) and the one after it, by the bit register / 32
 two_ways : (from bit last : ℕ) → from < 64 → bit < 2 → next_register from bit ≡ last
     → ((from ≡ 2 * (last % 32)) ⊎ (from ≡ 2 * (last % 32) + 1)) × (bit ≡ last / 32)
 two_ways from bit last small is_bit goes =

@@ -60,7 +60,7 @@ length-octet_bits octets = length-map (bits_of octets) bit_number ∙ length-bit
 bits-more : (octets : List ℕ) (i : ℕ) → i < length octets → octet_bits (take (i + 1) octets) ≡ octet_bits (take i octets) ++ bit_numbers (bits_of_octet (get_or octets i 0))
 bits-more octets i within = ap octet_bits (take_more octets i 0 within) ∙ octet_bits-push (take i octets) (get_or octets i 0)
 
--- the register behind one octet more
+-- the register after one octet more
 pub register-more : (register here : ℕ) (octets : List ℕ) (i : ℕ) → i < length octets → here ≡ register_after register (octet_bits (take i octets))
     → register_after here (bit_numbers (bits_of_octet (get_or octets i 0))) ≡ register_after register (octet_bits (take (i + 1) octets))
 register-more register here octets i within is =
@@ -68,7 +68,7 @@ register-more register here octets i within is =
     ∙ sym (register_after-append register (octet_bits (take i octets)) (bit_numbers (bits_of_octet (get_or octets i 0))))
     ∙ ap (register_after register) (sym (bits-more octets i within))
 
--- the place in the pattern behind one octet more
+-- the place in the pattern after one octet more
 pub place-more : (rate : Rate) (phase here i : ℕ) → here ≡ (phase + 8 * i) % period rate → (here + 8) % period rate ≡ (phase + 8 * (i + 1)) % period rate
 place-more rate phase here i is =
     ap (λ t. (t + 8) % period rate) is ∙ phase-more rate (phase + 8 * i) 8
@@ -90,7 +90,7 @@ path-more rate invert phase register place here octets i within at is =
     ∙ ap (λ l. path rate invert phase register bits ++ l)
     (path-phase rate invert (phase + length bits) place (register_after register bits) own same ∙ ap (λ r. path rate invert place r own) (sym is))
 
--- a vector's front behind what stands before it
+-- a vector's front after what stands before it
 stored : (out lanes : List ℕ) (count k kept : ℕ) → k ≡ 16 → length lanes ≡ 16 → kept ≤ 16 → count + 16 ≤ length out
     → take (count + kept) (put_mid count k out (put_chunk 0 (take k (drop count out)) lanes)) ≡ take count out ++ take kept lanes
 stored out lanes count k kept is long most room =

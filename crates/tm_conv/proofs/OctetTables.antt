@@ -39,7 +39,7 @@ at_below (suc n) p e k lt =
     let both = and_parts (p n) (all_below n p) e in
     elim (cases_eq k n) [ inl same ↦ ap p same ∙ both.0 | inr ne ↦ at_below n p both.1 k (omega arith) ]
 
--- the entries for a register and an octet give the octet's symbols and the register behind it
+-- the entries for a register and an octet give the octet's symbols and the register after it
 abbrev fits : ℕ → ℕ → Bool
 fits register octet =
     same (zip2 bit_xor (get_or FROM_REGISTER register []) (get_or FROM_OCTET octet [])) (levels 0 (path R12 false 0 register (bit_numbers (bits_of_octet octet))))
@@ -159,7 +159,7 @@ flip low symbol within = go (symbol == 0)
     go true = both.0
     go false = both.1
 
--- the same of a symbol that is turned over
+-- the same of a symbol that is complemented
 turn : (low symbol : ℕ) → low < 256 → symbol < 2 → bit_xor (level 0 symbol) (255 - low) ≡ level low (1 - symbol)
 turn low zero within bit = flip (255 - low) 0 (omega arith)
 turn low (suc zero) within bit = flip (255 - low) 1 (omega arith) ∙ omega arith
@@ -175,7 +175,7 @@ unfoldable pub flips : Bool → ℕ → List ℕ
 flips invert low =
     low ∷ second invert low ∷ low ∷ second invert low ∷ low ∷ second invert low ∷ low ∷ second invert low ∷ low ∷ second invert low ∷ low ∷ second invert low ∷ low ∷ second invert low ∷ low ∷ second invert low ∷ []
 
--- a second symbol, which inversion turns over
+-- a second symbol, which inversion complements
 flip-second : (invert : Bool) (low register bit : ℕ) → low < 256 → bit_xor (level 0 (c2 register bit)) (second invert low) ≡ level low (sent_c2 invert (c2 register bit))
 unfolding second
 flip-second false low register bit within = flip low (c2 register bit) within

@@ -28,7 +28,7 @@ pub record IsLeastTo (starts : ℕ → Bool) (rate : Rate) (invert : Bool) (t : 
   pub least : (other : ℕ) (others : List ℕ) → EndsIn rate invert t octets last other others
       → entry ≤ total starts rate invert t octets other others
 
--- the column behind the octets: the least total of a path to each of the 64 registers
+-- the column after the octets: the least total of a path to each of the 64 registers
 pub record IsColumn (starts : ℕ → Bool) (rate : Rate) (invert : Bool) (t : ℕ) (octets column : List ℕ) : Type 0 where
   pub long : length column ≡ 64
   pub each : (last : ℕ) → last < 64 → IsLeastTo starts rate invert t octets last (slice_index column last)

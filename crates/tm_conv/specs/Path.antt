@@ -8,11 +8,11 @@ use Rattle.tm_conv.specs.declared.rates.Rate.TheVariants.{R12, R23, R34, R56, R7
 abbrev pub AreBits : List ℕ → Type 0
 AreBits bits = All (λ bit. bit < 2) bits
 
--- each bit turned over
+-- each bit complemented
 abbrev pub complement : List ℕ → List ℕ
 complement bits = map (λ bit. 1 - bit) bits
 
--- the register behind a bit: the bit comes in at the top, and the oldest goes out
+-- the register after a bit: the bit comes in at the top, and the oldest goes out
 abbrev pub next_register : ℕ → ℕ → ℕ
 next_register register bit = register / 2 + 32 * bit
 
@@ -54,7 +54,7 @@ keeps_c1 rate t = is_kept (c1_pattern rate) t
 abbrev pub keeps_c2 : Rate → ℕ → Bool
 keeps_c2 rate t = is_kept (c2_pattern rate) t
 
--- the second sum as it is sent, turned over where inversion is on
+-- the second sum as it is sent, complemented where inversion is on
 abbrev pub sent_c2 : Bool → ℕ → ℕ
 sent_c2 invert sum = if invert then 1 - sum else sum
 
@@ -82,7 +82,7 @@ path rate invert t register [] = []
 path rate invert t register (bit ∷ bits) =
     step_symbols rate invert t register bit ++ path rate invert (t + 1) (next_register register bit) bits
 
--- the register behind these bits
+-- the register after these bits
 abbrev pub register_after : ℕ → List ℕ → ℕ
 register_after register [] = register
 register_after register (bit ∷ bits) = register_after (next_register register bit) bits

@@ -66,9 +66,9 @@ impl Encoder {
         symbols
     }
 
-    /// Takes the bits of octets, the most significant bit of each first, and writes their symbols to the front of `out`, each
+    /// Takes the bits of octets, the most significant bit of each first, and writes their symbols to the start of `out`, each
     /// as an octet: a 0 as the octet `low`, and a 1 as its complement. Answers how many symbols these are, at most 16 for each
-    /// octet. `out` has at least 16 octets for each octet; what stands behind the symbols there means nothing
+    /// octet. `out` has at least 16 octets for each octet; what follows the symbols there means nothing
     /// (CCSDS 131.0-B, Convolutional Coding).
     pub fn encode(&mut self, octets: &[u8], low: u8, out: &mut [u8]) -> usize
         requires room { 16 * length octets.now ≤ length out.old }

@@ -41,7 +41,7 @@ static COUNTS: [u8; 18] = [
     16, 12, 12, 11, 10, 11, 10, 9, 9, 10, 10, 10, 9, 9, 9, 9, 9, 9,
 ];
 
-// The place of the puncture pattern behind the octet.
+// The place of the puncture pattern after the octet.
 static NEXT: [u8; 18] = [0, 0, 1, 2, 0, 1, 3, 4, 0, 1, 2, 1, 2, 3, 4, 5, 6, 0];
 
 // The first row of a rate.
@@ -101,7 +101,7 @@ fn octet_symbols(
     )
 }
 
-// The register behind an octet, whatever it was before.
+// The register after an octet, whatever it was before.
 #[inline(always)]
 fn register_behind(octet: u8) -> u8
     ensures behind { (register : ℕ) → register < 64 → result ≡ register_after register (bit_numbers (bits_of_octet octet)) }
@@ -110,7 +110,7 @@ fn register_behind(octet: u8) -> u8
     REGISTER_AFTER[usize::from(octet)]
 }
 
-// The place in the puncture pattern behind an octet.
+// The place in the puncture pattern after an octet.
 #[inline(always)]
 fn phase_behind(rate: Rate, phase: u8) -> u8
     requires { phase < period rate }
@@ -119,8 +119,8 @@ fn phase_behind(rate: Rate, phase: u8) -> u8
     NEXT[first_row(rate) + usize::from(phase)]
 }
 
-// The symbols of octets from a place of the puncture pattern and a register on, at the front of `out`: how many they
-// are, and the register and the place behind them. A 0 is the octet `low`, and a 1 its complement.
+// The symbols of octets from a place of the puncture pattern and a register on, at the start of `out`: how many they
+// are, and the register and the place after them. A 0 is the octet `low`, and a 1 its complement.
 #[inline(always)]
 fn encode_from(
     rate: Rate,

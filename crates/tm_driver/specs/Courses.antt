@@ -5,7 +5,7 @@ use Rattle.tm_base.specs.Outside.{Rose}
 use Rattle.tm_driver.specs.declared.ending.Ending.{Ending}
 use Rattle.tm_driver.specs.declared.ending.Ending.TheVariants.{Done, Bad, BadWindow, LeftOver, SourceFault, PastLimit}
 
--- a source: the octets that it has given and has left, where it tells them, whether it told the
+-- a source: the octets that it has given and has left, where it says which, whether it reported the
 -- end, and its count of faults
 pub record SourceState : Type 0 where
   pub given : Option (List ℕ)
@@ -16,7 +16,7 @@ pub record SourceState : Type 0 where
 abbrev pub source_state : (given left : Option (List ℕ)) → Bool → ℕ → SourceState
 source_state given left ended faults = record { given = given; left = left; ended = ended; faults = faults }
 
--- a sink: the octets that it has taken, where it tells them, and its count of faults
+-- a sink: the octets that it has taken, where it says which, and its count of faults
 pub record SinkState : Type 0 where
   pub taken : Option (List ℕ)
   pub faults : ℕ
@@ -28,10 +28,10 @@ sink_state taken faults = record { taken = taken; faults = faults }
 -- any more where `is_last` holds.
 pub record SourceCourse (ending : Ending) (before now : SourceState)
     (is_last : Type 0) : Type 0 where
-  -- it told its end, and where it tells its octets none is left
+  -- it reported its end, and where it says which octets it has none is left
   pub ended : (ending ≡ Done) ⊎ (ending ≡ Bad) ⊎ (ending ≡ LeftOver) → (now.ended ≡ true)
       × IsAtEnd now.left
-  -- it did not tell its end in this call
+  -- it did not report its end in this call
   pub unended : (ending ≡ SourceFault) ⊎ (ending ≡ PastLimit) ⊎ (ending ≡ BadWindow)
       → now.ended ≡ before.ended
   pub fault : ending ≡ SourceFault → Rose before.faults now.faults is_last
@@ -52,7 +52,7 @@ SinksCourse true out out_now out_last notes notes_now notes_last =
     ⊎ (SinkCourse true notes notes_now notes_last × SinkCourse false out out_now out_last)
 SinksCourse false out out_now out_last notes notes_now notes_last = SinkCourse false out out_now out_last × SinkCourse false notes notes_now notes_last
 
--- ---- the same of a source and of sinks by what they tell of themselves
+-- ---- the same of a source and of sinks by what they say of themselves
 
 -- a source over a call: where it stood before, where it stands after, and that its count of faults
 -- can't rise any more

@@ -7,8 +7,8 @@ use Rattle.tm_driver.specs.declared.ending.Outcome.TheVariants as outcome
 use Rattle.tm_driver.specs.declared.ending.Stop.{Stop}
 use Rattle.tm_driver.specs.declared.ending.Stop.TheVariants as stop
 
--- the octets of an input within the limit were fed, and then its end was told, of which something
--- holds
+-- the octets of an input within the limit were fed, and then its end was reported, of which
+-- something holds
 pub record Finished {F : Type 0} (fed : F → F → List ℕ → Type 0) (end : F → F
     → Type 0) (limit : ℕ) (before now : F) (octets : List ℕ) : Type 0 where
   pub middle : F
@@ -16,9 +16,10 @@ pub record Finished {F : Type 0} (fed : F → F → List ℕ → Type 0) (end : 
   pub at_end : end middle now
   pub within : length octets ≤ limit
 
--- What came of the octets that were read, by how that ended: the end of the input was told, or no
--- more was taken in the midst of what the octets up to the limit write; or they were fed, and
--- nothing more. Where a sink failed, the end was not told if that was before it, and else it was.
+-- What came of the octets that were read, by how that ended: the end of the input was reported, or
+-- no more was taken in the midst of what the octets up to the limit write; or they were fed, and
+-- nothing more. Where a sink failed, the end was not reported if that was before it, and else it
+-- was.
 abbrev pub DrivenTo : {F : Type 0} → (fed : F → F → List ℕ → Type 0) → (stopped : F → F → List ℕ
     → Stop → Type 0)
     → (finished : F → F → Outcome → Type 0) → (failed : F → F → Type 0) → (limit : ℕ)

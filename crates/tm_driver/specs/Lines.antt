@@ -3,11 +3,11 @@ use Rattle.std.specs.Prelude.{ℕ, ◌==◌, if◌then◌else◌, List, [], ◌�
 use Rattle.tm_driver.specs.declared.ending.Outcome.{Outcome}
 use Rattle.tm_driver.specs.declared.ending.Outcome.TheVariants.{Done, LeftOver}
 
--- how many octets stand behind the last whole frame or record; no line where there are none
+-- how many octets follow the last whole frame or record; no line where there are none
 abbrev pub left_over_text : ℕ → List ℕ
 left_over_text rest = if rest == 0 then [] else codes "left over " ++ decimal rest ++ 10 ∷ []
 
--- the symbol phase that was chosen: the octets skipped, and what the best path behind them costs
+-- the symbol phase that was chosen: the octets skipped, and what the best path after them costs
 abbrev pub phase_text : (skip cost : ℕ) → List ℕ
 phase_text skip cost = codes "phase " ++ decimal skip ++ codes " cost " ++ decimal cost ++ 10 ∷ []
 

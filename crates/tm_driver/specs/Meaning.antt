@@ -10,7 +10,7 @@ pub record Output : Type 0 where
   pub out : List ℕ
   pub notes : List ℕ
 
--- where the output and the notes stand: what they have taken, where they tell it, before and now
+-- where the output and the notes stand: what they have taken, where they say which, before and now
 pub record Taken : Type 0 where
   pub out : Option (List ℕ)
   pub out_now : Option (List ℕ)
@@ -38,7 +38,7 @@ pub record Meaning : Type 1 where
   pub is_due : List ℕ → Output → Type 0
   -- the input is not whole frames, records or windows
   pub is_partial : List ℕ → Type 0
-  -- something is beyond repair, or a window fails
+  -- something is uncorrectable, or a window fails
   pub is_bad : List ℕ → Type 0
   -- what the sinks took is where they stop if one of them fails
   pub is_in_order : List ℕ → Output → Taken → Type 0

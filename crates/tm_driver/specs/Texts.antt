@@ -9,7 +9,7 @@ pub record TookText (before now : SinkState) (text : List ℕ) : Type 0 where
   pub written : Wrote before.taken now.taken text
   pub same : now.faults ≡ before.faults
 
--- it took the whole of `first`, and failed in the text behind it
+-- it took the whole of `first`, and failed in the text after it
 pub record BrokeText (before now : SinkState) (is_last : Type 0)
     (first text : List ℕ) : Type 0 where
   pub written : (count : ℕ) × Wrote before.taken now.taken (first ++ take count text)
@@ -18,7 +18,7 @@ pub record BrokeText (before now : SinkState) (is_last : Type 0)
 
 -- Two sinks that take turns took what stands before. Then the first took a part of what comes next,
 -- and the second nothing more; or the first took that whole, and the second a part of what it is
--- told behind it.
+-- given after it.
 abbrev pub StopsAt : (before noted_before next behind : List ℕ)
     → (taken taken_now noted noted_now : Option (List ℕ)) → Type 0
 StopsAt before noted_before next behind taken taken_now noted noted_now =

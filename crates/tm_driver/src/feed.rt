@@ -15,7 +15,7 @@ pub trait Feed {
     /// The same, but it stopped in the midst of what these octets write.
     ghost stopped: { Self → Self → List ℕ → Stop → Type 0 };
 
-    /// From the first value to the second the end was told, with this outcome.
+    /// From the first value to the second the end was given, with this outcome.
     ghost finished: { Self → Self → Outcome → Type 0 };
 
     /// The same, but a sink failed in the midst of what is written at the end.

@@ -15,7 +15,7 @@ numbers-drop zero xs = refl
 numbers-drop (suc n) [] = refl
 numbers-drop (suc n) (x ∷ xs) = numbers-drop n xs
 
--- the symbols in front of a place, and n from it on
+-- the symbols before a place, and n from it on
 pub turned_more : (f : ℕ → ℕ) (xs front ys : List ℕ) (at n : ℕ) → front ≡ map f (take at xs) → ys ≡ map f (take n (drop at xs)) → front ++ ys ≡ map f (take (at + n) xs)
 turned_more f xs front ys at n a b =
     (λ t. a t ++ b t) ∙ sym (map-append f (take at xs) (take n (drop at xs))) ∙ ap (map f) (sym (take-add at n xs))

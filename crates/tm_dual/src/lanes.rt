@@ -1,5 +1,5 @@
-// Words turned by lanes, sixteen octets at once: both ways are linear over bits, so the two halves of an octet are
-// turned each by a table of its own.
+// Words converted by lanes, sixteen octets at once: both ways are linear over bits, so the two halves of an octet are
+// converted each by a table of its own.
 ghost use Rattle.std.specs.Prelude.{◌≡◌, ◌≤◌, ◌+◌, ℕ, length, map, take};
 ghost use Rattle.tm_gf256.specs.Poly.{numbers};
 ghost use Rattle.tm_dual.specs.Dual.{dual_element, dual_octet};
@@ -27,7 +27,7 @@ const HIGH_ELEMENTS: [u8; 16] = [
     0x00, 0xFD, 0x2E, 0xD3, 0x42, 0xBF, 0x6C, 0x91, 0xC5, 0x38, 0xEB, 0x16, 0x87, 0x7A, 0xA9, 0x54,
 ];
 
-// Sixteen octets turned by the tables of their halves.
+// Sixteen octets converted by the tables of their halves.
 #[inline(always)]
 fn turned(low: [u8; 16], high: [u8; 16], octets: u8x16) -> u8x16
     ensures { (f : ℕ → ℕ) → AreHalves f low high → result ≡ map f octets }

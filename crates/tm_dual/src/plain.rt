@@ -1,4 +1,4 @@
-// Words turned one octet at a time.
+// Words converted one octet at a time.
 ghost use Rattle.std.specs.Prelude.{◌≡◌, length, map};
 ghost use Rattle.tm_gf256.specs.Poly.{numbers};
 ghost use Rattle.tm_dual.specs.Dual.{dual_element, dual_octet};

@@ -1,4 +1,4 @@
-// Workers that are held. A gate waits for nothing: it turns over an atomic word for a stated number of turns.
+// Workers that are held. A gate waits for nothing: it flips an atomic word for a stated number of turns.
 use std::sync::atomic::{AtomicU64, Ordering};
 use std::test::Fail;
 use tm_base::Failed;
@@ -96,7 +96,7 @@ fn words_with_erased_places_are_drawn_too(rt: HostRuntime) -> Result<(), Fail> {
     Ok(())
 }
 
-// The sync marker, and behind it the codeword of the one data symbol 01 in the dual basis.
+// The sync marker, and after it the codeword of the one data symbol 01 in the dual basis.
 const MARKED: [u8; 37] = [
     0x1A, 0xCF, 0xFC, 0x1D, 0x7B, 0x47, 0x32, 0x5F, 0x86, 0x4A, 0x18, 0xA0, 0x78, 0x83, 0xFA, 0xB9,
     0x5C, 0x5F, 0x4F, 0xEC, 0xFE, 0xEC, 0x4F, 0x5F, 0x5C, 0xB9, 0xFA, 0x83, 0x78, 0xA0, 0x18, 0x4A,

@@ -1,4 +1,4 @@
-// How many workers there are, and how words are shared out among them. A word waits for nothing: it turns over atomic words
+// How many workers there are, and how words are shared out among them. A word waits for nothing: it flips atomic words
 // for a stated number of turns.
 use crate::gates::{TURNS, ZEROS, gate_that_holds};
 use std::sync::atomic::{AtomicU64, Ordering};

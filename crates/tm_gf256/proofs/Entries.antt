@@ -9,7 +9,7 @@ use Rattle.tm_gf256.proofs.Steps.{times_x, steps, find_log}
 use Rattle.tm_gf256.proofs.Tests.{log_of, neq-eqb, or_left}
 use Rattle.tm_gf256.proofs.Ring.{power-2, log_power}
 
--- ---- the powers, and the zeros behind them
+-- ---- the powers, and the zeros after them
 
 next_pass : all_below 509 (λ i. eqb (get_or POWERS (suc i) 0) (times_x (get_or POWERS i 0))) ≡ true
 unfolding times_x

@@ -61,7 +61,7 @@ value_at-zeros s (suc n) x =
     ∙ ap (λ (y : ℕ). bit_xor y (value_at (listing (λ _. 0) (s + 1) n) x)) (zero-times (power x n))
     ∙ value_at-zeros (s + 1) n x
 
--- a polynomial with k zeros behind it is times x^k
+-- a polynomial with k zeros after it is times x^k
 value_at-raised : (b : List ℕ) (k x : ℕ)
     → value_at (listing (λ m. get_or b m 0) 0 (length b + k)) x ≡ times (value_at b x) (power x k)
 value_at-raised [] k x =

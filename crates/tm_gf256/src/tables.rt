@@ -50,7 +50,7 @@ static POWERS: [u8; 1021] = [
     0, 0, 0, 0, 0, 0, 0, 0, 0, 0, 0, 0, 0, 0, 0, 0, 0, 0, 0, 0, 0,
 ];
 
-// The logarithm of each element; that of 0, which has none, leads behind the powers.
+// The logarithm of each element; that of 0, which has none, leads past the powers.
 static LOGARITHMS: [u16; 256] = [
     510, 0, 1, 99, 2, 198, 100, 106, 3, 205, 199, 188, 101, 126, 107, 42, 4, 141, 206, 78, 200,
     212, 189, 225, 102, 221, 127, 49, 108, 32, 43, 243, 5, 87, 142, 232, 207, 172, 79, 131, 201,

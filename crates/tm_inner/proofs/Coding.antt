@@ -34,7 +34,7 @@ fed-piece_front before now low piece symbols taken taken_now on wrote = record {
   front = λ given stood. subst (WroteFront taken taken_now) (sym (symbols-due before now low piece symbols given on stood)) wrote;
 }
 
--- a piece behind the octets before it
+-- a piece after the octets before it
 pub joined : (done count : ℕ) (octets : List ℕ) → take done octets ++ take ((done + count) - done) (drop done octets) ≡ take (done + count) octets
 joined done count octets =
     let same : (done + count) - done ≡ count = omega arith in

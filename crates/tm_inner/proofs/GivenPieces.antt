@@ -193,7 +193,7 @@ soft-turned r signed skipped given octets now same count skip is =
 pub few-soft : (c : Configuration) (given : List ℕ) → length (phase_octets c given) ≤ length given
 few-soft c given = omega (arith, length-map (drop (skipped_at c.inner c) given) (soft_value c), length-drop (skipped_at c.inner c) given)
 
--- those behind the phase are the ones that are decoded
+-- those after the phase are the ones that are decoded
 pub soft-behind : (c : Configuration) (phase n : ℕ) (given : List ℕ) → n ≡ c.skip → drop phase (map (soft_value c) (drop n given)) ≡ soft_octets c phase given
 soft-behind c phase n given is = drop-map (soft_value c) phase (drop n given) ∙ ap (λ k. map (soft_value c) (drop phase (drop k given))) is
 

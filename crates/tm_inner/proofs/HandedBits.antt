@@ -1,4 +1,4 @@
--- What is handed over behind the choice of the phase comes to few bits.
+-- What is handed over after the choice of the phase comes to few bits.
 use Rattle.std.proofs.Common.{◌⊎◌, ℕ, ◌≡◌, ◌+◌, ◌-◌, ◌*◌, ◌≤◌, ◌<◌, ◌∙◌, refl, List, [], ◌∷◌, ◌++◌, length, drop, map, ap, sym, subst, arith, inl, inr, Option, Some, None, length-append, length-drop, min, ◌/◌, ◌%◌}
 use Rattle.std.proofs.lemmas.List.{append-nil, length-map}
 use Rattle.std.proofs.lemmas.Bool.{cases_lt}
@@ -79,7 +79,7 @@ whole-bits (Some rate) c phase octets blocks left are =
     let kept = kept-count rate s.invert s.keep s.ahead (first_start s.start) 0 are.count (soft_octets c phase octets) blocks are.steps.whole are.are in
     omega (arith, kept, are.steps.whole, steps_size_ge rate 0 are.count, length-soft c phase octets)
 
--- what was handed over, and blocks or anything else behind it
+-- what was handed over, and blocks or anything else after it
 items-of : (chosen : Option Chosen) (items : List WindowBlock) (done more : List (Handed WindowBlock)) → done ++ more ≡ in_turn chosen items → items_of done ++ items_of more ≡ items
 items-of chosen items done more are = sym (items_of-append done more) ∙ ap items_of are ∙ items_of-in_turn chosen items
 
@@ -87,7 +87,7 @@ nothing : (done more : List (Handed WindowBlock)) → done ++ more ≡ [] → (d
 nothing [] more none = (refl, none)
 nothing (x ∷ done) more none = absurd cc
 
--- where blocks wait behind what was handed over, it begins with the phase that it goes on with
+-- where blocks wait after what was handed over, it begins with the phase that it goes on with
 same-skip : (c : Configuration) (soft soft_now : List ℕ) (chosen other : Option Chosen) (waiting items all : List WindowBlock) (done more : List (Handed WindowBlock))
     → IsChosenBy c soft chosen → IsChosenBy c soft_now other → done ++ map Item waiting ≡ in_turn chosen items → done ++ more ≡ in_turn other all → skip_of chosen ≡ skip_of other
 same-skip c soft soft_now None None waiting items all done more is now are whole = refl

@@ -51,7 +51,7 @@ pub stands-so-far : (r : InnerReceiving) (given : List ℕ) (done : List (Handed
 stands-so-far r given done stood =
     subst (λ (k : Configuration). IsSoFarBy k (phase_octets r.config given) r.phased.chosen) stood.same (phases-so-far r.phased (phase_octets r.config given) done stood.phases)
 
--- first blocks behind the phase are those of received octets
+-- first blocks after the phase are those of received octets
 first-behind : (rate : Option Rate) (c : Configuration) (phase : ℕ) (given : List ℕ) (blocks : List WindowBlock)
     → FirstFor rate c (drop phase (map (soft_value c) (drop (skipped_at rate c) given))) blocks → FirstAt rate c phase given blocks
 first-behind None c phase given blocks is = is

@@ -85,14 +85,14 @@ go-on AreFirst AreItems a b first items each same p q =
 along : {I : Type 0} (all first start whole : List (Handed I)) → all ≡ whole → first ≡ start → (rest : List (Handed I)) × (whole ≡ start ++ rest) → (rest : List (Handed I)) × (all ≡ first ++ rest)
 along all first start whole a f r = (r.0, a ∙ r.1 ∙ ap (λ l. l ++ r.0) (sym f))
 
--- the first of what is handed over, where no octets come behind
+-- the first of what is handed over, where no octets come after
 pub in_turn-front : {I : Type 0} (AreFirst AreItems : ℕ → List I → Type 0) → OnePhase → (c : Configuration) (octets : List ℕ) (first all : List (Handed I)) → GoOn AreFirst AreItems
     → InTurn AreFirst c octets first → InTurn AreItems c octets all → (rest : List (Handed I)) × (all ≡ first ++ rest)
 in_turn-front AreFirst AreItems one c octets first all each p q =
     along all first (in_turn p.chosen p.items) (in_turn q.chosen q.items) q.are p.are
     (go-on AreFirst AreItems p.chosen q.chosen p.items q.items each (one-choice one c octets p.chosen q.chosen p.choice q.choice) p.are_items q.are_items)
 
--- the first of it, whatever octets come behind
+-- the first of it, whatever octets follow
 pub in_turn-settled : {I : Type 0} (AreFirst AreItems : ℕ → List I → Type 0) → PhaseStays → OnePhase → (c : Configuration) (octets more : List ℕ) (first all : List (Handed I)) → GoOn AreFirst AreItems
     → InTurnSettled AreFirst c octets first → InTurn AreItems c (octets ++ more) all → (rest : List (Handed I)) × (all ≡ first ++ rest)
 in_turn-settled AreFirst AreItems stays one c octets more first all each p q =
@@ -100,7 +100,7 @@ in_turn-settled AreFirst AreItems stays one c octets more first all each p q =
     along all first (in_turn p.1.chosen p.1.items) (in_turn q.chosen q.items) q.are p.1.are
     (go-on AreFirst AreItems p.1.chosen q.chosen p.1.items q.items each (one-choice one c (octets ++ more) p.1.chosen q.chosen choice q.choice) p.1.are_items q.are_items)
 
--- what is due, whatever octets come behind
+-- what is due, whatever octets follow
 pub in_turn-so_far : {I : Type 0} (AreFirst AreItems : ℕ → List I → Type 0) → PhaseStays → OnePhase → (c : Configuration) (octets more : List ℕ) (first all : List (Handed I)) → GoOn AreFirst AreItems
     → InTurnSoFar AreFirst c octets first → InTurn AreItems c (octets ++ more) all → (rest : List (Handed I)) × (all ≡ first ++ rest)
 in_turn-so_far AreFirst AreItems stays one c octets more first all each (inl none) q = (all, ap (λ l. l ++ all) (sym none.1))

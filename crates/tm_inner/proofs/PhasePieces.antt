@@ -1,4 +1,4 @@
--- Octets that wait for the choice of the phase, the choice, and octets behind it.
+-- Octets that wait for the choice of the phase, the choice, and octets after it.
 use Rattle.std.proofs.Common.{◌≡◌, inl, inr, ℕ, ◌+◌, ◌<◌, ◌≤◌, ◌^◌, Bool, List, [], ◌∷◌, ◌++◌, length, drop, map, refl, sym, ap, ◌∙◌, subst, arith, length-append, length-drop, append_assoc, Option, Some, None}
 use Rattle.std.proofs.lemmas.List.{append-nil, map-append, drop-append-le}
 use Rattle.tm_base.specs.Handed.{Handed, Phase, Item, on_handed, items_of}
@@ -20,9 +20,9 @@ use Rattle.tm_inner.specs.Phase.{PhaseAt, IsChosenBy, IsSettledBy, IsSoFarBy, ne
 use Rattle.tm_inner.specs.Inner.{settings_of}
 use Rattle.tm_inner.specs.Receiving.{IsDecoderOf, DecodesFor, FindsFirst, FirstFor, Hands, HandsFront, Phasing, Waits, Goes, PhasesFor, IsFrontBy, IsFirstBy}
 
--- ---- the phase and the octets behind
+-- ---- the phase and the octets after
 
--- behind the octets that it needs, the phase stays as it is
+-- after the octets that it needs, the phase stays as it is
 abbrev pub PhaseStays : Type 0
 PhaseStays = (rate : Rate) (invert : Bool) (window : ℕ) (octets more : List ℕ) (chosen : Chosen) → octets_needed rate window ≤ length octets
     → IsPhase rate invert window octets chosen → IsPhase rate invert window (octets ++ more) chosen
@@ -106,7 +106,7 @@ abbrev pub ChoosesFront : {T : Type 0} → (T → ℕ → ℕ → T → Type 0) 
 ChoosesFront took_phase broke_phase took broke p taker taker_now = (tried : List (Handed WindowBlock)) × HandedPart (on_handed took_phase took) (on_handed broke_phase broke) taker tried taker_now
     × ((soft : List ℕ) (done : List (Handed WindowBlock)) → length soft < 2 ^ 60 → Waits p soft done → IsFrontBy p.config soft (done ++ tried))
 
--- the phase is chosen by the octets that wait, and the decoder is given those behind it
+-- the phase is chosen by the octets that wait, and the decoder is given those after it
 pub chooses : {T : Type 0} (took_phase : T → ℕ → ℕ → T → Type 0) (took : T → WindowBlock → T → Type 0) (p : Phasing) (decoder : Option InnerDecoder) (chosen : Chosen)
     (taker middle taker_now : T) (rest : List ℕ) → p.config.phase ≡ Find → PhaseAt p.config.inner p.config p.held chosen → rest ≡ drop chosen.skip p.held
     → took_phase taker chosen.skip chosen.cost middle → Hands took DecodesFor p.decoder decoder middle taker_now rest
@@ -139,7 +139,7 @@ chooses-none took_phase broke_phase took broke p chosen taker taker_now find is 
   },
 )
 
--- it fails at a block behind the phase
+-- it fails at a block after the phase
 pub chooses-front : {T : Type 0} (took_phase broke_phase : T → ℕ → ℕ → T → Type 0) (took broke : T → WindowBlock → T → Type 0) (p : Phasing) (chosen : Chosen)
     (taker middle taker_now : T) (rest : List ℕ) → p.config.phase ≡ Find → PhaseAt p.config.inner p.config p.held chosen → rest ≡ drop chosen.skip p.held
     → IsDecoderOf p.config p.decoder → took_phase taker chosen.skip chosen.cost middle
@@ -159,7 +159,7 @@ chooses-front took_phase broke_phase took broke p chosen taker middle taker_now 
       },
 )
 
--- ---- behind the choice
+-- ---- after the choice
 
 module _ (stays : PhaseStays) (within : PhaseWithin) where
   pub goes-more : {T : Type 0} (took : T → WindowBlock → T → Type 0) (p : Phasing) (decoder : Option InnerDecoder) (taker taker_now : T) (form : List ℕ)

@@ -12,7 +12,7 @@ use Rattle.tm_conv.specs.Encoding.{bit_numbers, level, levels}
 use Rattle.tm_inner.specs.Symbols.{low_level, plain_symbols}
 use Rattle.tm_inner.specs.Inner.{nearest_bit, plain_bits_by, plain_bits, plain_count, bits_at}
 
--- ---- one list behind another
+-- ---- one list after another
 
 append-by : (pack : Bool) (c : Configuration) (xs ys : List ℕ) → plain_bits_by pack c (xs ++ ys) ≡ plain_bits_by pack c xs ++ plain_bits_by pack c ys
 append-by true c xs ys = bits_of-append xs ys
@@ -90,7 +90,7 @@ count-packed c n is = ap (λ (pack : Bool). if pack then 8 * n else n) is
 pub count-nearest : (c : Configuration) (n : ℕ) → c.pack ≡ false → plain_count c n ≡ n
 count-nearest c n is = ap (λ (pack : Bool). if pack then 8 * n else n) is
 
--- ---- bits that are nearest to octets, behind the first ones
+-- ---- bits that are nearest to octets, after the first ones
 
 pub nearest-behind : (c : Configuration) (skip from : ℕ) (octets bits : List ℕ) → from ≡ min skip (length octets)
     → map (λ bit. bit == 1) bits ≡ map (nearest_bit c) (take (length octets - from) (drop from octets))

@@ -20,7 +20,7 @@ use Rattle.tm_inner.specs.Inner.{settings_of, soft_value, soft_octets, BlocksAt,
 
 -- ---- the whole steps of symbols
 
--- of a period and one more symbol each period has its steps, and behind the whole periods each symbol but the first ends a step
+-- of a period and one more symbol each period has its steps, and after the whole periods each symbol but the first ends a step
 abbrev steps_of : ℕ → ℕ → ℕ
 steps_of period n = n / (period + 1) * period + (n % (period + 1) - 1)
 

@@ -34,7 +34,7 @@ spread-append low given piece =
     ∙ ap (levels low) (map-append bit_number (bits_of given) (bits_of piece))
     ∙ map-append (level low) (bit_numbers (bits_of given)) (bit_numbers (bits_of piece))
 
--- one octet more, whose bits are put behind the others
+-- one octet more, whose bits are put after the others
 pub spread-next : (low k count : ℕ) (octets room eight : List ℕ) → k < length octets → 8 * k ≤ length room
     → eight ≡ levels low (bit_numbers (bits_of_octet (get_or octets k 0)))
     → take (8 * k) room ≡ spread low (take k octets)

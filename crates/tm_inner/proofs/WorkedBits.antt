@@ -16,7 +16,7 @@ signed = record (configuration_of default_raw) { soft = Signed; start = Any; ski
 row_signed : soft_octets signed 0 (0x11 ∷ 0x80 ∷ 0x7F ∷ 0x00 ∷ 0xFF ∷ []) ≡ 0 ∷ 255 ∷ 128 ∷ 127 ∷ []
 row_signed = refl
 
--- the phase is dropped behind the skipped octet; unsigned octets stay as they are
+-- the phase is dropped after the skipped octet; unsigned octets stay as they are
 row_phase : soft_octets (record signed { soft = Unsigned }) 2 (1 ∷ 2 ∷ 3 ∷ 0x80 ∷ []) ≡ 0x80 ∷ []
 row_phase = refl
 

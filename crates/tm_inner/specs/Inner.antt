@@ -29,7 +29,7 @@ settings_of c rate = record {
 abbrev pub soft_value : Configuration → ℕ → ℕ
 soft_value c octet = if is_signed c.soft then (octet + 128) % 256 else octet
 
--- the soft octets that are decoded: those behind the skipped ones, and behind `phase` more of them
+-- the soft octets that are decoded: those after the skipped ones, and after `phase` more of them
 abbrev pub soft_octets : Configuration → ℕ → List ℕ → List ℕ
 soft_octets c phase octets = map (soft_value c) (drop phase (drop c.skip octets))
 
@@ -70,7 +70,7 @@ abbrev pub plain_count : Configuration → ℕ → ℕ
 plain_count c octets = if c.pack then 8 * octets else octets
 
 -- the bits of received octets with these blocks: those that the blocks keep, or with no inner code
--- all behind the skipped ones
+-- all after the skipped ones
 abbrev pub bits_at : Option Rate → Configuration → List ℕ → List WindowBlock → List Bool
 bits_at None c octets blocks = drop c.skip (plain_bits c octets)
 bits_at (Some rate) c octets blocks = map (λ bit. bit == 1) (kept_bits blocks)
@@ -86,6 +86,6 @@ pub record Inner (c : Configuration) (phase : ℕ) (octets : List ℕ) (bits : L
   pub are_bits : bits ≡ inner_bits c octets blocks
 
 -- It is known where the first path starts: there is no inner code, or it starts from register 0, or
--- the rate is 1/2, at which undisturbed symbols tell.
+-- the rate is 1/2, at which undisturbed symbols show it.
 abbrev pub IsStartKnown : Configuration → Type 0
 IsStartKnown c = (c.inner ≡ None) ⊎ (c.start ≡ Zero) ⊎ (c.inner ≡ Some R12)

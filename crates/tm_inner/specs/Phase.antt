@@ -14,7 +14,7 @@ abbrev pub skipped_at : Option Rate → Configuration → ℕ
 skipped_at None c = 0
 skipped_at (Some rate) c = c.skip
 
--- the soft octets by which the phase is chosen: all behind the skipped ones
+-- the soft octets by which the phase is chosen: all after the skipped ones
 abbrev pub phase_octets : Configuration → List ℕ → List ℕ
 phase_octets c octets = map (soft_value c) (drop (skipped_at c.inner c) octets)
 

@@ -42,7 +42,7 @@ abbrev pub FindsFirst : Option InnerDecoder → List ℕ → List WindowBlock �
 FindsFirst None soft blocks = blocks ≡ []
 FindsFirst (Some decoder) soft blocks = AreFirst (settings_in decoder) soft blocks
 
--- what contracts see of a decoder behind the choice of the phase
+-- what contracts see of a decoder after the choice of the phase
 pub record Phasing : Type 0 where
   pub config : Configuration
   -- that of the inner code; None where there is no inner code
@@ -61,7 +61,7 @@ pub record Waits (p : Phasing) (soft : List ℕ) (done : List (Handed WindowBloc
   pub fresh : DecodesFor p.decoder [] []
   pub nothing : done ≡ []
 
--- behind the choice, or where the phase is given, the decoder was given the soft octets behind the
+-- after the choice, or where the phase is given, the decoder was given the soft octets after the
 -- phase
 pub record Goes (p : Phasing) (soft : List ℕ) (done : List (Handed WindowBlock)) : Type 0 where
   pub choice : IsChosenBy p.config soft p.chosen
@@ -69,7 +69,7 @@ pub record Goes (p : Phasing) (soft : List ℕ) (done : List (Handed WindowBlock
   pub decodes : DecodesFor p.decoder (drop (skip_of p.chosen) soft) blocks
   pub are : done ≡ in_turn p.chosen blocks
 
--- a decoder that was given these soft octets and no others, behind the choice of the phase once it
+-- a decoder that was given these soft octets and no others, after the choice of the phase once it
 -- is settled
 abbrev pub PhasesFor : Phasing → List ℕ → List (Handed WindowBlock) → Type 0
 PhasesFor p soft done = (Waits p soft done × (IsSettledBy p.config soft → ⊥)) ⊎
@@ -80,7 +80,7 @@ abbrev pub FirstFor : Option Rate → Configuration → List ℕ → List Window
 FirstFor None c soft blocks = blocks ≡ []
 FirstFor (Some rate) c soft blocks = AreFirst (settings_of c rate) soft blocks
 
--- the phase of soft octets, and the blocks of first windows behind it
+-- the phase of soft octets, and the blocks of first windows after it
 pub record IsFrontBy (c : Configuration) (soft : List ℕ) (handed : List (Handed WindowBlock)) : Type 0 where
   pub chosen : Option Chosen
   pub choice : IsChosenBy c soft chosen

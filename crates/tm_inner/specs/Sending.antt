@@ -32,7 +32,7 @@ encoded rate invert low octets = levels low (sent_for rate invert (bits_of octet
 abbrev pub spread : ℕ → List ℕ → List ℕ
 spread low octets = levels low (bit_numbers (bits_of octets))
 
--- register and pattern are those behind the bits of these octets; with no inner code nothing is
+-- register and pattern are those after the bits of these octets; with no inner code nothing is
 -- kept
 abbrev pub KeepsFor : Option Encoding → List ℕ → Type 0
 KeepsFor None octets = Unit {0}
@@ -47,7 +47,7 @@ pub record Sends (before now : InnerSending) (taken taken_now : Option (List ℕ
   pub config : now.config ≡ before.config
   pub fed : Fed StandsFor (symbols_of_octets before.config) before now taken taken_now octets
 
--- given these octets, a sender wrote a front of what is due for them
+-- given these octets, a sender wrote a prefix of what is due for them
 abbrev pub SendsFront : InnerSending → Option (List ℕ) → Option (List ℕ) → List ℕ → Type 0
 SendsFront before taken taken_now octets =
     FedFront StandsFor (symbols_of_octets before.config) before taken taken_now octets

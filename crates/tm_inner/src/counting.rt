@@ -8,8 +8,8 @@ use crate::code::{is_packed, rate_of};
 use tm_config::Config;
 use tm_conv::{Rate, period};
 
-// How many bits are received with so many octets: those of the whole steps of the inner code behind the phase, or with
-// none all behind the skipped ones.
+// How many bits are received with so many octets: those of the whole steps of the inner code after the phase, or with
+// none all after the skipped ones.
 pub fn count_bits(config: &Config, phase: u64, octets: u64) -> u64
     ensures { (given : List ℕ) (blocks : List WindowBlock) (left : ℕ) → length given ≡ octets → length given < 2 ^ 60
         → AreInnerBlocks config.now phase given blocks left → result ≡ length (inner_bits config.now given blocks) }

@@ -19,7 +19,7 @@ use tm_config::Config;
 use tm_viterbi::{BlockTaker, Decoder, closed_windows_law};
 use tm_windows::ParallelDecoder;
 
-// How many signed octets are turned to unsigned ones at a time.
+// How many signed octets are converted to unsigned ones at a time.
 const PIECE: usize = 256;
 
 // The decoder of the inner code with so many workers, which was given nothing yet, or None where there is none.
@@ -143,7 +143,7 @@ pub fn count_due(decoder: &Option<InnerDecoder>) -> usize
     }
 }
 
-// Ends a decoder, where there is one, and answers how many octets are left over behind the last whole step.
+// Ends a decoder, where there is one, and answers how many octets are left over after the last whole step.
 pub fn end<F: Feeding<B>, B: BlockTaker>(
     by: &F,
     decoder: &mut Option<InnerDecoder>,

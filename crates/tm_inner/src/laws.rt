@@ -29,7 +29,8 @@ pub fn clean_inner_law()
     clean_blocks_law();
 }
 
-/// The bits that are due for octets stand first in the bits of these octets with any others behind. It does nothing.
+/// The bits that are due for octets stand first in the bits of these octets with any others after them. It does
+/// nothing.
 pub fn due_bits_law()
     ensures { (c : Configuration) (phase : ℕ) (octets more : List ℕ) (due blocks : List WindowBlock) (left : ℕ)
         → AreInnerDue c phase octets due → AreInnerBlocks c phase (octets ++ more) blocks left

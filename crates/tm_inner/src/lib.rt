@@ -1,6 +1,6 @@
 //! The inner stages: from the octets of marked codeblocks to the symbols that are sent, by the inner code of a
 //! configuration (CCSDS 131.0-B, Convolutional Coding), and from soft symbols that are received to blocks of bits,
-//! behind their phase where it is to be found.
+//! after their phase where it is to be found.
 #![tactic(auto)]
 
 mod code;

@@ -1,4 +1,4 @@
-// The decoder of the inner code behind the choice of the symbol phase.
+// The decoder of the inner code after the choice of the symbol phase.
 ghost use Rattle.std.specs.Prelude.{◌≡◌, ◌↔◌, ◌++◌, ◌^◌, ◌<◌, ◌≤◌, ℕ, List, [], None, false, IfOk, IsTrue, OnOk, OnErr, length, map, take};
 ghost use Rattle.tm_base.specs.Handed.{Handed, Item, on_handed};
 ghost use Rattle.tm_base.specs.Outside.{HasCause};
@@ -77,7 +77,7 @@ impl Phased {
         }
     }
 
-    // Takes the next octets behind the skipped ones, and hands over the phase, once it is settled, and the blocks of
+    // Takes the next octets after the skipped ones, and hands over the phase, once it is settled, and the blocks of
     // the windows that are closed.
     pub fn feed<F: Feeding<B>, B: BlockTaker>(
         &mut self,
@@ -118,7 +118,7 @@ impl Phased {
         decode(by, &mut self.decoder, signed, &octets[taken..], blocks)
     }
 
-    // Takes of the next octets behind the skipped ones those that the decoder can hold, once the phase is chosen, and
+    // Takes of the next octets after the skipped ones those that the decoder can hold, once the phase is chosen, and
     // decodes none. Answers how many these are.
     pub fn gather(&mut self, octets: &[u8]) -> usize
         ensures config { self.new.config ≡ self.old.config }
@@ -150,7 +150,7 @@ impl Phased {
         count_due(&self.decoder)
     }
 
-    // Ends the decoder, behind the choice of the phase, and answers how many octets are left over behind the last whole
+    // Ends the decoder, after the choice of the phase, and answers how many octets are left over after the last whole
     // step.
     pub fn end<F: Feeding<B>, B: BlockTaker>(
         &mut self,
@@ -230,7 +230,7 @@ impl Phased {
         self.choose(by, blocks)
     }
 
-    // Chooses the phase by the octets that wait, hands it over, and decodes the octets behind it.
+    // Chooses the phase by the octets that wait, hands it over, and decodes the octets after it.
     fn choose<F: Feeding<B>, B: BlockTaker>(&mut self, by: &F, blocks: &mut B) -> Result<(), Failed>
         requires ready { F.is_ready by.now }
         requires find { self.old.config.phase ≡ Sought.Find }

@@ -33,7 +33,7 @@ use tm_viterbi::{BlockTaker, FeedError};
 pub struct InnerEnd {
     /// How many bits were received.
     pub bits: u64,
-    /// How many octets are left over behind the last whole step of the inner code: none or one.
+    /// How many octets are left over after the last whole step of the inner code: none or one.
     pub leftover: u8,
 }
 
@@ -94,7 +94,7 @@ impl InnerReceiver {
     /// chosen: once all steps of a window can be compared, or with no inner code at the first octet. Then it is handed
     /// over, once, before any block.
     ///
-    /// `Taker` comes where `blocks` fails; a front of what is due was then handed over. `Stopped` comes where an
+    /// `Taker` comes where `blocks` fails; a prefix of what is due was then handed over. `Stopped` comes where an
     /// earlier call answered `Taker` or `finish` was called; nothing is handed over then.
     ///
     /// The octets given in all are to be below 2^60.
@@ -206,7 +206,7 @@ impl InnerReceiver {
     /// Answers how many bits were received and how many octets are left over. It is called once, at the end of the
     /// octets.
     ///
-    /// `Taker` comes where `blocks` fails; a front of all was then handed over. `Stopped` comes where an earlier call
+    /// `Taker` comes where `blocks` fails; a prefix of all was then handed over. `Stopped` comes where an earlier call
     /// answered `Taker` or `finish` was called; nothing is handed over then.
     pub fn finish<B: BlockTaker>(&mut self, blocks: &mut B) -> Result<InnerEnd, FeedError>
         ensures { Finishes self.old self.new
@@ -284,7 +284,7 @@ impl InnerReceiver {
         rate_of(&self.config).is_some()
     }
 
-    /// With no inner code, how many bits of the next octets are still to be skipped, 0 to 15. The bits behind them are
+    /// With no inner code, how many bits of the next octets are still to be skipped, 0 to 15. The bits after them are
     /// received.
     pub fn bits_to_skip(&self) -> u64
         ensures value { result ≡ self.now.config.skip - plain_count self.now.config self.now.count }
@@ -317,9 +317,9 @@ impl InnerReceiver {
         nearest_bits(&self.config, octets, bits);
     }
 
-    /// Turns the next octets, before they are fed, to soft octets of which 0 is the surest 0 and 255 the surest 1.
-    /// Answers how many at the front are still to be skipped. The symbol phase, where it is to be found, is found in
-    /// those behind them.
+    /// Converts the next octets, before they are fed, to soft octets of which 0 is the surest 0 and 255 the surest 1.
+    /// Answers how many of the first are still to be skipped. The symbol phase, where it is to be found, is found in
+    /// those after them.
     pub fn turn_soft(&self, octets: &mut [u8]) -> usize
         ensures size { length octets.new ≡ length octets.old }
         ensures skipped { result ≤ length octets.old }

@@ -76,7 +76,7 @@ impl InnerSender {
     /// where bits are not to be packed such an octet for each bit. The code's register and puncture pattern run on from
     /// push to push.
     ///
-    /// `Sink` comes where `out` fails, or takes nothing of what is left; a front of what is due was then written.
+    /// `Sink` comes where `out` fails, or takes nothing of what is left; a prefix of what is due was then written.
     /// `Stopped` comes where an earlier push answered `Sink`; nothing is written then.
     pub fn push<O: Sink>(&mut self, octets: &[u8], out: &mut O) -> Result<(), SendError>
         ensures stopped { IsErrOf result SendError.Stopped ↔ IsTrue self.old.has_failed }

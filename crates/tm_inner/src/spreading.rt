@@ -4,7 +4,7 @@ ghost use Rattle.tm_base.specs.Bits.{bit_number, bits_of_octet};
 ghost use Rattle.tm_conv.specs.Encoding.{bit_numbers, level, levels};
 ghost use Rattle.tm_inner.specs.Sending.{spread};
 
-// Puts an octet for each bit of the octets at the front of `room`: `low` for a 0, and for a 1 its complement.
+// Puts an octet for each bit of the octets at the start of `room`: `low` for a 0, and for a 1 its complement.
 pub fn spread(low: u8, octets: &[u8], room: &mut [u8])
     requires { 8 * length octets.now ≤ length room.old }
     ensures bits { take (8 * length octets.now) room.new ≡ spread low octets.now }

@@ -15,7 +15,7 @@ use tm_viterbi::{AllError, BlockTaker};
 /// Hands over the symbol phase of received octets, fewer than 2^60, where it is to be found, and their blocks. Answers
 /// how many bits were received and how many octets are left over. With no inner code no block comes.
 ///
-/// `Memory` comes only where there isn't enough of it. `Taker` comes where `blocks` fails; a front of all was then
+/// `Memory` comes only where there isn't enough of it. `Taker` comes where `blocks` fails; a prefix of all was then
 /// handed over.
 pub fn inner_all<B: BlockTaker>(
     alloc: Global,

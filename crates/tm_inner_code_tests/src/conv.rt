@@ -9,7 +9,7 @@ use tm_conv::{
 // The marker 1A CF FC 1D.
 const MARKER_BITS: u64 = 0x1ACFFC1D;
 
-// The symbols that are sent for the `count` lowest bits of `bits`, as the digits behind a first 1.
+// The symbols that are sent for the `count` lowest bits of `bits`, as the digits after a first 1.
 fn symbols(rate: Rate, invert: bool, bits: u64, count: u32) -> u64
     requires { count ≤ 32 }
 {

@@ -6,7 +6,7 @@ use tm_phase::{Chosen, choose, octets_needed, phase_law, whole_window_law};
 // The symbols of the marker 1A CF FC 1D at rate 1/2, the second of each pair inverted.
 const MARKER_SYMBOLS: u64 = 0x56081C971AA73D3E;
 
-// The octets that cases are fronts of: the high octet of each next number of a sequence.
+// The octets that cases are prefixes of: the high octet of each next number of a sequence.
 fn drawn(seed: u64) -> [u8; 48] {
     let mut now = seed;
     let mut octets = [0; 48];

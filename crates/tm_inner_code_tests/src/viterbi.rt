@@ -106,7 +106,7 @@ enum Cuts {
     Drawn(u64),
 }
 
-// The octets of the next piece, and the cuts behind it.
+// The octets of the next piece, and the cuts after it.
 fn next_cut(cuts: Cuts) -> (usize, Cuts) {
     match cuts {
         Cuts::Even(count) => (count, cuts),
@@ -361,7 +361,7 @@ fn least_costs(rt: HostRuntime) -> Result<(), Fail> {
     Ok(())
 }
 
-// The sums before the first step of rate 1/2, and behind it.
+// The sums before the first step of rate 1/2, and after it.
 fn sums_of_pair(start: Option<u8>, pair: [u8; 2]) -> ([u32; 64], [u32; 64])
     requires { IfSome start (λ register. register < 64) }
 {
@@ -371,7 +371,7 @@ fn sums_of_pair(start: Option<u8>, pair: [u8; 2]) -> ([u32; 64], [u32; 64])
     (before, *sums.column())
 }
 
-// The sums from any register behind step 1 of rate 2/3, which sends its second sum alone.
+// The sums from any register after step 1 of rate 2/3, which sends its second sum alone.
 fn sums_of_second_sum(octet: u8) -> [u32; 64] {
     let mut sums = Sums::new(Rate::R23, false, 1, None);
     sums.step(&[octet]);

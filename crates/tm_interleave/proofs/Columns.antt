@@ -32,7 +32,7 @@ long depth (suc i) (x ∷ block) n below least most = long depth i block n (omeg
 pub length-column : {X : Type 0} (depth size i : ℕ) (block : List X) → i < depth → length block ≡ depth * size → length (column depth i block) ≡ size
 length-column depth size i block below whole = long depth i block size below (omega arith) (omega arith)
 
--- behind the block the columns go on at j
+-- after the block the columns go on at j
 goes_on : {X : Type 0} (depth i j rounds : ℕ) (front back : List X) → i < depth → j < depth → j + length front ≡ i + rounds * depth → column depth i (front ++ back) ≡ column depth i front ++ column depth j back
 goes_on depth i j zero [] back below within meets = let same : i ≡ j = omega (arith, zero-mul depth) in ap (λ n. column depth n back) same
 goes_on depth i j (suc rounds) [] back below within meets = absurd (omega (arith, suc-mul rounds depth))

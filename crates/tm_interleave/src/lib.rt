@@ -6,7 +6,7 @@
 ghost use Rattle.std.specs.Prelude.{◌≡◌, ◌≢◌, ◌*◌, ◌<◌, ℕ, length};
 ghost use Rattle.tm_interleave.specs.Column.{column};
 
-// Copies each octet of `block` that stands a multiple of `depth` behind octet `i` to `out`.
+// Copies each octet of `block` that stands a multiple of `depth` after octet `i` to `out`.
 #[inline(always)]
 fn take_every(block: &[u8], depth: usize, i: usize, out: &mut [u8])
     requires column { i < depth }

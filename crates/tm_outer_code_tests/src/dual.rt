@@ -70,7 +70,7 @@ fn whole_words(rt: HostRuntime) {
     assert_eq!(rt; back, elements);
 }
 
-// Words are turned sixteen octets at a time, and the last of them perhaps twice.
+// Words are converted sixteen octets at a time, and the last of them perhaps twice.
 #[test]
 fn words_beside_single_octets(rt: HostRuntime) {
     for basis in [Basis::Dual, Basis::Poly] {

@@ -3,7 +3,7 @@ use tm_gf256::Gf;
 use tm_rs_code::Params;
 use tm_rs_encode::{checks, plain_checks};
 
-// The one information symbol 1 gives the coefficients of the generator polynomial behind its first.
+// The one information symbol 1 gives the coefficients of the generator polynomial after its first.
 #[test]
 fn one_symbol(rt: HostRuntime) {
     let params = Params::new(16, 33).unwrap();

@@ -36,7 +36,7 @@ fn row_of(line: &str) -> Option<Row<'_>> {
     })
 }
 
-// The syndromes of a text. What stands behind them is not looked at.
+// The syndromes of a text. What follows them is not looked at.
 fn syndromes_of(text: &[u8]) -> [Gf; 32] {
     let mut syndromes = [Gf(0xA5); 32];
     for i in 0..(text.len() / 2).min(32) {

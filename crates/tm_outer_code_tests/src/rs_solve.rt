@@ -49,7 +49,7 @@ fn row_of(line: &str) -> Option<Row<'_>> {
     })
 }
 
-// The symbols of a text, and zeros behind them.
+// The symbols of a text, and zeros after them.
 fn symbols_of(text: &[u8]) -> [Gf; 255]
     ensures { length result ≡ 255 }
 {

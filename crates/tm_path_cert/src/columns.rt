@@ -45,7 +45,7 @@ fn is_kept(step: &Step<'_>, before: &[u32; 64], sums: &[u32; 64], register: u8) 
 }
 
 // The two sums of a step from register 2 * j by bit 0, as 2 * first + second: at 2 * (j / 4) + j % 2. They are the same from
-// register 2 * j + 1 by bit 1, and both are turned over on the other two edges from these registers.
+// register 2 * j + 1 by bit 1, and both are complemented on the other two edges from these registers.
 static PAIRS: [usize; 16] = [0, 1, 3, 2, 3, 2, 0, 1, 2, 3, 1, 0, 1, 0, 2, 3];
 
 // How far the four edges from registers 2 * j and 2 * j + 1 are above the sums that they lead to, all in the bits of one

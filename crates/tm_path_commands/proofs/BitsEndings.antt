@@ -41,7 +41,7 @@ front-nothing before now wrote = subst (Wrote before now) (take_all wrote.0 [] (
 no-part : (before now : Option (List ℕ)) (text : List ℕ) → Wrote before now [] → WroteFront before now text
 no-part before now text wrote = (0, wrote)
 
--- a part behind what was written before
+-- a part after what was written before
 part-behind : (start out out_now noted notes notes_now : Option (List ℕ)) (before octets told line : List ℕ)
     → Wrote start out before → Wrote noted notes told
     → (line ≡ []) ⊎ (before ≡ []) → WrotePart line octets out out_now notes notes_now
@@ -73,7 +73,7 @@ part-behind start out out_now noted notes notes_now before octets told line wrot
 few-before : (given octets : List ℕ) → length (given ++ octets) < 2 ^ 44 → length given < 2 ^ 44
 few-before given octets few = omega (arith, few, length-append given octets)
 
--- what waits behind whole octets comes to the octets of all
+-- what waits after whole octets comes to the octets of all
 all-octets : (written waiting all : List Bool) → length written % 8 ≡ 0 → written ++ waiting ≡ all
     → octets_of written ++ octets_of waiting ≡ octets_of all
 all-octets written waiting all whole are = sym (octets_of-append written waiting whole) ∙ ap octets_of are
@@ -147,7 +147,7 @@ module _ (receiver now : InnerReceiving) (packing packed : Packing) (octets : Li
 
 module _ (receiver : InnerReceiving) (packing packed : Packing) (count left : ℕ) (out out_now notes : Option (List ℕ))
     (h : GathersLast receiver packing packed count left) where
-  -- the line behind the bits
+  -- the line after the bits
   end-is : (c : Configuration) (octets : List ℕ) (handed : List (Handed WindowBlock)) (windows : ℕ)
       → windows ≡ length (items_of handed) → count ≡ length (bits_of_handed c octets handed)
       → trace_end_text windows count left ≡ end_line c octets handed left

@@ -39,7 +39,7 @@ all_bits blocks = map is_one (kept_bits blocks)
 all_bits-append : (xs ys : List WindowBlock) → all_bits (xs ++ ys) ≡ all_bits xs ++ all_bits ys
 all_bits-append xs ys = ap (map is_one) (kept-append xs ys) ∙ map-append is_one (kept_bits xs) (kept_bits ys)
 
--- the phase that waits behind what was handed over
+-- the phase that waits after what was handed over
 abbrev phase_behind : Option Chosen → List (Handed WindowBlock) → Option Chosen
 phase_behind chosen [] = chosen
 phase_behind chosen (Phase skip cost ∷ handed) = phase_behind (Some record { skip = skip; cost = cost }) handed
@@ -120,7 +120,7 @@ phase-items : (chosen : Option Chosen) (items : List WindowBlock) → phase_behi
 phase-items chosen [] = refl
 phase-items chosen (item ∷ items) = phase-items chosen items
 
--- behind items stand items alone
+-- after items stand items alone
 behind-items : (xs ys : List (Handed WindowBlock)) (items : List WindowBlock) → xs ++ ys ≡ map Item items
     → (rest : List WindowBlock) × (ys ≡ map Item rest)
 behind-items [] ys items same = (items, same)

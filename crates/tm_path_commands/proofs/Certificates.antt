@@ -113,7 +113,7 @@ soft-small c phase octets small =
     All-map (λ v. v < 256) (soft_value c) behind
     (All-weaker (λ v. v < 256) (λ v. soft_value c v < 256) (soft-octet c) behind (All-drop (λ v. v < 256) phase (drop c.skip octets) (All-drop (λ v. v < 256) c.skip octets small)))
 
--- a certificate is whole, and its windows tell of these blocks, which keep so many bits
+-- a certificate is whole, and its windows are of these blocks, which keep so many bits
 record Certifies (c d : Configuration) (given octets : List ℕ) (blocks : List WindowBlock) (rate : Rate) : Type 0 where
   windows : List Window
   whole : IsWhole (rules_of c rate) octets windows

@@ -34,7 +34,7 @@ WroteHanded before now (Phase skip cost ∷ handed) taken taken_now = WroteHande
 WroteHanded before now (Item block ∷ handed) taken taken_now =
     (middle : Certifying) × (taken_then : Option (List ℕ)) × WroteBlock before middle block taken taken_then × WroteHanded middle now handed taken_then taken_now
 
--- the same of some of it, and a front of the window of the next block
+-- the same of some of it, and a prefix of the window of the next block
 pub record WroteHandedFront (before : Certifying) (handed : List (Handed WindowBlock)) (taken taken_now : Option (List ℕ)) : Type 0 where
   pub front : List (Handed WindowBlock)
   pub next : WindowBlock
@@ -96,7 +96,7 @@ module _ {T K L O : Type 0} (name : T → K) (sink : T → L) (certifying : T �
             };
           }
 
--- ---- blocks behind a phase
+-- ---- blocks after a phase
 
 pub wrote-items : (before now : Certifying) (items : List WindowBlock) (taken taken_now : Option (List ℕ)) → WroteHanded before now (map Item items) taken taken_now
     → WroteBlocks before now items taken taken_now

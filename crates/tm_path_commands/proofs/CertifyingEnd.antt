@@ -52,7 +52,7 @@ certified-last append writes c r old now start taken taken_now octets last left 
       wrote-then start taken taken_now t.text end.0 t.wrote end.2,
     )
 
--- ---- the certificate of first windows is a front of that of all
+-- ---- the certificate of first windows is a prefix of that of all
 
 abbrev pub HasCertificate : Type 0
 HasCertificate = (s : Settings) (octets : List ℕ) (blocks : List WindowBlock) (left : ℕ) → AreBlocksOf s octets blocks left → (text : List ℕ) × IsCertificate s octets blocks text

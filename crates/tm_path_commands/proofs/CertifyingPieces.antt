@@ -47,7 +47,7 @@ nil-second : {A : Type 0} (xs ys : List A) → xs ++ ys ≡ [] → ys ≡ []
 nil-second [] ys is = is
 nil-second (x ∷ xs) ys is = absurd cc
 
--- of what is handed over behind
+-- of what is handed over after
 pub no-items : (handed more : List (Handed WindowBlock)) → items_of (handed ++ more) ≡ [] → items_of more ≡ []
 no-items handed more none = nil-second (items_of handed) (items_of more) (sym (items_of-append handed more) ∙ none)
 
@@ -156,7 +156,7 @@ skip-within within c rate soft None is choice = omega arith
 skip-within within c rate soft (Some chosen) is choice =
     within rate (is_inverted rate c.invert) (c.keep + c.ahead) soft chosen (subst (λ (r : Option Rate). PhaseAt r c soft chosen) is choice.1)
 
--- the soft octets behind a phase go on
+-- the soft octets after a phase go on
 soft-on : (c : Configuration) (rate : Rate) (octets piece new : List ℕ) (skip : ℕ) → c.inner ≡ Some rate → skip ≤ length (phase_octets c octets)
     → phase_octets c (octets ++ piece) ≡ phase_octets c octets ++ new → soft_octets c skip (octets ++ piece) ≡ soft_octets c skip octets ++ new
 soft-on c rate octets piece new skip is inside soft =
@@ -224,7 +224,7 @@ stood-more longer stay within c rate old given octets piece new handed text is g
 
 -- ---- what is written with a piece
 
--- it goes on, with what was written behind
+-- it goes on, with what was written after
 pub record WritesOn (r : Option Rate) (c : Configuration) (now : Certifying) (octets : List ℕ) (handed : List (Handed WindowBlock)) (text : List ℕ) (taken taken_now : Option (List ℕ)) : Type 0 where
   pub last : List ℕ
   pub writes : WritesAt r c now octets handed (text ++ last)
@@ -355,7 +355,7 @@ module _ (append : Append) (longer : Longer) (stay : StayClosed) (within : Phase
         wrote = wrote-then_front start taken taken_now t.text on.0 t.wrote on.2;
       }
 
--- ---- octets behind those of first blocks
+-- ---- octets after those of first blocks
 
 longer-at : Longer → StayClosed → (r : Option Rate) (c : Configuration) (phase : ℕ) (octets more : List ℕ) (items : List WindowBlock) (text : List ℕ) → FirstAt r c phase octets items → TextAt r c phase octets items text
     → FirstAt r c phase (octets ++ more) items × TextAt r c phase (octets ++ more) items text

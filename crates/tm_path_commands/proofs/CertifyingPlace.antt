@@ -23,7 +23,7 @@ use Rattle.tm_cert_file.specs.Certificate.{AreCertified, IsCertificate}
 use Rattle.tm_cert_file.specs.Certifying.{Certifying, AreNext, WroteBlocks, WroteBlocksFront, with_octets, with_place}
 use Rattle.tm_path_commands.proofs.CertifierTook.{WroteHanded, WroteHandedFront, wrote-turn, wrote-items, front-turn, front-behind}
 
--- ---- closed windows, and those behind them
+-- ---- closed windows, and those after them
 
 pub closed-rest : (rate : Rate) (invert : Bool) (keep ahead : ℕ) (from middle to : Place) (first rest : List WindowBlock) → Closed rate invert keep ahead from first middle
     → Closed rate invert keep ahead from (first ++ rest) to → Closed rate invert keep ahead middle rest to
@@ -55,7 +55,7 @@ closed-few rate invert keep ahead from to (block ∷ blocks) closed =
     let rest = closed-few rate invert keep ahead (behind rate from block) to blocks closed.1 in
     omega (arith, rest, length-drop (steps_size rate from.t block.kept) from.octets, steps_size_ge rate from.t block.kept, inside)
 
--- octets that come behind stay behind
+-- octets that come after stay after
 abbrev pub with_more : Place → List ℕ → Place
 with_more at octets = record { starts = at.starts; t = at.t; octets = at.octets ++ octets }
 
@@ -70,7 +70,7 @@ closed-longer rate invert keep ahead from to later (block ∷ blocks) octets clo
     closed-longer rate invert keep ahead (behind rate from block) to later blocks octets closed.1
     (subst (λ (p : Place). Closed rate invert keep ahead p blocks later) same longer.1)
 
--- the windows behind closed ones of all
+-- the windows after closed ones of all
 pub record LastBlocks (rate : Rate) (invert : Bool) (keep ahead : ℕ) (at : Place) (blocks : List WindowBlock) : Type 0 where
   pub count : ℕ
   pub whole : steps_size rate at.t count ≤ length at.octets
@@ -121,7 +121,7 @@ goes-on c soft soft_now (Some a) (Some b) items all more is now same =
 
 -- ---- where the certificate stands with these soft octets
 
--- all of them wait, or those behind the closed windows
+-- all of them wait, or those after the closed windows
 pub record StoodWaiting (c : Configuration) (rate : Rate) (now : Certifying) (octets : List ℕ) (handed : List (Handed WindowBlock)) (text : List ℕ) : Type 0 where
   pub place : now.place ≡ first_place (settings_of c rate) (phase_octets c octets)
   pub nothing : handed ≡ []
@@ -142,7 +142,7 @@ pub record Stood (c : Configuration) (rate : Rate) (now : Certifying) (octets : 
   pub is_room : now.room ≡ 2 * (c.keep + c.ahead) + 264
   pub stood : StoodWaiting c rate now octets handed text ⊎ StoodGoing c rate now octets handed text
 
--- from where the windows of what is handed over behind are written, with so many octets skipped, once these are all of the blocks
+-- from where the windows of what is handed over after are written, with so many octets skipped, once these are all of the blocks
 pub record From (c : Configuration) (rate : Rate) (given : Certifying) (octets : List ℕ) (skip : ℕ) (all : List WindowBlock) (more : List (Handed WindowBlock)) (text : List ℕ) : Type 0 where
   pub items : List WindowBlock
   pub rest : List WindowBlock
@@ -156,7 +156,7 @@ pub record From (c : Configuration) (rate : Rate) (given : Certifying) (octets :
   pub wrote : (now : Certifying) (taken taken_now : Option (List ℕ)) → WroteHanded given now more taken taken_now → WroteBlocks from now rest taken taken_now
   pub broke : (taken taken_now : Option (List ℕ)) → WroteHandedFront given more taken taken_now → WroteBlocksFront from rest taken taken_now
 
--- the soft octets behind a phase
+-- the soft octets after a phase
 pub soft-skipped : (c : Configuration) (rate : Rate) (skip : ℕ) (octets : List ℕ) → c.inner ≡ Some rate → drop skip (phase_octets c octets) ≡ soft_octets c skip octets
 soft-skipped c rate skip octets is = soft-behind c skip (skipped_at c.inner c) octets (ap (λ (r : Option Rate). skipped_at r c) is)
 
@@ -306,7 +306,7 @@ module _ (c : Configuration) (rate : Rate) (given : Certifying) (octets : List �
         place = ap (λ (v : Certifying). v.place) took.0;
       }
 
-  -- a front of them
+  -- a prefix of them
   pub front-to : WritesClosedFront → (to : Place) (taken taken_now : Option (List ℕ)) → Closed rate invert c.keep c.ahead (first_place (settings_of c rate) soft) all to
       → WroteHandedFront given more taken taken_now
       → (last : List ℕ) × IsCertificate (settings_of c rate) soft all (text ++ last) × WroteFront taken taken_now last

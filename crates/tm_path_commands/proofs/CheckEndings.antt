@@ -149,7 +149,7 @@ module _ (c : Configuration) (k : Rate) (is : c.inner ≡ Some k) where
             (windows, seen, read, record { prefix = b.windows; rest = w ∷ more.0; split = split; stops = b.stops }),
       )
 
-  -- what is written of windows is a front of what is written of more octets
+  -- what is written of windows is a prefix of what is written of more octets
   written-first : ReadOnce → (octets more : List ℕ) (windows : List Window) (taken taken_now noted noted_now : Option (List ℕ)) → IsRead (rules_of c k) octets windows More
       → Wrote taken taken_now (all_kept (rules_of c k).rate 0 windows) → Wrote noted noted_now (windows_text 0 windows)
       → (output : Output) × (check_meaning c).is_output (octets ++ more) output × WrotePrefixes output (taken_by taken taken_now noted noted_now)

@@ -45,7 +45,7 @@ low_bits-octet count number value few is =
     (ap (λ n. n % 2 ^ count) (is ∙ and_mask number 8) ∙ ap (λ n. number % 2 ^ n % 2 ^ count) eight
     ∙ mod-mod-pow number (8 - count) count)
 
--- ---- bits of an octet behind others
+-- ---- bits of an octet after others
 
 pub joined : (last octet pending count value : ℕ) → count ≤ 8 → last < 256
     → value ≡ bit_or (last * 2 ^ count % 2 ^ 32) (octet % (1 * 2 ^ count % 2 ^ 32))
@@ -95,7 +95,7 @@ add-whole octets after last octet pending count value now next few small is full
     )
     ∙ sym (append_assoc (bits_of octets) (low_bits pending last) (low_bits count octet))
 
--- ---- whole octets, and the bits behind them
+-- ---- whole octets, and the bits after them
 
 pub front-octets : (count : ℕ) (octets : List ℕ) → AreOctets octets → AreOctets (take count octets)
 front-octets count octets are = All-take (λ octet. octet < 256) count octets are
@@ -128,7 +128,7 @@ view-open octets pending last few =
     ap (λ n. drop n (bits_of octets ++ low_bits pending last)) whole
     ∙ drop-append_seam (bits_of octets) (low_bits pending last)
 
--- whole octets of bits, and the bits behind them, are these bits
+-- whole octets of bits, and the bits after them, are these bits
 pub split-open : (bits : List Bool) → bits_of (octets_of bits) ++ open_bits bits ≡ bits
 split-open bits =
     let n : ℕ = 8 * (length bits / 8) in
@@ -145,7 +145,7 @@ split-open bits =
 pub few-open : (bits : List Bool) → length (open_bits bits) < 8
 few-open bits = omega (arith, length-drop (8 * (length bits / 8)) bits)
 
--- whole octets in front of bits stand first
+-- whole octets before bits stand first
 pub octets-behind : (written bits : List Bool) → length written % 8 ≡ 0
     → octets_of (written ++ bits) ≡ octets_of written ++ octets_of bits
 octets-behind written bits whole = octets_of-append written bits whole
@@ -182,7 +182,7 @@ one-bit byte bit is =
     let number : number_of (bit ∷ []) ≡ bit_number bit = omega arith in
     ap (low_bits 1) (is ∙ bool_byte-bit_number bit ∙ sym number) ∙ low_bits-number_of (bit ∷ [])
 
--- ---- octets behind the first bits
+-- ---- octets after the first bits
 
 drop-twice : {A : Type 0} (a b : ℕ) (xs : List A) → drop b (drop a xs) ≡ drop (a + b) xs
 drop-twice zero b xs = (let same : b ≡ 0 + b = omega arith in ap (λ n. drop n xs) same)
@@ -190,7 +190,7 @@ drop-twice (suc a) b [] = drop_all b [] (omega arith) ∙ sym (drop_all (suc a +
 drop-twice (suc a) b (x ∷ xs) = (let same : suc (a + b) ≡ suc a + b = omega arith in drop-twice a b xs
     ∙ ap (λ n. drop n (x ∷ xs)) same)
 
--- an octet's lowest bits are those behind the others
+-- an octet's lowest bits are those after the others
 lowest-behind : (odd octet : ℕ) → odd ≤ 8 → low_bits (8 - odd) octet ≡ drop odd (bits_of_octet octet)
 lowest-behind odd octet few =
     let all : 8 ≡ odd + (8 - odd) = omega arith in
@@ -201,7 +201,7 @@ lowest-behind odd octet few =
     ∙ drop-append_seam (low_bits odd (octet / 2 ^ (8 - odd))) (low_bits (8 - odd) octet)
     )
 
--- the first octet that is not skipped as a whole, and those behind it
+-- the first octet that is not skipped as a whole, and those after it
 pub behind-some : (skip skipped : ℕ) (octets : List ℕ) → skipped ≡ min (skip / 8) (length octets)
     → skipped < length octets
     → low_bits (8 - skip % 8) (get_or octets skipped 0) ++ bits_of (drop (skipped + 1) octets) ≡ drop skip

@@ -126,7 +126,7 @@ stay-first stay (Some rate) c phase octets more first are =
     let back = map (soft_value c) (drop (phase - length (drop c.skip octets)) (drop (c.skip - length octets) more)) in
     subst (λ (l : List ℕ). AreFirst (settings_of c rate) l first) (sym (soft-more c phase octets more)) (stay (settings_of c rate) (soft_octets c phase octets) back first are)
 
--- what is handed over up to a fault is a front of all
+-- what is handed over up to a fault is a prefix of all
 front-of-all : HasBlocks → StandFirst → (c : Configuration) (octets : List ℕ) (front : List (Handed WindowBlock)) → IsAccepted c → AreHandedFront c octets front
     → (handed : List (Handed WindowBlock)) × (left : ℕ) × AreHanded c octets handed left × ((rest : List (Handed WindowBlock)) × (handed ≡ front ++ rest))
 front-of-all exists stands c octets front accepted f =
@@ -181,7 +181,7 @@ trace-fails name lines last count c a taker now octets new accepted few stood p 
 
 -- ---- the end of a trace
 
--- the last windows behind those that were traced before
+-- the last windows after those that were traced before
 pub traced-whole : {T K : Type 0} (name : T → K) (lines : T → SinkState) (count : T → ℕ) (c : Configuration) (r : InnerReceiving) (taker now : T) (start : SinkState) (octets : List ℕ)
     (last : List (Handed WindowBlock)) (bits left : ℕ) → IsAccepted c → Traces c r (count taker) start (lines taker) octets
     → HandedOver (TookOne name lines count) taker last now
@@ -226,7 +226,7 @@ cut-end c count bits left start before now is_last octets w broke =
           (broke-front start now is_last (blocks_text 0 handed) end [] (broke start handed w.lines)));
     }
 
--- a front of the lines of the first of all is a front of the trace
+-- a prefix of the lines of the first of all is a prefix of the trace
 trace-first : (before now : Option (List ℕ)) (handed first rest : List (Handed WindowBlock)) (bits left : ℕ) → handed ≡ first ++ rest
     → WroteFront before now (blocks_text 0 first) → WroteFront before now (trace_text handed bits left)
 trace-first before now handed first rest bits left split wrote =
@@ -261,7 +261,7 @@ stands-new c r accepted same stands = (stands, subst (λ (k : Configuration). Ar
 
 -- ---- how tracing ends
 
--- lines of the first of all are a front of the trace
+-- lines of the first of all are a prefix of the trace
 fronts-by : (c : Configuration) (octets : List ℕ) (first : List (Handed WindowBlock)) (taken taken_now noted : Option (List ℕ)) (output : Output) (is : IsTrace c octets output)
     → (rest : List (Handed WindowBlock)) × (is.handed ≡ first ++ rest) → WroteFront taken taken_now (blocks_text 0 first) → WrotePrefixes output (taken_by taken taken_now noted noted)
 fronts-by c octets first taken taken_now noted output is split wrote = record {

@@ -87,7 +87,7 @@ blocks_text-split xs ys =
     let n : 0 + length (items_of xs) ≡ length (items_of xs) = omega arith in
     blocks_text-append 0 xs ys ∙ ap (λ m. blocks_text 0 xs ++ blocks_text m ys) n
 
--- the line of the next, and those behind it
+-- the line of the next, and those after it
 next-text : (n : ℕ) (next : Handed WindowBlock) (rest : List (Handed WindowBlock)) → (more : List ℕ) × (blocks_text n (next ∷ rest) ≡ handed_block_text n next ++ more)
 next-text n (Phase skip cost) rest = (blocks_text n rest, refl)
 next-text n (Item block) rest = (blocks_text (n + 1) rest, refl)
@@ -136,7 +136,7 @@ traced-all name lines count (Item block ∷ handed) a b over few =
 pub traced-none : (at : SinkState) (count : ℕ) → count ≡ 0 → TracedAll at at 0 count []
 traced-none at count none = record { lines = took-none at; counted = none ∙ omega arith }
 
--- lines behind those that were taken before
+-- lines after those that were taken before
 pub traced-more : {T K : Type 0} (name : T → K) (lines : T → SinkState) (count : T → ℕ) (start : SinkState) (done more : List (Handed WindowBlock)) (a b : T)
     → TracedAll start (lines a) 0 (count a) done → HandedOver (TookOne name lines count) a more b → length (items_of (done ++ more)) < 2 ^ 64
     → TracedAll start (lines b) 0 (count b) (done ++ more)
@@ -174,7 +174,7 @@ traced-part name lines last count start done tried a b before part few =
 
 -- ---- fronts of a trace
 
--- where the sink failed, it has taken a front of the lines
+-- where the sink failed, it has taken a prefix of the lines
 pub trace-front : (before now : SinkState) (last : Type 0) (handed : List (Handed WindowBlock)) → TraceBroke before now last handed → WroteFront before.taken now.taken (blocks_text 0 handed)
 trace-front before now last handed broke =
     let n = length (items_of broke.prefix) in

@@ -23,7 +23,7 @@ use Rattle.tm_path_commands.specs.Tracing.{StandsAt}
 abbrev pub fill : List Bool
 fill = false ∷ false ∷ false ∷ false ∷ false ∷ false ∷ false ∷ []
 
--- bits packed to octets, with zeros behind to a whole octet
+-- bits packed to octets, with zeros after them to a whole octet
 abbrev pub filled_octets : List Bool → List ℕ
 filled_octets bits = octets_of (bits ++ fill)
 
@@ -37,7 +37,7 @@ phase_line (Item block ∷ handed) = phase_line handed
 abbrev pub bits_of_handed : Configuration → List ℕ → List (Handed WindowBlock) → List Bool
 bits_of_handed c octets handed = inner_bits c octets (items_of handed)
 
--- what is said behind the bits: the windows, the bits, and the octets after the last step
+-- what is said after the bits: the windows, the bits, and the octets after the last step
 abbrev pub end_line : Configuration → List ℕ → List (Handed WindowBlock) → ℕ → List ℕ
 end_line c octets handed left =
     trace_end_text (length (items_of handed)) (length (bits_of_handed c octets handed)) left
@@ -58,7 +58,7 @@ pub record IsBitsDue (c : Configuration) (octets : List ℕ) (output : Output) :
   pub out : output.out ≡ octets_of (bits_of_handed c octets handed)
   pub notes : output.notes ≡ phase_line handed
 
--- The line of the phase comes before the first octet, and the end behind the last: the output took
+-- The line of the phase comes before the first octet, and the end after the last: the output took
 -- nothing, and the notes a part of that line; or the notes took just that line; or the output took
 -- all.
 abbrev pub AreBitsInOrder : (line : List ℕ) → Output → Taken → Type 0
@@ -112,7 +112,7 @@ abbrev pub line_of : Option Chosen → List ℕ
 line_of None = []
 line_of (Some chosen) = phase_text chosen.skip chosen.cost
 
--- the bits behind the last whole octet
+-- the bits after the last whole octet
 abbrev pub open_bits : List Bool → List Bool
 open_bits bits = drop (8 * (length bits / 8)) bits
 
@@ -125,7 +125,7 @@ abbrev pub WroteWaiting : Packing → (taken taken_now noted noted_now : Option 
 WroteWaiting packing taken taken_now noted noted_now =
     Wrote noted noted_now (line_of packing.phase) × Wrote taken taken_now (octets_of packing.bits)
 
--- of a line and octets behind it one sink failed in its part, and no octet was written before the
+-- of a line and octets after it one sink failed in its part, and no octet was written before the
 -- line was
 abbrev pub WrotePart : (line octets : List ℕ) → (taken taken_now noted noted_now : Option (List ℕ))
     → Type 0
@@ -133,7 +133,7 @@ WrotePart line octets taken taken_now noted noted_now =
     (Wrote taken taken_now [] × WroteFront noted noted_now line)
     ⊎ (WroteFront taken taken_now octets × Wrote noted noted_now line)
 
--- The receiver was given these octets and no others. Behind the bits of them that were written the
+-- The receiver was given these octets and no others. After the bits of them that were written the
 -- others of what is due wait, and the windows are counted.
 pub record Holds (c : Configuration) (receiver : InnerReceiving) (packing : Packing)
     (written : List Bool) (octets : List ℕ) (handed : List (Handed WindowBlock)) : Type 0 where
@@ -176,7 +176,7 @@ pub record Gathers (receiver receiver_now : InnerReceiving) (packing packing_now
       → Holds c receiver_now packing_now written (given ++ octets) (done ++ more)
       × PhaseWaits packing_now written more
 
--- Behind the bits that were written all others of the octets wait, filled to a whole octet. They
+-- After the bits that were written all others of the octets wait, filled to a whole octet. They
 -- come to so many bits, and so many octets are left over.
 pub record HoldsAll (c : Configuration) (packing : Packing) (written : List Bool)
     (octets : List ℕ) (handed : List (Handed WindowBlock)) (count left : ℕ) : Type 0 where
@@ -223,7 +223,7 @@ pub record WritesAll (c : Configuration) (taken taken_now noted noted_now : Opti
   pub out : Wrote taken taken_now (filled_octets (bits_of_handed c octets handed))
   pub notes : Wrote noted noted_now (phase_line handed ++ end_line c octets handed left)
 
--- a sink failed in all of it, at the latest in the line behind the bits
+-- a sink failed in all of it, at the latest in the line after the bits
 pub record WritesAllPart (c : Configuration) (taken taken_now noted noted_now : Option (List ℕ))
     (octets : List ℕ) : Type 0 where
   pub handed : List (Handed WindowBlock)

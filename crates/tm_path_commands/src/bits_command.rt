@@ -28,7 +28,7 @@ struct Packer {
     room: Vec<u8>,
     // The whole octets.
     count: usize,
-    // The bits behind them are the lowest `pending` ones of this octet.
+    // The bits after them are the lowest `pending` ones of this octet.
     last: u8,
     pending: u32,
     phase: Option<Chosen>,
@@ -109,7 +109,7 @@ impl Packer {
         }
     }
 
-    // Adds the bits of octets behind the first `skip` ones.
+    // Adds the bits of octets after the first `skip` ones.
     fn add_behind(&mut self, skip: u64, octets: &[u8])
         ensures { Adds self.old (drop skip (bits_of octets.now)) self.new }
     {
@@ -215,7 +215,7 @@ fn gather(receiver: &mut InnerReceiver, packer: &mut Packer, piece: &[u8])
     }
 }
 
-// Packs the bits of octets behind the first `skip` ones, where there is no inner code.
+// Packs the bits of octets after the first `skip` ones, where there is no inner code.
 fn add_behind(receiver: &InnerReceiver, packer: &mut Packer, skip: u64, octets: &[u8])
     requires { length octets.now ≤ 4096 }
     ensures { Adds packer.old (drop skip (plain_bits receiver.now.config octets.now)) packer.new }
@@ -239,7 +239,7 @@ fn add_nearest(receiver: &InnerReceiver, packer: &mut Packer, skip: u64, octets:
     packer.add_bits(bits);
 }
 
-// Ends a receiver, and packs the last bits, with zeros behind them to a whole octet.
+// Ends a receiver, and packs the last bits, with zeros after them to a whole octet.
 fn gather_last(receiver: &mut InnerReceiver, packer: &mut Packer) -> InnerEnd
     requires { receiver.old.has_stopped ≡ false }
     ensures { GathersLast receiver.old packer.old packer.new result.bits result.leftover }
@@ -313,7 +313,7 @@ fn write_piece<O: Sink, N: Sink>(
     write(packer, out, notes)
 }
 
-// Writes what is left at the end, and the line behind it.
+// Writes what is left at the end, and the line after it.
 fn write_end<O: Sink, N: Sink>(
     receiver: &mut InnerReceiver,
     packer: &mut Packer,
@@ -416,8 +416,8 @@ impl<'a, 'b, 'c, 'd, O: Sink, N: Sink> Feed for BitWriting<'a, 'b, 'c, 'd, O, N>
 }
 
 /// Writes the received bits of the soft octets of the source, up to the limit in octets, eight an octet, the first one
-/// most significant, to `out`, with zeros behind to a whole octet at the end of the input. The notes get a line for the
-/// symbol phase before them, where it is to be found, and the end of the trace behind them. With no inner code the
+/// most significant, to `out`, with zeros after them to a whole octet at the end of the input. The notes get a line for
+/// the symbol phase before them, where it is to be found, and the end of the trace after them. With no inner code the
 /// octets hold the bits, packed or one each. After a fault nothing more is read or written. It takes all its memory before it reads.
 pub fn bits<S: Source, O: Sink, N: Sink>(
     alloc: Global,

@@ -97,7 +97,7 @@ fn write_failed<N: Sink>(number: u64, reason: Reason, notes: &mut N) -> Stop
     }
 }
 
-// Takes octets of a certificate from the front of `piece`, until something is seen of its next window, and answers how
+// Takes octets of a certificate from the start of `piece`, until something is seen of its next window, and answers how
 // many. It stops where this window fails, which the notes then say, or a sink.
 fn check_window<O: Sink, N: Sink>(
     reader: &mut Reader,

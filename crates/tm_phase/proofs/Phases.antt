@@ -64,7 +64,7 @@ AreCompared-one rate window octets steps other a b =
     let rest = drop (period_size rate - 1) octets in
     omega (arith, a.lesser, b.lesser, no_more rate rest a.most b.most a.whole.whole b.whole, no_more rate rest b.most a.most b.whole.whole a.whole)
 
--- they fit behind every candidate
+-- they fit after every candidate
 pub compared_fit : (rate : Rate) (window : ℕ) (octets : List ℕ) (steps : ℕ) → AreCompared rate window octets steps → steps_size rate 0 steps ≤ length octets - (period_size rate - 1)
 compared_fit rate window octets steps h =
     omega (arith, h.lesser, h.whole.whole, length-drop (period_size rate - 1) octets, steps-mono rate 0 steps h.most (omega (arith, h.lesser)))

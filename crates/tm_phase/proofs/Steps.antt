@@ -11,7 +11,7 @@ pub record AreWhole (rate : Rate) (symbols count size : ℕ) : Type 0 where
   pub fits : size ≤ symbols
   pub most : symbols < steps_size rate 0 (count + 1)
 
--- one symbol is left over where it stands alone behind whole periods, and else none
+-- one symbol is left over where it stands alone after whole periods, and else none
 abbrev pub left_over : ℕ → ℕ → ℕ
 left_over period symbols = min 1 (symbols % (period + 1)) - min 1 (symbols % (period + 1) - 1)
 

@@ -12,7 +12,7 @@ use Rattle.tm_phase.specs.declared.choosing.Chosen.{Chosen}
 abbrev pub period_size : Rate → ℕ
 period_size rate = steps_size rate 0 (period rate)
 
--- how many steps are compared: as many as are whole behind every candidate, and at most `window`
+-- how many steps are compared: as many as are whole after every candidate, and at most `window`
 pub record AreCompared (rate : Rate) (window : ℕ) (octets : List ℕ) (steps : ℕ) : Type 0 where
   pub most : ℕ
   pub whole : AreSteps rate 0 (drop (period_size rate - 1) octets) most

@@ -16,7 +16,7 @@ pub fn phase_law()
     best_path_law();
 }
 
-/// The whole window is compared exactly where there are enough octets, and whatever octets come behind these the phase stays
+/// The whole window is compared exactly where there are enough octets, and whatever octets come after these the phase stays
 /// the same. It does nothing.
 pub fn whole_window_law()
     ensures whole { (rate : Rate) (window : ℕ) (octets : List ℕ) → 1 ≤ window → AreCompared rate window octets window ↔ octets_needed rate window ≤ length octets }

@@ -26,7 +26,7 @@ static SEQUENCE: [u8; 255] = [
     0x4B, 0xBE, 0xE6, 0x19, 0x51, 0x5F, 0x9F, 0x05, 0x08, 0x78, 0xC4, 0x4A, 0x66, 0xF5, 0x58,
 ];
 
-// The octets of a piece that are masked at a time: behind them the sequence's octets begin anew.
+// The octets of a piece that are masked at a time: after them the sequence's octets begin anew.
 const PIECE: usize = 255;
 
 /// Adds the sequence to `block`, from its start, at the first and most significant bit of the block's first octet

@@ -64,7 +64,7 @@ first_erased-longer c octets more fits =
     ap (map (λ flag. not (flag == 0))) (ap (take c.params.n) (drop-append-le c.params.n octets more (omega arith))
     ∙ take-append-le c.params.n (drop c.params.n octets) more (omega (arith, length-drop c.params.n octets)))
 
--- what is nearest to first records, whatever octets come behind them
+-- what is nearest to first records, whatever octets come after them
 pub first-longer : (c : Coding) (octets more : List ℕ) (nearest : List NearestErased) → length nearest * record_size c ≤ length octets
     → AreFirstNearest c octets nearest → AreFirstNearest c (octets ++ more) nearest
 first-longer c octets more [] fits are = tt
@@ -77,7 +77,7 @@ first-longer c octets more (x ∷ nearest) fits are =
           (first-longer c (drop (record_size c) octets) more nearest (omega (arith, length-drop (record_size c) octets)) are.1),
     )
 
--- what is nearest to first records and then to those behind them
+-- what is nearest to first records and then to those after them
 pub first-append : (c : Coding) (octets : List ℕ) (a b : List NearestErased) → AreFirstNearest c octets a → AreFirstNearest c (drop (length a * record_size c) octets) b → AreFirstNearest c octets (a ++ b)
 first-append c octets [] b are behind = let none : 0 * record_size c ≡ 0 = omega arith in subst (λ (n : ℕ). AreFirstNearest c (drop n octets) b) none behind
 first-append c octets (x ∷ a) b are behind = (

@@ -127,7 +127,7 @@ line-written c text octets now answer accepted read repaired taken taken_now not
   record { out = wrote; notes = wrote-nothing noted },
 )
 
--- a word is beyond repair where it is answered so
+-- a word is uncorrectable where it is answered so
 pub is_beyond : (c : Configuration) (text octets now : List ℕ) (answer : Answer) → word_refusal c text ≡ None
     → (list_all is_hex_digit text ≡ true → octets ≡ octets_of_hex text)
     → Repaired c octets answer now → answer ≡ Beyond → IsBeyond c text

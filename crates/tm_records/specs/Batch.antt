@@ -37,7 +37,7 @@ pub record IsRead (c : Coding) (octets : List ℕ) (w : ErasedWord) : Type 0 whe
   pub symbols : numbers (take c.params.n w.symbols) ≡ first_word c octets
   pub erased : take c.params.n w.erased ≡ first_erased c octets
 
--- the words hold the first records, one behind the other
+-- the words hold the first records, one after the other
 abbrev pub AreRead : Coding → List ℕ → List ErasedWord → Type 0
 AreRead c octets [] = Unit {0}
 AreRead c octets (w ∷ words) = IsRead c octets w × AreRead c (drop (record_size c) octets) words

@@ -71,7 +71,7 @@ record_rest c octets = left_over (coding_of c) octets
 
 -- The lines of all whole records go to the output, those of whole batches before the end of the
 -- input is known. The notes say what is left over, and that last. An input of whole records is bad
--- where a word is beyond repair.
+-- where a word is uncorrectable.
 abbrev pub erased_meaning : Configuration → Meaning
 erased_meaning c = record {
   is_output = λ octets output.

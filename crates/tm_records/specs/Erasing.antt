@@ -13,7 +13,7 @@ use Rattle.tm_records.specs.Records.{AreFirstNearest, AreNearest, left_over, rec
 use Rattle.tm_records.specs.Erased.{is_beyond, nearest_lines}
 
 -- Of these octets the batch holds those after some whole batches. The lines of the records in these
--- were taken, and it is known whether a word was beyond repair.
+-- were taken, and it is known whether a word was uncorrectable.
 pub record Holds (c : Coding) (batch : Batch) (beyond : Bool) (start now : Option (List ℕ))
     (octets : List ℕ) : Type 0 where
   pub coding : batch.coding ≡ c
@@ -39,7 +39,7 @@ pub record Broke (c : Coding) (start now : Option (List ℕ)) (octets : List ℕ
   pub few : length nearest * record_size c ≤ length octets
   pub wrote : WroteFront start now (nearest_lines c.basis nearest)
 
--- a batch, whether a word before those in it was beyond repair, and what the output has taken
+-- a batch, whether a word before those in it was uncorrectable, and what the output has taken
 pub record Stand : Type 0 where
   pub batch : Batch
   pub beyond : Bool
@@ -62,7 +62,7 @@ abbrev pub BreaksMore : (before : Stand) → Option (List ℕ) → List ℕ → 
 BreaksMore before taken octets = (c : Coding) (start : Option (List ℕ)) (given : List ℕ)
     → HoldsAt c before start given → Broke c start taken (given ++ octets)
 
--- what comes of an input that else comes to this, where a word may be beyond repair
+-- what comes of an input that else comes to this, where a word may be uncorrectable
 abbrev pub outcome_with : Outcome → Bool → Outcome
 outcome_with Done true = Bad
 outcome_with outcome beyond = outcome
@@ -78,7 +78,7 @@ pub record ToldAll (c : Coding) (octets : List ℕ) (outcome : Outcome)
   pub outcome_is :
       outcome ≡ outcome_with (outcome_by (left_over c octets)) (list_any is_beyond nearest)
 
--- the notes failed in what is told on them, and the lines of all whole records were taken
+-- the notes failed in what is written to them, and the lines of all whole records were taken
 pub record BrokeNotes (c : Coding) (octets : List ℕ) (start now noted noted_now : Option (List ℕ))
     : Type 0 where
   pub nearest : List NearestErased

@@ -1,5 +1,5 @@
--- Records of received words, one behind the other. A record has an octet for each of the n symbols
--- of a word, and behind these a flag for each symbol: 0 where the symbol is good, and any other
+-- Records of received words, one after the other. A record has an octet for each of the n symbols
+-- of a word, and after these a flag for each symbol: 0 where the symbol is good, and any other
 -- number where it is erased.
 use Rattle.std.specs.Prelude.{◌≡◌, ℕ, ◌*◌, ◌/◌, ◌%◌, ◌==◌, Bool, not, List, [], ◌∷◌, length, map, take, drop}
 use Rattle.tm_dual.specs.Octet.{element_of}
@@ -14,7 +14,7 @@ record_size c = 2 * c.params.n
 abbrev pub record_count : Coding → List ℕ → ℕ
 record_count c octets = length octets / record_size c
 
--- how many octets stand behind the last whole record
+-- how many octets follow the last whole record
 abbrev pub left_over : Coding → List ℕ → ℕ
 left_over c octets = length octets % record_size c
 

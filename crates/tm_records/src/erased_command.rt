@@ -57,7 +57,7 @@ fn is_beyond(answer: ErasedAnswer) -> bool
     }
 }
 
-// Writes a line for each record that was decoded, and answers whether a word is beyond repair.
+// Writes a line for each record that was decoded, and answers whether a word is uncorrectable.
 fn tell_records<O: Sink>(records: &Records, out: &mut O) -> Result<bool, Failed>
     ensures short { records.now.coding.params.n ≤ LONGEST_WORD }
     ensures ok { IfOk result (λ beyond. Wrote (O.taken out.old) (O.taken out.new)
@@ -78,7 +78,7 @@ fn tell_records<O: Sink>(records: &Records, out: &mut O) -> Result<bool, Failed>
     Ok(beyond)
 }
 
-// Decodes the whole records of a batch and writes their lines. Answers whether a word is beyond repair.
+// Decodes the whole records of a batch and writes their lines. Answers whether a word is uncorrectable.
 fn tell_batch<R: Threads + Sync, O: Sink>(
     rt: &R,
     records: &mut Records,
@@ -125,7 +125,7 @@ fn end_full<R: Threads + Sync, O: Sink>(
 }
 
 // Takes the next octets of records, and writes the lines of each batch that is full with them. Answers whether a word
-// so far is beyond repair, `beyond` being whether one of those before is.
+// so far is uncorrectable, `beyond` being whether one of those before is.
 fn take_octets<R: Threads + Sync, O: Sink>(
     rt: &R,
     records: &mut Records,
@@ -149,7 +149,7 @@ fn take_octets<R: Threads + Sync, O: Sink>(
     Ok(known)
 }
 
-// What comes of an input that else comes to this, where a word may be beyond repair.
+// What comes of an input that else comes to this, where a word may be uncorrectable.
 fn outcome_with(outcome: Outcome, beyond: bool) -> Outcome
     ensures { result ≡ outcome_with outcome beyond }
 {
@@ -159,7 +159,7 @@ fn outcome_with(outcome: Outcome, beyond: bool) -> Outcome
     }
 }
 
-// A batch of records, its threads, whether a word so far is beyond repair, where its lines are written, and where it is
+// A batch of records, its threads, whether a word so far is uncorrectable, where its lines are written, and where it is
 // said how many octets are left over.
 struct Erasing<'a, 'b, 'c, 'd, R, O, N> {
     rt: &'a R,
@@ -266,7 +266,7 @@ fn records_by(alloc: Global, config: &Config) -> Result<Records, NoMemory>
 /// Repairs the word of each record of the source, up to the limit in octets, and writes a line for it: `fixed A B HEX`,
 /// or `beyond`. A record is the octets of a word and a flag for each, 0 where its symbol is good and any other where it
 /// is erased. Records are decoded 256 at a time, by the workers of the configuration. At the end of the input it writes
-/// to the notes how many octets follow the last whole record. `Bad` comes where none do and a word is beyond repair.
+/// to the notes how many octets follow the last whole record. `Bad` comes where none do and a word is uncorrectable.
 /// After a fault nothing more is read or written. It takes all its memory before it reads, and there alone answers
 /// `NoMemory`.
 pub fn erased<R: Threads + Sync, S: Source, O: Sink, N: Sink>(

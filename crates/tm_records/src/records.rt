@@ -19,7 +19,7 @@ use tm_workers::{ErasedWord, Gate};
 /// How many records a batch has.
 pub const BATCH: usize = 256;
 
-/// A batch of records of received words. A record has the octets of the n symbols of a word, in a basis, and behind
+/// A batch of records of received words. A record has the octets of the n symbols of a word, in a basis, and after
 /// them n flags, 0 for a symbol that is good and any other for one that is erased. A batch takes octets in pieces until
 /// it has 256 records; then, or at the end of the octets, its records are decoded at once, and it is cleared for the
 /// next ones. It takes its memory at `open`.
@@ -96,7 +96,7 @@ impl Records {
         })
     }
 
-    /// Takes octets from the front of `piece`, as many as the batch has room for, and answers how many.
+    /// Takes octets from the start of `piece`, as many as the batch has room for, and answers how many.
     pub fn take(&mut self, piece: &[u8]) -> usize
         ensures count { result ≡ min (length piece.now) (256 * record_size self.old.coding - length self.old.octets) }
         ensures octets { self.new.octets ≡ self.old.octets ++ take result piece.now }
@@ -172,7 +172,7 @@ impl Records {
         word.answer.unwrap_or(ErasedAnswer::Beyond)
     }
 
-    /// How many octets of the batch stand behind its last whole record.
+    /// How many octets of the batch follow its last whole record.
     pub fn left_over(&self) -> usize
         ensures { result ≡ left_over self.now.coding self.now.octets }
     {

@@ -44,7 +44,7 @@ impl Values {
         Ok(())
     }
 
-    // A word is what comes before a `*`, so often as the number behind it says.
+    // A word is what comes before a `*`, so often as the number after it says.
     fn append_word(&self, alloc: Global, word: &str, octets: &mut Vec<u8>) -> Result<()> {
         let (word, count) = match word.split_once('*') {
             Some((word, count)) => (word, count.parse::<u32>()?),

@@ -33,7 +33,7 @@ pub struct Row {
     pub status: Option<u8>,
     pub out: Vec<u8>,
     pub notes: Vec<u8>,
-    /// How often the source is read, where the row tells it.
+    /// How often the source is read, where the row says it.
     pub reads: Option<u64>,
 }
 

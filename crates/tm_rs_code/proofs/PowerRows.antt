@@ -134,7 +134,7 @@ zeros_pass = refl
 pub sum_none : (m v : ℕ) → m < 16 → bit_xor (get_or sixteen_zeros m 0) v ≡ v
 sum_none m v lt = ap (λ (x : ℕ). bit_xor x v) (same_below 16 (λ m. get_or sixteen_zeros m 0) (λ m. 0) zeros_pass m lt) ∙ xor_comm 0 v ∙ xor_zero_r v
 
--- sixteen more values, stored behind the others
+-- sixteen more values, stored after the others
 pub put_values : (value : ℕ → ℕ) (out lanes : List ℕ) (a : ℕ) → length lanes ≡ 16 → a + 16 ≤ length out → ((m : ℕ) → m < 16 → get_or lanes m 0 ≡ value (a + m))
     → ((i : ℕ) → i < a → get_or out i 0 ≡ value i) → (i : ℕ) → i < a + 16 → get_or (put_chunk a out lanes) i 0 ≡ value i
 put_values value out lanes a long room new old i lt = elim (cases_lt i a) [

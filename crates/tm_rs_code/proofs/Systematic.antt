@@ -213,7 +213,7 @@ systematic_exists e info h =
       begins = take-append_seam info (unwrap_or (find test (all_words (2 * e))) []);
     }
 
--- two words that begin alike differ behind that alone
+-- two words that begin alike differ after that alone
 distance_behind : (n : ℕ) (xs ys : List ℕ) → length xs ≡ length ys → take n xs ≡ take n ys → distance xs ys ≤ length xs - n
 distance_behind n [] ys e same = omega arith
 distance_behind n (x ∷ xs) [] e same = absurd (omega arith)

@@ -47,7 +47,7 @@ abbrev pub weight : List ℕ → ℕ
 weight [] = 0
 weight (x ∷ xs) = (if x == 0 then 0 else 1) + weight xs
 
--- c is a codeword that begins with the information symbols and has 2e check symbols behind them
+-- c is a codeword that begins with the information symbols and has 2e check symbols after them
 pub record IsSystematic (e : ℕ) (info c : List ℕ) : Type 0 where
   pub elements : AreElements c
   pub codeword : IsCodeword e c

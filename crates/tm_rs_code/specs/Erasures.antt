@@ -1,4 +1,4 @@
--- Erasures: places whose symbols are told to be unknown. The first flag is that of the first symbol.
+-- Erasures: places whose symbols are known to be lost. The first flag is that of the first symbol.
 use Rattle.std.specs.Prelude.{◌≡◌, ◌<◌, ◌≤◌, ◌+◌, ◌*◌, ℕ, Bool, List, [], ◌∷◌, length, ◌==◌, ◌||◌, if◌then◌else◌}
 use Rattle.tm_gf256.specs.Poly.{value_at}
 use Rattle.tm_rs_code.specs.Code.{AreElements, place_of, root, distance, weight}

@@ -1,4 +1,4 @@
-// Values of a polynomial at the elements of sixteen places at once, and of two such groups a turn.
+// Values of a polynomial at the elements of sixteen places at once, and of two such groups at a time.
 ghost use Rattle.std.specs.Prelude.{◌≡◌, ◌<◌, ◌≤◌, ◌+◌, ◌*◌, ℕ, length, slice_index_or};
 ghost use Rattle.tm_gf256.specs.Field.{times};
 ghost use Rattle.tm_gf256.specs.Poly.{numbers, value_at};

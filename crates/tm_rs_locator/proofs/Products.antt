@@ -42,7 +42,7 @@ linear-swap x y (a ∷ qs) =
 
 -- ---- the coefficients of a polynomial
 
--- these are its coefficients, and behind them zeros
+-- these are its coefficients, and after them zeros
 pub record IsListed (c : ℕ → ℕ) (degree : ℕ) (q : List ℕ) : Type 0 where
   pub listed : listing c 0 (suc degree) ≡ q
   pub beyond : (i : ℕ) → suc degree ≤ i → c i ≡ 0

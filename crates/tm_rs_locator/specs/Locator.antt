@@ -6,7 +6,7 @@ use Rattle.tm_rs_code.specs.Code.{place_of, weight}
 use Rattle.tm_rs_code.specs.Erasures.{IsErasedPattern, outside}
 use Rattle.tm_rs_code.specs.Pattern.{IsPattern, locator_of}
 
--- the coefficients are those of the locator of w, the power 0 first, and behind them zeros
+-- the coefficients are those of the locator of w, the power 0 first, and after them zeros
 pub record IsLocatorOf (coefs : List Gf) (degree : ℕ) (w : List ℕ) : Type 0 where
   pub room : length coefs ≡ 17
   pub elements : (i : ℕ) → entry coefs i < 256

@@ -13,7 +13,7 @@ use tm_gf256::{Gf, see_range};
 use tm_rs_code::{Params, values_at_places};
 
 /// The product of 1 + X z over the elements X of the places of the wrong symbols, as many as the
-/// degree: entry k is the coefficient of z^k, and 0 behind the degree.
+/// degree: entry k is the coefficient of z^k, and 0 after the degree.
 #[derive(Clone, Copy, Debug, PartialEq, Eq)]
 pub struct Locator {
     pub coefs: [Gf; 17],

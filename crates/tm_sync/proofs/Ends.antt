@@ -1,4 +1,4 @@
--- The places behind the end of a codeblock.
+-- The places after the end of a codeblock.
 use Rattle.std.proofs.Common.{◌≡◌, ℕ, zero, suc, ◌+◌, ◌<◌, ◌≤◌, Bool, false, List, [], ◌∷◌, ◌++◌, length, take, refl, sym, ap, ◌∙◌, subst, arith, Option, Some, None, ◌⊎◌, inl, inr}
 use Rattle.std.proofs.lemmas.List.{take_all}
 use Rattle.std.proofs.lemmas.Bool.{cases_lt}
@@ -40,8 +40,8 @@ first-matched rules at (b ∷ bits) f found e = go (λ e. first-matched rules (a
         let same : g ≡ f = cc in
         ap (λ (v : Found). v.bridged) (sym same) ∙ matched g h
 
--- What stands behind places, of which the first is not bridged, is the same whatever stands before them. There is one, if they
--- end behind the bits before them.
+-- What follows places, of which the first is not bridged, is the same whatever stands before them. There is one, if they
+-- end after the bits before them.
 same-behind : (rules : Rules) (at end : ℕ) (before : Option Before) (bits : List Bool) (found : List Found) → places_from rules at 0 None bits ≡ found
     → end_behind rules end found ≡ end + suc (length bits)
     → (before_behind before found ≡ before_behind None found) × ((other : ℕ) → end_behind rules other found ≡ end_behind rules end found)
@@ -49,7 +49,7 @@ same-behind rules at end before bits [] is e = absurd (omega arith)
 same-behind rules at end before bits (f ∷ found) is e =
     (ap (λ (b : Before). before_behind (Some b) found) (sym (behind-matched before f (first-matched rules at bits f found is))), λ other. refl)
 
--- where the last codeblock of a front ends with it, the places of the whole are those of the front and then those behind it
+-- where the last codeblock of a front ends with it, the places of the whole are those of the front and then those after it
 places_from-behind : (rules : Rules) (at skip : ℕ) (before : Option Before) (bits more : List Bool)
     → end_behind rules (at + skip) (places_from rules at skip before bits) ≡ at + length bits
     → places_from rules at skip before (bits ++ more)
@@ -113,7 +113,7 @@ places_from-behind rules at zero before (b ∷ bits) more e =
         let no : at + 0 ≡ at + suc (length bits) = ap (end_behind rules (at + 0)) (sym (places_from-short rules at before (b ∷ bits) short)) ∙ e in absurd (omega arith)
     roomy next (inr room) = here next (place_at-append rules at before (b ∷ bits) more room) (seen (place_at rules at before (b ∷ bits)))
 
--- no codeblock ends behind the bits
+-- no codeblock ends after the bits
 end-within : (rules : Rules) (end : ℕ) (found : List Found) → EndBefore rules end found → end_of rules found ≤ end
 end-within rules end [] all = omega arith
 end-within rules end (f ∷ []) all = all.0
@@ -128,7 +128,7 @@ end-there rules bits found is = go (cases_lt (length bits) (end_of rules found))
         end-within rules (length bits) found (subst (EndBefore rules (length bits)) (sym (ap (places rules) all) ∙ is) (places-end rules bits))
     go (inr there) = there
 
--- where places are those of a front that their last codeblock ends, the places of the whole are these and then those behind it
+-- where places are those of a front that their last codeblock ends, the places of the whole are these and then those after it
 pub places-behind : (rules : Rules) (front more : List Bool) (found : List Found) → places rules front ≡ found → end_of rules found ≡ length front
     → places rules (front ++ more) ≡ found ++ places_from rules (length front) 0 (before_behind None found) more
 places-behind rules front more found is ends =

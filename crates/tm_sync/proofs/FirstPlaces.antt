@@ -18,7 +18,7 @@ pub here-append : (rules : Rules) (at : ℕ) (before : Option Before) (bits more
 here-append rules at before bits more long =
     ap (place_by rules at before (bits ++ more)) (match_of-append rules bits more long) ∙ place_by-append rules at before bits more (match_of rules bits) long
 
--- what stands before the bits behind a front
+-- what stands before the bits after a front
 abbrev pub ready : List Bool → Option Before → Option Before
 ready [] before = before
 ready (b ∷ front) before = None
@@ -154,7 +154,7 @@ pub behind-matched : (before : Option Before) (f : Found) → f.bridged ≡ fals
 behind-matched None f e = refl
 behind-matched (Some before) f e = λ i. record { inverted = f.inverted; bridged = (ap (λ (c : Bool). cond c 1 0) e ∙ sym (ap (λ (c : Bool). cond c (before.bridged + 1) 0) e)) i }
 
--- a first place whose codeblock ends with the bits is the place that is told, and the search goes on behind it
+-- a first place whose codeblock ends with the bits is the place that is told, and the search goes on after it
 pub places_from-whole : (rules : Rules) (at : ℕ) (before : Option Before) (bits more : List Bool) (f : Found) → first_place rules at before bits ≡ Some f
     → f.place + 32 + rules.block_bits ≡ at + length bits → places_from rules at 0 before (bits ++ more) ≡ f ∷ places_from rules (at + length bits) 0 (Some (before_next before f)) more
 places_from-whole rules at before [] more f e ends = let no : None ≡ Some f = sym (first_place-nil rules at before) ∙ e in absurd (cc)

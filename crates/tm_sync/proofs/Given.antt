@@ -188,7 +188,7 @@ push_inside s s' b m g was stays more bits found stood =
     same h None e = let no : None ≡ Some m = sym (h.awaited_is ∙ ap (option_map (awaited_at s.before)) e) ∙ was in absurd (cc)
     same h (Some f) e = h.awaited_is ∙ ap (option_map (awaited_at s.before)) (e ∙ sym (first_place-stays s.rules (length h.front) s.before h.rest (b ∷ []) f e))
 
--- all bits are of the codeblock behind a place that was found before
+-- all bits are of the codeblock after a place that was found before
 pub push_run : (s s' : Searching) (more : List Bool) (m : Awaited) → s.awaited ≡ Some m → s'.rules ≡ s.rules → s'.pushed ≡ s.pushed + length more → s'.start ≡ s.start
     → s'.before ≡ s.before → s'.awaited ≡ s.awaited → s'.after ≡ s.after + length more
     → (bits : List Bool) (found : List Found) → s'.word ≡ number_of (bits ++ more) % 2 ^ 32 → StandsFor s bits found → StandsFor s' (bits ++ more) found
@@ -226,7 +226,7 @@ none-yet s bits found h was = go (first_place s.rules (length h.front) s.before 
     go None e = e
     go (Some f) e = let no : Some (awaited_at s.before f) ≡ None = sym (h.awaited_is ∙ ap (option_map (awaited_at s.before)) e) ∙ was in absurd (cc)
 
--- the bits behind the last codeblock
+-- the bits after the last codeblock
 behind-is : (s : Searching) (bits : List Bool) (found : List Found) (h : Parts s bits found) → s.pushed ≡ s.start + length h.rest
 behind-is s bits found h = omega (arith, h.pushed_is, h.start_is, ap length h.parts, length-append h.front h.rest)
 
@@ -279,7 +279,7 @@ before-is : (behind : ℕ) (before : Option Before) (front : List Bool) → behi
 before-is behind before [] e = let test : (behind == 32) ≡ true = grind (arith, nat_tests) in ap (λ c. cond c before None) test
 before-is behind before (b ∷ front) e = let test : (behind == 32) ≡ false = grind (arith, nat_tests) in ap (λ c. cond c before None) test
 
--- a place that nothing stands before says the same of what stands behind it
+-- a place that nothing stands before says the same of what follows it
 awaited-ready : (rules : Rules) (at : ℕ) (before : Option Before) (front bits : List Bool)
     → option_map (awaited_at (ready front before)) (here rules at (ready front before) bits) ≡ option_map (awaited_at before) (here rules at (ready front before) bits)
 awaited-ready rules at before [] bits = refl
@@ -360,7 +360,7 @@ stands_first s pushed start word before free fresh = stands_of s [] [] record {
   fresh = subst (Fresh s) (sym free) fresh;
 }
 
--- the places of the bits are those found, and then those behind them
+-- the places of the bits are those found, and then those after them
 places-on : (s : Searching) (bits more : List Bool) (found : List Found) (h : Parts s bits found)
     → places s.rules (bits ++ more) ≡ found ++ places_from s.rules (length h.front) 0 s.before (h.rest ++ more)
 places-on s bits more found h =
@@ -478,7 +478,7 @@ none_awaited None e = refl
 none_awaited (Some m) e = absurd (cc)
 
 -- ---- the end of the bits
--- where a codeblock waits, no bits stand behind it
+-- where a codeblock waits, no bits follow it
 pub left-pending : (s : Searching) → is_pending s ≡ true → (bits : List Bool) (found : List Found) → StandsFor s bits found → 0 ≡ length bits - end_of s.rules (places s.rules bits)
 left-pending s pending bits found stood = go s.awaited refl
   where
@@ -490,7 +490,7 @@ left-pending s pending bits found stood = go s.awaited refl
         let end : end_of s.rules (places s.rules bits) ≡ m.found.place + 32 + s.rules.block_bits = ap (end_of s.rules) t.1 ∙ end-last s.rules found m.found in
         omega (arith, t.2)
 
--- else those behind the last codeblock found
+-- else those after the last codeblock found
 pub left-behind : (s : Searching) → is_pending s ≡ false → s.after ≤ s.rules.block_bits → (bits : List Bool) (found : List Found) → StandsFor s bits found
     → (s.pushed ≡ length bits) × (s.start ≤ s.pushed) × (s.start ≡ end_of s.rules (places s.rules bits))
 left-behind s free most bits found stood =
@@ -498,12 +498,12 @@ left-behind s free most bits found stood =
     let behind = behind-is s bits found h in
     (h.pushed_is, omega arith, h.start_is ∙ sym h.ends ∙ ap (end_of s.rules) (sym (told_all s free most bits found stood)))
 
--- no more bits stand behind a marker than a codeblock has
+-- no more bits follow a marker than a codeblock has
 pub most_after : (s other : Searching) → other ≡ s → other.after ≤ other.rules.block_bits → s.after ≤ s.rules.block_bits
 most_after s other same most = subst (λ (v : Searching). v.after ≤ v.rules.block_bits) same most
 
 -- ---- octets
--- a place is awaited where bits stand behind its marker
+-- a place is awaited where bits follow its marker
 pub some_inside : (s : Searching) → IsSome (inside_of s) → (m : Awaited) × (s.awaited ≡ Some m)
 some_inside s is = go s.awaited refl
   where

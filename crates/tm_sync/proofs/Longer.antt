@@ -7,7 +7,7 @@ use Rattle.tm_sync.specs.declared.found.Before.{Before}
 use Rattle.tm_sync.specs.Places.{Rules, match_of, before_next, found_at, place_by, place_at, places_from, places}
 use Rattle.tm_sync.proofs.Steps.{places_from-nil, places_from-short, places_from-one, places_from-miss, places_from-inside, match_of-append, wrong_bits-append, place_at-room, place_at-short}
 
--- what stands at a place with room for its codeblock stays, whatever comes behind
+-- what stands at a place with room for its codeblock stays, whatever comes after
 pub place_by-append : (rules : Rules) (at : ℕ) (before : Option Before) (bits more : List Bool) (way : Option Bool) → 32 ≤ length bits
     → place_by rules at before (bits ++ more) way ≡ place_by rules at before bits way
 place_by-append rules at before bits more (Some inverted) long = λ i. Some (record { place = at; distance = wrong_bits-append inverted bits more long i; bridged = false; inverted = inverted })
@@ -107,7 +107,7 @@ places-count rules bits = omega (arith, places-room rules bits)
 
 -- ---- a longer list
 
--- Its places are first those of the shorter one. The codeblocks of the others end behind that, and so many more bits
+-- Its places are first those of the shorter one. The codeblocks of the others end after that, and so many more bits
 -- have few of them.
 pub record GoesOn (rules : Rules) (end more : ℕ) (all first : List Found) : Type 0 where
   pub rest : List Found
@@ -211,7 +211,7 @@ places-few rules bits more count short =
     ] in
     omega (arith, all, few)
 
--- ---- what stands behind the places of a front
+-- ---- what follows the places of a front
 drop-front : (front rest : List Found) → drop (length front) (front ++ rest) ≡ rest
 drop-front [] rest = refl
 drop-front (f ∷ front) rest = drop-front front rest

@@ -8,7 +8,7 @@ use Rattle.tm_sync.specs.Places.{Rules, wrong_bits, match_of, before_next, found
 use Rattle.tm_sync.proofs.Steps.{places_from-nil, places_from-miss, places_from-hit, match_of-append, wrong_bits-append, place_at-room, place_at-short}
 use Rattle.tm_sync.specs.Marked.{Entry, joined, HasNoMarker, MayGap, MayBridge, place_by_marker, place_of, places_of, AreEntries, IsMarked}
 
--- what stands before the bits behind a gap
+-- what stands before the bits after a gap
 abbrev pub ready : List Bool → Option Before → Option Before
 ready [] before = before
 ready (b ∷ gap) before = None
@@ -79,11 +79,11 @@ place_is at before e (Some inverted) = refl
 place_is at None e None = refl
 place_is at (Some before) e None = refl
 
--- an entry's place is behind its gap
+-- an entry's place is after its gap
 pub place_of-place : (rules : Rules) (at : ℕ) (before : Option Before) (e : Entry) → (place_of rules at before e).place ≡ at + length e.gap
 place_of-place rules at before e = place_is (at + length e.gap) before e (match_of rules e.marker)
 
--- the gap before a marker that matches says nothing of what stands behind the codeblock
+-- the gap before a marker that matches says nothing of what follows the codeblock
 behind-ready : (rules : Rules) (at : ℕ) (before : Option Before) (e : Entry) → MayBridge rules before e (match_of rules e.marker)
     → before_next (ready e.gap before) (place_of rules at before e) ≡ before_next before (place_of rules at before e)
 behind-ready rules at before e may = go before e.gap (match_of rules e.marker) may

@@ -5,7 +5,7 @@ use Rattle.std.specs.List.{fold}
 use Rattle.tm_base.specs.Bits.{bit_number, number_of, low_bits}
 use Rattle.tm_sync.specs.Bits.{difference, differences, marker_bits}
 
--- the number that bits are, the first one worth most, behind the bits of `high`
+-- the number that bits are, the first one worth most, after the bits of `high`
 abbrev pub value_from : ℕ → List Bool → ℕ
 value_from high [] = high
 value_from high (b ∷ bits) = value_from (high * 2 + bit_number b) bits

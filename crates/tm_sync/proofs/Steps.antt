@@ -37,7 +37,7 @@ places_from-miss rules at before b bits e =
     ap (λ (o : Option Found). option_map_or (λ f. f ∷ places_from rules (at + 1) (31 + rules.block_bits) (Some (before_next before f)) bits) o
     (places_from rules (at + 1) 0 None bits)) e
 
--- behind a place's codeblock the search goes on
+-- after a place's codeblock the search goes on
 pub places_from-hit : (rules : Rules) (at : ℕ) (before : Option Before) (front rest : List Bool) (f : Found)
     → length front ≡ 32 + rules.block_bits → place_at rules at before (front ++ rest) ≡ Some f
     → places_from rules at 0 before (front ++ rest) ≡ f ∷ places_from rules (at + 32 + rules.block_bits) 0 (Some (before_next before f)) rest

@@ -1,4 +1,4 @@
--- The places of bits that were all turned over.
+-- The places of bits that were all complemented.
 use Rattle.std.proofs.Common.{◌≡◌, ℕ, zero, suc, ◌+◌, ◌<◌, ◌≤◌, Bool, true, false, cond, ◌&&◌, nat_le, nat_lt, List, [], ◌∷◌, length, take, drop, map, refl, sym, ap, ◌∙◌, arith, Option, Some, None, ◌⊎◌, inl, inr}
 use Rattle.std.specs.Option.{option_map}
 use Rattle.std.proofs.lemmas.Bool.{cases_lt}
@@ -64,7 +64,7 @@ match-turned rules bits either few long =
     go false true p q = refl
     go false false p q = refl
 
--- what stands before, turned over
+-- what stands before, complemented
 turn : Before → Before
 turn before = record { inverted = flip before.inverted; bridged = before.bridged }
 
@@ -132,6 +132,6 @@ places_from-turned rules at zero before (b ∷ bits) either few =
         ∙ ap (λ fs. turned_place f ∷ fs) (next (31 + rules.block_bits) (Some (before_next before f)))
         ∙ ap (map turned_place) (sym (places_from-one rules at before b bits f e))
 
--- with either polarity, the places of the complemented bits are the same ones turned over
+-- with either polarity, the places of the complemented bits are the same ones complemented
 pub places-turned : (rules : Rules) (bits : List Bool) → rules.either ≡ true → rules.tolerance ≤ 15 → places rules (complement bits) ≡ map turned_place (places rules bits)
 places-turned rules bits either few = places_from-turned rules 0 0 None bits either few

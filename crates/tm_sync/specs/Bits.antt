@@ -8,7 +8,7 @@ abbrev pub flip : Bool → Bool
 flip true = false
 flip false = true
 
--- each bit turned over
+-- each bit complemented
 abbrev pub complement : List Bool → List Bool
 complement bits = map flip bits
 

@@ -22,7 +22,7 @@ abbrev pub HasNoMarker : Rules → List Bool → List Bool → Type 0
 HasNoMarker rules gap bits = (q : ℕ) → q < length gap → q + 32 + rules.block_bits ≤ length bits
     → match_of rules (drop q bits) ≡ None
 
--- a gap stands right behind a codeblock only where no place may be bridged there, or no codeblock
+-- a gap directly follows a codeblock only where no place may be bridged there, or no codeblock
 -- has room
 abbrev pub MayGap : Rules → Option Before → List Bool → List Bool → Type 0
 MayGap rules before [] bits = Unit {0}
@@ -30,7 +30,7 @@ MayGap rules None (b ∷ gap) bits = Unit {0}
 MayGap rules (Some before) (b ∷ gap) bits =
     (rules.fly ≤ before.bridged) ⊎ (length bits < 32 + rules.block_bits)
 
--- An entry whose marker part matches in no way is bridged: it stands right behind another one, and
+-- An entry whose marker part matches in no way is bridged: it directly follows another one, and
 -- fewer than `fly` places in a row were bridged before it.
 abbrev pub MayBridge : Rules → Option Before → Entry → Option Bool → Type 0
 MayBridge rules before e (Some inverted) = Unit {0}
@@ -43,17 +43,17 @@ place_by_marker at before e (Some inverted) = found_at at false inverted e.marke
 place_by_marker at None e None = found_at at true false e.marker
 place_by_marker at (Some before) e None = found_at at true before.inverted e.marker
 
--- the place of an entry that stands behind `at` bits
+-- the place of an entry that follows `at` bits
 abbrev pub place_of : Rules → ℕ → Option Before → Entry → Found
 place_of rules at before e = place_by_marker (at + length e.gap) before e (match_of rules e.marker)
 
--- the places of entries that stand behind `at` bits
+-- the places of entries that follow `at` bits
 abbrev pub places_of : Rules → ℕ → Option Before → List Entry → List Found
 places_of rules at before [] = []
 places_of rules at before (e ∷ entries) =
     let f = place_of rules at before e in f ∷ places_of rules (f.place + 32 + rules.block_bits) (Some (before_next before f)) entries
 
--- an entry at the front of these bits
+-- an entry at the start of these bits
 pub record IsEntry (rules : Rules) (before : Option Before) (e : Entry) (bits : List Bool) : Type 0 where
   pub marker : length e.marker ≡ 32
   pub block : length e.block ≡ rules.block_bits
@@ -61,7 +61,7 @@ pub record IsEntry (rules : Rules) (before : Option Before) (e : Entry) (bits : 
   pub waits : MayGap rules before e.gap bits
   pub bridged : MayBridge rules before e (match_of rules e.marker)
 
--- entries behind `at` bits, and a last gap
+-- entries after `at` bits, and a last gap
 abbrev pub AreEntries : Rules → ℕ → Option Before → List Entry → List Bool → Type 0
 AreEntries rules at before [] last = HasNoMarker rules last last × MayGap rules before last last
 AreEntries rules at before (e ∷ entries) last =

@@ -1,4 +1,4 @@
--- Where markers with a whole codeblock behind them stand in a list of bits (CCSDS 131.0-B, Frame
+-- Where markers with a whole codeblock after them stand in a list of bits (CCSDS 131.0-B, Frame
 -- Synchronization).
 use Rattle.std.specs.Prelude.{ℕ, zero, suc, ◌+◌, Bool, true, false, if◌then◌else◌, ◌&&◌, nat_le, nat_lt, List, [], ◌∷◌, length, take, Option, Some, None}
 use Rattle.std.specs.Option.{option_map_or}
@@ -38,25 +38,25 @@ found_at at bridged inverted bits = record {
 }
 
 -- The place that the first 32 bits are, as they match in this way. Where they match in no way,
--- right behind a codeblock, and fewer than `fly` places in a row were bridged, theirs is bridged:
+-- right after a codeblock, and fewer than `fly` places in a row were bridged, theirs is bridged:
 -- it is taken all the same, in the polarity of the place before.
 abbrev pub place_by : Rules → ℕ → Option Before → List Bool → Option Bool → Option Found
 place_by rules at before bits (Some inverted) = Some (found_at at false inverted bits)
 place_by rules at (Some before) bits None = if nat_lt before.bridged rules.fly then Some (found_at at true before.inverted bits) else None
 place_by rules at None bits None = None
 
--- the place at the front of the bits, which stand behind `at` others, where they have room for its
+-- the place at the start of the bits, which follow `at` others, where they have room for its
 -- codeblock
 unfoldable pub place_at : Rules → ℕ → Option Before → List Bool → Option Found
 place_at rules at before bits = if nat_le (32 + rules.block_bits) (length bits) then place_by rules at before bits (match_of rules bits) else None
 
--- what stands before the first bit behind a place's codeblock
+-- what stands before the first bit after a place's codeblock
 abbrev pub before_next : Option Before → Found → Before
 before_next None f = record { inverted = f.inverted; bridged = if f.bridged then 1 else 0 }
 before_next (Some before) f = record { inverted = f.inverted; bridged = if f.bridged then before.bridged + 1 else 0 }
 
--- The places in the bits behind `at` others. The first `skip` bits belong to a codeblock, and
--- `before` ends right behind them. Where a place stands, the search goes on behind its codeblock,
+-- The places in the bits after `at` others. The first `skip` bits belong to a codeblock, and
+-- `before` ends right after them. Where a place stands, the search goes on after its codeblock,
 -- and else at the next bit.
 unfoldable pub places_from : Rules → ℕ → ℕ → Option Before → List Bool → List Found
 places_from rules at skip before [] = []

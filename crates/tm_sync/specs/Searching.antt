@@ -18,15 +18,15 @@ pub record Searching : Type 0 where
   -- the bits before the end of the last codeblock found, and what stands there
   pub start : ℕ
   pub before : Option Before
-  -- the first place behind that end, and how many bits were given behind its marker
+  -- the first place after that end, and how many bits were given after its marker
   pub awaited : Option Awaited
   pub after : ℕ
 
--- how many bits were given behind the marker that the search stands behind
+-- how many bits were given after the marker that the search stands after
 abbrev pub inside_of : Searching → Option ℕ
 inside_of s = option_map (λ _. s.after) s.awaited
 
--- whether a whole codeblock stands behind that marker
+-- whether a whole codeblock follows that marker
 abbrev pub is_pending : Searching → Bool
 is_pending s = option_map_or (λ count. count == s.rules.block_bits) (inside_of s) false
 
@@ -42,12 +42,12 @@ end_of rules [] = 0
 end_of rules (f ∷ []) = f.place + 32 + rules.block_bits
 end_of rules (f ∷ g ∷ found) = end_of rules (g ∷ found)
 
--- what stands behind that codeblock
+-- what follows that codeblock
 abbrev pub before_behind : Option Before → List Found → Option Before
 before_behind before [] = before
 before_behind before (f ∷ found) = before_behind (Some (before_next before f)) found
 
--- the first place in the bits behind `at` others whose 32 bits are there, whether or not its
+-- the first place in the bits after `at` others whose 32 bits are there, whether or not its
 -- codeblock is
 unfoldable pub first_place : Rules → ℕ → Option Before → List Bool → Option Found
 first_place rules at before [] = None
@@ -55,17 +55,17 @@ first_place rules at before (b ∷ bits) =
     if nat_le 32 (length (b ∷ bits)) then option_or (place_by rules at before (b ∷ bits) (match_of rules (b ∷ bits))) (first_place rules (at + 1) None bits)
     else None
 
--- the first place behind the codeblocks of the places found
+-- the first place after the codeblocks of the places found
 abbrev pub place_ahead : Rules → List Bool → List Found → Option Found
 place_ahead rules bits found = first_place rules (end_of rules found) (before_behind None found)
     (drop (end_of rules found) bits)
 
--- the bits behind the marker of that place; None where there is no such place
+-- the bits after the marker of that place; None where there is no such place
 abbrev pub inside_ahead : Rules → List Bool → List Found → Option ℕ
 inside_ahead rules bits found = option_map (λ f. length bits - (f.place + 32))
     (place_ahead rules bits found)
 
--- a place, and what stands before the first bit behind its codeblock
+-- a place, and what stands before the first bit after its codeblock
 abbrev pub awaited_at : Option Before → Found → Awaited
 awaited_at before f = record { found = f; next = before_next before f }
 

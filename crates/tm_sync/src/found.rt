@@ -1,13 +1,13 @@
 // Places of markers.
 
-/// The place of a marker with a whole codeblock behind it.
+/// The place of a marker with a whole codeblock after it.
 #[derive(Clone, Copy, Debug, PartialEq, Eq)]
 pub struct Found {
     /// How many bits stand before the marker.
     pub place: u64,
     /// How many of the 32 bits differ from the marker, or from the inverted marker where `inverted` is set.
     pub distance: u8,
-    /// Whether the 32 bits match in no way, and the place was taken since it stands right behind a codeblock.
+    /// Whether the 32 bits match in no way, and the place was taken since it directly follows a codeblock.
     pub bridged: bool,
     /// Whether the codeblock's bits are inverted.
     pub inverted: bool,
@@ -26,7 +26,7 @@ pub struct Before {
 #[derive(Clone, Copy, Debug, PartialEq, Eq)]
 pub struct Awaited {
     pub found: Found,
-    /// What will stand before the first bit behind the codeblock.
+    /// What will stand before the first bit after the codeblock.
     pub next: Before,
 }
 
@@ -45,7 +45,7 @@ pub struct Paused {
     pub start: u64,
     /// What stands before that end.
     pub before: Option<Before>,
-    /// The first place behind it, and how many bits were given behind its marker.
+    /// The first place after it, and how many bits were given after its marker.
     pub awaited: Option<Awaited>,
     pub after: u32,
 }

@@ -35,8 +35,8 @@ pub fn clean_law()
         → places rules (joined (clean_entries blocks) []) ≡ clean_places rules.block_bits 0 blocks }
 {}
 
-/// The places in a list that goes on are first those in its front, whose codeblocks end within the front, and then
-/// others, whose codeblocks end behind it.
+/// The places in a list that goes on are first those in its prefix, whose codeblocks end within the prefix, and then
+/// others, whose codeblocks end after it.
 pub fn longer_law()
     ensures front { (rules : Rules) (bits more : List Bool)
         → places rules (bits ++ more) ≡ places rules bits
@@ -48,7 +48,7 @@ pub fn longer_law()
         (drop (length (places rules bits)) (places rules (bits ++ more))) }
 {}
 
-/// Each place takes the bits of a marker and of a codeblock, so bits have only so many places, and bits that come behind
+/// Each place takes the bits of a marker and of a codeblock, so bits have only so many places, and bits that come after
 /// them bring only so many more.
 pub fn few_places_law()
     ensures all { (rules : Rules) (bits : List Bool)

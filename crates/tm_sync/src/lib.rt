@@ -1,5 +1,5 @@
 //! The search for attached sync markers in a stream of bits (CCSDS 131.0-B, Frame Synchronization): which markers stand
-//! there with a whole codeblock behind them. A marker may have some wrong bits, may be missing right behind a
+//! there with a whole codeblock after them. A marker may have some wrong bits, may be missing right after a
 //! codeblock, and may be inverted. The search keeps the last 32 bits and no others. It stands on the marker of tm_base.
 #![tactic(auto)]
 

@@ -25,7 +25,7 @@ pub struct Search {
     pushed: u64,
     start: u64,
     before: Option<Before>,
-    // The first place behind that codeblock, and the bits behind its marker.
+    // The first place after that codeblock, and the bits after its marker.
     awaited: Option<Awaited>,
     after: u32,
     // 32 bits match in no way where the number of them that differ from the marker is one of `far` numbers from here
@@ -89,7 +89,7 @@ impl Search {
     }
 
     /// The search that goes on from these values. None where no search has them: where the tolerance is above 8, or
-    /// more bits are behind a marker than a codeblock has.
+    /// more bits follow a marker than a codeblock has.
     pub fn resume(paused: &Paused) -> Option<Search>
         ensures some { IfSome result (λ search. search ≡ resumed paused.now) }
         ensures valid { IsTrue (is_resumable paused.now) ↔ IsSome result }
@@ -246,7 +246,7 @@ impl Search {
         }
     }
 
-    /// How many bits were given behind the marker of the first place behind the last codeblock found, upright, inverted
+    /// How many bits were given after the marker of the first place after the last codeblock found, upright, inverted
     /// or bridged; None where no place stands there yet.
     pub fn inside(&self) -> Option<u64>
         ensures count { result ≡ inside_of self.now }
@@ -298,7 +298,7 @@ impl Search {
         }
     }
 
-    /// The number of bits behind the last codeblock that is whole, or of all bits where none is.
+    /// The number of bits after the last codeblock that is whole, or of all bits where none is.
     pub fn finish(self) -> u64
         ensures { (bits : List Bool) (found : List Found) → length bits < 2 ^ 63 → StandsFor self bits found
             → result ≡ length bits - end_of self.rules (places self.rules bits) }
@@ -323,7 +323,7 @@ fn last_bits(word: u32, octets: &[u8]) -> u32
 }
 
 // How many numbers of wrong bits, from one more than the tolerance on, show without a closer look that 32 bits are no
-// place: none while a place is awaited, or may stand right behind the last codeblock found.
+// place: none while a place is awaited, or may directly follow the last codeblock found.
 fn far_while(awaited: Option<Awaited>, start: u64, pushed: u64, tolerance: u8, either: bool) -> u8
     requires { tolerance ≤ 8 }
     ensures { 0 < result → (result ≡ far_count tolerance either) × (awaited ≡ None) × (start + 32 ≤ pushed) }
@@ -348,7 +348,7 @@ fn is_far(word: u32, too_many: u8, far: u8) -> bool
     wrong_count(word).wrapping_sub(too_many) < far
 }
 
-// What ends right before the last 32 bits, where `behind` bits stand behind the last codeblock found.
+// What ends right before the last 32 bits, where `behind` bits follow the last codeblock found.
 fn right_before(behind: u64, before: Option<Before>) -> Option<Before>
     ensures { result ≡ before_last behind before }
 {
@@ -395,7 +395,7 @@ fn distance_of(wrong: u8, inverted: bool) -> u8
     if inverted { 32 - wrong } else { wrong }
 }
 
-// The place that the last 32 bits are, behind `place` others. `before` is what ends right before them.
+// The place that the last 32 bits are, after `place` others. `before` is what ends right before them.
 fn place_of(
     word: u32,
     place: u64,

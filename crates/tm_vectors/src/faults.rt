@@ -8,7 +8,7 @@ const DECODE: &str = "tmchan decode --length 1 --inner none --randomize off";
 // The report of one codeword without wrong symbols.
 const REPORT: &str = "frame 0 at 0 marker 0 words 0\nframes 1 bad 0 fixed 0 bits 296\n";
 
-// Nothing is due of one frame until the end of the input is told, by the read behind its last octet. No read is behind
+// Nothing is due of one frame until the end of the input is given, by the read after its last octet. No read is after
 // that one.
 #[test]
 fn each_read_of_a_codeword_fails(rt: HostRuntime) -> Result<(), Fail> {

@@ -1,8 +1,8 @@
-// The symbol phase where it is to be found: when it is due, and frames that are turned over or behind symbols of noise.
+// The symbol phase where it is to be found: when it is due, and frames that are complemented or after symbols of noise.
 use crate::runs::{CUTS, Given, check_call, joined, run_over};
 use std::test::Fail;
 
-// Where the read behind so many octets fails, the phase was told if these are a whole window behind each phase.
+// Where the read after so many octets fails, the phase was given if these are a whole window after each phase.
 #[test]
 fn the_phase_is_due_at_the_read_that_ends_the_window(rt: HostRuntime) -> Result<(), Fail> {
     let line = "tmchan report --phase find --keep 64 --ahead 0";
@@ -33,7 +33,7 @@ static FRAMES: [u8; 12] = [
 static TURNED: &str =
     "frame 0 at 0 marker 0 inverted uncoded\nframe 1 at 64 marker 0 inverted uncoded\nframe 2 at 128 marker 0 inverted uncoded\nframes 3 bad 0 fixed 0 bits 192\n";
 
-// At rate 1/2, symbols that were turned over give the frames, in the other polarity.
+// At rate 1/2, symbols that were complemented give the frames, in the other polarity.
 #[test]
 fn turned_symbols_are_received(rt: HostRuntime) -> Result<(), Fail> {
     let alloc = rt.alloc();
@@ -56,7 +56,7 @@ fn turned_symbols_are_received(rt: HostRuntime) -> Result<(), Fail> {
     Ok(())
 }
 
-// Behind as many symbols of noise as any phase skips, all frames come out, the first too.
+// After as many symbols of noise as any phase skips, all frames come out, the first too.
 #[test]
 fn frames_come_out_behind_noise(rt: HostRuntime) -> Result<(), Fail> {
     let alloc = rt.alloc();

@@ -70,7 +70,7 @@ impl ItemTaker for Collector {
     }
 }
 
-// Of the codeword of one symbol behind the marker.
+// Of the codeword of one symbol after the marker.
 const FIRST: Kept = Kept {
     place: 0,
     answer: Some(Answer::Fixed(0)),

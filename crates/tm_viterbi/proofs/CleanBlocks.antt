@@ -239,7 +239,7 @@ are_clean six s r bits blocks left wide are fixed of =
     let rest = of.rest in
     record { kept = both.0; free = both.1; whole = omega arith }
 
--- ---- symbols turned over
+-- ---- symbols complemented
 
 -- complementing the bits and the register complements every symbol
 abbrev pub Complements : Type 0
@@ -261,7 +261,7 @@ some-turned : (bits : List ℕ) → (bits ≡ []) ⊎ (6 ≤ length bits) → (c
 some-turned bits (inl none) = inl (ap complement none)
 some-turned bits (inr many) = inr (let long = length-map bits (λ bit. 1 - bit) in omega arith)
 
--- symbols turned over give back the bits turned over
+-- symbols complemented give back the bits complemented
 pub are_turned : SixPairs → Complements → (s : Settings) (r : ℕ) (bits : List ℕ) (blocks : List WindowBlock) (left : ℕ) → 64 ≤ s.keep → AreBits bits
     → s.start ≡ Any → s.rate ≡ R12 → r < 64 → (bits ≡ []) ⊎ (6 ≤ length bits)
     → AreBlocksOf s (turned_octets (sure_symbols s r bits)) blocks left → AreClean (complement bits) blocks left

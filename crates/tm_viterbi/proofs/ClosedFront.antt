@@ -1,4 +1,4 @@
--- Windows that are closed stay so, whatever octets come behind.
+-- Windows that are closed stay so, whatever octets follow.
 use Rattle.std.proofs.Common.{ℕ, List, ◌++◌}
 use Rattle.tm_viterbi.specs.Settings.{Settings}
 use Rattle.tm_viterbi.specs.WindowBlock.{WindowBlock}

@@ -1,4 +1,4 @@
--- Closed windows stay closed whatever octets come, and one more window may be closed behind them.
+-- Closed windows stay closed whatever octets come, and one more window may be closed after them.
 use Rattle.std.proofs.Common.{◌≡◌, ℕ, ◌+◌, ◌≤◌, ◌∙◌, sym, ap, subst, arith, List, [], ◌∷◌, ◌++◌, Bool, take, length, length-append}
 use Rattle.std.proofs.lemmas.List.{take-append-le, drop-append-le}
 use Rattle.std.proofs.lemmas.Bool.Decides.{nat_tests}

@@ -53,7 +53,7 @@ start_first : (start : Start) → HasStart (first_start start)
 start_first Zero = start_at 0 (omega arith)
 start_first Any = record { register = 0; is = refl; small = omega arith }
 
--- a block, behind which a path may go on
+-- a block, after which a path may go on
 record HasBlock (rate : Rate) (invert : Bool) (keep ahead : ℕ) (starts : Option ℕ) (t remaining : ℕ) (octets : List ℕ) : Type 0 where
   block : WindowBlock
   is : IsBlock rate invert keep ahead starts t remaining octets block

@@ -26,7 +26,7 @@ step_left rate done n at size is place less = elim (cases_lt done n) as (λ _. s
   | inr le ↦ absurd (omega (arith, is, place, less, steps_size-le rate 0 n done le))
 ]
 
--- a piece behind the octets before it
+-- a piece after the octets before it
 pub front_and_piece : (at size : ℕ) (octets : List ℕ) → take at octets ++ take ((at + size) - at) (drop at octets) ≡ take (at + size) octets
 front_and_piece at size octets =
     let same : (at + size) - at ≡ size = omega arith in

@@ -64,7 +64,7 @@ steps_behind rate t n kept octets le h =
       most = omega (arith, long, inside, h.most, steps_size-add rate t kept (n - kept + 1), ap (steps_size rate t) next);
     }
 
--- what is left of all blocks behind those of closed windows
+-- what is left of all blocks after those of closed windows
 pub record Behind (rate : Rate) (invert : Bool) (keep ahead : ℕ) (to : Place) (blocks first : List WindowBlock) : Type 0 where
   pub rest : List WindowBlock
   pub is : blocks ≡ first ++ rest
@@ -93,7 +93,7 @@ first_blocks one s octets first blocks left closed all =
     let h = front_of one s.rate s.invert s.keep s.ahead (first_place s octets) closed.0 blocks first all.count closed.1 all.steps all.are in
     (h.rest, h.is)
 
--- behind closed windows a step is left
+-- after closed windows a step is left
 left_behind : (rate : Rate) (invert : Bool) (keep ahead : ℕ) (from to : Place) (b : WindowBlock) (first : List WindowBlock)
     → Closed rate invert keep ahead from (b ∷ first) to → steps_size rate to.t 1 ≤ length to.octets
 left_behind rate invert keep ahead from to b [] closed =

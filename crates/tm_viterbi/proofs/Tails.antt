@@ -1,4 +1,4 @@
--- The octets behind a window's kept steps, some steps on.
+-- The octets after a window's kept steps, some steps on.
 use Rattle.std.proofs.Common.{◌≡◌, ℕ, ◌+◌, ◌-◌, ◌*◌, ◌<◌, ◌≤◌, ◌∙◌, sym, ap, arith, List, ◌++◌, length, drop, min, ◌⊎◌, inl, inr}
 use Rattle.std.proofs.lemmas.Bool.{cases_lt}
 use Rattle.std.proofs.lemmas.List.{drop-append-le}
@@ -33,7 +33,7 @@ tail_size_more rate rate' t t' n n' keep keep' count len size er et ek en le is 
     let whole : len + size ≡ steps_size rate (t + keep) (n - keep + count) = omega (arith, is, here, steps_size-add rate (t + keep) (n - keep) count) in
     whole ∙ ap (steps_size rate (t + keep)) steps ∙ ap (λ (v : ℕ). steps_size rate v (n' - keep')) from ∙ ap (λ (v : Rate). steps_size v (t' + keep') (n' - keep')) (sym er)
 
--- no tail, while no step is behind the kept ones
+-- no tail, while no step is after the kept ones
 pub tail_size_none : (rate : Rate) (t count len : ℕ) → count ≡ 0 → len ≡ 0 → len ≡ steps_size rate t count
 tail_size_none rate t count len none is = is ∙ sym (steps_size-zero rate t) ∙ ap (steps_size rate t) (sym none)
 

@@ -92,7 +92,7 @@ from_zero rate a b =
     let e : 0 + a ≡ a = omega arith in
     steps_size-add rate 0 a b ∙ ap (λ (t : ℕ). steps_size rate 0 a + steps_size rate t b) e
 
--- the blocks of closed windows, and those of the steps behind them
+-- the blocks of closed windows, and those of the steps after them
 pub all_blocks : (s : Settings) (all : List ℕ) (done last : List WindowBlock) (to : Place) (n left : ℕ)
     → Closed s.rate s.invert s.keep s.ahead (first_place s all) done to → length to.octets ≡ steps_size s.rate to.t n + left → left < step_size s.rate (to.t + n)
     → AreBlocks s.rate s.invert s.keep s.ahead to.starts to.t n to.octets last → AreBlocksOf s all (done ++ last) left

@@ -29,7 +29,7 @@ pub record IsBlock (rate : Rate) (invert : Bool) (keep ahead : ℕ) (starts : Op
   pub metric : block.metric ≡ cost (path rate invert t block.start block.bits) (take (steps_size rate t block.steps) octets)
   pub end_state : block.end_state ≡ register_after block.start (take block.kept block.bits)
 
--- all blocks of the remaining steps: each next window begins behind the kept steps, from the register after them alone
+-- all blocks of the remaining steps: each next window begins after the kept steps, from the register after them alone
 abbrev pub AreBlocks : Rate → Bool → ℕ → ℕ → Option ℕ → ℕ → ℕ → List ℕ → List WindowBlock → Type 0
 AreBlocks rate invert keep ahead starts t remaining octets [] = remaining ≡ 0
 AreBlocks rate invert keep ahead starts t remaining octets (block ∷ blocks) =
@@ -37,7 +37,7 @@ AreBlocks rate invert keep ahead starts t remaining octets (block ∷ blocks) =
     × AreBlocks rate invert keep ahead (Some block.end_state) (t + block.kept) (remaining - block.kept)
     (drop (steps_size rate t block.kept) octets) blocks
 
--- the blocks of all whole steps of the octets, from step 0; an octet behind them is left over
+-- the blocks of all whole steps of the octets, from step 0; an octet after them is left over
 pub record AreBlocksOf (s : Settings) (octets : List ℕ) (blocks : List WindowBlock) (left : ℕ) : Type 0 where
   pub count : ℕ
   pub steps : AreSteps s.rate 0 octets count

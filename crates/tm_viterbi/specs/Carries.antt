@@ -13,7 +13,7 @@ pub record Carries (rate : Rate) (invert : Bool) (t : ℕ) (octets sums next col
       → AreBest (total_of rate invert first firsts before) i sums past
       → AreBest (total_of rate invert first firsts (before ++ octets)) (i + length columns) next (reverse columns ++ past)
 
--- sums that are kept less a common base
+-- path metrics that are kept less a common base
 abbrev pub lifted : ℕ → List ℕ → List ℕ
 lifted base [] = []
 lifted base (x ∷ xs) = (base + x) ∷ lifted base xs

@@ -7,7 +7,7 @@ use Rattle.tm_viterbi.specs.declared.block.Start.TheVariants.{Zero, Any}
 use Rattle.tm_viterbi.specs.Settings.{Settings}
 use Rattle.tm_viterbi.specs.WindowBlock.{WindowBlock}
 
--- the bits that blocks keep, one block behind the other
+-- the bits that blocks keep, one block after the other
 abbrev pub kept_bits : List WindowBlock → List ℕ
 kept_bits [] = []
 kept_bits (block ∷ blocks) = take block.kept block.bits ++ kept_bits blocks

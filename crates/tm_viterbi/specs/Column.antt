@@ -1,12 +1,12 @@
--- One column of sums from the one before.
+-- The path metrics after a step from those before it.
 use Rattle.std.specs.Prelude.{ℕ, ◌≡◌, ◌+◌, ◌*◌, ◌/◌, ◌%◌, ◌^◌, ◌<◌, List, min, length, slice_index, nat_lt, if◌then◌else◌}
 use Rattle.tm_conv.specs.Path.{c1, c2}
 
--- the sum of a path that comes to register p and goes on by bit b
+-- the path metric of a path that comes to register p and goes on by bit b
 abbrev pub sum_via : List ℕ → List ℕ → ℕ → ℕ → ℕ
 sum_via sums costs p b = slice_index sums p + slice_index costs (2 * c1 p b + c2 p b)
 
--- the sums of the two ways into register s
+-- the path metrics of the two branches into register s
 abbrev pub first_way : List ℕ → List ℕ → ℕ → ℕ
 first_way sums costs s = sum_via sums costs (2 * (s % 32)) (s / 32)
 
@@ -17,7 +17,7 @@ second_way sums costs s = sum_via sums costs (2 * (s % 32) + 1) (s / 32)
 abbrev pub IsNextSums : List ℕ → List ℕ → List ℕ → Type 0
 IsNextSums sums costs next = (s : ℕ) → s < 64 → slice_index next s ≡ min (first_way sums costs s) (second_way sums costs s)
 
--- bit s is 1 exactly where the second way is strictly less
+-- bit s is 1 exactly where the second is strictly less
 abbrev pub AreSurvivors : List ℕ → List ℕ → ℕ → Type 0
 AreSurvivors sums costs bits =
     (s : ℕ) → s < 64 → bits / 2 ^ s % 2 ≡ (if nat_lt (second_way sums costs s) (first_way sums costs s) then 1 else 0)
@@ -32,6 +32,6 @@ pub record IsHalf (lanes : List ℕ) (value : ℕ → ℕ) : Type 0 where
   pub long : length lanes ≡ 16
   pub each : (i : ℕ) → i < 16 → slice_index lanes i ≡ value i
 
--- places that bring, in each eight lanes, those at even places to the front
+-- places that bring, in each eight lanes, those at even places first
 abbrev pub AreSortedPlaces : List ℕ → Type 0
 AreSortedPlaces places = IsEach places (λ i. 2 * (i % 4) + i % 8 / 4)

@@ -6,7 +6,7 @@ use Rattle.tm_viterbi.specs.Starts.{starts_from}
 use Rattle.tm_viterbi.specs.Walk.{AreBest}
 use Rattle.tm_viterbi.specs.Totals.{total_of, AreFirsts}
 
--- what contracts see of running sums: how they began, the steps given, and the column behind them
+-- what contracts see of running sums: how they began, the steps given, and the column after them
 pub record Summing : Type 0 where
   pub rate : Rate
   pub invert : Bool

@@ -1,4 +1,4 @@
--- The totals that the decoder's sums are.
+-- The totals that the decoder's path metrics are.
 use Rattle.std.specs.Prelude.{ℕ, ◌≡◌, ◌+◌, ◌*◌, ◌<◌, ◌≤◌, List, Bool, reverse, slice_index}
 use Rattle.tm_conv.specs.declared.rates.Rate.{Rate}
 use Rattle.tm_conv.specs.Path.{path, sent}
@@ -10,7 +10,7 @@ use Rattle.tm_viterbi.specs.Column.{IsNextSums, AreSurvivors}
 abbrev pub total_of : Rate → Bool → ℕ → List ℕ → List ℕ → ℕ → List ℕ → ℕ
 total_of rate invert t firsts octets q past = slice_index firsts q + cost (path rate invert t q (reverse past)) octets
 
--- the costs of step t's four pairs of c1 and c2, before inversion
+-- the branch metrics of step t, by its four pairs of c1 and c2, before inversion
 abbrev pub AreCosts : Rate → Bool → ℕ → List ℕ → List ℕ → Type 0
 AreCosts rate invert t octets costs = (c d : ℕ) → c < 2 → d < 2 → slice_index costs (2 * c + d) ≡ cost (sent rate invert t c d) octets
 
@@ -18,13 +18,13 @@ AreCosts rate invert t octets costs = (c d : ℕ) → c < 2 → d < 2 → slice_
 abbrev pub AreFirsts : (ℕ → Bool) → List ℕ → Type 0
 AreFirsts starts firsts = (register : ℕ) → register < 64 → slice_index firsts register ≡ first_cost starts register
 
--- the least register of least sum
+-- the least register of least path metric
 pub record IsFirstLeast (sums : List ℕ) (s : ℕ) : Type 0 where
   pub register : s < 64
   pub least : (k : ℕ) → k < 64 → slice_index sums s ≤ slice_index sums k
   pub first : (k : ℕ) → k < s → slice_index sums s < slice_index sums k
 
--- one step from sums to next, which leaves this column of survivor bits
+-- one step from path metrics to the next ones, which leaves these survivors
 pub record StepsTo (rate : Rate) (invert : Bool) (t : ℕ) (octets sums next : List ℕ) (column : ℕ) : Type 0 where
   pub costs : List ℕ
   pub are_costs : AreCosts rate invert t octets costs

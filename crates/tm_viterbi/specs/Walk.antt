@@ -45,11 +45,11 @@ start_of [] s = s
 start_of (c ∷ columns) s = start_of columns (before c s)
 
 -- the number whose low six bits are a register, after steps back through columns, the newest first: each puts the
--- survivor bit behind it
+-- survivor bit after it
 abbrev pub history : List ℕ → ℕ → ℕ
 history [] h = h
 history (c ∷ columns) h = history columns (2 * h + c / 2 ^ (h % 64) % 2)
 
--- the sums and the columns have the best path to each register
+-- the path metrics and the survivors have the best path to each register
 abbrev pub AreBest : (ℕ → List ℕ → ℕ) → ℕ → List ℕ → List ℕ → Type 0
 AreBest total n sums columns = (s : ℕ) → s < 64 → IsBestTo total n s (slice_index sums s) (start_of columns s) (past_of columns s)

@@ -1,7 +1,7 @@
 -- A window's block as contracts see it.
 use Rattle.std.specs.Prelude.{ℕ, List}
 
--- the register its path starts from, its steps and how many are kept, its path's cost and bits, and the register behind the kept ones
+-- the register its path starts from, its steps and how many are kept, its path's cost and bits, and the register after the kept ones
 pub record WindowBlock : Type 0 where
   pub start : ℕ
   pub steps : ℕ

@@ -41,7 +41,7 @@ pub struct Block<'a> {
     pub metric: u64,
     /// A bit for each step of the window, each 0 or 1.
     pub bits: &'a [u8],
-    /// The register behind the kept bits, from which the next window starts.
+    /// The register after the kept bits, from which the next window starts.
     pub end_state: u8,
 }
 
@@ -65,7 +65,7 @@ pub trait BlockTaker {
     /// What a block does at which the taker fails.
     ghost broke: { Self → WindowBlock → Self → Type 0 };
 
-    /// What taking the symbol phase does: how many octets are skipped, and what the best path behind them costs.
+    /// What taking the symbol phase does: how many octets are skipped, and what the best path after them costs.
     ghost took_phase: { Self → ℕ → ℕ → Self → Type 0 };
 
     /// What a symbol phase does at which the taker fails.
@@ -77,7 +77,7 @@ pub trait BlockTaker {
         ensures err { OnErr result (broke self.old b.now self.new) }
         ensures cause { HasCause (faults self.old) (faults self.new) (is_last self.new) result };
 
-    /// Takes the symbol phase that was chosen: `skip` octets are skipped, and the best path behind them costs `cost`. `Failed` comes only where the count of faults rose.
+    /// Takes the symbol phase that was chosen: `skip` octets are skipped, and the best path after them costs `cost`. `Failed` comes only where the count of faults rose.
     fn phase(&mut self, skip: u8, cost: u64) -> Result<(), Failed>
         ensures ok { OnOk result (took_phase self.old skip cost self.new) }
         ensures err { OnErr result (broke_phase self.old skip cost self.new) }

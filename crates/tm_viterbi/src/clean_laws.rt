@@ -21,8 +21,8 @@ pub fn clean_blocks_law()
     six_pairs_law();
 }
 
-/// At rate 1/2, where paths start from any register, the blocks of the symbols of no step or of six or more, each turned over and not
-/// else disturbed, keep exactly the bits that were sent, each turned over. It does nothing.
+/// At rate 1/2, where paths start from any register, the blocks of the symbols of no step or of six or more, each
+/// complemented and not else disturbed, keep exactly the bits that were sent, each complemented. It does nothing.
 pub fn turned_blocks_law()
     ensures { (s : Settings) (register : ℕ) (bits : List ℕ) (blocks : List WindowBlock) (left : ℕ) → 64 ≤ s.keep → AreBits bits
         → s.start ≡ Any → s.rate ≡ R12 → register < 64 → (bits ≡ []) ⊎ (6 ≤ length bits)

@@ -1,4 +1,4 @@
-// One column of sums from the one before, register by register.
+// The path metrics after a step from those before it, register by register.
 ghost use Rattle.std.specs.Prelude.{◌≡◌, ◌++◌, min, IsTrue, ℕ, ◌+◌, ◌-◌, ◌*◌, ◌/◌, ◌%◌, ◌^◌, ◌<◌, ◌≤◌, List, take, drop, reverse, length, slice_index, nat_lt, if◌then◌else◌};
 ghost use Rattle.tm_conv.specs.Path.{c1, c2};
 ghost use Rattle.tm_viterbi.specs.Column.{IsEach, sum_via, IsNextSums, AreSurvivors};
@@ -23,8 +23,8 @@ fn way(sums: &[u32; 64], costs: &[u32; 4], p: usize, b: usize) -> u32
     sums[p] + costs[pair(p, b)]
 }
 
-/// The next column of sums behind `sums`, by the four costs that a step's two symbols can have, at index 2 * first + second.
-/// Answers the survivors: bit s tells whether register s is reached at less cost from the odd one of its two registers.
+/// The path metrics after `sums`, by the four branch metrics of a step, at index 2 * first + second.
+/// Answers the survivors: bit s says whether register s is reached at less cost from the odd one of its two registers.
 pub fn plain_column(sums: &[u32; 64], costs: &[u32; 4], next: &mut [u32; 64]) -> u64
     requires { (s k : ℕ) → s < 64 → k < 4 → slice_index sums.now s + slice_index costs.now k < 2 ^ 32 }
     ensures sums { IsNextSums sums.now costs.now next.new }

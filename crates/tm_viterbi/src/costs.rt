@@ -67,7 +67,7 @@ pub(crate) fn wide_costs(costs: Simd<u16, 4>) -> [u32; 4]
     ]
 }
 
-// What the lanes of `two_step_costs` are xored with. An octet is its own distance from a 0, and turned over its
+// What the lanes of `two_step_costs` are xored with. An octet is its own distance from a 0, and complemented its
 // distance from a 1; c2 may be sent inverted.
 pub(crate) fn two_step_masks(invert: bool) -> Simd<u8, 16>
     ensures { result ≡ two_step_masks invert }

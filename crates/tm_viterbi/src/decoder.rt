@@ -78,10 +78,10 @@ impl Decoder {
     }
 
     /// Takes the next soft octets, and hands over the blocks of the windows that are closed by them: a window is closed once
-    /// the step behind it is whole.
+    /// the step after it is whole.
     ///
-    /// `Taker` comes where `blocks` fails; a front of the blocks was then handed over. `Stopped` comes where an earlier call
-    /// answered `Taker` or `finish` was called; nothing is handed over then.
+    /// `Taker` comes where `blocks` fails; a prefix of the blocks was then handed over. `Stopped` comes where an
+    /// earlier call answered `Taker` or `finish` was called; nothing is handed over then.
     ///
     /// The octets given in all are to be below 2^60.
     pub fn feed<B: BlockTaker>(&mut self, piece: &[u8], blocks: &mut B) -> Result<(), FeedError>
@@ -111,7 +111,7 @@ impl Decoder {
         }
     }
 
-    /// Hands over the block of the last window, where a step is left for it, and answers how many octets are left over behind
+    /// Hands over the block of the last window, where a step is left for it, and answers how many octets are left over after
     /// the last whole step: none or one. It is called once, at the end of the stream.
     ///
     /// `Taker` comes where `blocks` fails. `Stopped` comes where an earlier call answered `Taker` or `finish` was called;

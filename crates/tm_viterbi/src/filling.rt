@@ -10,14 +10,14 @@ use crate::window::{first_sums, least_register};
 use std::alloc::{AllocError, Global};
 use tm_conv::Rate;
 
-/// The best path of a window, but for its bits: the register that it starts from, what it costs, and the register behind the kept steps.
+/// The best path of a window, but for its bits: the register that it starts from, what it costs, and the register after the kept steps.
 #[derive(Drop)]
 pub struct BestPath {
     /// The register that the path starts from, below 64.
     pub start: u8,
     /// What the path costs over the whole window.
     pub metric: u64,
-    /// The register behind the kept steps, from which the next window starts.
+    /// The register after the kept steps, from which the next window starts.
     pub end_state: u8,
     ghost small: { end_state < 64 },
 }

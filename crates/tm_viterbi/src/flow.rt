@@ -8,7 +8,7 @@ use std::alloc::{AllocError, Global};
 use tm_base::Held;
 use tm_conv::{Rate, steps_len};
 
-/// A window, and the octets behind its kept steps.
+/// A window, and the octets after its kept steps.
 #[derive(Drop)]
 pub(crate) struct Flow {
     pub(crate) window: Window,
@@ -41,7 +41,7 @@ impl Flow {
         Ok(Flow { window, tail })
     }
 
-    /// Takes the octets of some more steps, all before the window's first `keep` are full or all behind them.
+    /// Takes the octets of some more steps, all before the window's first `keep` are full or all after them.
     pub(crate) fn take_steps(&mut self, count: usize, octets: &[u8])
         requires room { self.old.window.filled + count ≤ self.old.window.keep + self.old.window.ahead }
         requires side { self.old.window.filled < self.old.window.keep → self.old.window.filled + count ≤ self.old.window.keep }
@@ -59,7 +59,7 @@ impl Flow {
         }
     }
 
-    /// Begins the next window, behind the kept steps, from this register.
+    /// Begins the next window, after the kept steps, from this register.
     pub(crate) fn turn(&mut self, end_state: u8)
         requires full { self.old.window.filled ≡ self.old.window.keep + self.old.window.ahead }
         requires few { self.old.window.t < 2 ^ 60 }
@@ -77,7 +77,7 @@ impl Flow {
     }
 
     /// Closes a full window: answers its block, whose bits are written, and begins the next one. A window may be closed once
-    /// the step behind it is there too.
+    /// the step after it is there too.
     pub(crate) fn close(&mut self, bits: &mut [u8]) -> BestPath
         requires full { self.old.window.filled ≡ self.old.window.keep + self.old.window.ahead }
         requires bits { length bits.old ≡ self.old.window.keep + self.old.window.ahead }
@@ -98,7 +98,7 @@ impl Flow {
         found
     }
 
-    /// The block of the last window, all of whose steps are kept; its bits are written to the front of `bits`.
+    /// The block of the last window, all of whose steps are kept; its bits are written to the start of `bits`.
     pub(crate) fn find_last(&self, bits: &mut [u8]) -> BestPath
         requires bits { self.now.window.filled ≤ length bits.old }
         requires start { (register : ℕ) × (register < 64) × IsTrue (starts_from self.now.window.starts register) }

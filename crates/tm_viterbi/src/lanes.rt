@@ -1,4 +1,4 @@
-// One column of sums from the one before, by lanes of thirty-two bits.
+// The path metrics after a step from those before it, by lanes of thirty-two bits.
 ghost use Rattle.std.specs.Prelude.{◌≡◌, ◌++◌, min, IsTrue, ℕ, ◌+◌, ◌-◌, ◌*◌, ◌/◌, ◌%◌, ◌^◌, ◌<◌, ◌≤◌, List, take, drop, reverse, length, slice_index, nat_lt, if◌then◌else◌};
 ghost use Rattle.tm_conv.specs.Path.{c1, c2};
 ghost use Rattle.tm_viterbi.specs.Column.{IsEach, sum_via, IsNextSums, AreSurvivors};
@@ -14,7 +14,7 @@ const FAR: [usize; 32] = [
     3, 2, 3, 2, 0, 1, 0, 1, 0, 1, 0, 1, 3, 2, 3, 2, 1, 0, 1, 0, 2, 3, 2, 3, 2, 3, 2, 3, 1, 0, 1, 0,
 ];
 
-// The sums of the even registers and those of the odd ones.
+// The path metrics of the even registers and those of the odd ones.
 fn halves(sums: &[u32; 64]) -> (Simd<u32, 32>, Simd<u32, 32>)
     ensures even { IsEach result.0 (λ i. slice_index sums.now (2 * i)) }
     ensures odd { IsEach result.1 (λ i. slice_index sums.now (2 * i + 1)) }
@@ -36,7 +36,7 @@ fn far_costs(costs: &[u32; 4]) -> Simd<u32, 32>
     u32x4::from_array(*costs).swizzle(FAR)
 }
 
-// The lesser of two ways, and where the second is strictly less.
+// The lesser of two path metrics, and where the second is strictly less.
 fn lesser(
     first: Simd<u32, 32>,
     near: Simd<u32, 32>,

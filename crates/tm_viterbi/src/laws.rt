@@ -19,7 +19,7 @@ pub fn one_list_law()
 }
 
 /// The blocks of closed windows are the first of all blocks. Those that are due are all but the last, where there are blocks. Those
-/// that are due for octets that go on begin with those that are due for a front. It does nothing.
+/// that are due for octets that go on begin with those that are due for a prefix. It does nothing.
 pub fn due_law()
     ensures none { (s : Settings) → AreDue s [] [] }
     ensures first { (s : Settings) (octets : List ℕ) (first blocks : List WindowBlock) (left : ℕ)

@@ -40,7 +40,7 @@ fn front_costs(costs: Simd<u16, 4>) -> (Simd<u16, 16>, Simd<u16, 16>)
     (costs.swizzle(NEAR_FRONT), costs.swizzle(FAR_FRONT))
 }
 
-// The same from the registers behind those.
+// The same from the registers after those.
 fn back_costs(costs: Simd<u16, 4>) -> (Simd<u16, 16>, Simd<u16, 16>)
     ensures near { IsHalf result.0 (λ i. slice_index costs (2 * c1 (2 * (16 + i)) 0 + c2 (2 * (16 + i)) 0)) }
     ensures far { IsHalf result.1 (λ i. slice_index costs (2 * c1 (2 * (16 + i) + 1) 0 + c2 (2 * (16 + i) + 1) 0)) }
@@ -67,8 +67,8 @@ fn evens_and_odds(half: Simd<u16, 32>, places: Simd<u16, 32>) -> (Simd<u16, 16>,
     (sorted.swizzle(EVENS), sorted.swizzle(ODDS))
 }
 
-// Add, compare, select: the lesser of the two ways into each of sixteen registers, and a bit for each that is 1 where
-// the first is kept. Turned over they are survivor bits.
+// Add, compare, select: the lesser of the two path metrics into each of sixteen registers, and a bit for each that is 1
+// where the first is kept. Complemented they are survivors.
 fn lesser(
     first: Simd<u16, 16>,
     first_costs: Simd<u16, 16>,
@@ -98,7 +98,7 @@ fn joined(front: Simd<u16, 16>, back: Simd<u16, 16>) -> Simd<u16, 32>
     front.shuffle(back, WHOLE)
 }
 
-// The next path metrics, those of registers below 32 and those of the others, and the column of survivors. The order
+// The next path metrics, those of registers below 32 and those of the others, and the survivors. The order
 // of its lines counts: in another the compiler puts more vectors aside.
 pub(crate) fn narrow_column(
     low: Simd<u16, 32>,

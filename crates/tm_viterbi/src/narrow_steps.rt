@@ -11,7 +11,7 @@ use crate::narrow_column::{narrow_column, sorted_places};
 use std::simd::prelude::*;
 use tm_conv::{Rate, step_len};
 
-// One step: the next path metrics, by halves, and the column of survivors.
+// One step: the next path metrics, by halves, and the survivors.
 #[inline(always)]
 fn narrow_step(
     rate: Rate,
@@ -32,7 +32,7 @@ fn narrow_step(
     narrow_column(low, high, step_costs(rate, invert, t, octets), places)
 }
 
-// As many steps as there are columns: the path metrics behind them, by halves, and how many octets they took.
+// As many steps as there are columns: the path metrics after them, by halves, and how many octets they took.
 #[inline(always)]
 fn narrow_run(
     rate: Rate,
@@ -78,7 +78,7 @@ fn narrow_run(
     (low, high, at)
 }
 
-// Two steps at rate 1/2: the path metrics behind them, and the two columns of survivors.
+// Two steps at rate 1/2: the path metrics after them, and the survivors of each.
 fn two_steps(
     masks: Simd<u8, 16>,
     octets: &[u8],
@@ -146,7 +146,8 @@ fn four_steps(
     (next_low, next_high)
 }
 
-// `narrow_run` at rate 1/2, four steps a turn: so the path metrics need not be moved between registers after each step.
+// `narrow_run` at rate 1/2, four steps at a time: so the path metrics need not be moved between registers after each
+// step.
 fn narrow_half_rate(
     invert: bool,
     t: u64,

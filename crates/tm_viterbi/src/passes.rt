@@ -10,7 +10,7 @@ use crate::narrow_steps::narrow_at;
 use crate::narrow_sums::{are_close, halves_of, least_sum, less_least, with_least};
 use tm_conv::{Rate, step_len};
 
-// One step in thirty-two bits. No sum is above `most` before it: what only the proof needs.
+// One step in thirty-two bits. No path metric is above `most` before it: what only the proof needs.
 pub(crate) fn step(
     rate: Rate,
     invert: bool,
@@ -82,8 +82,8 @@ fn wide_step(
     end
 }
 
-// Some steps of the forward pass: those from sums that lie close together go in sixteen bits, 120 at a time.
-// No sum is above `most` before them: what only the proof needs.
+// Some steps of the forward pass: those from path metrics that lie close together go in sixteen bits, 120 at a time.
+// No path metric is above `most` before them: what only the proof needs.
 pub(crate) fn run(
     rate: Rate,
     invert: bool,

@@ -73,7 +73,7 @@ pub(crate) fn whole_steps(rate: Rate, t: u64, limit: usize, len: usize) -> (usiz
     }
 }
 
-// Hands over a window's block, whose bits are the front of `bits`.
+// Hands over a window's block, whose bits are the start of `bits`.
 fn hand_over<B: BlockTaker>(
     found: &BestPath,
     steps: usize,

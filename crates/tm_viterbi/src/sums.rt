@@ -1,4 +1,4 @@
-// The sums of the Viterbi algorithm without its survivors.
+// The path metrics of the Viterbi algorithm without its survivors.
 ghost use Rattle.std.specs.Prelude.{◌≡◌, ◌++◌, ℕ, ◌+◌, ◌*◌, ◌^◌, ◌<◌, ◌≤◌, List, [], IfSome, length};
 ghost use Rattle.tm_conv.specs.Path.{path, step_size, steps_size};
 ghost use Rattle.tm_conv.specs.Cost.{cost};
@@ -70,7 +70,7 @@ impl Sums {
         self.steps += 1;
     }
 
-    /// The column behind the steps so far: for each register the least cost of a path to it, with what its first register costs.
+    /// The column after the steps so far: for each register the least cost of a path to it, with what its first register costs.
     pub fn column(&self) -> &[u32; 64]
         ensures column { result.now ≡ self.now.column }
         ensures least { (given : List ℕ) → SumsFor self.now given → IsColumn (starts_from self.now.start) self.now.rate self.now.invert self.now.first given result.now }

@@ -8,7 +8,7 @@ mod eight_bits;
 use eight_bits::EIGHT_BITS;
 
 // One step back. The low six bits of `history` are a register, those above them belong to later steps. The register's
-// survivor bit is put behind them, and so the low six bits are the register before.
+// survivor bit is put after them, and so the low six bits are the register before.
 fn step_back(history: u64, column: u64) -> u64
     requires { history < 2 ^ 32 }
     ensures { result ≡ 2 * history + column / 2 ^ (history % 64) % 2 }
@@ -85,7 +85,7 @@ pub(crate) fn trace_back(columns: &[u64], register: usize, bits: &mut [u8]) -> u
     trace_each(&columns[..i], s, &mut bits[..i])
 }
 
-// The register behind these bits. The last six of them determine it.
+// The register after these bits. The last six of them determine it.
 pub(crate) fn register_behind(first: u8, bits: &[u8]) -> u8
     requires register { first < 64 }
     requires bits { (k : ℕ) → k < length bits.now → slice_index bits.now k < 2 }

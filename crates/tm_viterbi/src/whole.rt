@@ -31,11 +31,11 @@ pub enum AllError {
     Taker,
 }
 
-/// Hands over the blocks of soft octets, fewer than 2^60, and answers how many octets are left over behind the last whole
+/// Hands over the blocks of soft octets, fewer than 2^60, and answers how many octets are left over after the last whole
 /// step: none or one. The settings are those of `Decoder::open`.
 ///
-/// `Memory` comes only where there isn't enough of it. `Taker` comes where `blocks` fails; a front of the blocks was then
-/// handed over.
+/// `Memory` comes only where there isn't enough of it. `Taker` comes where `blocks` fails; a prefix of the blocks was
+/// then handed over.
 pub fn decode_all<B: BlockTaker>(
     alloc: Global,
     rate: Rate,

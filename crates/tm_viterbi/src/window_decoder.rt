@@ -19,7 +19,7 @@ pub struct WindowShape {
     pub invert: bool,
     /// How many steps of a window are kept, but of the last.
     pub keep: usize,
-    /// How many steps stand behind them.
+    /// How many steps follow them.
     pub ahead: usize,
 }
 

@@ -11,7 +11,7 @@ use tm_conv::{Encoder, Rate, Symbols};
 use tm_viterbi::{Block, BlockTaker, Decoder, FeedError, Start};
 
 // The steps whose symbols are fed each time: whole puncture patterns at each rate. The last six bits are 0, so that the register
-// is 0 again behind them.
+// is 0 again after them.
 const STEPS: u64 = 8190;
 
 // What was handed over: the blocks, their kept bits, what their paths cost, and the sum of their last registers.

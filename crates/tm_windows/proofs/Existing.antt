@@ -50,7 +50,7 @@ is_block s at register bits best =
       end_state = refl;
     }
 
--- a window closes with some block, behind which a path may go on
+-- a window closes with some block, after which a path may go on
 record HasBlock (s : WindowShape) (at : Place) : Type 0 where
   block : WindowBlock
   closes : ClosesWith s at block
@@ -85,7 +85,7 @@ has_block exists s at some room =
     (length-take-le size at.octets inside) in
     closes_with s at b.0 b.1 room b.2
 
--- so many windows close, one behind another
+-- so many windows close, one after another
 pub record HasWindows (s : WindowShape) (at : Place) (count : ℕ) : Type 0 where
   pub blocks : List WindowBlock
   pub long : length blocks ≡ count

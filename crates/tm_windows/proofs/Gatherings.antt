@@ -40,7 +40,7 @@ are_closed keep ahead steps n some is =
       most = omega (arith, is, whole, mod_below n keep some, more_times count keep);
     }
 
--- the octets behind the steps that are whole close no window more
+-- the octets after the steps that are whole close no window more
 pub no_more : (s : WindowShape) (t len most steps count : ℕ) → AreClosed s.keep s.ahead steps count
     → (steps < most * s.keep + s.ahead + 1 → len < steps_size s.rate t (steps + 1))
     → len ≤ steps_size s.rate t (most * s.keep + s.ahead + 1)
@@ -71,7 +71,7 @@ closed_both : (s : WindowShape) (from middle to : Place) (xs ys : List WindowBlo
 closed_both s from middle to [] ys h k = subst (λ (p : Place). ClosedWith s p ys to) (sym h) k
 closed_both s from middle to (x ∷ xs) ys h k = (h.0, closed_both s (behind s.rate from x) middle to xs ys h.1 k)
 
--- windows that the octets held close, whatever comes behind them
+-- windows that the octets held close, whatever comes after them
 closed_further : (s : WindowShape) (from to : Place) (done more : List WindowBlock) (starts : Option ℕ) (t : ℕ)
     (held rest : List ℕ)
     → ClosedWith s from done (record { starts = starts; t = t; octets = held ++ rest }) → ClosedWith s
@@ -113,7 +113,7 @@ tried_now s s' from to done tried starts t held slice rest es eo h k =
 
 -- ---- room
 
--- behind the windows that are closed no other is
+-- after the windows that are closed no other is
 pub still_open : (s : WindowShape) (t n len size : ℕ) → size ≡ steps_size s.rate t (n * s.keep)
     → len < steps_size s.rate t ((n + 1) * s.keep + s.ahead + 1)
     → len - size < steps_size s.rate (t + n * s.keep) (s.keep + s.ahead + 1)
@@ -158,7 +158,7 @@ Reaches-append g all piece done r =
     further g.shape (first_place (settings_of g) all) (record
     { starts = g.starts; t = g.t; octets = g.held.octets ++ [] }) done g.held.octets piece (append-nil g.held.octets) r
 
--- more octets of a piece, behind those that were taken before
+-- more octets of a piece, after those that were taken before
 pub Reaches-later : (h : Gathering) (all piece : List ℕ) (at n : ℕ) (done more next : List WindowBlock)
     → Reaches h all (drop n (take (length piece - at) (drop at piece))) ((done ++ more) ++ next)
     → Reaches h all (drop (at + n) piece) (done ++ (more ++ next))
@@ -244,7 +244,7 @@ last_whole g slice n is less le few = elim (cases_lt n (s.keep + s.ahead)) as
     s : WindowShape
     s = g.shape
 
--- at most one octet is left over behind them
+-- at most one octet is left over after them
 pub few_left : (s : WindowShape) (t len n size : ℕ) → size ≡ steps_size s.rate t n
     → len < steps_size s.rate t (n + 1) → len - size ≤ 1
 few_left s t len n size is most = omega (arith, is, most, steps_size-add s.rate t n 1, steps_size-most s.rate (t + n) 1)
@@ -259,7 +259,7 @@ last_block s s' starts t n held slice last es eo some few is =
     (subst (λ (o : List ℕ). IsBlock s.rate s.invert s.keep s.ahead starts t n o last) octets
     (subst (λ (w : WindowShape). IsBlock w.rate w.invert w.keep w.ahead starts t n slice last) es is))
 
--- the blocks behind those that were closed before
+-- the blocks after those that were closed before
 pub blocks_after : (s v : Settings) (all : List ℕ) (done more last : List WindowBlock) (left : ℕ) → s ≡ v
     → AreBlocksOf s all ((done ++ more) ++ last) left
     → AreBlocksOf v all (done ++ (more ++ last)) left

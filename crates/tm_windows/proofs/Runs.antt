@@ -1,4 +1,4 @@
--- Windows one behind another.
+-- Windows one after another.
 use Rattle.std.proofs.Common.{◌≡◌, ℕ, ◌+◌, ◌-◌, ◌*◌, ◌^◌, ◌<◌, ◌≤◌, ◌∙◌, ◌++◌, ◌∷◌, [], ◌⊎◌, inl, inr, All, length-append, sym, ap, subst, arith, List, Option, Some, length, drop, drop-drop, length-drop, get_or, get_or-append-add, set, add-mul, mul-le-mul_right}
 use Rattle.std.specs.Option.{ForSome}
 use Rattle.std.proofs.lemmas.Bool.{cases_lt}
@@ -18,7 +18,7 @@ more_times j k = let one : 1 * k ≡ k = omega arith in add-mul j 1 k ∙ ap (λ
 pub small_some : (n : ℕ) → n < 64 → ForSome (Some n) (λ register. register < 64)
 small_some n lt x e = subst (λ (v : ℕ). v < 64) (let h : n ≡ x = cc in h) lt
 
--- a window that begins at step `now` has its room among the octets, from place `at` on, and so has the one behind it
+-- a window that begins at step `now` has its room among the octets, from place `at` on, and so has the one after it
 pub record HasRoom (s : WindowShape) (now at : ℕ) (octets : List ℕ) : Type 0 where
   pub room : steps_size s.rate now (s.keep + s.ahead + 1) ≤ length (drop at octets)
   pub next : at + steps_size s.rate now s.keep ≤ length octets
@@ -78,14 +78,14 @@ one_more s t octets candidates c j now at en eat lt is are k d from less = go (c
         subst (λ (n : ℕ). P n (get_or (set candidates j c) n d)) here
         (subst (λ (x : Candidate). P j x) (sym (get_or-set_same candidates j c d lt)) (at_number s t octets j now at c en eat is))
 
--- the candidates behind number j stand, whatever is done to it
+-- the candidates after number j stand, whatever is done to it
 pub those_left : (s : WindowShape) (t : ℕ) (octets : List ℕ) (j n : ℕ) (candidates : List Candidate) (c : Candidate)
     → AreCandidates s t octets j n candidates → AreCandidates s t octets (j + 1) n (set candidates j c)
 those_left s t octets j n candidates c are k d from less =
     subst (λ (x : Candidate). IsCandidate s (t + k * s.keep) (drop (steps_size s.rate t (k * s.keep)) octets) x)
     (sym (get_or-set_other candidates j k c d (λ e. omega (arith, e, from)))) (are k d (omega (arith, from)) less)
 
--- one more window is closed behind others
+-- one more window is closed after others
 pub push_closed : (s : WindowShape) (from : Place) (more : List WindowBlock) (starts : Option ℕ) (now at size next : ℕ) (octets : List ℕ) (block : WindowBlock)
     → block.end_state ≡ next → block.kept ≡ s.keep → size ≡ steps_size s.rate now s.keep
     → ClosedWith s from more (record { starts = starts; t = now; octets = drop at octets })

@@ -33,7 +33,7 @@ abbrev pub IsCandidate : WindowShape → ℕ → List ℕ → Candidate → Type
 IsCandidate shape t octets c = ClosesWith shape
     (record { starts = c.starts; t = t; octets = octets }) (block_of shape c)
 
--- the candidates from number `from` to number `to` are those of windows one behind another, of
+-- the candidates from number `from` to number `to` are those of windows one after another, of
 -- which number 0 begins at step t with the octets
 abbrev pub AreCandidates : WindowShape → ℕ → List ℕ → ℕ → ℕ → List Candidate → Type 0
 AreCandidates shape t octets from to candidates =
@@ -45,7 +45,7 @@ AreCandidates shape t octets from to candidates =
 abbrev pub HaveRoom : ℕ → List Candidate → Type 0
 HaveRoom steps candidates = All (λ c. vec_len c.bits ≡ steps) candidates
 
--- where a window begins, `count` windows behind the one from step t on with the octets
+-- where a window begins, `count` windows after the one from step t on with the octets
 abbrev pub place_behind : WindowShape → ℕ → List ℕ → ℕ → Option ℕ → Place
 place_behind shape t octets count starts =
     record {

@@ -21,7 +21,7 @@ pub record CanClose (workers : Sharing) (starts : Option ℕ) (t : ℕ) (octets 
   pub few : t + count * workers.shape.keep < 2 ^ 61
 
 -- The blocks of the next `count` windows from step t on with the octets went to the taker, and the
--- register is answered from which the window behind them starts; or the taker failed at one of the
+-- register is answered from which the window after them starts; or the taker failed at one of the
 -- blocks of closed windows, which it does only where its count of faults rose.
 pub record ClosedRun {E : Type 0} (shape : WindowShape) (starts : Option ℕ) (t : ℕ)
     (octets : List ℕ) (count : ℕ) (taker : TakerCall WindowBlock)

@@ -29,7 +29,7 @@ HasRoom g = length g.held.octets ≤ room_of g
 abbrev pub IsOpen : Gathering → Type 0
 IsOpen g = length g.held.octets < steps_size g.shape.rate g.t (g.shape.keep + g.shape.ahead + 1)
 
--- the steps of the windows whose blocks were handed over, and the octets behind them: at most the
+-- the steps of the windows whose blocks were handed over, and the octets after them: at most the
 -- octets given
 abbrev pub reached : Gathering → ℕ
 reached g = g.t + length g.held.octets

@@ -1,4 +1,4 @@
-// How windows are decoded that close: side by side, by many workers, or one behind another, with no thread.
+// How windows are decoded that close: side by side, by many workers, or one after another, with no thread.
 ghost use Rattle.std.specs.Prelude.{◌≡◌, ◌+◌, ◌*◌, ◌^◌, ◌<◌, ◌≤◌, ℕ, length};
 ghost use Rattle.std.specs.List.{All};
 ghost use Rattle.std.specs.Option.{ForSome};
@@ -21,7 +21,7 @@ pub(crate) trait Closing {
     ghost is_ready: { Self → ℕ → Type 0 };
 
     /// Decodes a window for each candidate: the first from step t on and from these registers, and each other one from
-    /// the register behind the one before it, or from a guess of it.
+    /// the register after the one before it, or from a guess of it.
     fn decode(
         &self,
         shape: WindowShape,

@@ -1,4 +1,4 @@
-// Windows decoded one behind another.
+// Windows decoded one after another.
 ghost use Rattle.std.specs.Prelude.{◌≡◌, ◌+◌, ◌*◌, ◌^◌, ◌<◌, ◌≤◌, length, vec_len};
 ghost use Rattle.std.specs.Option.{ForSome};
 ghost use Rattle.tm_conv.specs.Path.{steps_size};
@@ -33,8 +33,8 @@ pub(crate) fn decode_window(
     candidate.starts = starts;
 }
 
-/// Decodes a window for each candidate, one behind another: the first from step t on and from these registers, and each
-/// other one from the register behind the one before it. The gate is entered before each with the window's number in
+/// Decodes a window for each candidate, one after another: the first from step t on and from these registers, and each
+/// other one from the register after the one before it. The gate is entered before each with the window's number in
 /// the stream, up to 2^32-1.
 pub(crate) fn decode_run<G: Gate>(
     gate: &G,

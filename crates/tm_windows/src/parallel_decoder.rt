@@ -138,10 +138,10 @@ impl ParallelDecoder {
     }
 
     /// Takes the next soft octets, and hands over the blocks of the windows that are closed by all octets so far: a
-    /// window is closed once the step behind it is whole. The blocks are the same for any number of workers.
+    /// window is closed once the step after it is whole. The blocks are the same for any number of workers.
     ///
-    /// `Taker` comes where `blocks` fails; a front of the blocks was then handed over. `Stopped` comes where an earlier
-    /// call answered `Taker` or `finish` was called; nothing is handed over then.
+    /// `Taker` comes where `blocks` fails; a prefix of the blocks was then handed over. `Stopped` comes where an
+    /// earlier call answered `Taker` or `finish` was called; nothing is handed over then.
     ///
     /// The octets given in all are to be below 2^60.
     pub fn feed<R: Threads + Sync, B: BlockTaker>(
@@ -156,7 +156,7 @@ impl ParallelDecoder {
         self.feed_by(&SideBySide { rt }, piece, blocks)
     }
 
-    /// Does what `feed` does, but decodes the windows one behind another, with no thread.
+    /// Does what `feed` does, but decodes the windows one after another, with no thread.
     pub fn feed_alone<B: BlockTaker>(
         &mut self,
         piece: &[u8],
@@ -237,11 +237,11 @@ impl ParallelDecoder {
     }
 
     /// Hands over the blocks that are due and were not handed over yet, and that of the last window, where a step is
-    /// left for it. Answers how many octets are left over behind the last whole step: none or one. It is called once,
+    /// left for it. Answers how many octets are left over after the last whole step: none or one. It is called once,
     /// at the end of the stream.
     ///
-    /// `Taker` comes where `blocks` fails; a front of the blocks was then handed over. `Stopped` comes where an earlier
-    /// call answered `Taker` or `finish` was called; nothing is handed over then.
+    /// `Taker` comes where `blocks` fails; a prefix of the blocks was then handed over. `Stopped` comes where an
+    /// earlier call answered `Taker` or `finish` was called; nothing is handed over then.
     pub fn finish<R: Threads + Sync, B: BlockTaker>(
         &mut self,
         rt: &R,
@@ -253,7 +253,7 @@ impl ParallelDecoder {
         self.finish_by(&SideBySide { rt }, blocks)
     }
 
-    /// Does what `finish` does, but decodes the windows one behind another, with no thread.
+    /// Does what `finish` does, but decodes the windows one after another, with no thread.
     pub fn finish_alone<B: BlockTaker>(&mut self, blocks: &mut B) -> Result<u8, FeedError>
         ensures { Finishes self.old self.new
             (taker_call B.took B.broke B.faults B.is_last blocks.old blocks.new) result }

@@ -26,7 +26,7 @@ fn is_from(candidate: &Candidate, starts: Option<u8>) -> bool
     }
 }
 
-// Hands over the block that a candidate is, and answers the register behind its kept steps.
+// Hands over the block that a candidate is, and answers the register after its kept steps.
 fn hand_block<B: BlockTaker>(
     candidate: &Candidate,
     shape: WindowShape,
@@ -53,7 +53,7 @@ fn hand_block<B: BlockTaker>(
 }
 
 // Hands over the block of the window from step t on that starts from these registers: the candidate, where it was
-// decoded from them, and else it is decoded again. Answers the register behind its kept steps.
+// decoded from them, and else it is decoded again. Answers the register after its kept steps.
 fn settle<B: BlockTaker>(
     candidate: &mut Candidate,
     decoder: &mut WindowDecoder,
@@ -85,8 +85,8 @@ fn settle<B: BlockTaker>(
     hand_block(candidate, shape, blocks)
 }
 
-/// Hands over the blocks of windows one behind another, of which the first starts from these registers, and answers the
-/// register behind the kept steps of the last. A window that was decoded from another register is decoded again.
+/// Hands over the blocks of windows one after another, of which the first starts from these registers, and answers the
+/// register after the kept steps of the last. A window that was decoded from another register is decoded again.
 pub(crate) fn settle_run<B: BlockTaker>(
     candidates: &mut [Candidate],
     decoder: &mut WindowDecoder,

@@ -14,7 +14,7 @@ use tm_base::Gate;
 use tm_conv::steps_len;
 use tm_viterbi::{WindowDecoder, WindowShape};
 
-// One worker's windows, one behind another.
+// One worker's windows, one after another.
 fn decode_part<G: Gate>(
     gate: &G,
     shape: WindowShape,

@@ -169,12 +169,12 @@ impl WindowWorkers {
     }
 
     /// Closes the next `count` windows side by side and hands over their blocks in order: the first window begins at
-    /// step `t` with `octets`, and starts from the register `starts` or from any; the last has one more step behind
-    /// it. The octets are at most 2^62, and the steps below 2^61. Answers the register from which the window behind
+    /// step `t` with `octets`, and starts from the register `starts` or from any; the last has one more step after
+    /// it. The octets are at most 2^62, and the steps below 2^61. Answers the register from which the window after
     /// them starts. The blocks are the same for any number of workers. A worker enters `gate` before each window, with
     /// the window's number in a stream whose windows all keep as many steps.
     ///
-    /// `Failed` comes only where the taker's count of faults rose; a front of the blocks was then handed over.
+    /// `Failed` comes only where the taker's count of faults rose; a prefix of the blocks was then handed over.
     pub fn close<R: Threads + Sync, B: BlockTaker, G: Gate + Sync>(
         &mut self,
         rt: &R,
@@ -198,7 +198,7 @@ impl WindowWorkers {
         )
     }
 
-    /// Closes the next `count` windows as `close` does, but one behind another, with no thread.
+    /// Closes the next `count` windows as `close` does, but one after another, with no thread.
     pub fn close_alone<B: BlockTaker>(
         &mut self,
         starts: Option<u8>,

@@ -67,7 +67,7 @@ fn mixed(value: u64, part: u64) -> u64 {
 }
 
 // Decodes a window for each candidate: the first from register 63, and each other one from another register than that
-// behind the one before it.
+// after the one before it.
 fn decode_wrongly(
     decoder: &mut WindowDecoder,
     shape: WindowShape,

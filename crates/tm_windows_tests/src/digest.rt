@@ -17,7 +17,7 @@ pub fn empty() -> Digest {
     with_room(u64::MAX)
 }
 
-/// A digest that fails at each block behind the first `room` ones.
+/// A digest that fails at each block after the first `room` ones.
 pub fn with_room(room: u64) -> Digest {
     Digest {
         blocks: 0,

@@ -20,7 +20,7 @@ const BATCHES: [usize; 6] = [1, 5, 3, 7, 0, 2];
 
 const WINDOWS: u64 = 18;
 
-// Closes so many windows one behind another, as long as there are octets for them.
+// Closes so many windows one after another, as long as there are octets for them.
 fn close_batches<R: Threads + Sync>(
     rt: &R,
     workers: &mut WindowWorkers,

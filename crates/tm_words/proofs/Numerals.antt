@@ -7,7 +7,7 @@ use Rattle.std.specs.List.{list_all}
 use Rattle.std.specs.Str.Parse.{digits_value, digits_value_after}
 use Rattle.tm_words.specs.Options.{no_number, is_numeral, number_of}
 
--- what exceeds the cap before more digits exceeds it behind them
+-- what exceeds the cap before more digits exceeds it after them
 pub capped : (m n cap : ℕ) (digits : List ℕ) → min m cap ≡ min n cap → min (digits_value_after 10 m digits) cap ≡ min (digits_value_after 10 n digits) cap
 capped m n cap [] same = same
 capped m n cap (digit ∷ digits) same = capped (m * 10 + digit_value digit) (n * 10 + digit_value digit) cap digits (omega arith)

@@ -85,7 +85,7 @@ fn takes_each_inner_code(rt: HostRuntime) {
     }
 }
 
-// In each row values that differ from the plain ones; behind them length, word length and repair as they are then.
+// In each row values that differ from the plain ones; after them length, word length and repair as they are then.
 static RESOLVED: &str = "\
 code=16 depth=1|223 255 16\n\
 code=8 depth=4 length=956 repair=3|956 255 3\n\

@@ -12,7 +12,7 @@ use Rattle.tm_rs_solve.specs.declared.answers.ErasedAnswer.TheVariants.{Beyond a
 use Rattle.tm_workers.specs.declared.words.Word.{Word}
 use Rattle.tm_workers.specs.declared.words.ErasedWord.{ErasedWord}
 
--- the first n symbols become the nearest codeword, or stay where none is near; the symbols behind
+-- the first n symbols become the nearest codeword, or stay where none is near; the symbols after
 -- them stay, and the answer stands in the word
 pub record Decodes (code : Code) (repair : ℕ) (w w' : Word) : Type 0 where
   pub answer : Answer
@@ -22,7 +22,7 @@ pub record Decodes (code : Code) (repair : ℕ) (w w' : Word) : Type 0 where
   pub unchanged : answer ≡ Beyond → take code.n w'.symbols ≡ take code.n w.symbols
   pub behind : drop code.n w'.symbols ≡ drop code.n w.symbols
 
--- the same with erased places, which stay as they were told
+-- the same with erased places, which stay as they were given
 pub record DecodesErased (code : Code) (repair : ℕ) (w w' : ErasedWord) : Type 0 where
   pub answer : ErasedAnswer
   pub told : w'.answer ≡ Some answer

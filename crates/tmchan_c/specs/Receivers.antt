@@ -37,7 +37,7 @@ pub record WroteItems (answer : ℤ) (frames : List ℕ) (reports : List Report)
   pub tells : Tells count frames reports items
 
 -- a receiver that was given octets goes on to further ones, and what is due with them was written,
--- all of it where there is the room that is told
+-- all of it where there is the room that is said
 pub record ReceivesInto (c : Configuration) (given octets : List ℕ)
     (done : List (Handed ItemValue)) (now : Option Stream) (answer : ℤ) (frames : List ℕ)
     (reports : List Report) : Type 0 where
@@ -48,7 +48,7 @@ pub record ReceivesInto (c : Configuration) (given octets : List ℕ)
   pub enough : IsEnough c (length octets) wrote.count frames reports
 
 -- at the end of its octets, which came to so many bits, what is left was written in the same way, and
--- the phase was told
+-- the phase was given
 pub record ReceivesLastInto (c : Configuration) (given : List ℕ)
     (done : List (Handed ItemValue)) (answer : ℤ) (frames : List ℕ) (reports : List Report)
     (bits : ℕ) (phase : PhaseState) : Type 0 where

@@ -31,7 +31,7 @@ abbrev pub answered : Option Refusal → ℤ
 answered None = pos 0
 answered (Some refusal) = refused refusal
 
--- the answer of a call that tells a number: a reason to refuse it, or that there is not the room,
+-- the answer of a call that answers a number: a reason to refuse it, or that there is not the room,
 -- or the number
 abbrev pub number_answer : Option Refusal → Option ℕ → ℤ
 number_answer (Some refusal) number = refused refusal

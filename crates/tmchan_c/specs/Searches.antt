@@ -86,7 +86,7 @@ place_after (Some f) place = record {
   inverted = from_bool f.inverted;
 }
 
--- a search has taken bits of a list of `size` from one index on up to another, behind which the
+-- a search has taken bits of a list of `size` from one index on up to another, after which the
 -- first codeblock ends that is whole
 pub record FindsInto (was now : SearchState) (at end size : ℕ) (bits : List Bool) (place place_now : PlaceState) (answer : ℤ) : Type 0 where
   pub found : Option Found

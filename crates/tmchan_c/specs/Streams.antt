@@ -44,7 +44,7 @@ abbrev pub room_refusal : {T : Type 0} → Option T → (T → Option ℕ) → �
 room_refusal None needed room = Some Closed
 room_refusal (Some stream) needed room = if has_room (needed stream) room then None else Some Room
 
--- a call has written this to the front of a buffer
+-- a call has written this to the start of a buffer
 abbrev pub Wrote : {T : Type 0} → ℤ → List T → List T → Type 0
 Wrote answer buffer items = (answer ≡ pos (length items)) × (take (length items) buffer ≡ items)
 
@@ -101,7 +101,7 @@ pub record DecodesInto (c : Configuration) (given octets : List ℕ)
   pub decoder : IsDecoder now c (given ++ octets) (done ++ more)
   pub wrote : Wrote answer bits (kept_bits (items_of more))
 
--- at the end of its octets the bits that are left were written, and the phase was told
+-- at the end of its octets the bits that are left were written, and the phase was given
 pub record DecodesLastInto (c : Configuration) (given : List ℕ)
     (done : List (Handed WindowBlock)) (answer : ℤ) (bits : List ℕ)
     (phase : PhaseState) : Type 0 where

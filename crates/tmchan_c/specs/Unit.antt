@@ -7,7 +7,7 @@ use Rattle.tmchan_c.specs.Refusal.{values_refusal}
 use Rattle.tmchan_c.specs.declared.refusal.Refusal.{Refusal}
 use Rattle.tmchan_c.specs.declared.refusal.Refusal.TheVariants.{Room}
 
--- the values of the options: those that were told, and else the defaults
+-- the values of the options: those that were given, and else the defaults
 abbrev pub unit_raw : ℕ → ℕ → ℕ → ℕ → ℕ → Raw
 unit_raw code depth basis randomize frame =
     record default_raw {

@@ -49,7 +49,7 @@ pub extern "C" fn tmchan_decoder_open(alloc: Global, handle: &mut Handle, option
     }
 }
 
-/// Takes the next soft octets, and writes the bits that are due with them to the front of `bits`. Answers how many
+/// Takes the next soft octets, and writes the bits that are due with them to the start of `bits`. Answers how many
 /// these are, or why it is refused.
 #[unsafe(no_mangle)]
 pub extern "C" fn tmchan_decoder_push(
@@ -76,7 +76,7 @@ pub extern "C" fn tmchan_decoder_push(
     answer
 }
 
-/// Writes the bits that are left to the front of `bits`, tells the symbol phase, and closes the decoder. Answers how
+/// Writes the bits that are left to the start of `bits`, gives the symbol phase, and closes the decoder. Answers how
 /// many bits these are, or why it is refused.
 #[unsafe(no_mangle)]
 pub extern "C" fn tmchan_decoder_finish(

@@ -4,7 +4,7 @@ ghost use Rattle.tmchan_c.specs.Phases.{chosen_of};
 
 use tm_phase::Chosen;
 
-/// How many octets are skipped, and what the best path behind them costs, where a phase was chosen.
+/// How many octets are skipped, and what the best path after them costs, where a phase was chosen.
 #[repr(C)]
 #[derive(Clone, Copy)]
 pub struct PhaseState {

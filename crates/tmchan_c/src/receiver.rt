@@ -21,7 +21,7 @@ use std::alloc::Global;
 use tm_buffers::{BufferReceiver, Report, items_room};
 
 /// For how many reports a push of so many octets, or fewer, and the finish need room, whatever was pushed before; and
-/// for how many octets of frames. Or why no such room is told.
+/// for how many octets of frames. Or why no such room is said.
 #[unsafe(no_mangle)]
 pub extern "C" fn tmchan_receiver_room(
     options: &Options,
@@ -63,7 +63,7 @@ pub extern "C" fn tmchan_receiver_open(alloc: Global, handle: &mut Handle, optio
     }
 }
 
-/// Takes the next octets, and writes the frames of the items that are due with them to the front of `frames`, and what
+/// Takes the next octets, and writes the frames of the items that are due with them to the start of `frames`, and what
 /// else is said of each to that of `reports`. Answers how many items these are, or why it is refused.
 #[unsafe(no_mangle)]
 pub extern "C" fn tmchan_receiver_push(
@@ -90,7 +90,7 @@ pub extern "C" fn tmchan_receiver_push(
     answer
 }
 
-/// Writes what is left, tells the symbol phase and how many bits were received, and closes the receiver. Answers how
+/// Writes what is left, gives the symbol phase and how many bits were received, and closes the receiver. Answers how
 /// many items were written, or why it is refused.
 #[unsafe(no_mangle)]
 pub extern "C" fn tmchan_receiver_finish(

@@ -26,7 +26,7 @@ const MOST: usize = 255;
 // The most check symbols of a word.
 const MOST_CHECKS: usize = 32;
 
-/// Writes the octets of the 2E check symbols behind those of the information symbols into `checks`, for the code that
+/// Writes the octets of the 2E check symbols after those of the information symbols into `checks`, for the code that
 /// corrects E = `code` symbols, in the basis of this number. Answers 0, or why it is refused.
 #[unsafe(no_mangle)]
 pub extern "C" fn tmchan_rs_encode(code: u32, basis: u32, info: &[u8], checks: &mut [u8]) -> i32
@@ -97,7 +97,7 @@ fn params_of(code: u32, n: usize) -> Params
     Params::new(u64::from(code), n as u64).unwrap()
 }
 
-// Writes the octets of the check symbols behind those of information symbols.
+// Writes the octets of the check symbols after those of information symbols.
 fn write_checks(params: &Params, basis: Basis, info: &[u8], octets: &mut [u8])
     requires info { length info.now + 2 * params.now.e ≡ params.now.n }
     requires room { length octets.old ≡ 2 * params.now.e }

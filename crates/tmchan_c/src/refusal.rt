@@ -49,7 +49,7 @@ impl Refusal {
     }
 }
 
-/// The answer that tells a number, or that there is not the room.
+/// The answer that is a number, or that there is not the room.
 pub fn number_answer(number: Option<usize>) -> i64
     requires { IfSome number (λ number. number < 2 ^ 63) }
     ensures { result ≡ number_answer None number }

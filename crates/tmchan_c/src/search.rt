@@ -72,7 +72,7 @@ pub extern "C" fn tmchan_search_open(
 }
 
 /// Takes bits from number `at` of an array on, each 0 or another number for 1, up to the end of the first codeblock
-/// that is whole, or all, and tells how far it came. Answers 1 where a codeblock is whole, whose place it tells, and
+/// that is whole, or all, and says how far it came. Answers 1 where a codeblock is whole, whose place it gives, and
 /// else 0; or why it is refused.
 #[unsafe(no_mangle)]
 pub extern "C" fn tmchan_search_bits(

@@ -43,7 +43,7 @@ pub extern "C" fn tmchan_sender_open(alloc: Global, handle: &mut Handle, options
     }
 }
 
-/// Takes the next octets of the frames, and writes the symbols of each frame that is whole now to the front of
+/// Takes the next octets of the frames, and writes the symbols of each frame that is whole now to the start of
 /// `symbols`. Answers how many these are, or why it is refused.
 #[unsafe(no_mangle)]
 pub extern "C" fn tmchan_sender_push(
@@ -69,7 +69,7 @@ pub extern "C" fn tmchan_sender_push(
     answer
 }
 
-/// Tells how many octets stand behind the last whole frame, and closes the sender; or why it is refused.
+/// Answers how many octets follow the last whole frame, and closes the sender; or why it is refused.
 #[unsafe(no_mangle)]
 pub extern "C" fn tmchan_sender_finish(alloc: Global, handle: &mut Handle) -> i64
     ensures refused { Refuses (closed_refusal (sender_in handle.old.kept.value)) result

@@ -48,7 +48,7 @@ pub extern "C" fn tmchan_cadu(
     }
 }
 
-// The values of the options: those that are told, and else the defaults.
+// The values of the options: those that are given, and else the defaults.
 fn raw(code: u32, depth: u32, basis: u32, randomize: u32, frame_length: usize) -> Raw
     ensures { result ≡ unit_raw code depth basis randomize frame_length }
 {

@@ -664,7 +664,7 @@ pub static FROM_OCTET: [[u8; 16]; 256] = [
     ],
 ];
 
-// The register behind an octet.
+// The register after an octet.
 pub static REGISTER_AFTER: [u8; 256] = [
     0, 32, 16, 48, 8, 40, 24, 56, 4, 36, 20, 52, 12, 44, 28, 60, 2, 34, 18, 50, 10, 42, 26, 58, 6,
     38, 22, 54, 14, 46, 30, 62, 1, 33, 17, 49, 9, 41, 25, 57, 5, 37, 21, 53, 13, 45, 29, 61, 3, 35,

@@ -103,7 +103,7 @@ impl Path {
         (self.digits[(place / 64 % 3) as usize].wrapping_shr(place % 64) & 1) as u8
     }
 
-    // The register behind the first `steps` bits.
+    // The register after the first `steps` bits.
     pub(super) fn register(&self, steps: u32) -> u8 {
         let mut register = u32::from(self.start());
         for i in 0..steps {

@@ -9,7 +9,7 @@ use Rattle.tm_random.specs.Masked.{masked}
 use Rattle.tm_random.proofs.Masks.{masked-append, length-masked}
 use Rattle.tm_random.proofs.mask.Goals as goal
 
--- what was masked, and a part that is masked behind it
+-- what was masked, and a part that is masked after it
 behind : (start count : ℕ) (before block part : List ℕ) → AreOctets before → start + count ≤ length before → start % 255 ≡ 0
     → take start block ≡ masked (take start before) → drop start block ≡ drop start before → part ≡ masked (take count (drop start block))
     → take start block ++ part ≡ masked (take (start + count) before)

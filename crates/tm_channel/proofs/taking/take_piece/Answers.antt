@@ -8,7 +8,7 @@ use Rattle.tm_channel.specs.OctetReceiving.{Grows, Stages, received_bits}
 use Rattle.tm_channel.proofs.GivenOctets.{first-chosen, found-none, found-some, front-due, front-phase, hands-due, hands-wait}
 use Rattle.tm_channel.proofs.taking.take_piece.Goals as goal
 
--- with no inner code the bits are those of the octets behind the skipped ones
+-- with no inner code the bits are those of the octets after the skipped ones
 found-behind : (inner now : InnerReceiving) (skip : ℕ) (kept octets : List ℕ) → now.config ≡ inner.config → is_some inner.config.inner ≡ false
     → skip ≡ inner.config.skip - plain_count inner.config inner.count → received_bits inner kept octets ≡ drop skip (plain_bits now.config octets)
 found-behind inner now skip kept octets same none is =

@@ -49,7 +49,7 @@ shape_is c read steps_are =
     c.has_shape-is_right.ensures c.args.self.now.rules (sym (ap (λ v. v.rules.keep) c.self.view_is)) (sym (ap (λ v. v.rules.ahead) c.self.view_is))
     ∙ (λ i. has_shape c.args.self.now.rules (next i) (steps_are i) (kept i) (get_or (read i) 8 0))
 
--- of its bits, where no octet is behind them
+-- of its bits, where no octet is after them
 bits_are : (c : After-are_bits-is_right) → c.as_slice-held.result.now ≡ c.args.self.now.octets → length c.as_slice-held.result.now ≡ 17 + steps_in c.args.self.now.octets
     → c.are_bits-is_right.result ≡ are_bits (bits_in c.args.self.now.octets)
 bits_are c read end =
@@ -60,7 +60,7 @@ size_is : (c : After-span) → c.read_u32-steps.result ≡ steps_in c.args.self.
     → c.span.result ≡ steps_size c.args.self.now.rules.rate c.args.self.now.before.t (steps_in c.args.self.now.octets)
 size_is c steps_are = same_size c.span.ensures (ap (λ v. v.rules.rate) c.self.view_is) (ap (λ v. v.before.t) c.self.view_is) (c.from.ensures ∙ steps_are)
 
--- of its joint, where no octet is behind the soft ones
+-- of its joint, where no octet is after the soft ones
 joint_is : (c : After-is_joined-is_right) → c.as_slice-held.result.now ≡ c.args.self.now.octets → c.read_u32-steps.result ≡ steps_in c.args.self.now.octets
     → length c.as_slice-held.result.now ≡ soft_end c.args.self.now.rules.rate c.args.self.now.before.t (steps_in c.args.self.now.octets)
     → c.is_joined-is_right.result ≡ joined_of c.args.self.now.rules c.args.self.now.before c.args.self.now.octets

@@ -17,7 +17,7 @@ loop-done-init g c =
       sent = frames-none c.args.self.now (g.O.Sink.taken c.args.out.now) (subst P c.self.view_is (grind (arith, common_steps)));
     }
 
--- a piece behind the octets before it
+-- a piece after the octets before it
 joined : (done count : ℕ) (octets : List ℕ) → take done octets ++ take ((done + count) - done) (drop done octets) ≡ take (done + count) octets
 joined done count octets =
     let same : (done + count) - done ≡ count = omega arith in

@@ -25,7 +25,7 @@ invariant_of-self-2 g c = (c.decode.ensures.of c.self.inside.config c.self.invar
 pub returns-clause-of : goal.returns-clause-of
 returns-clause-of g c = c.decode.ensures.of c.self.inside.config c.self.invariant.0
 
--- the octets behind the phase
+-- the octets after the phase
 behind : (skip from : ℕ) (slice held : List ℕ) → from ≡ skip → slice ≡ held → take (length slice - from) (drop from slice) ≡ drop skip held
 behind skip from slice held same is = take_rest slice from ∙ ap (λ (n : ℕ). drop n slice) same ∙ ap (drop skip) is
 
