@@ -12,12 +12,12 @@ HandedOver-items on_phase took before now (item ∷ items) handed = (handed.0, h
 pub HandedPart-items : {T I : Type 0} (on_phase phase_broke : T → ℕ → ℕ → T → Type 0) (took broke : T → I → T → Type 0) (before now : T) (items : List I)
     → HandedPart took broke before items now → HandedPart (on_handed on_phase took) (on_handed phase_broke broke) before (map Item items) now
 HandedPart-items on_phase phase_broke took broke before now items part = record {
-  front = map Item part.front;
+  prefix = map Item part.prefix;
   next = Item part.next;
   rest = map Item part.rest;
   middle = part.middle;
-  split = ap (map Item) part.split ∙ map-append Item part.front (part.next ∷ part.rest);
-  handed = HandedOver-items on_phase took before part.middle part.front part.handed;
+  split = ap (map Item) part.split ∙ map-append Item part.prefix (part.next ∷ part.rest);
+  handed = HandedOver-items on_phase took before part.middle part.prefix part.handed;
   failed = part.failed;
 }
 

@@ -20,28 +20,28 @@ HandedOver-append took before middle now (x ∷ xs) ys first second = (first.0, 
 
 -- the taker failed at the first of the items
 pub HandedPart-first : {T I : Type 0} (took broke : T → I → T → Type 0) (before now : T) (item : I) (items : List I) → broke before item now → HandedPart took broke before (item ∷ items) now
-HandedPart-first took broke before now item items failed = record { front = []; next = item; rest = items; middle = before; split = refl; handed = refl; failed = failed }
+HandedPart-first took broke before now item items failed = record { prefix = []; next = item; rest = items; middle = before; split = refl; handed = refl; failed = failed }
 
 -- items that were taken, and then a part of further ones
 pub HandedPart-after : {T I : Type 0} (took broke : T → I → T → Type 0) (before middle now : T) (xs ys : List I) → HandedOver took before xs middle → HandedPart took broke middle ys now → HandedPart took broke before (xs ++ ys) now
 HandedPart-after took broke before middle now xs ys first part = record {
-  front = xs ++ part.front;
+  prefix = xs ++ part.prefix;
   next = part.next;
   rest = part.rest;
   middle = part.middle;
-  split = ap (λ l. xs ++ l) part.split ∙ sym (append_assoc xs part.front (part.next ∷ part.rest));
-  handed = HandedOver-append took before middle part.middle xs part.front first part.handed;
+  split = ap (λ l. xs ++ l) part.split ∙ sym (append_assoc xs part.prefix (part.next ∷ part.rest));
+  handed = HandedOver-append took before middle part.middle xs part.prefix first part.handed;
   failed = part.failed;
 }
 
 -- a part of some items is a part of these and further ones
 pub HandedPart-more : {T I : Type 0} (took broke : T → I → T → Type 0) (before now : T) (xs ys : List I) → HandedPart took broke before xs now → HandedPart took broke before (xs ++ ys) now
 HandedPart-more took broke before now xs ys part = record {
-  front = part.front;
+  prefix = part.prefix;
   next = part.next;
   rest = part.rest ++ ys;
   middle = part.middle;
-  split = ap (λ l. l ++ ys) part.split ∙ append_assoc part.front (part.next ∷ part.rest) ys;
+  split = ap (λ l. l ++ ys) part.split ∙ append_assoc part.prefix (part.next ∷ part.rest) ys;
   handed = part.handed;
   failed = part.failed;
 }

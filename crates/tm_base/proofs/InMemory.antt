@@ -6,16 +6,16 @@ use Rattle.std.proofs.lemmas.Grind.{common_steps}
 use Rattle.tm_base.specs.Count.{raised_by, is_failing}
 use Rattle.tm_base.specs.SourceInMemory.{SourceState, share_of, after_read}
 
-copied : (at count : ℕ) (content front rest : List ℕ) → at + count ≤ length content → front ≡ take count (drop at content) → take count (front ++ rest) ≡ take count (drop at content)
-copied at count content front rest within is = take_at front rest count (grind (arith, common_steps)) ∙ is
+copied : (at count : ℕ) (content prefix rest : List ℕ) → at + count ≤ length content → prefix ≡ take count (drop at content) → take count (prefix ++ rest) ≡ take count (drop at content)
+copied at count content prefix rest within is = take_at prefix rest count (grind (arith, common_steps)) ∙ is
 
 -- the octets given, with those in the front of the buffer
-pub gave : (at count : ℕ) (content front rest : List ℕ) → at + count ≤ length content → front ≡ take count (drop at content) → take (at + count) content ≡ take at content ++ take count (front ++ rest)
-gave at count content front rest within is = rw (copied at count content front rest within is, take-add at count content) refl
+pub gave : (at count : ℕ) (content prefix rest : List ℕ) → at + count ≤ length content → prefix ≡ take count (drop at content) → take (at + count) content ≡ take at content ++ take count (prefix ++ rest)
+gave at count content prefix rest within is = rw (copied at count content prefix rest within is, take-add at count content) refl
 
 -- the octets left before, from those in the front of the buffer
-pub leaves : (at count : ℕ) (content front rest : List ℕ) → at + count ≤ length content → front ≡ take count (drop at content) → drop at content ≡ take count (front ++ rest) ++ drop (at + count) content
-leaves at count content front rest within is = rw (copied at count content front rest within is, ← drop-drop count at content) (sym (take-append-drop count (drop at content)))
+pub leaves : (at count : ℕ) (content prefix rest : List ℕ) → at + count ≤ length content → prefix ≡ take count (drop at content) → drop at content ≡ take count (prefix ++ rest) ++ drop (at + count) content
+leaves at count content prefix rest within is = rw (copied at count content prefix rest within is, ← drop-drop count at content) (sym (take-append-drop count (drop at content)))
 
 -- the state after a read that doesn't fail
 pub state-read : (source : SourceState) (room calls : ℕ) (given left : List ℕ) (ended : Bool) → is_failing source.fails source.calls ≡ false

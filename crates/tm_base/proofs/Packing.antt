@@ -74,22 +74,22 @@ low_bits-fold count number (bit ∷ bits) =
 pub low_bits-number_of : (bits : List Bool) → low_bits (length bits) (number_of bits) ≡ bits
 low_bits-number_of bits = ap (λ n. low_bits n (number_of bits)) (omega arith) ∙ low_bits-fold 0 0 bits ∙ ap (λ l. l ++ bits) (low_bits-zero 0)
 
-fold-low_bits : (count number front : ℕ) → fold (λ n bit. n * 2 + bit_number bit) front (low_bits count number) ≡ front * 2 ^ count + number % 2 ^ count
-fold-low_bits zero number front = ap (fold (λ n bit. n * 2 + bit_number bit) front) (low_bits-zero number) ∙ omega arith
-fold-low_bits (suc count) number front =
-    ap (fold (λ n bit. n * 2 + bit_number bit) front) (low_bits-first count number)
-    ∙ fold-low_bits count number (front * 2 + bit_number (number / 2 ^ count % 2 == 1))
-    ∙ ap (λ n. (front * 2 + n) * 2 ^ count + number % 2 ^ count) (bit_number-odd (number / 2 ^ count))
-    ∙ shifted front (number / 2 ^ count % 2) (2 ^ count) (number % 2 ^ count)
-    ∙ (λ i. front * power i + lowest i)
+fold-low_bits : (count number prefix : ℕ) → fold (λ n bit. n * 2 + bit_number bit) prefix (low_bits count number) ≡ prefix * 2 ^ count + number % 2 ^ count
+fold-low_bits zero number prefix = ap (fold (λ n bit. n * 2 + bit_number bit) prefix) (low_bits-zero number) ∙ omega arith
+fold-low_bits (suc count) number prefix =
+    ap (fold (λ n bit. n * 2 + bit_number bit) prefix) (low_bits-first count number)
+    ∙ fold-low_bits count number (prefix * 2 + bit_number (number / 2 ^ count % 2 == 1))
+    ∙ ap (λ n. (prefix * 2 + n) * 2 ^ count + number % 2 ^ count) (bit_number-odd (number / 2 ^ count))
+    ∙ shifted prefix (number / 2 ^ count % 2) (2 ^ count) (number % 2 ^ count)
+    ∙ (λ i. prefix * power i + lowest i)
   where
     lowest : (number / 2 ^ count % 2) * 2 ^ count + number % 2 ^ count ≡ number % 2 ^ suc count
     lowest = let one : 1 + count ≡ suc count = omega arith in sym (mod-pow-add number 1 count) ∙ ap (λ n. number % 2 ^ n) one
 
-    shifted : (front bit place rest : ℕ) → (front * 2 + bit) * place + rest ≡ front * (2 * place) + (bit * place + rest)
-    shifted front bit place rest =
-        let one = add-mul (front * 2) bit place in
-        let two = mul_assoc front 2 place in
+    shifted : (prefix bit place rest : ℕ) → (prefix * 2 + bit) * place + rest ≡ prefix * (2 * place) + (bit * place + rest)
+    shifted prefix bit place rest =
+        let one = add-mul (prefix * 2) bit place in
+        let two = mul_assoc prefix 2 place in
         omega (arith, one, two)
 
     power : 2 * 2 ^ count ≡ 2 ^ suc count
@@ -187,7 +187,7 @@ AreOctets-octets_of (a ∷ b ∷ c ∷ d ∷ e ∷ f ∷ []) = λ k i within. ab
 AreOctets-octets_of (a ∷ b ∷ c ∷ d ∷ e ∷ f ∷ g ∷ []) = λ k i within. absurd (omega arith)
 
 -- whole octets in front are packed by themselves
-pub octets_of-append : (front bits : List Bool) → length front % 8 ≡ 0 → octets_of (front ++ bits) ≡ octets_of front ++ octets_of bits
-octets_of-append front bits whole =
-    ap (λ l. octets_of (l ++ bits)) (sym (bits_of-octets_of front whole))
-    ∙ octets_of-bits_of-append (octets_of front) bits (AreOctets-octets_of front)
+pub octets_of-append : (prefix bits : List Bool) → length prefix % 8 ≡ 0 → octets_of (prefix ++ bits) ≡ octets_of prefix ++ octets_of bits
+octets_of-append prefix bits whole =
+    ap (λ l. octets_of (l ++ bits)) (sym (bits_of-octets_of prefix whole))
+    ∙ octets_of-bits_of-append (octets_of prefix) bits (AreOctets-octets_of prefix)

@@ -4,7 +4,7 @@ use Rattle.std.proofs.lemmas.List.{append-nil, take_min, take-append-le}
 use Rattle.std.proofs.Math.Seq.{take-append-add, drop-append_seam, drop-length}
 use Rattle.std.specs.Io.KnownBytes.{append_known}
 use Rattle.tm_base.proofs.Known.{append_known-more, append_known-nil}
-use Rattle.tm_base.specs.Pieces.{beyond, further, GoesOn, Fed, FedFront}
+use Rattle.tm_base.specs.Pieces.{beyond, further, GoesOn, Fed, FedPrefix}
 
 -- what is due beyond nothing is all
 pub further-from_nothing : (due : List ℕ → List ℕ) (piece : List ℕ) → due [] ≡ [] → further due [] piece ≡ due piece
@@ -40,11 +40,11 @@ fed-more stands_for due on a b c taken_a taken_b taken_c first second p q = reco
       ∙ ap (append_known taken_a) (sym (further-twice due on given first second));
 }
 
-pub fed-front : {S : Type 0} (stands_for : S → List ℕ → Type 0) (due : List ℕ → List ℕ) → GoesOn due → (a b : S) (taken_a taken_b taken_c : Option (List ℕ)) (first second : List ℕ)
-    → Fed stands_for due a b taken_a taken_b first → FedFront stands_for due b taken_b taken_c second → FedFront stands_for due a taken_a taken_c (first ++ second)
-fed-front stands_for due on a b taken_a taken_b taken_c first second p q = record {
-  front = λ given stood.
-      let more = q.front (given ++ first) (p.stands given stood) in
+pub fed-prefix : {S : Type 0} (stands_for : S → List ℕ → Type 0) (due : List ℕ → List ℕ) → GoesOn due → (a b : S) (taken_a taken_b taken_c : Option (List ℕ)) (first second : List ℕ)
+    → Fed stands_for due a b taken_a taken_b first → FedPrefix stands_for due b taken_b taken_c second → FedPrefix stands_for due a taken_a taken_c (first ++ second)
+fed-prefix stands_for due on a b taken_a taken_b taken_c first second p q = record {
+  prefix = λ given stood.
+      let more = q.prefix (given ++ first) (p.stands given stood) in
       let one = further due given first in
       let two = further due (given ++ first) second in (
         length one + more.0,
@@ -56,11 +56,11 @@ fed-front stands_for due on a b taken_a taken_b taken_c first second p q = recor
 }
 
 -- a prefix of what is due for a piece is one of what is due for a longer piece
-pub fed-front_of_longer : {S : Type 0} (stands_for : S → List ℕ → Type 0) (due : List ℕ → List ℕ) → GoesOn due → (a : S) (taken taken_now : Option (List ℕ)) (first second : List ℕ)
-    → FedFront stands_for due a taken taken_now first → FedFront stands_for due a taken taken_now (first ++ second)
-fed-front_of_longer stands_for due on a taken taken_now first second p = record {
-  front = λ given stood.
-      let some = p.front given stood in
+pub fed-prefix_of_longer : {S : Type 0} (stands_for : S → List ℕ → Type 0) (due : List ℕ → List ℕ) → GoesOn due → (a : S) (taken taken_now : Option (List ℕ)) (first second : List ℕ)
+    → FedPrefix stands_for due a taken taken_now first → FedPrefix stands_for due a taken taken_now (first ++ second)
+fed-prefix_of_longer stands_for due on a taken taken_now first second p = record {
+  prefix = λ given stood.
+      let some = p.prefix given stood in
       let one = further due given first in
       let two = further due (given ++ first) second in (
         min some.0 (length one),

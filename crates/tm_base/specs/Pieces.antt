@@ -1,10 +1,10 @@
 -- What is fed in pieces and writes as it goes. It keeps no history: a relation says for which lists, given so far, it stands.
 use Rattle.std.specs.Prelude.{◌≡◌, ℕ, List, ◌++◌, drop, length, Option}
-use Rattle.tm_base.specs.Written.{Wrote, WroteFront}
+use Rattle.tm_base.specs.Written.{Wrote, WrotePrefix}
 
--- what stands in `all` after a prefix as long as `front`
+-- what stands in `all` after a prefix as long as `prefix`
 abbrev pub beyond : List ℕ → List ℕ → List ℕ
-beyond front all = drop (length front) all
+beyond prefix all = drop (length prefix) all
 
 -- what is due once `piece` follows `given`, beyond what was due for `given`
 abbrev pub further : (List ℕ → List ℕ) → List ℕ → List ℕ → List ℕ
@@ -20,5 +20,5 @@ pub record Fed {S : Type 0} (stands_for : S → List ℕ → Type 0) (due : List
   pub written : (given : List ℕ) → stands_for before given → Wrote taken taken_now (further due given piece)
 
 -- fed the piece, a value has written a prefix of what is due beyond
-pub record FedFront {S : Type 0} (stands_for : S → List ℕ → Type 0) (due : List ℕ → List ℕ) (before : S) (taken taken_now : Option (List ℕ)) (piece : List ℕ) : Type 0 where
-  pub front : (given : List ℕ) → stands_for before given → WroteFront taken taken_now (further due given piece)
+pub record FedPrefix {S : Type 0} (stands_for : S → List ℕ → Type 0) (due : List ℕ → List ℕ) (before : S) (taken taken_now : Option (List ℕ)) (piece : List ℕ) : Type 0 where
+  pub prefix : (given : List ℕ) → stands_for before given → WrotePrefix taken taken_now (further due given piece)

@@ -9,10 +9,10 @@ HandedOver took before items now = FoldsTo took before items now
 
 -- the items of a prefix were taken, and the taker failed at the next one
 pub record HandedPart {T I : Type 0} (took broke : T → I → T → Type 0) (before : T) (items : List I) (now : T) : Type 0 where
-  pub front : List I
+  pub prefix : List I
   pub next : I
   pub rest : List I
   pub middle : T
-  pub split : items ≡ front ++ next ∷ rest
-  pub handed : HandedOver took before front middle
+  pub split : items ≡ prefix ++ next ∷ rest
+  pub handed : HandedOver took before prefix middle
   pub failed : broke middle next now

@@ -7,8 +7,8 @@ abbrev pub Wrote : Option (List ℕ) → Option (List ℕ) → List ℕ → Type
 Wrote before now text = now ≡ append_known before text
 
 -- a prefix of a text was taken
-abbrev pub WroteFront : Option (List ℕ) → Option (List ℕ) → List ℕ → Type 0
-WroteFront before now text = (count : ℕ) × Wrote before now (take count text)
+abbrev pub WrotePrefix : Option (List ℕ) → Option (List ℕ) → List ℕ → Type 0
+WrotePrefix before now text = (count : ℕ) × Wrote before now (take count text)
 
 -- a source gave these octets
 pub record Gave (before now left rest : Option (List ℕ)) (octets : List ℕ) : Type 0 where

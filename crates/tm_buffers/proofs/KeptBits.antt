@@ -36,14 +36,14 @@ module _ {T : Type 0} (name size : T → ℕ) (bits : T → List ℕ) where
       }
   kept-all a b (Item x ∷ more) handed =
       let rest = kept-all handed.0 b more handed.2 in
-      let front : List ℕ = take x.kept x.bits in
+      let prefix : List ℕ = take x.kept x.bits in
       let back : List ℕ = kept_bits (items_of more) in record {
         loan = rest.loan ∙ handed.1.0;
         same = rest.same ∙ handed.1.1.same;
         kept = λ fits.
-            let one = handed.1.1.kept (omega (arith, fits, length-append front back)) in
-            rest.kept (omega (arith, fits, handed.1.1.same, ap length one, length-append (bits a) front, length-append front back))
-            ∙ ap (λ l. l ++ back) one ∙ append_assoc (bits a) front back;
+            let one = handed.1.1.kept (omega (arith, fits, length-append prefix back)) in
+            rest.kept (omega (arith, fits, handed.1.1.same, ap length one, length-append (bits a) prefix, length-append prefix back))
+            ∙ ap (λ l. l ++ back) one ∙ append_assoc (bits a) prefix back;
       }
 
 -- what was kept fills the front of the buffer, where that had no bits before

@@ -3,5 +3,5 @@ pub mod SymbolRoom
 pub mod Written
 pub mod KeptBits
 pub mod Spans
-pub mod ItemsInTurn
+pub mod ItemsWithPhase
 pub mod Filled

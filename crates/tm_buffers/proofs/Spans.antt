@@ -29,13 +29,13 @@ one-of at items item is = ap (λ n. take n (drop at items)) (let one : at + 1 - 
 
 -- ---- numbers for bits
 
-front : (at : ℕ) (numbers : List ℕ) → at < length numbers → take 1 (drop at (bits_in numbers)) ≡ not (get_or numbers at 0 == 0) ∷ []
-front at [] below = absurd (omega arith)
-front zero (n ∷ numbers) below = refl
-front (suc at) (n ∷ numbers) below = front at numbers (omega (arith, below))
+prefix : (at : ℕ) (numbers : List ℕ) → at < length numbers → take 1 (drop at (bits_in numbers)) ≡ not (get_or numbers at 0 == 0) ∷ []
+prefix at [] below = absurd (omega arith)
+prefix zero (n ∷ numbers) below = refl
+prefix (suc at) (n ∷ numbers) below = prefix at numbers (omega (arith, below))
 
 pub span-number : (at : ℕ) (numbers : List ℕ) → at < length numbers → span at (at + 1) (bits_in numbers) ≡ not (get_or numbers at 0 == 0) ∷ []
-span-number at numbers below = one-of at (bits_in numbers) (not (get_or numbers at 0 == 0)) (front at numbers below)
+span-number at numbers below = one-of at (bits_in numbers) (not (get_or numbers at 0 == 0)) (prefix at numbers below)
 
 -- ---- bits of octets
 

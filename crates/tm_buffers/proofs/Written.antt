@@ -2,7 +2,7 @@
 use Rattle.std.proofs.Common.{◌≡◌, ◌≤◌, ◌<◌, ℕ, Bool, true, false, if◌then◌else◌, inl, inr, min, List, ◌∷◌, length, take, Some, Err, IsErrOf, refl, ap, ◌∙◌, arith, length-take}
 use Rattle.std.specs.Io.KnownBytes.{append_known}
 use Rattle.tm_base.specs.Outside.{Rose}
-use Rattle.tm_base.specs.Written.{WroteFront}
+use Rattle.tm_base.specs.Written.{WrotePrefix}
 use Rattle.tm_inner.specs.declared.sender.SendError.{SendError}
 use Rattle.tm_inner.specs.declared.sender.SendError.TheVariants.{Sink, Stopped}
 use Rattle.tm_buffers.specs.Buffer.{Fills, told}
@@ -11,22 +11,22 @@ use Rattle.tm_buffers.specs.Buffer.{Fills, told}
 pub record Held (name name' : ℕ) (buffer buffer' : List ℕ) (count : ℕ) (text : List ℕ) : Type 0 where
   pub loan : name' ≡ name
   pub size : length buffer' ≡ length buffer
-  pub front : take count buffer' ≡ text
+  pub prefix : take count buffer' ≡ text
 
 pub held : (name name' : ℕ) (buffer buffer' : List ℕ) (count : ℕ) (text : List ℕ) → Some (told name' buffer' count) ≡ append_known (Some (told name buffer 0)) text
     → Held name name' buffer buffer' count text
 held name name' buffer buffer' count text is =
     let same : name' ∷ length buffer' ∷ take count buffer' ≡ name ∷ length buffer ∷ text = cc in
-    record { loan = cc; size = cc; front = cc }
+    record { loan = cc; size = cc; prefix = cc }
 
 -- a buffer is not full of a prefix of what is shorter
-pub not-full : (name name' : ℕ) (buffer buffer' : List ℕ) (count : ℕ) (full : Bool) (text : List ℕ) → WroteFront (Some (told name buffer 0)) (Some (told name' buffer' count)) text
+pub not-full : (name name' : ℕ) (buffer buffer' : List ℕ) (count : ℕ) (full : Bool) (text : List ℕ) → WrotePrefix (Some (told name buffer 0)) (Some (told name' buffer' count)) text
     → (full ≡ true → count ≡ length buffer') → Rose 0 (if full then 1 else 0) (full ≡ true) → length text < length buffer → ⊥
 not-full name name' buffer buffer' count false text wrote at (inl more) short = absurd (omega arith)
 not-full name name' buffer buffer' count false text wrote at (inr never) short = absurd cc
 not-full name name' buffer buffer' count true text wrote at rose short =
     let h = held name name' buffer buffer' count (take wrote.0 text) wrote.1 in
-    omega (arith, ap length h.front, length-take count buffer', length-take wrote.0 text, at refl, h.size, short)
+    omega (arith, ap length h.prefix, length-take count buffer', length-take wrote.0 text, at refl, h.size, short)
 
 -- of two causes the other
 pub sink_alone : {T : Type 0} (e : SendError) → (IsErrOf {T = T} (Err e) Stopped → ⊥) → IsErrOf {T = T} (Err e) Sink
@@ -38,4 +38,4 @@ pub fills : (name name' : ℕ) (buffer buffer' : List ℕ) (count : ℕ) (text :
     → Fills (Some (min count (length buffer))) buffer' text
 fills name name' buffer buffer' count text h within =
     let all : min count (length buffer) ≡ count = omega (arith, within, h.size) in
-    (all ∙ omega (arith, ap length h.front, length-take count buffer', within), ap (λ n. take n buffer') all ∙ h.front)
+    (all ∙ omega (arith, ap length h.prefix, length-take count buffer', within), ap (λ n. take n buffer') all ∙ h.prefix)

@@ -3,7 +3,7 @@ ghost use Rattle.std.specs.Prelude.{◌≡◌, ℕ, ◌^◌, ◌+◌, ◌<◌, �
 ghost use Rattle.tm_base.specs.Pieces.{further};
 ghost use Rattle.tm_config.specs.Accepted.{IsAccepted};
 ghost use Rattle.tm_config.specs.Configuration.{codeblock_length};
-ghost use Rattle.tm_codeblock.specs.Frames.{behind_frames};
+ghost use Rattle.tm_codeblock.specs.Frames.{after_frames};
 ghost use Rattle.tm_channel.specs.Sent.{sent};
 ghost use Rattle.tm_buffers.specs.Buffer.{Fills, has_room};
 ghost use Rattle.tm_buffers.specs.Sending.{IsSending, most_symbols, symbols_room};
@@ -81,7 +81,7 @@ impl BufferSender {
     /// How many octets follow the last whole frame.
     pub fn left_over(&self) -> u32
         ensures { (given : List ℕ) → IsSending self.now given
-            → result ≡ length (behind_frames self.now.config.frame_length given) }
+            → result ≡ length (after_frames self.now.config.frame_length given) }
     {
         self.sender.left_over()
     }

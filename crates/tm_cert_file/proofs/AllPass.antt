@@ -16,7 +16,7 @@ use Rattle.tm_cert_file.specs.declared.seen.Next.{Next}
 use Rattle.tm_cert_file.specs.declared.seen.Next.TheVariants.{May, Must, Never}
 use Rattle.tm_cert_file.specs.Window.{Window, window_octets, window_size}
 use Rattle.tm_cert_file.specs.Certificate.{AreCertified, IsCertificate}
-use Rattle.tm_cert_file.specs.Before.{Rules, Before, at_first, behind, next_after}
+use Rattle.tm_cert_file.specs.Before.{Rules, Before, at_first, after_window, next_after}
 use Rattle.tm_cert_file.specs.Seen.{is_due}
 use Rattle.tm_cert_file.specs.File.{ArePassed, IsWhole, all_kept}
 use Rattle.tm_cert_file.specs.Passes.{starts_by, rules_by, block_of}
@@ -48,12 +48,12 @@ may_come rules remaining steps kept h =
     ] in
     cond_both (ltb kept steps) Must _ Right more (λ is. cond_both is_over Never May Right (last is) (λ _. tt))
 
-due_behind : (rules : Rules) (before : Before) (starts : Option ℕ) (remaining : ℕ) (octets : List ℕ) (block : WindowBlock) (columns : List (List ℕ))
+due_after : (rules : Rules) (before : Before) (starts : Option ℕ) (remaining : ℕ) (octets : List ℕ) (block : WindowBlock) (columns : List (List ℕ))
     → IsDue rules before starts remaining octets → AreKept rules.keep rules.ahead remaining block.steps block.kept
     → block.end_state ≡ register_after block.start (take block.kept block.bits)
-    → IsDue rules (behind rules before (window_for block (take (steps_size rules.rate before.t block.steps) octets) columns)) (Some block.end_state) (remaining - block.kept)
+    → IsDue rules (after_window rules before (window_for block (take (steps_size rules.rate before.t block.steps) octets) columns)) (Some block.end_state) (remaining - block.kept)
     (drop (steps_size rules.rate before.t block.kept) octets)
-due_behind rules before starts remaining octets block columns due kept end_state =
+due_after rules before starts remaining octets block columns due kept end_state =
     let rate = rules.rate in
     let t = before.t in
     let size = steps_size rate t block.kept in
@@ -67,7 +67,7 @@ due_behind rules before starts remaining octets block columns due kept end_state
       seen = seen;
       few = elim kept.either as (λ _. seen ≤ rules.ahead) [ inl last ↦ omega (arith, last) | inr goes ↦ omega (arith, goes) ];
       within = omega (arith, kept.steps_is, kept.within);
-      front = ap (λ k. drop size (take k octets)) part ∙ drop-take size (steps_size rate (t + block.kept) seen) octets;
+      prefix = ap (λ k. drop size (take k octets)) part ∙ drop-take size (steps_size rate (t + block.kept) seen) octets;
       next = may_come rules remaining block.steps block.kept kept;
     }
 
@@ -112,16 +112,16 @@ module _ (rules : Rules) (keeps : 0 < rules.keep) (small : rules.keep + rules.ah
       let inside : block.kept ≤ remaining = omega (arith, kept.within, kept.steps_is) in
       let is_written = written rules keeps small before starts remaining octets are_octets due are.0 block are.1 columns certified.2.are_columns in
       let passes = window_passes rules keeps small before starts remaining octets are_octets due are.0 block are.1 columns certified.2.are_columns rest in
-      let others : AreRead rules (behind rules before w) (remaining - block.kept) (drop size octets) blocks rest
-      = all_pass (behind rules before w) (Some block.end_state) (remaining - block.kept) (drop size octets) blocks rest (All-drop (λ octet. octet < 256) size octets are_octets)
-      (due_behind rules before starts remaining octets block columns due kept are.1.end_state) are.2 certified.3 in
+      let others : AreRead rules (after_window rules before w) (remaining - block.kept) (drop size octets) blocks rest
+      = all_pass (after_window rules before w) (Some block.end_state) (remaining - block.kept) (drop size octets) blocks rest (All-drop (λ octet. octet < 256) size octets are_octets)
+      (due_after rules before starts remaining octets block columns due kept are.1.end_state) are.2 certified.3 in
       let whole : text ≡ window_octets w ++ rest = certified.4 ∙ ap (λ v. v ++ rest) certified.2.is_text in
       let dropped : drop (window_size rate t block.steps) (window_octets w ++ rest) ≡ rest
       = drop_at (window_octets w) rest (window_size rate t block.steps) (length-window_octets rate t w is_written) in
-      let behind_it : ArePassed rules (behind rules before w) (drop (window_size rate t block.steps) (window_octets w ++ rest)) others.windows others.to []
-      = subst (λ (v : List ℕ). ArePassed rules (behind rules before w) v others.windows others.to []) (sym dropped) others.passed in
+      let after_it : ArePassed rules (after_window rules before w) (drop (window_size rate t block.steps) (window_octets w ++ rest)) others.windows others.to []
+      = subst (λ (v : List ℕ). ArePassed rules (after_window rules before w) v others.windows others.to []) (sym dropped) others.passed in
       let here : ArePassed rules before (window_octets w ++ rest) (w ∷ others.windows) others.to []
-      = (passes, sym (window-back rate t w rest is_written), behind_it) in
+      = (passes, sym (window-back rate t w rest is_written), after_it) in
       let tells : ℕ → WindowBlock = λ end_state. record {
         start = block.start;
         steps = block.steps;
@@ -159,7 +159,7 @@ certificate_passes s octets blocks left text keeps small are_octets all certifie
       seen = 0;
       few = omega arith;
       within = omega arith;
-      front = sym (ap (λ k. take k octets) (steps_size-zero s.rate 0));
+      prefix = sym (ap (λ k. take k octets) (steps_size-zero s.rate 0));
       next = tt;
     } in
     let r = all_pass rules keeps small (at_first rules) (first_start s.start) all.count octets blocks text are_octets due all.are certified in

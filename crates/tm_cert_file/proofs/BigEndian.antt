@@ -6,7 +6,7 @@ use Rattle.std.proofs.lemmas.Nat.{from_be_bytes-to_be_bytes_4}
 use Rattle.std.specs.Prelude.{All}
 use Rattle.std.specs.Int.{w32, from_be_bytes}
 use Rattle.tm_cert_file.specs.Window.{column_octets, numbers_in, columns_in}
-use Rattle.tm_cert_file.proofs.Fronts.{numbers_in-front}
+use Rattle.tm_cert_file.proofs.Prefixes.{numbers_in-prefix}
 
 pub numbers_in-push : (count : ℕ) (octets : List ℕ) → numbers_in (suc count) octets ≡ numbers_in count octets ++ from_be_bytes w32 (drop (4 * count) octets) ∷ []
 unfolding numbers_in
@@ -59,15 +59,15 @@ from_be_bytes_4-take n xs long =
 
 pub numbers_in-take : (count n : ℕ) (xs : List ℕ) → 4 * count ≤ n → n ≤ length xs → numbers_in count (take n xs) ≡ numbers_in count xs
 numbers_in-take count n xs long fits =
-    sym (numbers_in-front count (take n xs) (drop n xs) (omega (arith, length-take-le n xs fits))) ∙ ap (numbers_in count) (take-append-drop n xs)
+    sym (numbers_in-prefix count (take n xs) (drop n xs) (omega (arith, length-take-le n xs fits))) ∙ ap (numbers_in count) (take-append-drop n xs)
 
 -- one more number of a column
 pub column_more : (s n v : ℕ) (column octets : List ℕ) → length column ≡ 64 → s < 64 → 4 ≤ n → v ≡ from_be_bytes w32 (take n (drop (4 * s) octets))
     → take s column ≡ numbers_in s octets → take (s + 1) (set column s v) ≡ numbers_in (s + 1) octets
-column_more s n v column octets long below four is front =
+column_more s n v column octets long below four is prefix =
     let place : suc s ≡ s + 1 = omega arith in
     take_more_set column s v (omega arith)
-    ∙ ap (λ w. w ++ v ∷ []) front
+    ∙ ap (λ w. w ++ v ∷ []) prefix
     ∙ ap (λ w. numbers_in s octets ++ w ∷ []) (is ∙ from_be_bytes_4-take n (drop (4 * s) octets) four)
     ∙ sym (numbers_in-push s octets) ∙ ap (λ k. numbers_in k octets) place
 

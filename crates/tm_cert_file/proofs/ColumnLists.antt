@@ -6,7 +6,7 @@ use Rattle.std.proofs.lemmas.Grind.{flat_map-append}
 use Rattle.std.proofs.Math.Seq.{get_or-append_seam, take-add}
 use Rattle.std.specs.Prelude.{flat_map}
 use Rattle.std.specs.Io.KnownBytes.{append_known}
-use Rattle.tm_base.specs.Written.{Wrote, WroteFront}
+use Rattle.tm_base.specs.Written.{Wrote, WrotePrefix}
 use Rattle.tm_conv.specs.declared.rates.Rate.{Rate}
 use Rattle.tm_conv.specs.Path.{step_size, steps_size}
 use Rattle.tm_conv.specs.Columns.{IsColumn}
@@ -14,7 +14,7 @@ use Rattle.tm_conv.proofs.Paths.{steps_size-zero, steps_size-more}
 use Rattle.tm_viterbi.specs.Starts.{starts_from}
 use Rattle.tm_cert_file.specs.Window.{column_octets}
 use Rattle.tm_cert_file.specs.Certificate.{AreColumns}
-use Rattle.tm_cert_file.proofs.WrittenFronts.{wrote-more, front-first, front-more}
+use Rattle.tm_cert_file.proofs.WrittenPrefixes.{wrote-more, prefix-first, prefix-more}
 use Rattle.tm_conv.proofs.Sizes.{steps_size-le}
 
 -- octets of whole steps have a column
@@ -53,9 +53,9 @@ columns-push rate invert starts t steps octets column columns are is = record {
 }
 
 -- columns after one more than the others
-columns-behind : (rate : Rate) (invert : Bool) (starts : Option ℕ) (t steps more : ℕ) (octets : List ℕ) (columns : List (List ℕ)) (column : List ℕ) (rest : List (List ℕ))
+columns-after : (rate : Rate) (invert : Bool) (starts : Option ℕ) (t steps more : ℕ) (octets : List ℕ) (columns : List (List ℕ)) (column : List ℕ) (rest : List (List ℕ))
     → AreColumns rate invert starts t (steps + 1 + more) octets ((columns ++ column ∷ []) ++ rest) → AreColumns rate invert starts t (steps + suc more) octets (columns ++ (column ∷ rest))
-columns-behind rate invert starts t steps more octets columns column rest are =
+columns-after rate invert starts t steps more octets columns column rest are =
     let same : steps + 1 + more ≡ steps + suc more = omega arith in
     subst (λ n. AreColumns rate invert starts t n octets (columns ++ (column ∷ rest))) same
     (subst (λ v. AreColumns rate invert starts t (steps + 1 + more) octets v) (append_assoc columns (column ∷ []) rest) are)
@@ -73,7 +73,7 @@ columns-more exists rate invert starts t steps (suc more) octets columns there a
     let next = exists (starts_from starts) rate invert t (steps + 1) (take (steps_size rate t (steps + 1)) octets) (length-take-le (steps_size rate t (steps + 1)) octets inside) in
     let pushed = columns-push rate invert starts t steps octets next.0 columns are next.1 in
     let r = columns-more exists rate invert starts t (steps + 1) more octets (columns ++ next.0 ∷ []) (omega (arith, there, ap (steps_size rate t) same)) pushed in
-    (next.0 ∷ r.0, columns-behind rate invert starts t steps more octets columns next.0 r.0 r.1)
+    (next.0 ∷ r.0, columns-after rate invert starts t steps more octets columns next.0 r.0 r.1)
 
 -- the columns of all steps, of which the first is given
 columns-from : HasColumn → (rate : Rate) (invert : Bool) (starts : Option ℕ) (t steps : ℕ) (octets column : List ℕ) → steps_size rate t steps ≤ length octets
@@ -121,21 +121,21 @@ took-push rate invert starts t steps octets column taken middle taken_now took i
 }
 
 -- a prefix of all columns was taken
-abbrev pub TookFront : Rate → Bool → Option ℕ → ℕ → ℕ → List ℕ → Option (List ℕ) → Option (List ℕ) → Type 0
-TookFront rate invert starts t steps octets taken taken_now =
-    (columns : List (List ℕ)) × AreColumns rate invert starts t steps octets columns × WroteFront taken taken_now (flat_map column_octets columns)
+abbrev pub TookPrefix : Rate → Bool → Option ℕ → ℕ → ℕ → List ℕ → Option (List ℕ) → Option (List ℕ) → Type 0
+TookPrefix rate invert starts t steps octets taken taken_now =
+    (columns : List (List ℕ)) × AreColumns rate invert starts t steps octets columns × WrotePrefix taken taken_now (flat_map column_octets columns)
 
 pub cut-first : HasColumn → (rate : Rate) (invert : Bool) (starts : Option ℕ) (t steps count : ℕ) (octets column : List ℕ) (taken taken_now : Option (List ℕ))
     → steps_size rate t steps ≤ length octets → IsColumn (starts_from starts) rate invert t [] column → count ≤ length (column_octets column)
-    → Wrote taken taken_now (take count (column_octets column)) → TookFront rate invert starts t steps octets taken taken_now
+    → Wrote taken taken_now (take count (column_octets column)) → TookPrefix rate invert starts t steps octets taken taken_now
 cut-first exists rate invert starts t steps count octets column taken taken_now there is few wrote =
     let r = columns-from exists rate invert starts t steps octets column there is in
-    (column ∷ r.0, r.1, front-first taken taken_now count (column_octets column) (flat_map column_octets r.0) few wrote)
+    (column ∷ r.0, r.1, prefix-first taken taken_now count (column_octets column) (flat_map column_octets r.0) few wrote)
 
 pub cut-push : HasColumn → (rate : Rate) (invert : Bool) (starts : Option ℕ) (t steps all count : ℕ) (octets column : List ℕ) (taken middle taken_now : Option (List ℕ))
     → steps < all → steps_size rate t all ≤ length octets → TookColumns rate invert starts t steps octets taken middle
     → IsColumn (starts_from starts) rate invert t (take (steps_size rate t (steps + 1)) octets) column → count ≤ length (column_octets column)
-    → Wrote middle taken_now (take count (column_octets column)) → TookFront rate invert starts t all octets taken taken_now
+    → Wrote middle taken_now (take count (column_octets column)) → TookPrefix rate invert starts t all octets taken taken_now
 cut-push exists rate invert starts t steps all count octets column taken middle taken_now less there took is few wrote =
     let more : ℕ = all - (steps + 1) in
     let whole : steps + 1 + more ≡ all = omega arith in
@@ -146,8 +146,8 @@ cut-push exists rate invert starts t steps all count octets column taken middle 
     sym (flat_map-append column_octets took.columns (column ∷ r.0)) ∙ ap (flat_map column_octets) (sym (append_assoc took.columns (column ∷ []) r.0)) in (
       columns,
       subst (λ n. AreColumns rate invert starts t n octets columns) whole r.1,
-      subst (WroteFront taken taken_now) text (front-more taken middle taken_now (flat_map column_octets took.columns) (column_octets column ++ flat_map column_octets r.0) took.wrote
-          (front-first middle taken_now count (column_octets column) (flat_map column_octets r.0) few wrote)),
+      subst (WrotePrefix taken taken_now) text (prefix-more taken middle taken_now (flat_map column_octets took.columns) (column_octets column ++ flat_map column_octets r.0) took.wrote
+          (prefix-first middle taken_now count (column_octets column) (flat_map column_octets r.0) few wrote)),
     )
 
 -- ---- the sums that give the columns

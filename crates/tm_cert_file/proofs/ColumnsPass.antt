@@ -83,14 +83,14 @@ pub columns_wide : (rate : Rate) (invert : Bool) (starts : Option ℕ) (t steps 
 columns_wide rate invert starts t steps octets columns small few are =
     All-from_get_or IsWide columns [] (λ k lt.
     let column = are.each k (omega (arith, are.count, lt)) in
-    let front = take (steps_size rate t k) octets in
+    let prefix = take (steps_size rate t k) octets in
     record {
       long = column.long;
       each = All-from_get_or (λ n. n < 2 ^ 32) (column_at columns k) 0 (λ register below.
           omega (
             arith,
             length-take (steps_size rate t k) octets,
-            IsColumn-most (starts_from starts) rate invert t register front (column_at columns k) (All-take (λ octet. octet < 256) (steps_size rate t k) octets small) column (omega (arith, below, column.long)),
+            IsColumn-most (starts_from starts) rate invert t register prefix (column_at columns k) (All-take (λ octet. octet < 256) (steps_size rate t k) octets small) column (omega (arith, below, column.long)),
           )
           );
     })

@@ -12,9 +12,9 @@ use Rattle.tm_viterbi.specs.Starts.{starts_from}
 use Rattle.tm_viterbi.specs.Settings.{Settings}
 use Rattle.tm_viterbi.specs.WindowBlock.{WindowBlock}
 use Rattle.tm_viterbi.specs.Blocks.{AreBlocks, AreBlocksOf}
-use Rattle.tm_viterbi.specs.Due.{Place, Closed, behind, first_place}
+use Rattle.tm_viterbi.specs.Due.{Place, Closed, after_block, first_place}
 use Rattle.tm_cert_file.specs.Certifying.{Certifying, with_octets}
-use Rattle.tm_cert_file.proofs.ManyWindows.{there-block, whole-behind, kept-inside}
+use Rattle.tm_cert_file.proofs.ManyWindows.{there-block, whole-after, kept-inside}
 
 -- the same place with further octets
 abbrev pub longer : Place → List ℕ → Place
@@ -25,14 +25,14 @@ pub closed-only : (rate : Rate) (invert : Bool) (keep ahead : ℕ) (from to till
     → Closed rate invert keep ahead from blocks to → Closed rate invert keep ahead from blocks till → to ≡ till
 closed-only rate invert keep ahead from to till [] closed again = sym closed ∙ again
 closed-only rate invert keep ahead from to till (block ∷ blocks) closed again =
-    closed-only rate invert keep ahead (behind rate from block) to till blocks closed.1 again.1
+    closed-only rate invert keep ahead (after_block rate from block) to till blocks closed.1 again.1
 
 -- after the first of them are the others
 pub closed-rest : (rate : Rate) (invert : Bool) (keep ahead : ℕ) (from at to : Place) (first rest : List WindowBlock)
     → Closed rate invert keep ahead from first at → Closed rate invert keep ahead from (first ++ rest) to → Closed rate invert keep ahead at rest to
 closed-rest rate invert keep ahead from at to [] rest closed all = subst (λ (p : Place). Closed rate invert keep ahead p rest to) closed all
 closed-rest rate invert keep ahead from at to (block ∷ first) rest closed all =
-    closed-rest rate invert keep ahead (behind rate from block) at to first rest closed.1 all.1
+    closed-rest rate invert keep ahead (after_block rate from block) at to first rest closed.1 all.1
 
 -- windows that are closed stay so
 pub closed-longer : (rate : Rate) (invert : Bool) (keep ahead : ℕ) (from to : Place) (blocks : List WindowBlock) (more : List ℕ)
@@ -42,17 +42,17 @@ closed-longer rate invert keep ahead from to (block ∷ blocks) more closed =
     let there = there-block rate invert keep ahead (keep + ahead + 1) from block closed.0.room closed.0.is_block in
     let size : ℕ = steps_size rate from.t block.steps in
     let cut : ℕ = steps_size rate from.t block.kept in
-    let front : take size from.octets ≡ take size (from.octets ++ more) = sym (take-append-le size from.octets more there.octets) in
+    let prefix : take size from.octets ≡ take size (from.octets ++ more) = sym (take-append-le size from.octets more there.octets) in
     let back : drop cut from.octets ++ more ≡ drop cut (from.octets ++ more) = sym (drop-append-le cut from.octets more (kept-inside rate from block there)) in
     let is = closed.0.is_block in
     let P : List ℕ → Type 0 = λ v. IsBest (starts_from from.starts) rate invert from.t v block.start block.bits × (block.metric ≡ cost (path rate invert from.t block.start block.bits) v) in
-    let best = subst P front (is.best, is.metric) in
-    let place : List ℕ → Place = λ v. record { starts = (behind rate from block).starts; t = from.t + block.kept; octets = v } in (
+    let best = subst P prefix (is.best, is.metric) in
+    let place : List ℕ → Place = λ v. record { starts = (after_block rate from block).starts; t = from.t + block.kept; octets = v } in (
       record {
         room = omega (arith, closed.0.room, length-append from.octets more);
         is_block = record { steps = is.steps; kept = is.kept; best = best.0; metric = best.1; end_state = is.end_state };
       },
-      subst (λ (v : List ℕ). Closed rate invert keep ahead (place v) blocks (longer to more)) back (closed-longer rate invert keep ahead (behind rate from block) to blocks more closed.1),
+      subst (λ (v : List ℕ). Closed rate invert keep ahead (place v) blocks (longer to more)) back (closed-longer rate invert keep ahead (after_block rate from block) to blocks more closed.1),
     )
 
 -- the blocks of whole steps after closed windows
@@ -62,7 +62,7 @@ pub blocks-rest : (rate : Rate) (invert : Bool) (keep ahead n : ℕ) (from at : 
 blocks-rest rate invert keep ahead n from at [] rest closed whole are =
     subst (λ (p : Place). (steps : ℕ) × (steps_size rate p.t steps ≤ length p.octets) × AreBlocks rate invert keep ahead p.starts p.t steps p.octets rest) closed (n, whole, are)
 blocks-rest rate invert keep ahead n from at (block ∷ first) rest closed whole are =
-    blocks-rest rate invert keep ahead (n - block.kept) (behind rate from block) at first rest closed.1 (whole-behind rate invert keep ahead n from block whole are.1) are.2
+    blocks-rest rate invert keep ahead (n - block.kept) (after_block rate from block) at first rest closed.1 (whole-after rate invert keep ahead n from block whole are.1) are.2
 
 pub all-rest : (s : Settings) (octets : List ℕ) (at : Place) (first rest : List WindowBlock) (left : ℕ) → Closed s.rate s.invert s.keep s.ahead (first_place s octets) first at
     → AreBlocksOf s octets (first ++ rest) left
@@ -79,7 +79,7 @@ place-few rate invert keep ahead from to (block ∷ blocks) closed =
     let cut : ℕ = steps_size rate from.t block.kept in
     let one : from.t + block.kept + length (drop cut from.octets) ≤ from.t + length from.octets =
     omega (arith, length-drop cut from.octets, steps_size_ge rate from.t block.kept, kept-inside rate from block there) in
-    let h : to.t + length to.octets ≤ from.t + block.kept + length (drop cut from.octets) = place-few rate invert keep ahead (behind rate from block) to blocks closed.1 in
+    let h : to.t + length to.octets ≤ from.t + block.kept + length (drop cut from.octets) = place-few rate invert keep ahead (after_block rate from block) to blocks closed.1 in
     omega (arith, one, h)
 
 -- an open window has few octets
@@ -98,40 +98,40 @@ pub items-handed : {T I : Type 0} (on_phase : T → ℕ → ℕ → T → Type 0
 items-handed on_phase took before now [] handed = handed
 items-handed on_phase took before now (item ∷ items) handed = (handed.0, handed.1, items-handed on_phase took handed.0 now items handed.2)
 
-record Parted {I : Type 0} (items : List I) (front : List (Handed I)) (next : Handed I) : Type 0 where
+record Parted {I : Type 0} (items : List I) (prefix : List (Handed I)) (next : Handed I) : Type 0 where
   first : List I
   item : I
   rest : List I
   split : items ≡ first ++ item ∷ rest
-  front_is : front ≡ map Item first
+  prefix_is : prefix ≡ map Item first
   next_is : next ≡ Item item
 
-parted : {I : Type 0} (items : List I) (front rest : List (Handed I)) (next : Handed I) → map Item items ≡ front ++ next ∷ rest → Parted items front next
+parted : {I : Type 0} (items : List I) (prefix rest : List (Handed I)) (next : Handed I) → map Item items ≡ prefix ++ next ∷ rest → Parted items prefix next
 parted [] [] rest next is = absurd (let h : 0 ≡ suc (length rest) = ap length is in omega arith)
-parted [] (x ∷ front) rest next is = absurd (let h : 0 ≡ suc (length (front ++ next ∷ rest)) = ap length is in omega arith)
-parted (item ∷ items) [] rest next is = record { first = []; item = item; rest = items; split = refl; front_is = refl; next_is = ap (λ l. get_or l 0 (Item item)) (sym is) }
-parted (item ∷ items) (x ∷ front) rest next is =
-    let h = parted items front rest next (ap (drop 1) is) in
+parted [] (x ∷ prefix) rest next is = absurd (let h : 0 ≡ suc (length (prefix ++ next ∷ rest)) = ap length is in omega arith)
+parted (item ∷ items) [] rest next is = record { first = []; item = item; rest = items; split = refl; prefix_is = refl; next_is = ap (λ l. get_or l 0 (Item item)) (sym is) }
+parted (item ∷ items) (x ∷ prefix) rest next is =
+    let h = parted items prefix rest next (ap (drop 1) is) in
     let head : x ≡ Item item = ap (λ l. get_or l 0 (Item item)) (sym is) in
     record {
       first = item ∷ h.first;
       item = h.item;
       rest = h.rest;
       split = ap (λ l. item ∷ l) h.split;
-      front_is = ap (λ v. v ∷ front) head ∙ ap (λ l. Item item ∷ l) h.front_is;
+      prefix_is = ap (λ v. v ∷ prefix) head ∙ ap (λ l. Item item ∷ l) h.prefix_is;
       next_is = h.next_is;
     }
 
 pub items-part : {T I : Type 0} (on_phase phase_broke : T → ℕ → ℕ → T → Type 0) (took broke : T → I → T → Type 0) (before now : T) (items : List I)
     → HandedPart (on_handed on_phase took) (on_handed phase_broke broke) before (map Item items) now → HandedPart took broke before items now
 items-part on_phase phase_broke took broke before now items part =
-    let h = parted items part.front part.rest part.next part.split in
+    let h = parted items part.prefix part.rest part.next part.split in
     record {
-      front = h.first;
+      prefix = h.first;
       next = h.item;
       rest = h.rest;
       middle = part.middle;
       split = h.split;
-      handed = items-handed on_phase took before part.middle h.first (subst (λ l. HandedOver (on_handed on_phase took) before l part.middle) h.front_is part.handed);
+      handed = items-handed on_phase took before part.middle h.first (subst (λ l. HandedOver (on_handed on_phase took) before l part.middle) h.prefix_is part.handed);
       failed = subst (λ v. on_handed phase_broke broke part.middle v now) h.next_is part.failed;
     }

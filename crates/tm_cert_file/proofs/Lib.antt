@@ -1,11 +1,11 @@
 mod BigEndian
 mod Spans
-mod Fronts
+mod Prefixes
 pub mod Stages
 pub mod Looking
 pub mod Passing
 mod Pushing
-mod ReasonFront
+mod ReasonPrefix
 mod SeenOnce
 mod ReadFile
 mod ShownWindows
@@ -13,7 +13,7 @@ mod RoundTrip
 mod ColumnsPass
 mod WindowPasses
 mod AllPass
-mod WrittenFronts
+mod WrittenPrefixes
 mod ColumnLists
 mod WindowTexts
 mod ManyWindows

@@ -16,7 +16,7 @@ use Rattle.tm_cert_file.specs.Window.{steps_in, kept_in, start_in, bits_in, bits
 use Rattle.tm_cert_file.specs.Before.{Rules, Before}
 use Rattle.tm_cert_file.specs.Seen.{reason_in, is_due, is_over, has_shape, are_bits, IsSeen, IsJudged, seen_by}
 use Rattle.tm_cert_file.specs.Reading.{Reading, HasPassed}
-use Rattle.tm_cert_file.proofs.Fronts.{steps_in-front}
+use Rattle.tm_cert_file.proofs.Prefixes.{steps_in-prefix}
 use Rattle.tm_cert_file.proofs.Stages.{shape_of, joined_of, Holds, Holds-from_none, none-from_Holds, Holds-more, HeldBefore}
 
 -- ---- the numbers of a window
@@ -78,7 +78,7 @@ open-more rules before xs ys seen due header bits soft size =
         absurd_or (inl less) = omega (arith, length-append xs ys)
         absurd_or (inr le) = let long = header le in absurd (omega arith)
     by (inr long) =
-        let same = steps_in-front xs ys long in
+        let same = steps_in-prefix xs ys long in
         omega (arith, length-append xs ys, same, ap (steps_size rules.rate before.t) same, size long)
 
 -- nothing is seen of no octets

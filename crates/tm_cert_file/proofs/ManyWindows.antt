@@ -8,7 +8,7 @@ use Rattle.tm_conv.specs.Columns.{IsColumn}
 use Rattle.tm_viterbi.specs.Settings.{Settings}
 use Rattle.tm_viterbi.specs.WindowBlock.{WindowBlock}
 use Rattle.tm_viterbi.specs.Blocks.{IsBlock, AreBlocks, AreBlocksOf, window_steps, kept_steps}
-use Rattle.tm_viterbi.specs.Due.{Place, Closed, behind, first_place}
+use Rattle.tm_viterbi.specs.Due.{Place, Closed, after_block, first_place}
 use Rattle.tm_cert_file.specs.Window.{window_octets}
 use Rattle.tm_cert_file.specs.Certificate.{AreColumns, IsCertified, AreCertified, IsCertificate}
 use Rattle.tm_cert_file.proofs.ColumnLists.{HasColumn}
@@ -29,7 +29,7 @@ pub record IsThere (rate : Rate) (at : Place) (block : WindowBlock) : Type 0 whe
 
 abbrev pub AreThere : Rate → Place → List WindowBlock → Type 0
 AreThere rate at [] = Unit {0}
-AreThere rate at (block ∷ blocks) = IsThere rate at block × AreThere rate (behind rate at block) blocks
+AreThere rate at (block ∷ blocks) = IsThere rate at block × AreThere rate (after_block rate at block) blocks
 
 kept-few : (keep ahead n : ℕ) → kept_steps keep ahead n ≤ window_steps keep ahead n
 kept-few keep ahead n = grind (arith, nat_tests)
@@ -46,9 +46,9 @@ pub kept-inside : (rate : Rate) (at : Place) (block : WindowBlock) → IsThere r
 kept-inside rate at block there = omega (arith, there.octets, steps_size-le rate at.t block.kept block.steps there.kept)
 
 -- what is left of whole steps after the kept ones
-pub whole-behind : (rate : Rate) (invert : Bool) (keep ahead n : ℕ) (at : Place) (block : WindowBlock) → steps_size rate at.t n ≤ length at.octets
+pub whole-after : (rate : Rate) (invert : Bool) (keep ahead n : ℕ) (at : Place) (block : WindowBlock) → steps_size rate at.t n ≤ length at.octets
     → IsBlock rate invert keep ahead at.starts at.t n at.octets block → steps_size rate (at.t + block.kept) (n - block.kept) ≤ length (drop (steps_size rate at.t block.kept) at.octets)
-whole-behind rate invert keep ahead n at block whole is =
+whole-after rate invert keep ahead n at block whole is =
     let few : block.kept ≤ n = omega (arith, is.kept, kept-few keep ahead n) in
     let sum : block.kept + (n - block.kept) ≡ n = omega arith in
     omega (arith, whole, steps_size-add rate at.t block.kept (n - block.kept), ap (steps_size rate at.t) sum, length-drop (steps_size rate at.t block.kept) at.octets)
@@ -56,14 +56,14 @@ whole-behind rate invert keep ahead n at block whole is =
 pub there-closed : (rate : Rate) (invert : Bool) (keep ahead : ℕ) (from to : Place) (blocks : List WindowBlock) → Closed rate invert keep ahead from blocks to → AreThere rate from blocks
 there-closed rate invert keep ahead from to [] closed = tt
 there-closed rate invert keep ahead from to (block ∷ blocks) closed =
-    (there-block rate invert keep ahead (keep + ahead + 1) from block closed.0.room closed.0.is_block, there-closed rate invert keep ahead (behind rate from block) to blocks closed.1)
+    (there-block rate invert keep ahead (keep + ahead + 1) from block closed.0.room closed.0.is_block, there-closed rate invert keep ahead (after_block rate from block) to blocks closed.1)
 
 pub there-all : (rate : Rate) (invert : Bool) (keep ahead n : ℕ) (at : Place) (blocks : List WindowBlock) → steps_size rate at.t n ≤ length at.octets
     → AreBlocks rate invert keep ahead at.starts at.t n at.octets blocks → AreThere rate at blocks
 there-all rate invert keep ahead n at [] whole are = tt
 there-all rate invert keep ahead n at (block ∷ blocks) whole are = (
   there-block rate invert keep ahead n at block whole are.1,
-  there-all rate invert keep ahead (n - block.kept) (behind rate at block) blocks (whole-behind rate invert keep ahead n at block whole are.1) are.2,
+  there-all rate invert keep ahead (n - block.kept) (after_block rate at block) blocks (whole-after rate invert keep ahead n at block whole are.1) are.2,
 )
 
 -- ---- their certificate
@@ -74,7 +74,7 @@ certified-exists exists rate invert at [] there = ([], refl)
 certified-exists exists rate invert at (block ∷ blocks) there =
     let size : ℕ = steps_size rate at.t block.steps in
     let first = certified-some exists rate invert at.starts at.t (take size at.octets) block (omega (arith, length-take-le size at.octets there.0.octets)) in
-    let rest = certified-exists exists rate invert (behind rate at block) blocks there.1 in
+    let rest = certified-exists exists rate invert (after_block rate at block) blocks there.1 in
     (first.0 ++ rest.0, (first.0, rest.0, first.1, rest.1, refl))
 
 pub certificate-exists : HasColumn → (s : Settings) (octets : List ℕ) (blocks : List WindowBlock) (left : ℕ) → AreBlocksOf s octets blocks left
@@ -117,7 +117,7 @@ certified-append rate invert keep ahead from to (block ∷ first) rest text more
   are.0,
   are.1 ++ more,
   are.2,
-  certified-append rate invert keep ahead (behind rate from block) to first rest are.1 more closed.1 are.3 be,
+  certified-append rate invert keep ahead (after_block rate from block) to first rest are.1 more closed.1 are.3 be,
   ap (λ (v : List ℕ). v ++ more) are.4 ∙ append_assoc are.0 are.1 more,
 )
 
@@ -128,7 +128,7 @@ pub certified-split : (rate : Rate) (invert : Bool) (keep ahead : ℕ) (from to 
 certified-split rate invert keep ahead from to [] rest whole closed are =
     ([], whole, refl, subst (λ (p : Place). AreCertified rate invert p.starts p.t p.octets rest whole) closed are, refl)
 certified-split rate invert keep ahead from to (block ∷ first) rest whole closed are =
-    let h = certified-split rate invert keep ahead (behind rate from block) to first rest are.1 closed.1 are.3 in
+    let h = certified-split rate invert keep ahead (after_block rate from block) to first rest are.1 closed.1 are.3 in
     (are.0 ++ h.0, h.1, (are.0, h.0, are.2, h.2, refl), h.3, are.4 ∙ ap (λ (v : List ℕ). are.0 ++ v) h.4 ∙ sym (append_assoc are.0 h.0 h.1))
 
 -- whatever octets come
@@ -138,12 +138,12 @@ certified-longer rate invert at [] more text there are = are
 certified-longer rate invert at (block ∷ blocks) more text there are =
     let size : ℕ = steps_size rate at.t block.steps in
     let cut : ℕ = steps_size rate at.t block.kept in
-    let front : take size at.octets ≡ take size (at.octets ++ more) = sym (take-append-le size at.octets more there.0.octets) in
+    let prefix : take size at.octets ≡ take size (at.octets ++ more) = sym (take-append-le size at.octets more there.0.octets) in
     let back : drop cut at.octets ++ more ≡ drop cut (at.octets ++ more) = sym (drop-append-le cut at.octets more (kept-inside rate at block there.0)) in
-    let rest = certified-longer rate invert (behind rate at block) blocks more are.1 there.1 are.3 in (
+    let rest = certified-longer rate invert (after_block rate at block) blocks more are.1 there.1 are.3 in (
       are.0,
       are.1,
-      subst (λ (v : List ℕ). IsCertified rate invert at.starts at.t v block are.0) front are.2,
+      subst (λ (v : List ℕ). IsCertified rate invert at.starts at.t v block are.0) prefix are.2,
       subst (λ (v : List ℕ). AreCertified rate invert (Some block.end_state) (at.t + block.kept) v blocks are.1) back rest,
       are.4,
     )

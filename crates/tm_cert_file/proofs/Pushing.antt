@@ -5,7 +5,7 @@ use Rattle.std.proofs.Math.Seq.{take-append-add}
 use Rattle.tm_cert_file.specs.declared.seen.Seen.{Seen}
 use Rattle.tm_cert_file.specs.declared.seen.Seen.TheVariants.{Passed}
 use Rattle.tm_cert_file.specs.Window.{Window, window_in, window_size, steps_in}
-use Rattle.tm_cert_file.specs.Before.{Rules, Before, at_first, behind}
+use Rattle.tm_cert_file.specs.Before.{Rules, Before, at_first, after_window}
 use Rattle.tm_cert_file.specs.Seen.{IsSeen}
 use Rattle.tm_cert_file.specs.File.{ArePassed}
 use Rattle.tm_cert_file.proofs.Passing.{passed-more, passed-push}
@@ -51,15 +51,15 @@ rest_of place some all width octets le is =
 pub all_taken : (count : ℕ) (none now part : List ℕ) → none ≡ [] → now ≡ none ++ take count part → length part ≤ count → now ≡ part
 all_taken count none now part a b le = b ∙ ap (λ v. v ++ take count part) a ∙ take_all count part le
 
-pub stands_turned : (rules rules' : Rules) (before before' : Before) (octets octets' : List ℕ) → rules' ≡ rules → before' ≡ behind rules before (window_in rules.rate before.t octets)
+pub stands_advanced : (rules rules' : Rules) (before before' : Before) (octets octets' : List ℕ) → rules' ≡ rules → before' ≡ after_window rules before (window_in rules.rate before.t octets)
     → octets' ≡ [] → length octets ≡ window_size rules.rate before.t (steps_in octets) → IsSeen rules before octets Passed
     → (given : List ℕ) (windows : List Window) → ArePassed rules (at_first rules) given windows before octets
     → ArePassed rules' (at_first rules') given (windows ++ window_in rules.rate before.t octets ∷ []) before' octets'
-stands_turned rules rules' before before' octets octets' a b c just seen given windows are =
+stands_advanced rules rules' before before' octets octets' a b c just seen given windows are =
     let w = window_in rules.rate before.t octets in
     let size = window_size rules.rate before.t (steps_in octets) in
     let rest : drop size octets ≡ octets' = drop_all size octets (omega (arith, just)) ∙ sym c in
     let whole = passed-push rules (at_first rules) before given octets windows are seen in
     subst (λ (v : List ℕ). ArePassed rules' (at_first rules') given (windows ++ w ∷ []) before' v) rest
     (subst (λ (v : Before). ArePassed rules' (at_first rules') given (windows ++ w ∷ []) v (drop size octets)) (sym b)
-    (subst (λ (v : Rules). ArePassed v (at_first v) given (windows ++ w ∷ []) (behind rules before w) (drop size octets)) (sym a) whole))
+    (subst (λ (v : Rules). ArePassed v (at_first v) given (windows ++ w ∷ []) (after_window rules before w) (drop size octets)) (sym a) whole))

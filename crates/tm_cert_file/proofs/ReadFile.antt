@@ -4,7 +4,7 @@ use Rattle.tm_cert_file.specs.declared.seen.Reason.{Reason}
 use Rattle.tm_cert_file.specs.declared.seen.Seen.{Seen}
 use Rattle.tm_cert_file.specs.declared.seen.Seen.TheVariants.{More, Passed, Failed}
 use Rattle.tm_cert_file.specs.Window.{Window, window_in, window_size}
-use Rattle.tm_cert_file.specs.Before.{Rules, Before, at_first, behind}
+use Rattle.tm_cert_file.specs.Before.{Rules, Before, at_first, after_window}
 use Rattle.tm_cert_file.specs.Seen.{IsSeen}
 use Rattle.tm_cert_file.specs.File.{ArePassed, IsRead}
 use Rattle.tm_cert_file.proofs.Passing.{passed-more}
@@ -37,9 +37,9 @@ read-next rules from octets n few others Passed is =
     let whole = is.whole in
     let w = window_in rules.rate from.t octets in
     let left = drop (window_size rules.rate from.t w.steps) octets in
-    let behind_it = others (behind rules from w) left (omega (arith, length-drop (window_size rules.rate from.t w.steps) octets)) in
-    let read = behind_it.2 in
-    (w ∷ behind_it.0, behind_it.1, record { to = read.to; rest = read.rest; passed = (is, refl, read.passed); is_seen = read.is_seen; stops = read.stops })
+    let after_it = others (after_window rules from w) left (omega (arith, length-drop (window_size rules.rate from.t w.steps) octets)) in
+    let read = after_it.2 in
+    (w ∷ after_it.0, after_it.1, record { to = read.to; rest = read.rest; passed = (is, refl, read.passed); is_seen = read.is_seen; stops = read.stops })
 
 read-within : HasVerdict → (n : ℕ) (rules : Rules) (from : Before) (octets : List ℕ) → length octets < n → HasRead rules from octets
 read-within has zero rules from octets few = absurd (omega arith)
@@ -56,29 +56,29 @@ has-read has rules octets =
 -- ---- as one list of windows
 
 -- windows that pass and windows after which something else is seen: the first are a prefix of the others
-record IsFront (rules : Rules) (windows all : List Window) (to to_all : Before) (rest rest_all : List ℕ) : Type 0 where
+record IsPrefix (rules : Rules) (windows all : List Window) (to to_all : Before) (rest rest_all : List ℕ) : Type 0 where
   others : List Window
   is_all : all ≡ windows ++ others
   passed : ArePassed rules to rest others to_all rest_all
 
-front-of : OneVerdict → (rules : Rules) (from to to_all : Before) (octets rest rest_all : List ℕ) (windows all : List Window) (last : Seen)
+prefix-of : OneVerdict → (rules : Rules) (from to to_all : Before) (octets rest rest_all : List ℕ) (windows all : List Window) (last : Seen)
     → ArePassed rules from octets windows to rest → ArePassed rules from octets all to_all rest_all
-    → IsSeen rules to_all rest_all last → (last ≡ Passed → ⊥) → IsFront rules windows all to to_all rest rest_all
-front-of one rules from to to_all octets rest rest_all [] all last are are_all is stops =
+    → IsSeen rules to_all rest_all last → (last ≡ Passed → ⊥) → IsPrefix rules windows all to to_all rest rest_all
+prefix-of one rules from to to_all octets rest rest_all [] all last are are_all is stops =
     record {
       others = all;
       is_all = refl;
       passed = subst (λ (place : Before). ArePassed rules place rest all to_all rest_all) (sym are.0)
           (subst (λ (left : List ℕ). ArePassed rules from left all to_all rest_all) (sym are.1) are_all);
     }
-front-of one rules from to to_all octets rest rest_all (w ∷ windows) [] last are are_all is stops =
+prefix-of one rules from to to_all octets rest rest_all (w ∷ windows) [] last are are_all is stops =
     let seen : IsSeen rules from octets last = subst (λ (place : Before). IsSeen rules place octets last) are_all.0
     (subst (λ (left : List ℕ). IsSeen rules to_all left last) are_all.1 is) in
     absurd (stops (one-seen one rules from octets last Passed seen are.0))
-front-of one rules from to to_all octets rest rest_all (w ∷ windows) (v ∷ all) last are are_all is stops =
+prefix-of one rules from to to_all octets rest rest_all (w ∷ windows) (v ∷ all) last are are_all is stops =
     let same : v ≡ w = are_all.1 ∙ sym are.1 in
-    let moved = subst (λ (u : Window). ArePassed rules (behind rules from u) (drop (window_size rules.rate from.t u.steps) octets) all to_all rest_all) same are_all.2 in
-    let found = front-of one rules (behind rules from w) to to_all (drop (window_size rules.rate from.t w.steps) octets) rest rest_all windows all last are.2 moved is stops in
+    let moved = subst (λ (u : Window). ArePassed rules (after_window rules from u) (drop (window_size rules.rate from.t u.steps) octets) all to_all rest_all) same are_all.2 in
+    let found = prefix-of one rules (after_window rules from w) to to_all (drop (window_size rules.rate from.t w.steps) octets) rest rest_all windows all last are.2 moved is stops in
     record { others = found.others; is_all = (λ i. same i ∷ found.is_all i); passed = found.passed }
 
 -- where something else than a window that passes is seen after both, they are the same
@@ -92,19 +92,19 @@ pub one-read : OneVerdict → (rules : Rules) (octets : List ℕ) (windows other
     (read : IsRead rules octets windows seen) (again : IsRead rules octets others other)
     → (windows ≡ others) × (seen ≡ other) × (read.before ≡ again.before) × (read.rest ≡ again.rest)
 one-read one rules octets windows others seen other read again =
-    let front = front-of one rules (at_first rules) read.before again.before octets read.rest again.rest windows others other read.passed again.passed again.is_seen again.stops in
-    let none = no-others one rules read.before again.before read.rest again.rest front.others seen front.passed read.is_seen read.stops in
+    let prefix = prefix-of one rules (at_first rules) read.before again.before octets read.rest again.rest windows others other read.passed again.passed again.is_seen again.stops in
+    let none = no-others one rules read.before again.before read.rest again.rest prefix.others seen prefix.passed read.is_seen read.stops in
     let there = subst (λ (place : Before). IsSeen rules place again.rest seen) none.1 (subst (λ (left : List ℕ). IsSeen rules read.before left seen) none.2 read.is_seen) in
-    (sym (front.is_all ∙ ap (λ v. windows ++ v) none.0 ∙ append-nil windows), one-seen one rules again.before again.rest seen other there again.is_seen, none.1, none.2)
+    (sym (prefix.is_all ∙ ap (λ v. windows ++ v) none.0 ∙ append-nil windows), one-seen one rules again.before again.rest seen other there again.is_seen, none.1, none.2)
 
 -- ---- with octets after
 
 pub read-longer : OneVerdict → (rules : Rules) (octets more : List ℕ) (windows all : List Window) (seen last : Seen)
     → IsRead rules octets windows seen → IsRead rules (octets ++ more) all last → (rest : List Window) × (all ≡ windows ++ rest)
 read-longer one rules octets more windows all seen last read longer =
-    let front = front-of one rules (at_first rules) read.before longer.before (octets ++ more) (read.rest ++ more) longer.rest windows all last
+    let prefix = prefix-of one rules (at_first rules) read.before longer.before (octets ++ more) (read.rest ++ more) longer.rest windows all last
     (passed-more rules (at_first rules) read.before octets read.rest more windows read.passed) longer.passed longer.is_seen longer.stops in
-    (front.others, front.is_all)
+    (prefix.others, prefix.is_all)
 
 pub read-stays : (rules : Rules) (octets more : List ℕ) (windows : List Window) (reason : Reason)
     → IsRead rules octets windows (Failed reason) → IsRead rules (octets ++ more) windows (Failed reason)

@@ -40,10 +40,10 @@ columns-back (column ∷ columns) rest wide =
     let here = All-head IsWide column columns wide in
     let others = flat_map column_octets columns ++ rest in
     let whole : (column_octets column ++ flat_map column_octets columns) ++ rest ≡ column_octets column ++ others = append_assoc (column_octets column) (flat_map column_octets columns) rest in
-    let behind : drop 256 (column_octets column ++ others) ≡ others = drop_at (column_octets column) others 256 (omega (arith, length-column_octets column, here.long)) in
+    let after : drop 256 (column_octets column ++ others) ≡ others = drop_at (column_octets column) others 256 (omega (arith, length-column_octets column, here.long)) in
     ap (λ v. numbers_in 64 v ∷ columns_in (length columns) (drop 256 v)) whole
     ∙ ap (λ v. v ∷ columns_in (length columns) (drop 256 (column_octets column ++ others))) (column-back column others here)
-    ∙ ap (λ v. column ∷ columns_in (length columns) v) behind
+    ∙ ap (λ v. column ∷ columns_in (length columns) v) after
     ∙ ap (λ v. column ∷ v) (columns-back columns rest (All-tail IsWide column columns wide))
 
 -- ---- a window
@@ -63,18 +63,18 @@ tail_of : Window → List ℕ → List ℕ
 tail_of w rest = w.bits ++ (w.octets ++ (flat_map column_octets w.columns ++ rest))
 
 module _ (rate : Rate) (t : ℕ) (all rest : List ℕ) (w : Window) (written : IsWritten rate t w) (steps : steps_in all ≡ w.steps) (tail : drop 17 all ≡ tail_of w rest) where
-  soft-behind : drop (17 + steps_in all) all ≡ w.octets ++ (flat_map column_octets w.columns ++ rest)
+  soft-after : drop (17 + steps_in all) all ≡ w.octets ++ (flat_map column_octets w.columns ++ rest)
   unfolding tail_of
-  soft-behind =
+  soft-after =
       sym (drop-drop (steps_in all) 17 all) ∙ ap (drop (steps_in all)) tail
       ∙ drop_at w.bits (w.octets ++ (flat_map column_octets w.columns ++ rest)) (steps_in all) (written.bits ∙ sym steps)
 
   size-back : length w.octets ≡ steps_size rate t (steps_in all)
   size-back = written.octets ∙ ap (steps_size rate t) (sym steps)
 
-  columns-behind : drop (17 + steps_in all + steps_size rate t (steps_in all)) all ≡ flat_map column_octets w.columns ++ rest
-  columns-behind =
-      sym (drop-drop (steps_size rate t (steps_in all)) (17 + steps_in all) all) ∙ ap (drop (steps_size rate t (steps_in all))) soft-behind
+  columns-after : drop (17 + steps_in all + steps_size rate t (steps_in all)) all ≡ flat_map column_octets w.columns ++ rest
+  columns-after =
+      sym (drop-drop (steps_size rate t (steps_in all)) (17 + steps_in all) all) ∙ ap (drop (steps_size rate t (steps_in all))) soft-after
       ∙ drop_at w.octets (flat_map column_octets w.columns ++ rest) (steps_size rate t (steps_in all)) size-back
 
   bits-back : bits_in all ≡ w.bits
@@ -82,13 +82,13 @@ module _ (rate : Rate) (t : ℕ) (all rest : List ℕ) (w : Window) (written : I
   bits-back = ap (take (steps_in all)) tail ∙ take_at w.bits (w.octets ++ (flat_map column_octets w.columns ++ rest)) (steps_in all) (written.bits ∙ sym steps)
 
   soft-back : soft_in rate t all ≡ w.octets
-  soft-back = ap (take (steps_size rate t (steps_in all))) soft-behind ∙ take_at w.octets (flat_map column_octets w.columns ++ rest) (steps_size rate t (steps_in all)) size-back
+  soft-back = ap (take (steps_size rate t (steps_in all))) soft-after ∙ take_at w.octets (flat_map column_octets w.columns ++ rest) (steps_size rate t (steps_in all)) size-back
 
   all_columns-back : columns_in (steps_in all + 1) (drop (17 + steps_in all + steps_size rate t (steps_in all)) all) ≡ w.columns
   all_columns-back =
       let count : steps_in all + 1 ≡ length w.columns = omega (arith, steps, written.count) in
       ap (λ k. columns_in k (drop (17 + steps_in all + steps_size rate t (steps_in all)) all)) count
-      ∙ ap (columns_in (length w.columns)) columns-behind ∙ columns-back w.columns rest written.columns
+      ∙ ap (columns_in (length w.columns)) columns-after ∙ columns-back w.columns rest written.columns
 
   back : kept_in all ≡ w.kept → start_in all ≡ w.start → metric_in all ≡ w.metric → window_in rate t all ≡ w
   back kept start metric =

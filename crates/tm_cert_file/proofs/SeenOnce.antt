@@ -12,7 +12,7 @@ use Rattle.tm_cert_file.specs.declared.seen.Seen.TheVariants.{More, Passed, Fail
 use Rattle.tm_cert_file.specs.Window.{window_in, window_size, steps_in}
 use Rattle.tm_cert_file.specs.Before.{Rules, Before}
 use Rattle.tm_cert_file.specs.Seen.{reason_in, IsJudged, IsSeen, seen_by}
-use Rattle.tm_cert_file.proofs.ReasonFront.{reason_in-tells, reason_in-stays}
+use Rattle.tm_cert_file.proofs.ReasonPrefix.{reason_in-tells, reason_in-stays}
 use Rattle.tm_cert_file.proofs.Passing.{judged-more}
 
 -- there is one answer on columns

@@ -27,7 +27,7 @@ use Rattle.tm_cert_file.specs.declared.seen.Reason.{Reason}
 use Rattle.tm_cert_file.specs.declared.seen.Reason.TheVariants.{Shape, Joint}
 use Rattle.tm_cert_file.specs.declared.seen.Seen.TheVariants.{Passed}
 use Rattle.tm_cert_file.specs.Window.{Window, window_in, window_size, bits_end, soft_end, steps_in, kept_in, start_in, bits_in, soft_in}
-use Rattle.tm_cert_file.specs.Before.{Rules, Before, at_first, behind, next_after}
+use Rattle.tm_cert_file.specs.Before.{Rules, Before, at_first, after_window, next_after}
 use Rattle.tm_cert_file.specs.Seen.{IsSeen, IsVerdictOn, claim_of, has_shape, are_bits, is_joined, reason_in, is_due, is_over}
 use Rattle.tm_cert_file.specs.File.{ArePassed, IsWhole, is_cut, all_kept}
 use Rattle.tm_cert_file.specs.Shown.{IsShown, AreShown, AreAllShown}
@@ -214,7 +214,7 @@ kept_le : (rules : Rules) (steps kept : ℕ) → KeepsSteps rules steps kept →
 kept_le rules steps kept (inl all) = omega arith
 kept_le rules steps kept (inr part) = omega (arith, part.0, part.1)
 
-leads : (rules : Rules) (from : Before) (w : Window) (windows : List Window) → IsRight rules from w → ShowAll rules (behind rules from w) windows → Leads rules from.t w windows
+leads : (rules : Rules) (from : Before) (w : Window) (windows : List Window) → IsRight rules from w → ShowAll rules (after_window rules from w) windows → Leads rules from.t w windows
 leads rules from w windows right more = elim (next_is rules w.steps w.kept right.most right.kept) [
   | inl part ↦
       (let enough : rules.ahead < steps_kept windows = more.enough part.2 in
@@ -261,7 +261,7 @@ leads rules from w windows right more = elim (next_is rules w.steps w.kept right
       | inr le ↦ cond_above (rules.keep + rules.ahead) (kept + later) rules.keep (kept + later) kept le (omega (arith, same.0, same.1))
     ]
 
-show_next : BoundsEach → (rules : Rules) (from : Before) (w : Window) (windows : List Window) → IsRight rules from w → ShowAll rules (behind rules from w) windows
+show_next : BoundsEach → (rules : Rules) (from : Before) (w : Window) (windows : List Window) → IsRight rules from w → ShowAll rules (after_window rules from w) windows
     → ShowAll rules from (w ∷ windows)
 show_next bounds rules from w windows right more =
     let rate = rules.rate in
@@ -304,7 +304,7 @@ show_all bounds rules from to octets rest [] ended passed =
     }
 show_all bounds rules from to octets rest (w ∷ windows) ended passed =
     show_next bounds rules from w windows (subst (IsRight rules from) (sym passed.1) (right_window rules from octets passed.0))
-    (show_all bounds rules (behind rules from w) to (drop (window_size rules.rate from.t w.steps) octets) rest windows ended passed.2)
+    (show_all bounds rules (after_window rules from w) to (drop (window_size rules.rate from.t w.steps) octets) rest windows ended passed.2)
 
 none_due : (next : Next) (rest : List ℕ) → is_cut next rest ≡ false → is_due next ≡ false
 none_due next [] whole = whole

@@ -9,7 +9,7 @@ use Rattle.tm_cert_file.specs.declared.seen.Seen.TheVariants.{More}
 use Rattle.tm_cert_file.specs.Window.{steps_in, kept_in, start_in, bits_in, soft_in, bits_end, soft_end, window_size}
 use Rattle.tm_cert_file.specs.Before.{Rules, Before}
 use Rattle.tm_cert_file.specs.Seen.{reason_in, is_over, has_shape, are_bits, is_joined, IsSeen}
-use Rattle.tm_cert_file.proofs.Fronts.{steps_in-front, kept_in-front, start_in-front, bits_in-front, soft_in-front}
+use Rattle.tm_cert_file.proofs.Prefixes.{steps_in-prefix, kept_in-prefix, start_in-prefix, bits_in-prefix, soft_in-prefix}
 
 -- ---- the reason by the tests in turn, and by whether the octets of each are missing
 
@@ -153,18 +153,18 @@ reason-joint rules before (octet ∷ octets) due shape bits long wrong =
 
 -- ---- more octets
 
-pub shape_of-front : (rules : Rules) (before : Before) (xs ys : List ℕ) → 17 ≤ length xs → shape_of rules before (xs ++ ys) ≡ shape_of rules before xs
-shape_of-front rules before xs ys long =
-    let steps = steps_in-front xs ys long in
-    let kept = kept_in-front xs ys long in
-    let start = start_in-front xs ys long in
+pub shape_of-prefix : (rules : Rules) (before : Before) (xs ys : List ℕ) → 17 ≤ length xs → shape_of rules before (xs ++ ys) ≡ shape_of rules before xs
+shape_of-prefix rules before xs ys long =
+    let steps = steps_in-prefix xs ys long in
+    let kept = kept_in-prefix xs ys long in
+    let start = start_in-prefix xs ys long in
     λ i. has_shape rules before.next (steps i) (kept i) (start i)
 
-pub joined_of-front : (rules : Rules) (before : Before) (xs ys : List ℕ) → soft_end rules.rate before.t (steps_in xs) ≤ length xs
+pub joined_of-prefix : (rules : Rules) (before : Before) (xs ys : List ℕ) → soft_end rules.rate before.t (steps_in xs) ≤ length xs
     → joined_of rules before (xs ++ ys) ≡ joined_of rules before xs
-joined_of-front rules before xs ys long =
-    let start = start_in-front xs ys (omega arith) in
-    let soft = soft_in-front rules.rate before.t xs ys long in
+joined_of-prefix rules before xs ys long =
+    let start = start_in-prefix xs ys (omega arith) in
+    let soft = soft_in-prefix rules.rate before.t xs ys long in
     λ i. is_joined before (start i) (soft i)
 
 -- with more octets, of which none is the last of a stage
@@ -178,22 +178,22 @@ Holds-more rules before xs ys holds due header bits soft =
     let long : length (xs ++ ys) ≡ length xs + length ys = length-append xs ys in
     record {
       due = λ h. due (omega (arith, long));
-      shape = λ h. let le : 17 ≤ length xs = header (omega (arith, long)) in shape_of-front rules before xs ys le ∙ holds.shape le;
+      shape = λ h. let le : 17 ≤ length xs = header (omega (arith, long)) in shape_of-prefix rules before xs ys le ∙ holds.shape le;
       bits = λ h.
           let le : 17 ≤ length xs = header (omega (arith, long)) in
-          let end = bits le (omega (arith, long, steps_in-front xs ys le)) in
-          ap are_bits (bits_in-front xs ys end) ∙ holds.bits end;
+          let end = bits le (omega (arith, long, steps_in-prefix xs ys le)) in
+          ap are_bits (bits_in-prefix xs ys end) ∙ holds.bits end;
       joined = λ h.
           let le : 17 ≤ length xs = header (omega (arith, long)) in
-          let same = steps_in-front xs ys le in
+          let same = steps_in-prefix xs ys le in
           let end = soft le (omega (arith, long, same, ap (steps_size rules.rate before.t) same)) in
-          joined_of-front rules before xs ys end ∙ holds.joined end;
+          joined_of-prefix rules before xs ys end ∙ holds.joined end;
     }
 
 -- with any more octets, once the soft octets are there
-pub Holds-behind : (rules : Rules) (before : Before) (xs ys : List ℕ) → Holds rules before xs → soft_end rules.rate before.t (steps_in xs) ≤ length xs
+pub Holds-after : (rules : Rules) (before : Before) (xs ys : List ℕ) → Holds rules before xs → soft_end rules.rate before.t (steps_in xs) ≤ length xs
     → Holds rules before (xs ++ ys)
-Holds-behind rules before xs ys holds long =
+Holds-after rules before xs ys holds long =
     Holds-more rules before xs ys holds (λ h. holds.due (omega arith)) (λ h. omega arith) (λ h k. omega arith) (λ h k. long)
 
 -- ---- what held before the last octet
@@ -209,19 +209,19 @@ held_by rules before xs ys one seen =
     let holds = Holds-from_none rules before xs seen.0 in
     let long : length (xs ++ ys) ≡ length xs + length ys = length-append xs ys in
     record {
-      shape = λ h. let le : 17 ≤ length xs = omega (arith, long) in shape_of-front rules before xs ys le ∙ holds.shape le;
+      shape = λ h. let le : 17 ≤ length xs = omega (arith, long) in shape_of-prefix rules before xs ys le ∙ holds.shape le;
       bits = λ h.
           let le : 17 ≤ length xs = omega (arith, long) in
-          let end : bits_end (steps_in xs) ≤ length xs = omega (arith, long, steps_in-front xs ys le) in
-          ap are_bits (bits_in-front xs ys end) ∙ holds.bits end;
+          let end : bits_end (steps_in xs) ≤ length xs = omega (arith, long, steps_in-prefix xs ys le) in
+          ap are_bits (bits_in-prefix xs ys end) ∙ holds.bits end;
       joined = λ h.
           let le : 17 ≤ length xs = omega (arith, long) in
-          let same = steps_in-front xs ys le in
+          let same = steps_in-prefix xs ys le in
           let end : soft_end rules.rate before.t (steps_in xs) ≤ length xs = omega (arith, long, same, ap (steps_size rules.rate before.t) same) in
-          joined_of-front rules before xs ys end ∙ holds.joined end;
+          joined_of-prefix rules before xs ys end ∙ holds.joined end;
       size = λ h.
           let le : 17 ≤ length xs = omega (arith, long) in
-          let same = steps_in-front xs ys le in
+          let same = steps_in-prefix xs ys le in
           omega (arith, long, same, ap (steps_size rules.rate before.t) same, seen.1);
     }
 
@@ -231,5 +231,5 @@ HeldBefore-from_open rules before octets some seen =
     let n = length octets - 1 in
     let is : take n octets ++ drop n octets ≡ octets = take-append-drop n octets in
     let long : length (take n octets) + length (drop n octets) ≡ length octets = sym (length-append (take n octets) (drop n octets)) ∙ ap length is in
-    let front = length-take-le n octets (omega arith) in
-    subst (HeldBefore rules before) is (held_by rules before (take n octets) (drop n octets) (omega (arith, long, front)) seen)
+    let prefix = length-take-le n octets (omega arith) in
+    subst (HeldBefore rules before) is (held_by rules before (take n octets) (drop n octets) (omega (arith, long, prefix)) seen)

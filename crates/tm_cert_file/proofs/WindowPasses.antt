@@ -79,11 +79,11 @@ not_over ahead May remaining some h = refl
 not_over ahead Must remaining some h = refl
 not_over ahead Never remaining some h = absurd (omega (arith, some, h))
 
-behind_the_ahead : (ahead : ℕ) (next : Next) (remaining steps : ℕ) → MayCome ahead next remaining → (ahead < remaining → ahead < steps)
+after_the_ahead : (ahead : ℕ) (next : Next) (remaining steps : ℕ) → MayCome ahead next remaining → (ahead < remaining → ahead < steps)
     → (not (is_due next) || ltb ahead steps) ≡ true
-behind_the_ahead ahead May remaining steps h more = refl
-behind_the_ahead ahead Must remaining steps h more = lt-ltb ahead steps (more h)
-behind_the_ahead ahead Never remaining steps h more = refl
+after_the_ahead ahead May remaining steps h more = refl
+after_the_ahead ahead Must remaining steps h more = lt-ltb ahead steps (more h)
+after_the_ahead ahead Never remaining steps h more = refl
 
 -- how many steps are kept of how many
 pub record AreKept (keep ahead remaining steps kept : ℕ) : Type 0 where
@@ -122,7 +122,7 @@ shape_right rules next remaining steps kept start keeps some kept_is small come 
     let b = le-leb steps (rules.keep + rules.ahead) (omega (arith, kept_is.steps_is)) in
     let c = kept_right rules.keep rules.ahead remaining steps kept kept_is in
     let d = lt-ltb start 64 small in
-    let e = behind_the_ahead rules.ahead next remaining steps come (λ more. omega (arith, more, keeps, kept_is.steps_is)) in
+    let e = after_the_ahead rules.ahead next remaining steps come (λ more. omega (arith, more, keeps, kept_is.steps_is)) in
     and_from _ _ (and_from _ _ (and_from _ _ (and_from _ _ a b) c) d) e
 
 bits_right : (bits : List ℕ) → AreBits bits → are_bits bits ≡ true
@@ -130,11 +130,11 @@ bits_right [] h = refl
 bits_right (bit ∷ bits) h =
     and_from (ltb bit 2) (are_bits bits) (lt-ltb bit 2 (All-head (λ bit. bit < 2) bit bits h)) (bits_right bits (All-tail (λ bit. bit < 2) bit bits h))
 
-front_right : (octets front : List ℕ) (n m : ℕ) → front ≡ take n octets → n ≤ m → n ≤ length octets → starts_with nat_eq (take m octets) front ≡ true
-front_right octets front n m is le fits =
-    let long : n ≡ length front = sym (ap length is ∙ length-take-le n octets fits) in
-    let same : front ≡ take (length front) (take m octets) = is ∙ sym (take-take n m octets le) ∙ ap (λ k. take k (take m octets)) long in
-    (bytes_decides front (take (length front) (take m octets))).1 same
+prefix_right : (octets prefix : List ℕ) (n m : ℕ) → prefix ≡ take n octets → n ≤ m → n ≤ length octets → starts_with nat_eq (take m octets) prefix ≡ true
+prefix_right octets prefix n m is le fits =
+    let long : n ≡ length prefix = sym (ap length is ∙ length-take-le n octets fits) in
+    let same : prefix ≡ take (length prefix) (take m octets) = is ∙ sym (take-take n m octets le) ∙ ap (λ k. take k (take m octets)) long in
+    (bytes_decides prefix (take (length prefix) (take m octets))).1 same
 
 -- ---- the window of a block
 
@@ -145,7 +145,7 @@ pub record IsDue (rules : Rules) (before : Before) (starts : Option ℕ) (remain
   pub seen : ℕ
   pub few : seen ≤ rules.ahead
   pub within : seen ≤ remaining
-  pub front : before.octets ≡ take (steps_size rules.rate before.t seen) octets
+  pub prefix : before.octets ≡ take (steps_size rules.rate before.t seen) octets
   pub next : MayCome rules.ahead before.next remaining
 
 -- the window that certifies a block
@@ -176,8 +176,8 @@ module _ (rules : Rules) (keeps : 0 < rules.keep) (small : rules.keep + rules.ah
   few_octets : length (take (steps_size rules.rate before.t block.steps) octets) ≤ 139264
   few_octets = omega (arith, long, kept_is.steps_is, small, steps_size-most rules.rate before.t block.steps)
 
-  front_small : All (λ octet. octet < 256) (take (steps_size rules.rate before.t block.steps) octets)
-  front_small = All-take (λ octet. octet < 256) (steps_size rules.rate before.t block.steps) octets are_octets
+  prefix_small : All (λ octet. octet < 256) (take (steps_size rules.rate before.t block.steps) octets)
+  prefix_small = All-take (λ octet. octet < 256) (steps_size rules.rate before.t block.steps) octets are_octets
 
   metric_small : block.metric ≤ 2 ^ 30
   metric_small =
@@ -185,7 +185,7 @@ module _ (rules : Rules) (keeps : 0 < rules.keep) (small : rules.keep + rules.ah
         arith,
         is_block.metric,
         few_octets,
-        cost_le (path rules.rate rules.invert before.t block.start block.bits) (take (steps_size rules.rate before.t block.steps) octets) front_small,
+        cost_le (path rules.rate rules.invert before.t block.start block.bits) (take (steps_size rules.rate before.t block.steps) octets) prefix_small,
       )
 
   bits_long : length block.bits ≡ block.steps
@@ -201,7 +201,7 @@ module _ (rules : Rules) (keeps : 0 < rules.keep) (small : rules.keep + rules.ah
     bits = bits_long;
     octets = long;
     count = are_columns.count;
-    columns = columns_wide rules.rate rules.invert starts before.t block.steps (take (steps_size rules.rate before.t block.steps) octets) columns front_small
+    columns = columns_wide rules.rate rules.invert starts before.t block.steps (take (steps_size rules.rate before.t block.steps) octets) columns prefix_small
         (omega (arith, few_octets)) are_columns;
   }
 
@@ -213,7 +213,7 @@ module _ (rules : Rules) (keeps : 0 < rules.keep) (small : rules.keep + rules.ah
       = ap (λ (v : Starts). is_start v block.start) due.begins ∙ may_start starts block.start ∙ is_block.best.candidate.start in
       let fits : steps_size rules.rate before.t seen ≤ length octets = omega (arith, due.whole, steps_size-le rules.rate before.t seen remaining due.within) in
       and_from (is_start before.starts block.start) (starts_with nat_eq (take (steps_size rules.rate before.t block.steps) octets) before.octets) start
-      (front_right octets before.octets (steps_size rules.rate before.t seen) (steps_size rules.rate before.t block.steps) due.front
+      (prefix_right octets before.octets (steps_size rules.rate before.t seen) (steps_size rules.rate before.t block.steps) due.prefix
       (steps_size-le rules.rate before.t seen block.steps inside) fits)
 
   verdict : IsVerdictOn rules before (window_for block (take (steps_size rules.rate before.t block.steps) octets) columns) Yes

@@ -1,14 +1,14 @@
 -- The octets of a window, part by part.
 use Rattle.std.proofs.Common.{◌≡◌, ℕ, ◌≤◌, refl, sym, ap, ◌∙◌, append_assoc, List, ◌++◌, Bool, Option, take, length}
 use Rattle.std.specs.Prelude.{flat_map}
-use Rattle.tm_base.specs.Written.{Wrote, WroteFront}
+use Rattle.tm_base.specs.Written.{Wrote, WrotePrefix}
 use Rattle.tm_conv.specs.declared.rates.Rate.{Rate}
 use Rattle.tm_conv.specs.Path.{steps_size}
 use Rattle.tm_viterbi.specs.WindowBlock.{WindowBlock}
 use Rattle.tm_cert_file.specs.Window.{header_octets, column_octets}
 use Rattle.tm_cert_file.specs.Certificate.{AreColumns, IsCertified}
-use Rattle.tm_cert_file.proofs.ColumnLists.{HasColumn, columns-all, TookFront}
-use Rattle.tm_cert_file.proofs.WrittenFronts.{wrote-more, front-first, front-more}
+use Rattle.tm_cert_file.proofs.ColumnLists.{HasColumn, columns-all, TookPrefix}
+use Rattle.tm_cert_file.proofs.WrittenPrefixes.{wrote-more, prefix-first, prefix-more}
 
 in_order : (head bits octets columns : List ℕ) → head ++ (bits ++ (octets ++ columns)) ≡ head ++ bits ++ octets ++ columns
 in_order head bits octets columns = sym (append_assoc head bits (octets ++ columns)) ∙ sym (append_assoc (head ++ bits) octets columns)
@@ -35,53 +35,53 @@ certified-some exists rate invert starts t octets block there =
     )
 
 -- a prefix of the window was taken
-abbrev pub TookWindowFront : Rate → Bool → Option ℕ → ℕ → List ℕ → WindowBlock → Option (List ℕ) → Option (List ℕ) → Type 0
-TookWindowFront rate invert starts t octets block taken taken_now =
-    (text : List ℕ) × IsCertified rate invert starts t octets block text × WroteFront taken taken_now text
+abbrev pub TookWindowPrefix : Rate → Bool → Option ℕ → ℕ → List ℕ → WindowBlock → Option (List ℕ) → Option (List ℕ) → Type 0
+TookWindowPrefix rate invert starts t octets block taken taken_now =
+    (text : List ℕ) × IsCertified rate invert starts t octets block text × WrotePrefix taken taken_now text
 
 -- it ends in one part of the window, with the others there
 pub cut-head : HasColumn → (rate : Rate) (invert : Bool) (starts : Option ℕ) (t count : ℕ) (octets : List ℕ) (block : WindowBlock) (head : List ℕ) (taken taken_now : Option (List ℕ))
     → steps_size rate t block.steps ≤ length octets → head ≡ header_octets block.steps block.kept block.start block.metric
-    → count ≤ length head → Wrote taken taken_now (take count head) → TookWindowFront rate invert starts t octets block taken taken_now
+    → count ≤ length head → Wrote taken taken_now (take count head) → TookWindowPrefix rate invert starts t octets block taken taken_now
 cut-head exists rate invert starts t count octets block head taken taken_now there is_head few wrote =
     let all = columns-all exists rate invert starts t block.steps octets there in (
       _,
       certified-parts rate invert starts t octets block head block.bits all.0 is_head refl all.1,
-      front-first taken taken_now count head (block.bits ++ (octets ++ flat_map column_octets all.0)) few wrote,
+      prefix-first taken taken_now count head (block.bits ++ (octets ++ flat_map column_octets all.0)) few wrote,
     )
 
 pub cut-bits : HasColumn → (rate : Rate) (invert : Bool) (starts : Option ℕ) (t count : ℕ) (octets : List ℕ) (block : WindowBlock) (head bits : List ℕ) (taken middle taken_now : Option (List ℕ))
     → steps_size rate t block.steps ≤ length octets → head ≡ header_octets block.steps block.kept block.start block.metric → bits ≡ block.bits
-    → Wrote taken middle head → count ≤ length bits → Wrote middle taken_now (take count bits) → TookWindowFront rate invert starts t octets block taken taken_now
+    → Wrote taken middle head → count ≤ length bits → Wrote middle taken_now (take count bits) → TookWindowPrefix rate invert starts t octets block taken taken_now
 cut-bits exists rate invert starts t count octets block head bits taken middle taken_now there is_head are_bits first few wrote =
     let all = columns-all exists rate invert starts t block.steps octets there in
     let rest : List ℕ = octets ++ flat_map column_octets all.0 in (
       _,
       certified-parts rate invert starts t octets block head bits all.0 is_head are_bits all.1,
-      front-more taken middle taken_now head (bits ++ rest) first (front-first middle taken_now count bits rest few wrote),
+      prefix-more taken middle taken_now head (bits ++ rest) first (prefix-first middle taken_now count bits rest few wrote),
     )
 
 pub cut-octets : HasColumn → (rate : Rate) (invert : Bool) (starts : Option ℕ) (t count : ℕ) (octets : List ℕ) (block : WindowBlock) (head bits : List ℕ) (taken middle later taken_now : Option (List ℕ))
     → steps_size rate t block.steps ≤ length octets → head ≡ header_octets block.steps block.kept block.start block.metric → bits ≡ block.bits
-    → Wrote taken middle head → Wrote middle later bits → count ≤ length octets → Wrote later taken_now (take count octets) → TookWindowFront rate invert starts t octets block taken taken_now
+    → Wrote taken middle head → Wrote middle later bits → count ≤ length octets → Wrote later taken_now (take count octets) → TookWindowPrefix rate invert starts t octets block taken taken_now
 cut-octets exists rate invert starts t count octets block head bits taken middle later taken_now there is_head are_bits first second few wrote =
     let all = columns-all exists rate invert starts t block.steps octets there in
     let rest : List ℕ = flat_map column_octets all.0 in (
       _,
       certified-parts rate invert starts t octets block head bits all.0 is_head are_bits all.1,
-      front-more taken middle taken_now head (bits ++ (octets ++ rest)) first (front-more middle later taken_now bits (octets ++ rest) second (front-first later taken_now count octets rest few wrote)),
+      prefix-more taken middle taken_now head (bits ++ (octets ++ rest)) first (prefix-more middle later taken_now bits (octets ++ rest) second (prefix-first later taken_now count octets rest few wrote)),
     )
 
 pub cut-columns : (rate : Rate) (invert : Bool) (starts : Option ℕ) (t : ℕ) (octets : List ℕ) (block : WindowBlock) (head bits : List ℕ) (taken middle later last taken_now : Option (List ℕ))
     → head ≡ header_octets block.steps block.kept block.start block.metric → bits ≡ block.bits
-    → Wrote taken middle head → Wrote middle later bits → Wrote later last octets → TookFront rate invert starts t block.steps octets last taken_now
-    → TookWindowFront rate invert starts t octets block taken taken_now
-cut-columns rate invert starts t octets block head bits taken middle later last taken_now is_head are_bits first second third front =
-    let rest : List ℕ = flat_map column_octets front.0 in (
+    → Wrote taken middle head → Wrote middle later bits → Wrote later last octets → TookPrefix rate invert starts t block.steps octets last taken_now
+    → TookWindowPrefix rate invert starts t octets block taken taken_now
+cut-columns rate invert starts t octets block head bits taken middle later last taken_now is_head are_bits first second third prefix =
+    let rest : List ℕ = flat_map column_octets prefix.0 in (
       _,
-      certified-parts rate invert starts t octets block head bits front.0 is_head are_bits front.1,
-      front-more taken middle taken_now head (bits ++ (octets ++ rest)) first
-          (front-more middle later taken_now bits (octets ++ rest) second (front-more later last taken_now octets rest third front.2)),
+      certified-parts rate invert starts t octets block head bits prefix.0 is_head are_bits prefix.1,
+      prefix-more taken middle taken_now head (bits ++ (octets ++ rest)) first
+          (prefix-more middle later taken_now bits (octets ++ rest) second (prefix-more later last taken_now octets rest third prefix.2)),
     )
 
 -- the whole window was taken

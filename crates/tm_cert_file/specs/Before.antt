@@ -37,8 +37,8 @@ next_after rules steps kept =
     else May
 
 -- after a window: the next one begins after the kept steps, from the register after them alone
-abbrev pub behind : Rules → Before → Window → Before
-behind rules before w = record {
+abbrev pub after_window : Rules → Before → Window → Before
+after_window rules before w = record {
   t = before.t + w.kept;
   starts = One (register_after w.start (take w.kept w.bits));
   octets = drop (steps_size rules.rate before.t w.kept) w.octets;

@@ -1,10 +1,10 @@
 -- What contracts see of a certificate that is being written.
 use Rattle.std.specs.Prelude.{◌≡◌, ℕ, ◌+◌, ◌^◌, ◌<◌, ◌≤◌, Bool, List, [], ◌∷◌, ◌++◌, Option, length, take}
-use Rattle.tm_base.specs.Written.{Wrote, WroteFront}
+use Rattle.tm_base.specs.Written.{Wrote, WrotePrefix}
 use Rattle.tm_conv.specs.declared.rates.Rate.{Rate}
 use Rattle.tm_conv.specs.Path.{steps_size}
 use Rattle.tm_viterbi.specs.WindowBlock.{WindowBlock}
-use Rattle.tm_viterbi.specs.Due.{Place, behind}
+use Rattle.tm_viterbi.specs.Due.{Place, after_block}
 use Rattle.tm_cert_file.specs.Certificate.{IsCertified, AreCertified}
 
 -- where the next window begins, with the soft octets from there on, and how many octets there is room for
@@ -23,8 +23,8 @@ abbrev pub with_octets : Certifying → List ℕ → Certifying
 with_octets c octets = with_place c (record { starts = c.place.starts; t = c.place.t; octets = octets })
 
 -- after the kept steps of a block
-abbrev pub turned : Certifying → WindowBlock → Certifying
-turned c block = with_place c (behind c.rate c.place block)
+abbrev pub advanced : Certifying → WindowBlock → Certifying
+advanced c block = with_place c (after_block c.rate c.place block)
 
 -- this is the block of a window whose octets are there
 pub record Fits (c : Certifying) (block : WindowBlock) : Type 0 where
@@ -45,12 +45,12 @@ IsNext c block text =
 -- nothing, and the next window begins where it did
 abbrev pub WroteBlock : (before now : Certifying) → WindowBlock → (taken taken_now : Option (List ℕ)) → Type 0
 WroteBlock before now block taken taken_now =
-    (Fits before block → (now ≡ turned before block) × (text : List ℕ) × IsNext before block text × Wrote taken taken_now text)
+    (Fits before block → (now ≡ advanced before block) × (text : List ℕ) × IsNext before block text × Wrote taken taken_now text)
     × ((Fits before block → ⊥) → (now ≡ before) × (taken_now ≡ taken))
 
 -- a sink took a prefix of it
-abbrev pub WroteBlockFront : Certifying → WindowBlock → (taken taken_now : Option (List ℕ)) → Type 0
-WroteBlockFront before block taken taken_now = Fits before block × (text : List ℕ) × IsNext before block text × WroteFront taken taken_now text
+abbrev pub WroteBlockPrefix : Certifying → WindowBlock → (taken taken_now : Option (List ℕ)) → Type 0
+WroteBlockPrefix before block taken taken_now = Fits before block × (text : List ℕ) × IsNext before block text × WrotePrefix taken taken_now text
 
 -- the windows that certify blocks, one after the other
 abbrev pub AreNext : Certifying → List WindowBlock → List ℕ → Type 0
@@ -63,12 +63,12 @@ WroteBlocks before now (block ∷ blocks) taken taken_now =
     (middle : Certifying) × (taken_then : Option (List ℕ)) × WroteBlock before middle block taken taken_then × WroteBlocks middle now blocks taken_then taken_now
 
 -- a sink took the windows of some of the blocks, and a prefix of the next one
-pub record WroteBlocksFront (before : Certifying) (blocks : List WindowBlock) (taken taken_now : Option (List ℕ)) : Type 0 where
-  pub front : List WindowBlock
+pub record WroteBlocksPrefix (before : Certifying) (blocks : List WindowBlock) (taken taken_now : Option (List ℕ)) : Type 0 where
+  pub prefix : List WindowBlock
   pub next : WindowBlock
   pub rest : List WindowBlock
-  pub split : blocks ≡ front ++ next ∷ rest
+  pub split : blocks ≡ prefix ++ next ∷ rest
   pub middle : Certifying
   pub taken_then : Option (List ℕ)
-  pub wrote : WroteBlocks before middle front taken taken_then
-  pub broke : WroteBlockFront middle next taken_then taken_now
+  pub wrote : WroteBlocks before middle prefix taken taken_then
+  pub broke : WroteBlockPrefix middle next taken_then taken_now

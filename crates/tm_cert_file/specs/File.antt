@@ -7,7 +7,7 @@ use Rattle.tm_cert_file.specs.declared.seen.Reason.{Reason}
 use Rattle.tm_cert_file.specs.declared.seen.Seen.{Seen}
 use Rattle.tm_cert_file.specs.declared.seen.Seen.TheVariants.{More, Passed, Failed}
 use Rattle.tm_cert_file.specs.Window.{Window, window_in, window_size}
-use Rattle.tm_cert_file.specs.Before.{Rules, Before, at_first, behind}
+use Rattle.tm_cert_file.specs.Before.{Rules, Before, at_first, after_window}
 use Rattle.tm_cert_file.specs.Seen.{IsSeen, is_due}
 
 -- the octets begin with windows that pass, one after the other, from one place to another; after them the octets of `rest` are left
@@ -15,7 +15,7 @@ abbrev pub ArePassed : Rules → Before → List ℕ → List Window → Before 
 ArePassed rules from octets [] to rest = (to ≡ from) × (rest ≡ octets)
 ArePassed rules from octets (w ∷ windows) to rest =
     IsSeen rules from octets Passed × (w ≡ window_in rules.rate from.t octets)
-    × ArePassed rules (behind rules from w) (drop (window_size rules.rate from.t w.steps) octets) windows to rest
+    × ArePassed rules (after_window rules from w) (drop (window_size rules.rate from.t w.steps) octets) windows to rest
 
 -- the octets of a certificate: each window that passes, and what is seen of the one that is not whole or fails
 pub record IsRead (rules : Rules) (octets : List ℕ) (windows : List Window) (seen : Seen) : Type 0 where

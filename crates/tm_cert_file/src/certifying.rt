@@ -3,7 +3,7 @@ ghost use Rattle.std.specs.Prelude.{◌≡◌, ◌↔◌, ◌++◌, ◌+◌, ◌
 ghost use Rattle.tm_base.specs.Outside.{HasCause};
 ghost use Rattle.tm_conv.specs.Path.{steps_size};
 ghost use Rattle.tm_viterbi.specs.Starts.{first_start};
-ghost use Rattle.tm_cert_file.specs.Certifying.{Fits, WroteBlock, WroteBlockFront, with_octets};
+ghost use Rattle.tm_cert_file.specs.Certifying.{Fits, WroteBlock, WroteBlockPrefix, with_octets};
 
 use crate::writing::write_window;
 use std::alloc::Global;
@@ -112,7 +112,7 @@ impl Certifying {
     /// faults rose; a prefix of the window was then written.
     pub fn write<O: Sink>(&mut self, block: &Block<'_>, out: &mut O) -> Result<(), Failed>
         ensures ok { OnOk result (WroteBlock self.old self.new block.now (O.taken out.old) (O.taken out.new)) }
-        ensures err { OnErr result (WroteBlockFront self.old block.now (O.taken out.old) (O.taken out.new)) }
+        ensures err { OnErr result (WroteBlockPrefix self.old block.now (O.taken out.old) (O.taken out.new)) }
         ensures cause { HasCause (O.faults out.old) (O.faults out.new) (O.is_last out.new) result }
     {
         if !self.fits(block) {
@@ -145,7 +145,7 @@ pub struct Certifier<'a, 'b, O> {
 
 impl<'a, 'b, O: Sink> BlockTaker for Certifier<'a, 'b, O> {
     ghost use Rattle.std.specs.Prelude.{◌≡◌, drop};
-    ghost use Rattle.tm_cert_file.specs.Certifying.{WroteBlock, WroteBlockFront, with_octets};
+    ghost use Rattle.tm_cert_file.specs.Certifying.{WroteBlock, WroteBlockPrefix, with_octets};
 
     ghost faults = { λ c. O.faults c.out.now };
 
@@ -155,7 +155,7 @@ impl<'a, 'b, O: Sink> BlockTaker for Certifier<'a, 'b, O> {
         × WroteBlock a.certifying.now b.certifying.now block (O.taken a.out.now) (O.taken b.out.now) };
 
     ghost broke = { λ a block b. (b.certifying.ghost_name ≡ a.certifying.ghost_name) × (b.out.ghost_name ≡ a.out.ghost_name)
-        × WroteBlockFront a.certifying.now block (O.taken a.out.now) (O.taken b.out.now) };
+        × WroteBlockPrefix a.certifying.now block (O.taken a.out.now) (O.taken b.out.now) };
 
     ghost took_phase = { λ a skip cost b. (b.certifying.ghost_name ≡ a.certifying.ghost_name) × (b.out.ghost_name ≡ a.out.ghost_name) × (b.out.now ≡ a.out.now)
         × (b.certifying.now ≡ with_octets a.certifying.now (drop skip a.certifying.now.place.octets)) };

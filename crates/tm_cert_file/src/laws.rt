@@ -1,7 +1,7 @@
 // What holds of certificates, over the definitions alone.
 ghost use Rattle.std.specs.Prelude.{◌≡◌, ℕ, ◌+◌, ◌-◌, ◌^◌, ◌<◌, ◌≤◌, Bool, List, ◌++◌, length, map, take, Option};
 ghost use Rattle.tm_base.specs.Bits.{AreOctets};
-ghost use Rattle.tm_base.specs.Written.{Wrote, WroteFront};
+ghost use Rattle.tm_base.specs.Written.{Wrote, WrotePrefix};
 ghost use Rattle.tm_conv.specs.declared.rates.Rate.{Rate};
 ghost use Rattle.tm_conv.specs.Path.{steps_size};
 ghost use Rattle.tm_viterbi.specs.Settings.{Settings};
@@ -17,7 +17,7 @@ ghost use Rattle.tm_cert_file.specs.Before.{Rules};
 ghost use Rattle.tm_cert_file.specs.File.{IsRead, IsWhole, all_kept};
 ghost use Rattle.tm_cert_file.specs.Shown.{AreAllShown};
 ghost use Rattle.tm_cert_file.specs.Passes.{rules_by, block_of};
-ghost use Rattle.tm_cert_file.specs.Certifying.{Certifying, AreNext, WroteBlocks, WroteBlocksFront, with_place};
+ghost use Rattle.tm_cert_file.specs.Certifying.{Certifying, AreNext, WroteBlocks, WroteBlocksPrefix, with_place};
 
 use tm_conv::columns_law;
 use tm_path_cert::verdict_law;
@@ -49,13 +49,13 @@ pub fn certified_law()
         → keep ≤ 65536 → ahead ≤ 4096 → c.place.t + length c.place.octets ≤ 2 ^ 44 → steps_size c.rate c.place.t steps ≤ length c.place.octets
         → AreBlocks c.rate c.invert keep ahead c.place.starts c.place.t steps c.place.octets blocks
         → WroteBlocks c now blocks taken taken_now → (text : List ℕ) × AreNext c blocks text × Wrote taken taken_now text }
-    ensures closed_front { (c : Certifying) (keep ahead : ℕ) (to : Place) (blocks : List WindowBlock) (taken taken_now : Option (List ℕ))
+    ensures closed_prefix { (c : Certifying) (keep ahead : ℕ) (to : Place) (blocks : List WindowBlock) (taken taken_now : Option (List ℕ))
         → keep ≤ 65536 → ahead ≤ 4096 → c.place.t + length c.place.octets ≤ 2 ^ 44 → Closed c.rate c.invert keep ahead c.place blocks to
-        → WroteBlocksFront c blocks taken taken_now → (text : List ℕ) × AreNext c blocks text × WroteFront taken taken_now text }
-    ensures last_front { (c : Certifying) (keep ahead steps : ℕ) (blocks : List WindowBlock) (taken taken_now : Option (List ℕ))
+        → WroteBlocksPrefix c blocks taken taken_now → (text : List ℕ) × AreNext c blocks text × WrotePrefix taken taken_now text }
+    ensures last_prefix { (c : Certifying) (keep ahead steps : ℕ) (blocks : List WindowBlock) (taken taken_now : Option (List ℕ))
         → keep ≤ 65536 → ahead ≤ 4096 → c.place.t + length c.place.octets ≤ 2 ^ 44 → steps_size c.rate c.place.t steps ≤ length c.place.octets
         → AreBlocks c.rate c.invert keep ahead c.place.starts c.place.t steps c.place.octets blocks
-        → WroteBlocksFront c blocks taken taken_now → (text : List ℕ) × AreNext c blocks text × WroteFront taken taken_now text }
+        → WroteBlocksPrefix c blocks taken taken_now → (text : List ℕ) × AreNext c blocks text × WrotePrefix taken taken_now text }
 {
     columns_law();
 }

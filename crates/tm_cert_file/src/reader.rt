@@ -3,7 +3,7 @@ ghost use Rattle.std.specs.Prelude.{◌≡◌, ◌++◌, ◌∷◌, ◌+◌, ◌
 ghost use Rattle.tm_conv.specs.Path.{register_after};
 ghost use Rattle.tm_path_cert.specs.Claim.{AreRegisters};
 ghost use Rattle.tm_cert_file.specs.Window.{Window, steps_in, kept_in, metric_in, window_in};
-ghost use Rattle.tm_cert_file.specs.Before.{at_first, behind};
+ghost use Rattle.tm_cert_file.specs.Before.{at_first, after_window};
 ghost use Rattle.tm_cert_file.specs.Seen.{IsSeen};
 ghost use Rattle.tm_cert_file.specs.File.{is_cut, kept_octets};
 ghost use Rattle.tm_cert_file.specs.Reading.{IsOpen, HasPassed, StandsFor};
@@ -254,13 +254,13 @@ impl Reader {
     }
 
     /// Begins the next window, after the kept steps of the one that passed. Of all windows fewer than 2^43 steps are to be kept.
-    pub fn turn(&mut self)
+    pub fn next_window(&mut self)
         requires { HasPassed self.old }
         ensures rules { self.new.rules ≡ self.old.rules }
         ensures octets { self.new.octets ≡ [] }
         ensures open { IsOpen self.new }
         ensures before { self.old.before.t + kept_in self.old.octets ≤ 2 ^ 43
-            → self.new.before ≡ behind self.old.rules self.old.before (window_in self.old.rules.rate self.old.before.t self.old.octets) }
+            → self.new.before ≡ after_window self.old.rules self.old.before (window_in self.old.rules.rate self.old.before.t self.old.octets) }
         ensures stands { (given : List ℕ) (windows : List Window) → self.old.before.t + kept_in self.old.octets ≤ 2 ^ 43 → StandsFor self.old given windows
             → StandsFor self.new given (windows ++ window_in self.old.rules.rate self.old.before.t self.old.octets ∷ []) }
     {

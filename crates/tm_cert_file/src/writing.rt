@@ -1,7 +1,7 @@
 // A window of a certificate as it is written.
 ghost use Rattle.std.specs.Prelude.{◌≡◌, ◌^◌, ◌+◌, ◌<◌, ◌≤◌, ℕ, List, Option, IfSome, OnOk, OnErr, flat_map, length};
 ghost use Rattle.tm_base.specs.Outside.{HasCause};
-ghost use Rattle.tm_base.specs.Written.{Wrote, WroteFront};
+ghost use Rattle.tm_base.specs.Written.{Wrote, WrotePrefix};
 ghost use Rattle.tm_conv.specs.Path.{steps_size};
 ghost use Rattle.tm_cert_file.specs.Window.{column_octets};
 ghost use Rattle.tm_cert_file.specs.Certificate.{AreColumns, IsCertified};
@@ -28,7 +28,7 @@ fn write_columns<O: Sink>(
         × Wrote (O.taken out.old) (O.taken out.new) (flat_map column_octets columns)) }
     ensures err { OnErr result ((steps : ℕ) → length octets.now ≡ steps_size rate first steps
         → (columns : List (List ℕ)) × AreColumns rate invert start first steps octets.now columns
-        × WroteFront (O.taken out.old) (O.taken out.new) (flat_map column_octets columns)) }
+        × WrotePrefix (O.taken out.old) (O.taken out.new) (flat_map column_octets columns)) }
     ensures cause { HasCause (O.faults out.old) (O.faults out.new) (O.is_last out.new) result }
 {
     columns_law();
@@ -64,7 +64,7 @@ pub fn write_window<O: Sink>(
     requires bits { length block.now.bits ≡ block.now.steps }
     requires steps { length octets.now ≡ steps_size rate first block.now.steps }
     ensures ok { OnOk result ((text : List ℕ) × IsCertified rate invert start first octets.now block.now text × Wrote (O.taken out.old) (O.taken out.new) text) }
-    ensures err { OnErr result ((text : List ℕ) × IsCertified rate invert start first octets.now block.now text × WroteFront (O.taken out.old) (O.taken out.new) text) }
+    ensures err { OnErr result ((text : List ℕ) × IsCertified rate invert start first octets.now block.now text × WrotePrefix (O.taken out.old) (O.taken out.new) text) }
     ensures cause { HasCause (O.faults out.old) (O.faults out.new) (O.is_last out.new) result }
 {
     columns_law();

@@ -15,11 +15,11 @@ use Rattle.tm_viterbi.specs.WindowBlock.{WindowBlock}
 use Rattle.tm_viterbi.specs.Clean.{kept_bits}
 use Rattle.tm_phase.specs.declared.choosing.Chosen.{Chosen}
 use Rattle.tm_inner.specs.Inner.{plain_bits, plain_count, bits_at, inner_bits}
-use Rattle.tm_inner.specs.Phase.{in_turn}
+use Rattle.tm_inner.specs.Phase.{with_phase}
 use Rattle.tm_inner.specs.Handing.{AreHandedDue}
 use Rattle.tm_inner.proofs.DueBits.{kept-append}
 use Rattle.tm_inner.proofs.HandedBits.{needed-few, waiting-last-few, waiting-more-few}
-use Rattle.tm_inner.proofs.PhasePieces.{items_of-in_turn}
+use Rattle.tm_inner.proofs.PhasePieces.{items_of-with_phase}
 use Rattle.tm_inner.proofs.PlainBits.{length-plain}
 use Rattle.tm_sync.specs.declared.found.Found.{Found}
 use Rattle.tm_sync.specs.Places.{places}
@@ -51,8 +51,8 @@ item-few c bits f item ok is = omega (arith, ap length is.frame, go (are_fixed i
   where
     codeblock : length (codeblock_at c bits f) ≤ codeblock_length c
     codeblock =
-        let behind = take (8 * codeblock_length c) (drop (f.place + 32) bits) in
-        omega (arith, octets-received c f.inverted behind, length-take (8 * codeblock_length c) (drop (f.place + 32) bits))
+        let after = take (8 * codeblock_length c) (drop (f.place + 32) bits) in
+        omega (arith, octets-received c f.inverted after, length-take (8 * codeblock_length c) (drop (f.place + 32) bits))
 
     go : (fixed : Bool) → length (cond fixed (frame_of c (codeblock_at c bits f) is.words) []) ≤ c.frame_length
     go true = frame-few c (codeblock_at c bits f) is.words ok codeblock
@@ -66,10 +66,10 @@ frames-few c bits (f ∷ fs) (item ∷ items) ok are =
     omega (arith, length-append item.frame (frames_of items), item-few c bits f item ok are.0, frames-few c bits fs items ok are.1, suc-mul (length items) c.frame_length)
 
 -- those after others
-behind-few : (c : Configuration) (bits : List Bool) (fs : List Found) (before items : List ItemValue) → IsAccepted c → AreItemsOf c bits fs (before ++ items) → length (frames_of items) ≤ length items * c.frame_length
-behind-few c bits fs [] items ok are = frames-few c bits fs items ok are
-behind-few c bits [] (item ∷ before) items ok are = absurd are
-behind-few c bits (f ∷ fs) (item ∷ before) items ok are = behind-few c bits fs before items ok are.1
+after-few : (c : Configuration) (bits : List Bool) (fs : List Found) (before items : List ItemValue) → IsAccepted c → AreItemsOf c bits fs (before ++ items) → length (frames_of items) ≤ length items * c.frame_length
+after-few c bits fs [] items ok are = frames-few c bits fs items ok are
+after-few c bits [] (item ∷ before) items ok are = absurd are
+after-few c bits (f ∷ fs) (item ∷ before) items ok are = after-few c bits fs before items ok are.1
 
 -- ---- items of bits that go on
 
@@ -99,7 +99,7 @@ items-few c bits piece before items fs octets ok were are within few =
       as-many c (bits ++ piece) fs (before ++ items) are,
       length-append before items,
       within,
-    ) in (count, le-through (length (frames_of items)) (behind-few c (bits ++ piece) fs before items ok are) (mul-le-mul_right c.frame_length count))
+    ) in (count, le-through (length (frames_of items)) (after-few c (bits ++ piece) fs before items ok are) (mul-le-mul_right c.frame_length count))
   where
     next : (n : ℕ) → n + 1 ≡ suc n
     next n = omega arith
@@ -132,9 +132,9 @@ last-few (Some rate) c given blocks last piece is few =
 
 -- ---- what a receiver hands over
 
-items-behind : (chosen : Option Chosen) (items : List ItemValue) → items_of (in_turn chosen [] ++ map Item items) ≡ items
-items-behind chosen items =
-    items_of-append (in_turn chosen []) (map Item items) ∙ ap (λ l. l ++ items_of (map Item items)) (items_of-in_turn chosen []) ∙ items_of-items items
+items-after : (chosen : Option Chosen) (items : List ItemValue) → items_of (with_phase chosen [] ++ map Item items) ≡ items
+items-after chosen items =
+    items_of-append (with_phase chosen []) (map Item items) ∙ ap (λ l. l ++ items_of (map Item items)) (items_of-with_phase chosen []) ∙ items_of-items items
 
 -- with further octets
 pub stages-few : (s now : Stages) (given octets : List ℕ) (done more : List (Handed ItemValue)) → IsAccepted s.inner.config → now.inner.config ≡ s.inner.config
@@ -178,7 +178,7 @@ stages-few s now given octets done more ok same stood on =
 pub ends-few : {T : Type 0} (took : T → ItemValue → T → Type 0) (s : Stages) (bits_now : BitReceiving) (taker middle now : T) (room : ℕ) (phase : Option Chosen) (piece : List Bool) (count : ℕ)
     → IsAccepted s.inner.config → IsOf s → IsRoomy s 0 room → Ends s.inner room phase piece count → (p : Received took s.bits bits_now taker middle piece) (q : ReceivedLast took bits_now middle now)
     → (given : List ℕ) (done : List (Handed ItemValue)) → StagesFor s given done
-    → AreFew s.inner.config 0 (items_of (in_turn phase [] ++ map Item (p.items ++ q.items)))
+    → AreFew s.inner.config 0 (items_of (with_phase phase [] ++ map Item (p.items ++ q.items)))
 ends-few took s bits_now taker middle now room phase piece count ok of roomy ends p q given done stood =
     let c = s.inner.config in
     let bits = inner_bits c given (items_of stood.handed) in
@@ -187,5 +187,5 @@ ends-few took s bits_now taker middle now room phase piece count ok of roomy end
     let few = last-few c.inner c given (items_of stood.handed) (items_of e.last) piece
     (ap (inner_bits c given) (sym (items_of-append stood.handed e.last)) ∙ e.bits)
     (omega (arith, waiting-last-few c given stood.handed stood.waiting e.last e.left stood.are_due e.are_handed, stood.few, needed-few c.inner c)) in
-    subst (AreFew c 0) (sym (items-behind phase (p.items ++ q.items)))
+    subst (AreFew c 0) (sym (items-after phase (p.items ++ q.items)))
     (items-few c bits piece stood.items (p.items ++ q.items) (places (rules_of c) (bits ++ piece)) 0 ok stood.are_items items (omega arith) few)

@@ -15,7 +15,7 @@ use Rattle.tm_sync.specs.declared.found.Found.{Found}
 use Rattle.tm_sync.specs.Places.{places}
 use Rattle.tm_codeblock.specs.ReceivedCodeblock.{rules_of}
 use Rattle.tm_channel.specs.Items.{ItemValue, AreItemsOf, AreFirstItemsOf, AreItems}
-use Rattle.tm_channel.specs.Receive.{Receive, ReceiveFirst, ReceiveFront}
+use Rattle.tm_channel.specs.Receive.{Receive, ReceiveFirst, ReceivePrefix}
 use Rattle.tm_channel.proofs.DueItems.{first-items}
 
 -- first items are items of as many places
@@ -39,20 +39,20 @@ bits-first stay stand (Some rate) c phase octets more first blocks left is all =
 
 pub first-stand : StayClosed → StandFirst → (c : Configuration) (phase : ℕ) (octets more : List ℕ) (first items : List ItemValue) → IsAccepted c
     → ReceiveFirst c phase octets first → Receive c phase (octets ++ more) items → (rest : List ItemValue) × (items ≡ first ++ rest)
-first-stand stay stand c phase octets more first items ok front all =
-    let bits = inner_bits c octets front.blocks in
-    let split = bits-first stay stand c.inner c phase octets more front.blocks all.inner.blocks all.inner.left front.are_first all.inner.are_blocks in
-    first-items c bits split.0 (length first) first items ok (first-take c bits (places (rules_of c) bits) first front.are_items)
+first-stand stay stand c phase octets more first items ok prefix all =
+    let bits = inner_bits c octets prefix.blocks in
+    let split = bits-first stay stand c.inner c phase octets more prefix.blocks all.inner.blocks all.inner.left prefix.are_first all.inner.are_blocks in
+    first-items c bits split.0 (length first) first items ok (first-take c bits (places (rules_of c) bits) first prefix.are_items)
     (subst (λ (l : List Bool). AreItems c l items) (all.inner.are_bits ∙ split.1) all.are_items)
 
 -- octets come to one list of bits
 abbrev pub OneList : Type 0
 OneList = (c : Configuration) (phase : ℕ) (octets : List ℕ) (bits others : List Bool) → Inner c phase octets bits → Inner c phase octets others → bits ≡ others
 
-pub front-stand : OneList → (c : Configuration) (phase : ℕ) (octets : List ℕ) (first items : List ItemValue) → IsAccepted c
-    → ReceiveFront c phase octets first → Receive c phase octets items → (rest : List ItemValue) × (items ≡ first ++ rest)
-front-stand one c phase octets first items ok front all =
-    let bits = front.bits in
-    let same : all.bits ≡ bits ++ [] = one c phase octets all.bits bits all.inner front.inner ∙ sym (append-nil bits) in
-    first-items c bits [] (length first) first items ok (first-take c bits (places (rules_of c) bits) first front.are_items)
+pub prefix-stand : OneList → (c : Configuration) (phase : ℕ) (octets : List ℕ) (first items : List ItemValue) → IsAccepted c
+    → ReceivePrefix c phase octets first → Receive c phase octets items → (rest : List ItemValue) × (items ≡ first ++ rest)
+prefix-stand one c phase octets first items ok prefix all =
+    let bits = prefix.bits in
+    let same : all.bits ≡ bits ++ [] = one c phase octets all.bits bits all.inner prefix.inner ∙ sym (append-nil bits) in
+    first-items c bits [] (length first) first items ok (first-take c bits (places (rules_of c) bits) first prefix.are_items)
     (subst (λ (l : List Bool). AreItems c l items) same all.are_items)

@@ -15,15 +15,15 @@ use Rattle.tm_viterbi.specs.Due.{AreFirst}
 use Rattle.tm_viterbi.specs.Clean.{kept_bits}
 use Rattle.tm_phase.specs.declared.choosing.Chosen.{Chosen}
 use Rattle.tm_inner.specs.Inner.{BlocksAt, plain_bits, plain_count, bits_at, settings_of, soft_value, soft_octets, AreInnerBlocks, AreInnerDue, Inner, inner_bits}
-use Rattle.tm_inner.specs.Phase.{IsChosenBy, IsChosen, IsSettled, needed_at, skipped_at, phase_octets, skip_of, in_turn, IsChosenSoFar}
+use Rattle.tm_inner.specs.Phase.{IsChosenBy, IsChosen, IsSettled, needed_at, skipped_at, phase_octets, skip_of, with_phase, IsChosenSoFar}
 use Rattle.tm_inner.specs.Handing.{AreHanded, AreHandedDue}
-use Rattle.tm_inner.specs.Receiving.{InnerReceiving, FirstAt, AreInnerFirst, StandsFor as InnerStandsFor, Hands, HandsFront}
+use Rattle.tm_inner.specs.Receiving.{InnerReceiving, FirstAt, AreInnerFirst, StandsFor as InnerStandsFor, Hands, HandsPrefix}
 use Rattle.tm_inner.proofs.DueBits.{drop-split, soft-more}
 use Rattle.tm_inner.proofs.GivenPieces.{Stay}
 use Rattle.tm_inner.proofs.PlainBits.{bits-nil, length-plain, plain-append, plain-few}
-use Rattle.tm_inner.proofs.PhasePieces.{PhaseStays, StayClosed, items_of-in_turn}
+use Rattle.tm_inner.proofs.PhasePieces.{PhaseStays, StayClosed, items_of-with_phase}
 use Rattle.tm_inner.proofs.HandedPieces.{stands-so-far}
-use Rattle.tm_inner.proofs.InTurn.{choice-stays, settled-stays, so_far-stays}
+use Rattle.tm_inner.proofs.WithPhase.{choice-stays, settled-stays, so_far-stays}
 use Rattle.tm_inner.proofs.FewBits.{first-few, first-of-due, whole-few}
 use Rattle.tm_inner.proofs.HandedBits.{handed-due-none, needed-few, waiting-last-few, waiting-more-few}
 use Rattle.tm_sync.specs.declared.found.Found.{Found}
@@ -32,13 +32,13 @@ use Rattle.tm_sync.proofs.Longer.{places-end, places-goes_on}
 use Rattle.tm_codeblock.specs.ReceivedCodeblock.{rules_of}
 use Rattle.tm_channel.specs.Items.{ItemValue, AreItemsOf, AreFirstItemsOf, AreItems}
 use Rattle.tm_channel.specs.Due.{due}
-use Rattle.tm_channel.specs.Handing.{phase_from, phase_of, AreReceived, AreReceivedDue, AreReceivedFirst, AreReceivedFront}
+use Rattle.tm_channel.specs.Handing.{phase_from, phase_of, AreReceived, AreReceivedDue, AreReceivedFirst, AreReceivedPrefix}
 use Rattle.tm_channel.specs.Receiving.{beyond, waiting_bits, AreFurther, AreFirstFurther, AreFirstDue}
 use Rattle.tm_channel.specs.OctetReceiving.{BitReceiving, OctetReceiving, StandsFor, FirstWith, StandsForBits, Stages, StagesFor, StagesHand, StagesOn, Keeping, Keeps, KeepsPhase, AreSpare, AreWaiting, Gathers, Grows, Ends, Received, ReceivedPart, ReceivedLast, ReceivedLastPart, bits_found, received_bits}
 use Rattle.tm_channel.proofs.Streaming.{first-longer, first-more, first-then, items-then}
 use Rattle.tm_channel.proofs.AllBits.{beyond-nil, all-items, some-items, few-items, due-nil}
 use Rattle.tm_channel.proofs.ReceivedPieces.{all_bits, all_bits-append}
-use Rattle.tm_channel.proofs.Turns.{front-nil, in_turn-split, none-behind, part-some, phase_from-append, phase_from-items, phase_of-in_turn, turn-further}
+use Rattle.tm_channel.proofs.Turns.{prefix-nil, with_phase-split, none-after, part-some, phase_from-append, phase_from-items, phase_of-with_phase, turn-further}
 
 -- ---- the phase and the bits that are kept
 
@@ -123,9 +123,9 @@ pub gathered-fed : (inner middle now : InnerReceiving) (octets : List ℕ) (take
     → (given : List ℕ) (done : List (Handed WindowBlock)) → length given + length octets < 2 ^ 60 → InnerStandsFor inner given done
     → InnerStandsFor now (given ++ octets) (done ++ more) × AreHandedDue inner.config (given ++ octets) (done ++ more)
 gathered-fed inner middle now octets taken more same within gathered fed given done few stood =
-    let front = take taken octets in
-    let there = fed (given ++ front) done (omega (arith, few, within, length-append given front, length-take taken octets, length-drop taken octets)) (gathered given done (omega (arith, few, within)) stood) in
-    let whole : (given ++ front) ++ drop taken octets ≡ given ++ octets = append_assoc given front (drop taken octets) ∙ ap (λ l. given ++ l) (take-append-drop taken octets) in (
+    let prefix = take taken octets in
+    let there = fed (given ++ prefix) done (omega (arith, few, within, length-append given prefix, length-take taken octets, length-drop taken octets)) (gathered given done (omega (arith, few, within)) stood) in
+    let whole : (given ++ prefix) ++ drop taken octets ≡ given ++ octets = append_assoc given prefix (drop taken octets) ∙ ap (λ l. given ++ l) (take-append-drop taken octets) in (
       subst (λ (l : List ℕ). InnerStandsFor now l (done ++ more)) whole there.0,
       subst (λ (k : Configuration). AreHandedDue k (given ++ octets) (done ++ more)) same (subst (λ (l : List ℕ). AreHandedDue middle.config l (done ++ more)) whole there.1),
     )
@@ -146,13 +146,13 @@ gathered-all inner now octets taken due most same all few_due gathered counted g
 last-at : (rate : Option Rate) (c : Configuration) (phase : ℕ) (given : List ℕ) (blocks last : List WindowBlock) (left : ℕ) → BlocksAt rate c phase given (blocks ++ last) left
     → bits_at rate c given (blocks ++ last) ≡ bits_at rate c given blocks ++ all_bits last
 last-at None c phase given blocks last left are =
-    let none = front-nil blocks last are.0 in
+    let none = prefix-nil blocks last are.0 in
     sym (append-nil (drop c.skip (plain_bits c given))) ∙ ap (λ (l : List WindowBlock). drop c.skip (plain_bits c given) ++ all_bits l) (sym none.1)
 last-at (Some rate) c phase given blocks last left are = all_bits-append blocks last
 
 -- the blocks of what was handed over
-pub turn-items : {I : Type 0} (chosen : Option Chosen) (items : List I) (handed : List (Handed I)) → handed ≡ in_turn chosen items → items_of handed ≡ items
-turn-items chosen items handed are = ap items_of are ∙ items_of-in_turn chosen items
+pub turn-items : {I : Type 0} (chosen : Option Chosen) (items : List I) (handed : List (Handed I)) → handed ≡ with_phase chosen items → items_of handed ≡ items
+turn-items chosen items handed are = ap items_of are ∙ items_of-with_phase chosen items
 
 -- the last blocks add these bits
 bits-last : (c : Configuration) (given : List ℕ) (done last : List (Handed WindowBlock)) (left : ℕ) → AreHanded c given (done ++ last) left
@@ -217,19 +217,19 @@ first-beyond c bits rest items are =
 
 -- where blocks wait after what was handed over, no further phase comes
 once : (c : Configuration) (soft soft_now : List ℕ) (chosen other : Option Chosen) (blocks waiting all : List WindowBlock) (handed more : List (Handed WindowBlock))
-    → IsChosenBy c soft chosen → IsChosenBy c soft_now other → handed ++ map Item waiting ≡ in_turn chosen blocks → handed ++ more ≡ in_turn other all → phase_of more ≡ None
-once c soft soft_now None None blocks waiting all handed more is now are same = none-behind None handed more (ap phase_of same ∙ phase_of-in_turn None all)
+    → IsChosenBy c soft chosen → IsChosenBy c soft_now other → handed ++ map Item waiting ≡ with_phase chosen blocks → handed ++ more ≡ with_phase other all → phase_of more ≡ None
+once c soft soft_now None None blocks waiting all handed more is now are same = none-after None handed more (ap phase_of same ∙ phase_of-with_phase None all)
 once c soft soft_now None (Some b) blocks waiting all handed more is now are same = absurd (never_both c.phase is now.0)
 once c soft soft_now (Some a) None blocks waiting all handed more is now are same = absurd (never_both c.phase now is.0)
 once c soft soft_now (Some a) (Some b) blocks [] all [] more is now are same = absurd cc
 once c soft soft_now (Some a) (Some b) blocks (w ∷ waiting) all [] more is now are same = absurd cc
 once c soft soft_now (Some a) (Some b) blocks waiting all (h ∷ handed) more is now are same =
-    none-behind None handed more (ap (λ l. phase_of (drop 1 l)) same ∙ phase_of-in_turn None all)
+    none-after None handed more (ap (λ l. phase_of (drop 1 l)) same ∙ phase_of-with_phase None all)
 
 once-due : (c : Configuration) (given octets : List ℕ) (done : List (Handed WindowBlock)) (waiting : List WindowBlock) (more : List (Handed WindowBlock)) → AreWaiting c given done waiting
     → AreHandedDue c (given ++ octets) (done ++ more) → IsSettled c given → phase_of more ≡ None
 once-due c given octets done waiting more (inl before) now settled = absurd (before.0 settled)
-once-due c given octets done waiting more (inr before) (inl now) settled = ap phase_of (front-nil done more now.1).1
+once-due c given octets done waiting more (inr before) (inl now) settled = ap phase_of (prefix-nil done more now.1).1
 once-due c given octets done waiting more (inr before) (inr now) settled =
     let g = before.1 in
     let h = now.1 in
@@ -279,21 +279,21 @@ first-none-items c bits piece items none are =
 turn-more : (c : Configuration) (given : List ℕ) (handed : List (Handed WindowBlock)) (waiting : List WindowBlock) (more : List (Handed WindowBlock)) (done : List (Handed ItemValue)) (items others : List ItemValue) (phase : Option Chosen)
     → AreWaiting c given handed waiting
     → AreItemsOf c (inner_bits c given (items_of handed)) (due c (inner_bits c given (items_of handed))) items
-    → done ≡ in_turn (phase_of handed) items → (IsSettled c given → phase_of more ≡ None) → phase ≡ phase_of more
-    → done ++ (in_turn phase [] ++ map Item others) ≡ in_turn (phase_of (handed ++ more)) (items ++ others)
+    → done ≡ with_phase (phase_of handed) items → (IsSettled c given → phase_of more ≡ None) → phase ≡ phase_of more
+    → done ++ (with_phase phase [] ++ map Item others) ≡ with_phase (phase_of (handed ++ more)) (items ++ others)
 turn-more c given handed waiting more done items others phase (inl before) are_items are once is =
-    let handed_none = (front-nil handed (map Item waiting) before.1).0 in
+    let handed_none = (prefix-nil handed (map Item waiting) before.1).0 in
     let none = due-none-items c (inner_bits c given (items_of handed)) items (unsettled-bits c given handed before.0 handed_none) are_items in
-    let start : done ≡ [] = are ∙ ap (λ (l : List (Handed WindowBlock)). in_turn (phase_of l) items) handed_none ∙ ap (in_turn None) none in
-    ap (λ l. l ++ (in_turn phase [] ++ map Item others)) start
-    ∙ ap (λ (o : Option Chosen). in_turn o [] ++ map Item others) is
-    ∙ sym (in_turn-split (phase_of more) others)
-    ∙ ap (λ (l : List (Handed WindowBlock)). in_turn (phase_of (l ++ more)) others) (sym handed_none)
-    ∙ ap (λ l. in_turn (phase_of (handed ++ more)) (l ++ others)) (sym none)
+    let start : done ≡ [] = are ∙ ap (λ (l : List (Handed WindowBlock)). with_phase (phase_of l) items) handed_none ∙ ap (with_phase None) none in
+    ap (λ l. l ++ (with_phase phase [] ++ map Item others)) start
+    ∙ ap (λ (o : Option Chosen). with_phase o [] ++ map Item others) is
+    ∙ sym (with_phase-split (phase_of more) others)
+    ∙ ap (λ (l : List (Handed WindowBlock)). with_phase (phase_of (l ++ more)) others) (sym handed_none)
+    ∙ ap (λ l. with_phase (phase_of (handed ++ more)) (l ++ others)) (sym none)
 turn-more c given handed waiting more done items others phase (inr before) are_items are once is =
-    ap (λ (o : Option Chosen). done ++ (in_turn o [] ++ map Item others)) is
+    ap (λ (o : Option Chosen). done ++ (with_phase o [] ++ map Item others)) is
     ∙ turn-further (phase_of handed) more done items others (once before.0) are
-    ∙ ap (λ (o : Option Chosen). in_turn o (items ++ others)) (sym (phase_from-append None handed more))
+    ∙ ap (λ (o : Option Chosen). with_phase o (items ++ others)) (sym (phase_from-append None handed more))
 
 -- ---- both stages go on
 
@@ -358,7 +358,7 @@ onward s now room octets phase piece roomy grows given done few stood =
 stages-due : {T : Type 0} (took : T → ItemValue → T → Type 0) (s now : Stages) (middle taker_now : T) (room : ℕ) (octets : List ℕ) (phase : Option Chosen) (piece : List Bool)
     → IsOf s → IsRoomy s (length octets) room → now.inner.config ≡ s.inner.config → Grows s.inner now.inner room octets phase piece → (p : Received took s.bits now.bits middle taker_now piece)
     → (given : List ℕ) (done : List (Handed ItemValue)) → length given + length octets < 2 ^ 60 → (stood : StagesFor s given done)
-    → StagesOn now (given ++ octets) (done ++ (in_turn phase [] ++ map Item p.items)) stood.handed
+    → StagesOn now (given ++ octets) (done ++ (with_phase phase [] ++ map Item p.items)) stood.handed
 stages-due took s now middle taker_now room octets phase piece of roomy same grows p given done few stood =
     let c = s.inner.config in
     let f = onward s now.inner room octets phase piece roomy grows given done few stood in
@@ -437,27 +437,27 @@ hands-wait took s now taker octets spare of same coded none most gathers = recor
 }
 
 -- a part of it was
-stages-front : (s : Stages) (now : InnerReceiving) (room : ℕ) (octets : List ℕ) (phase : Option Chosen) (piece : List Bool) (tried : List ItemValue)
+stages-prefix : (s : Stages) (now : InnerReceiving) (room : ℕ) (octets : List ℕ) (phase : Option Chosen) (piece : List Bool) (tried : List ItemValue)
     → IsOf s → IsRoomy s (length octets) room → Grows s.inner now room octets phase piece → AreFirstDue s.bits.batch.config (StandsForBits s.bits) piece tried
-    → (in_turn phase [] ++ map Item tried ≡ [] → ⊥)
+    → (with_phase phase [] ++ map Item tried ≡ [] → ⊥)
     → (given : List ℕ) (done : List (Handed ItemValue)) → length given + length octets < 2 ^ 60 → StagesFor s given done
-    → AreReceivedFirst s.inner.config (given ++ octets) (done ++ (in_turn phase [] ++ map Item tried))
-stages-front s now room octets phase piece tried of roomy grows first some given done few stood =
+    → AreReceivedFirst s.inner.config (given ++ octets) (done ++ (with_phase phase [] ++ map Item tried))
+stages-prefix s now room octets phase piece tried of roomy grows first some given done few stood =
     let c = s.inner.config in
     let f = onward s now room octets phase piece roomy grows given done few stood in
     let handed = stood.handed ++ f.more in
     let bits = inner_bits c given (items_of stood.handed) in
     let more = subst (λ (k : Configuration). AreFirstFurther k bits piece tried) of (first bits f.few stood.bits) in
-    elim f.due as (λ _. AreReceivedFirst c (given ++ octets) (done ++ (in_turn phase [] ++ map Item tried))) [
+    elim f.due as (λ _. AreReceivedFirst c (given ++ octets) (done ++ (with_phase phase [] ++ map Item tried))) [
       | inl w ↦ (
-          let none : phase ≡ None = f.is_phase ∙ ap phase_of (front-nil stood.handed f.more w.1).1 in
+          let none : phase ≡ None = f.is_phase ∙ ap phase_of (prefix-nil stood.handed f.more w.1).1 in
           let no_items = first-none-items c bits piece tried (sym f.is ∙ unsettled-bits c (given ++ octets) handed w.0 w.1) more in
-          absurd (some (ap (λ (o : Option Chosen). in_turn o [] ++ map Item tried) none ∙ ap (map Item) no_items))
+          absurd (some (ap (λ (o : Option Chosen). with_phase o [] ++ map Item tried) none ∙ ap (map Item) no_items))
           )
       | inr g ↦ (
           let h = g.1 in
           let blocks = turn-items h.chosen h.items handed h.are in
-          let chosen : phase_of handed ≡ h.chosen = ap phase_of h.are ∙ phase_of-in_turn h.chosen h.items in (
+          let chosen : phase_of handed ≡ h.chosen = ap phase_of h.are ∙ phase_of-with_phase h.chosen h.items in (
             g.0,
             record {
               chosen = h.chosen;
@@ -470,50 +470,50 @@ stages-front s now room octets phase piece tried of roomy grows first some given
               };
               are = turn-more c given stood.handed stood.waiting f.more done stood.items tried phase stood.are_due stood.are_items stood.are
                   (once-due c given octets stood.handed stood.waiting f.more stood.are_due f.due) f.is_phase
-                  ∙ ap (λ (o : Option Chosen). in_turn o (stood.items ++ tried)) chosen;
+                  ∙ ap (λ (o : Option Chosen). with_phase o (stood.items ++ tried)) chosen;
             },
           )
           )
     ]
 
 pub hands-due : {T : Type 0} (took_phase : T → ℕ → ℕ → T → Type 0) (took : T → ItemValue → T → Type 0) (s now : Stages) (taker middle taker_now : T) (room : ℕ) (octets : List ℕ) (phase : Option Chosen) (piece : List Bool)
-    → IsOf s → IsRoomy s (length octets) room → now.inner.config ≡ s.inner.config → Grows s.inner now.inner room octets phase piece → HandedOver (on_handed took_phase took) taker (in_turn phase []) middle
+    → IsOf s → IsRoomy s (length octets) room → now.inner.config ≡ s.inner.config → Grows s.inner now.inner room octets phase piece → HandedOver (on_handed took_phase took) taker (with_phase phase []) middle
     → Received took s.bits now.bits middle taker_now piece → StagesHand (on_handed took_phase took) s now taker taker_now octets
 hands-due took_phase took s now taker middle taker_now room octets phase piece of roomy same grows first p = record {
-  more = in_turn phase [] ++ map Item p.items;
-  handed = HandedOver-append (on_handed took_phase took) taker middle taker_now (in_turn phase []) (map Item p.items) first
+  more = with_phase phase [] ++ map Item p.items;
+  handed = HandedOver-append (on_handed took_phase took) taker middle taker_now (with_phase phase []) (map Item p.items) first
       (HandedOver-items took_phase took middle taker_now p.items p.handed);
   stands = stages-due took s now middle taker_now room octets phase piece of roomy same grows p;
 }
 
 -- the taker failed at the phase
-pub front-phase : {T : Type 0} (took_phase broke_phase : T → ℕ → ℕ → T → Type 0) (took broke : T → ItemValue → T → Type 0) (s : Stages) (now : InnerReceiving) (taker taker_now : T) (room : ℕ) (octets : List ℕ)
+pub prefix-phase : {T : Type 0} (took_phase broke_phase : T → ℕ → ℕ → T → Type 0) (took broke : T → ItemValue → T → Type 0) (s : Stages) (now : InnerReceiving) (taker taker_now : T) (room : ℕ) (octets : List ℕ)
     (phase : Option Chosen) (piece : List Bool) → IsOf s → IsRoomy s (length octets) room → Grows s.inner now room octets phase piece
-    → HandedPart (on_handed took_phase took) (on_handed broke_phase broke) taker (in_turn phase []) taker_now
-    → HandsFront (on_handed took_phase took) (on_handed broke_phase broke) StagesFor (AreReceivedFirst s.inner.config) s taker taker_now octets
-front-phase took_phase broke_phase took broke s now taker taker_now room octets phase piece of roomy grows part =
-    let all = append-nil (in_turn {I = ItemValue} phase []) in
+    → HandedPart (on_handed took_phase took) (on_handed broke_phase broke) taker (with_phase phase []) taker_now
+    → HandsPrefix (on_handed took_phase took) (on_handed broke_phase broke) StagesFor (AreReceivedFirst s.inner.config) s taker taker_now octets
+prefix-phase took_phase broke_phase took broke s now taker taker_now room octets phase piece of roomy grows part =
+    let all = append-nil (with_phase {I = ItemValue} phase []) in
     record {
-      tried = in_turn phase [];
+      tried = with_phase phase [];
       handed = part;
       first = λ given done few stood. subst (λ (l : List (Handed ItemValue)). AreReceivedFirst s.inner.config (given ++ octets) (done ++ l)) all
-          (stages-front s now room octets phase piece [] of roomy grows (λ bits _ _. tt)
-          (λ none. part-some (on_handed took_phase took) (on_handed broke_phase broke) taker taker_now (in_turn phase []) part (sym all ∙ none)) given done few stood);
+          (stages-prefix s now room octets phase piece [] of roomy grows (λ bits _ _. tt)
+          (λ none. part-some (on_handed took_phase took) (on_handed broke_phase broke) taker taker_now (with_phase phase []) part (sym all ∙ none)) given done few stood);
     }
 
 -- it failed at an item after it
-pub front-due : {T : Type 0} (took_phase broke_phase : T → ℕ → ℕ → T → Type 0) (took broke : T → ItemValue → T → Type 0) (s : Stages) (now : InnerReceiving) (bits_now : BitReceiving)
+pub prefix-due : {T : Type 0} (took_phase broke_phase : T → ℕ → ℕ → T → Type 0) (took broke : T → ItemValue → T → Type 0) (s : Stages) (now : InnerReceiving) (bits_now : BitReceiving)
     (taker middle taker_now : T) (room : ℕ) (octets : List ℕ) (phase : Option Chosen) (piece : List Bool) → IsOf s → IsRoomy s (length octets) room → Grows s.inner now room octets phase piece
-    → HandedOver (on_handed took_phase took) taker (in_turn phase []) middle → ReceivedPart took broke s.bits bits_now middle taker_now piece
-    → HandsFront (on_handed took_phase took) (on_handed broke_phase broke) StagesFor (AreReceivedFirst s.inner.config) s taker taker_now octets
-front-due took_phase broke_phase took broke s now bits_now taker middle taker_now room octets phase piece of roomy grows first p =
-    let part = HandedPart-after (on_handed took_phase took) (on_handed broke_phase broke) taker middle taker_now (in_turn phase []) (map Item p.tried) first
+    → HandedOver (on_handed took_phase took) taker (with_phase phase []) middle → ReceivedPart took broke s.bits bits_now middle taker_now piece
+    → HandsPrefix (on_handed took_phase took) (on_handed broke_phase broke) StagesFor (AreReceivedFirst s.inner.config) s taker taker_now octets
+prefix-due took_phase broke_phase took broke s now bits_now taker middle taker_now room octets phase piece of roomy grows first p =
+    let part = HandedPart-after (on_handed took_phase took) (on_handed broke_phase broke) taker middle taker_now (with_phase phase []) (map Item p.tried) first
     (HandedPart-items took_phase broke_phase took broke middle taker_now p.tried p.handed) in
     record {
-      tried = in_turn phase [] ++ map Item p.tried;
+      tried = with_phase phase [] ++ map Item p.tried;
       handed = part;
-      first = stages-front s now room octets phase piece p.tried of roomy grows p.first
-          (part-some (on_handed took_phase took) (on_handed broke_phase broke) taker taker_now (in_turn phase [] ++ map Item p.tried) part);
+      first = stages-prefix s now room octets phase piece p.tried of roomy grows p.first
+          (part-some (on_handed took_phase took) (on_handed broke_phase broke) taker taker_now (with_phase phase [] ++ map Item p.tried) part);
     }
 
 -- ---- one piece after another
@@ -527,8 +527,8 @@ stages-none took s taker = record {
       (subst (λ (l : List (Handed ItemValue)). StagesOn s given l stood.handed) (sym (append-nil done)) (stood, [], sym (append-nil stood.handed)));
 }
 
-joined : {A : Type 0} (front middle all more last : List A) → all ≡ middle ++ last → middle ≡ front ++ more → all ≡ front ++ (more ++ last)
-joined front middle all more last is before = is ∙ ap (λ l. l ++ last) before ∙ append_assoc front more last
+joined : {A : Type 0} (prefix middle all more last : List A) → all ≡ middle ++ last → middle ≡ prefix ++ more → all ≡ prefix ++ (more ++ last)
+joined prefix middle all more last is before = is ∙ ap (λ l. l ++ last) before ∙ append_assoc prefix more last
 
 pub stages-more : {T : Type 0} (took : T → Handed ItemValue → T → Type 0) (a b c : Stages) (taker middle now : T) (first second : List ℕ)
     → StagesHand took a b taker middle first → StagesHand took b c middle now second → StagesHand took a c taker now (first ++ second)
@@ -560,15 +560,15 @@ received-due s given done stood =
     let bits = inner_bits c given (items_of handed) in
     elim stood.are_due as (λ _. AreReceivedDue c given done) [
       | inl w ↦ (
-          let handed_none = (front-nil handed (map Item waiting) w.1).0 in
+          let handed_none = (prefix-nil handed (map Item waiting) w.1).0 in
           let none = due-none-items c bits stood.items (unsettled-bits c given handed w.0 handed_none) stood.are_items in
-          inl (w.0, stood.are ∙ ap (λ (l : List (Handed WindowBlock)). in_turn (phase_of l) stood.items) handed_none ∙ ap (in_turn None) none)
+          inl (w.0, stood.are ∙ ap (λ (l : List (Handed WindowBlock)). with_phase (phase_of l) stood.items) handed_none ∙ ap (with_phase None) none)
           )
       | inr g ↦ (
           let h = g.1 in
           let blocks : items_of handed ++ waiting ≡ h.items = ap (λ (l : List WindowBlock). items_of handed ++ l) (sym (items_of-items waiting)) ∙ sym (items_of-append handed (map Item waiting))
           ∙ turn-items h.chosen h.items (handed ++ map Item waiting) h.are in
-          let chosen : phase_of handed ≡ h.chosen = sym (phase_from-append None handed (map Item waiting) ∙ phase_from-items (phase_of handed) waiting) ∙ ap phase_of h.are ∙ phase_of-in_turn h.chosen h.items in
+          let chosen : phase_of handed ≡ h.chosen = sym (phase_from-append None handed (map Item waiting) ∙ phase_from-items (phase_of handed) waiting) ∙ ap phase_of h.are ∙ phase_of-with_phase h.chosen h.items in
           let more = with-waiting c.inner c given (items_of handed) waiting in
           let nothing : AreFurther c bits more.0 [] =
           subst (λ (fs : List Found). AreItemsOf c (bits ++ more.0) fs []) (sym (ap (beyond (due c bits)) (sym (ap (due c) more.1) ∙ stood.none_due) ∙ drop-length (due c bits))) tt in
@@ -584,7 +584,7 @@ received-due s given done stood =
                 are_due = subst (AreInnerDue c (skip_of h.chosen) given) (sym blocks) h.are_items;
                 are_items = subst (λ (l : List Bool). AreItemsOf c l (due c l) stood.items) (sym more.1) items;
               };
-              are = stood.are ∙ ap (λ (o : Option Chosen). in_turn o stood.items) chosen;
+              are = stood.are ∙ ap (λ (o : Option Chosen). with_phase o stood.items) chosen;
             },
           )
           )
@@ -625,8 +625,8 @@ first-stays stays closed c octets more handed h =
 -- the phase that is chosen with these octets too
 pub first-chosen : {T : Type 0} (took broke : T → Handed ItemValue → T → Type 0) (s : Stages) (now : InnerReceiving) (taker taker_now : T) (room : ℕ) (octets : List ℕ)
     (phase : Option Chosen) (piece : List Bool) → IsRoomy s (length octets) room → now.config ≡ s.inner.config → Grows s.inner now room octets phase piece
-    → HandsFront took broke StagesFor (AreReceivedFirst s.inner.config) s taker taker_now octets
-    → HandsFront took broke StagesFor (FirstWith s.inner.config now.phased.chosen) s taker taker_now octets
+    → HandsPrefix took broke StagesFor (AreReceivedFirst s.inner.config) s taker taker_now octets
+    → HandsPrefix took broke StagesFor (FirstWith s.inner.config now.phased.chosen) s taker taker_now octets
 first-chosen took broke s now taker taker_now room octets phase piece roomy same grows p = record {
   tried = p.tried;
   handed = p.handed;
@@ -659,7 +659,7 @@ pub record Ended (s : Stages) (given : List ℕ) (done : List (Handed ItemValue)
   pub is : bits ≡ inner_bits s.inner.config given (items_of stood.handed) ++ piece
   pub few : length (inner_bits s.inner.config given (items_of stood.handed) ++ piece) < 2 ^ 63
   pub counted : count ≡ length bits
-  pub turn : (others : List ItemValue) → done ++ (in_turn phase [] ++ map Item others) ≡ in_turn chosen (stood.items ++ others)
+  pub turn : (others : List ItemValue) → done ++ (with_phase phase [] ++ map Item others) ≡ with_phase chosen (stood.items ++ others)
 
 pub ended : (s : Stages) (given : List ℕ) (done : List (Handed ItemValue)) (stood : StagesFor s given done) (room : ℕ) (phase : Option Chosen) (piece : List Bool) (count : ℕ) → IsRoomy s 0 room → Ends s.inner room phase piece count
     → Ended s given done stood phase piece count
@@ -669,7 +669,7 @@ ended s given done stood room phase piece count roomy ends =
     let h = e.are_handed in
     let handed = stood.handed ++ e.last in
     let blocks = turn-items h.chosen h.items handed h.are in
-    let chosen : phase_of handed ≡ h.chosen = ap phase_of h.are ∙ phase_of-in_turn h.chosen h.items in
+    let chosen : phase_of handed ≡ h.chosen = ap phase_of h.are ∙ phase_of-with_phase h.chosen h.items in
     let here = subst (λ (l : List WindowBlock). AreInnerBlocks c (skip_of h.chosen) given l e.left) (sym blocks) h.are_items in
     record {
       chosen = h.chosen;
@@ -680,7 +680,7 @@ ended s given done stood room phase piece count roomy ends =
       few = omega (arith, ap length e.bits, whole-few c (skip_of h.chosen) given (items_of handed) e.left here, stood.inner.few);
       counted = e.counted;
       turn = λ others. turn-more c given stood.handed stood.waiting e.last done stood.items others phase stood.are_due stood.are_items stood.are
-          (once-last c given stood.handed stood.waiting e.last e.left stood.are_due h) e.is_phase ∙ ap (λ (o : Option Chosen). in_turn o (stood.items ++ others)) chosen;
+          (once-last c given stood.handed stood.waiting e.last e.left stood.are_due h) e.is_phase ∙ ap (λ (o : Option Chosen). with_phase o (stood.items ++ others)) chosen;
     }
 
 -- the items of all bits
@@ -702,7 +702,7 @@ items-ended took s bits_now taker middle now piece of p q given done stood few =
 pub ends : {T : Type 0} (took : T → ItemValue → T → Type 0) (s : Stages) (bits_now : BitReceiving) (taker middle now : T) (room : ℕ) (phase : Option Chosen) (piece : List Bool) (count : ℕ)
     → IsOf s → IsRoomy s 0 room → Ends s.inner room phase piece count → (p : Received took s.bits bits_now taker middle piece) (q : ReceivedLast took bits_now middle now)
     → (given : List ℕ) (done : List (Handed ItemValue)) → StagesFor s given done
-    → AreReceived s.inner.config given (done ++ (in_turn phase [] ++ map Item (p.items ++ q.items))) count
+    → AreReceived s.inner.config given (done ++ (with_phase phase [] ++ map Item (p.items ++ q.items))) count
 ends took s bits_now taker middle now room phase piece count of roomy ended_with p q given done stood =
     let c = s.inner.config in
     let e = ended s given done stood room phase piece count roomy ended_with in
@@ -724,7 +724,7 @@ ends-first : (s : Stages) (phase : Option Chosen) (piece : List Bool) (count : �
     → Ended s given done stood phase piece count → (tried : List ItemValue)
     → AreFirstItemsOf s.inner.config (inner_bits s.inner.config given (items_of stood.handed) ++ piece)
     (places (rules_of s.inner.config) (inner_bits s.inner.config given (items_of stood.handed) ++ piece)) (stood.items ++ tried)
-    → AreReceivedFront s.inner.config given (done ++ (in_turn phase [] ++ map Item tried))
+    → AreReceivedPrefix s.inner.config given (done ++ (with_phase phase [] ++ map Item tried))
 ends-first s phase piece count given done stood e tried first =
     let c = s.inner.config in
     record {
@@ -741,19 +741,19 @@ ends-first s phase piece count given done stood e tried first =
 
 -- the taker failed at the phase
 pub ends-phase : (s : Stages) (room : ℕ) (phase : Option Chosen) (piece : List Bool) (count : ℕ) → IsOf s → IsRoomy s 0 room → Ends s.inner room phase piece count
-    → (given : List ℕ) (done : List (Handed ItemValue)) → StagesFor s given done → AreReceivedFront s.inner.config given (done ++ in_turn phase [])
+    → (given : List ℕ) (done : List (Handed ItemValue)) → StagesFor s given done → AreReceivedPrefix s.inner.config given (done ++ with_phase phase [])
 ends-phase s room phase piece count of roomy ended_with given done stood =
     let c = s.inner.config in
     let e = ended s given done stood room phase piece count roomy ended_with in
     let bits = inner_bits c given (items_of stood.handed) in
-    subst (λ (l : List (Handed ItemValue)). AreReceivedFront c given (done ++ l)) (append-nil (in_turn phase []))
+    subst (λ (l : List (Handed ItemValue)). AreReceivedPrefix c given (done ++ l)) (append-nil (with_phase phase []))
     (ends-first s phase piece count given done stood e [] (first-of-more c bits piece stood.items [] stood.are_items tt))
 
 -- it failed at one of the items that are due with the last bits
 pub ends-part : {T : Type 0} (took broke : T → ItemValue → T → Type 0) (s : Stages) (bits_now : BitReceiving) (taker now : T) (room : ℕ) (phase : Option Chosen) (piece : List Bool) (count : ℕ)
     → IsOf s → IsRoomy s 0 room → Ends s.inner room phase piece count → (p : ReceivedPart took broke s.bits bits_now taker now piece)
     → (given : List ℕ) (done : List (Handed ItemValue)) → StagesFor s given done
-    → AreReceivedFront s.inner.config given (done ++ (in_turn phase [] ++ map Item p.tried))
+    → AreReceivedPrefix s.inner.config given (done ++ (with_phase phase [] ++ map Item p.tried))
 ends-part took broke s bits_now taker now room phase piece count of roomy ended_with p given done stood =
     let c = s.inner.config in
     let e = ended s given done stood room phase piece count roomy ended_with in
@@ -762,11 +762,11 @@ ends-part took broke s bits_now taker now room phase piece count of roomy ended_
     ends-first s phase piece count given done stood e p.tried (first-of-more c bits piece stood.items p.tried stood.are_items more)
 
 -- it failed at one of the last items
-pub ends-front : {T : Type 0} (took broke : T → ItemValue → T → Type 0) (s : Stages) (bits_now : BitReceiving) (taker middle now : T) (room : ℕ) (phase : Option Chosen) (piece : List Bool) (count : ℕ)
+pub ends-prefix : {T : Type 0} (took broke : T → ItemValue → T → Type 0) (s : Stages) (bits_now : BitReceiving) (taker middle now : T) (room : ℕ) (phase : Option Chosen) (piece : List Bool) (count : ℕ)
     → IsOf s → IsRoomy s 0 room → Ends s.inner room phase piece count → (p : Received took s.bits bits_now taker middle piece) (q : ReceivedLastPart took broke bits_now middle now)
     → (given : List ℕ) (done : List (Handed ItemValue)) → StagesFor s given done
-    → AreReceivedFront s.inner.config given (done ++ (in_turn phase [] ++ map Item (p.items ++ q.tried)))
-ends-front took broke s bits_now taker middle now room phase piece count of roomy ended_with p q given done stood =
+    → AreReceivedPrefix s.inner.config given (done ++ (with_phase phase [] ++ map Item (p.items ++ q.tried)))
+ends-prefix took broke s bits_now taker middle now room phase piece count of roomy ended_with p q given done stood =
     let c = s.inner.config in
     let e = ended s given done stood room phase piece count roomy ended_with in
     let bits = inner_bits c given (items_of stood.handed) in

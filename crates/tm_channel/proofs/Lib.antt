@@ -9,7 +9,7 @@ pub mod OnlyItems
 mod HasItems
 pub mod ReceivedOctets
 pub mod SentPhase
-pub mod TurnedOctets
+pub mod ComplementedOctets
 pub mod DueItems
 pub mod FirstItems
 pub mod WorkedItems

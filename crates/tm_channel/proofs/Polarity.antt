@@ -7,38 +7,38 @@ use Rattle.tm_config.specs.declared.values.Sought.TheVariants.{Find}
 use Rattle.tm_config.specs.Accepted.{IsAccepted}
 use Rattle.tm_sync.specs.declared.found.Found.{Found}
 use Rattle.tm_sync.specs.Bits.{flip, complement}
-use Rattle.tm_sync.specs.Places.{places, turned_place}
-use Rattle.tm_sync.proofs.Turned.{take-complement, drop-complement, in_polarity-turned, places-turned}
+use Rattle.tm_sync.specs.Places.{places, complemented_place}
+use Rattle.tm_sync.proofs.Complemented.{take-complement, drop-complement, in_polarity-complemented, places-complemented}
 use Rattle.tm_codeblock.specs.ReceivedCodeblock.{rules_of, unmasked, codeblock_in, codeblock_at}
-use Rattle.tm_channel.specs.Items.{ItemValue, IsItem, AreItemsOf, AreItems, turned_item}
+use Rattle.tm_channel.specs.Items.{ItemValue, IsItem, AreItemsOf, AreItems, complemented_item}
 
-in-turned : (c : Configuration) (inverted : Bool) (bits : List Bool) → codeblock_in c (flip inverted) (complement bits) ≡ codeblock_in c inverted bits
+in-complemented : (c : Configuration) (inverted : Bool) (bits : List Bool) → codeblock_in c (flip inverted) (complement bits) ≡ codeblock_in c inverted bits
 unfolding codeblock_in
-in-turned c inverted bits = ap (λ l. unmasked c (octets_of l)) (in_polarity-turned inverted bits)
+in-complemented c inverted bits = ap (λ l. unmasked c (octets_of l)) (in_polarity-complemented inverted bits)
 
-codeblock-turned : (c : Configuration) (bits : List Bool) (f : Found) → codeblock_at c (complement bits) (turned_place f) ≡ codeblock_at c bits f
-codeblock-turned c bits f =
+codeblock-complemented : (c : Configuration) (bits : List Bool) (f : Found) → codeblock_at c (complement bits) (complemented_place f) ≡ codeblock_at c bits f
+codeblock-complemented c bits f =
     ap (codeblock_in c (flip f.inverted)) (ap (take (8 * codeblock_length c)) (drop-complement (f.place + 32) bits) ∙ take-complement (8 * codeblock_length c) (drop (f.place + 32) bits))
-    ∙ in-turned c f.inverted (take (8 * codeblock_length c) (drop (f.place + 32) bits))
+    ∙ in-complemented c f.inverted (take (8 * codeblock_length c) (drop (f.place + 32) bits))
 
-items-of-turned : (c : Configuration) (bits : List Bool) (fs : List Found) (items : List ItemValue) → AreItemsOf c bits fs items → AreItemsOf c (complement bits) (map turned_place fs) (map turned_item items)
-items-of-turned c bits [] [] are = tt
-items-of-turned c bits [] (item ∷ items) are = absurd are
-items-of-turned c bits (f ∷ fs) [] are = absurd are
-items-of-turned c bits (f ∷ fs) (item ∷ items) are =
+items-of-complemented : (c : Configuration) (bits : List Bool) (fs : List Found) (items : List ItemValue) → AreItemsOf c bits fs items → AreItemsOf c (complement bits) (map complemented_place fs) (map complemented_item items)
+items-of-complemented c bits [] [] are = tt
+items-of-complemented c bits [] (item ∷ items) are = absurd are
+items-of-complemented c bits (f ∷ fs) [] are = absurd are
+items-of-complemented c bits (f ∷ fs) (item ∷ items) are =
     let it : IsItem c f (codeblock_at c bits f) item = are.0 in
-    let turned : IsItem c (turned_place f) (codeblock_at c bits f) (turned_item item) = record { place = ap turned_place it.place; words = it.words; nearest = it.nearest; frame = it.frame } in (
-      subst (λ (b : List ℕ). IsItem c (turned_place f) b (turned_item item)) (sym (codeblock-turned c bits f)) turned,
-      items-of-turned c bits fs items are.1,
+    let complemented : IsItem c (complemented_place f) (codeblock_at c bits f) (complemented_item item) = record { place = ap complemented_place it.place; words = it.words; nearest = it.nearest; frame = it.frame } in (
+      subst (λ (b : List ℕ). IsItem c (complemented_place f) b (complemented_item item)) (sym (codeblock-complemented c bits f)) complemented,
+      items-of-complemented c bits fs items are.1,
     )
 
 either : (sought : Sought) → sought ≡ Find → is_sought sought ≡ true
 either sought find = rw find refl
 
-pub items-turned : (c : Configuration) (bits : List Bool) (items : List ItemValue) → IsAccepted c → c.polarity ≡ Find
+pub items-complemented : (c : Configuration) (bits : List Bool) (items : List ItemValue) → IsAccepted c → c.polarity ≡ Find
     → AreItems c bits items
-    → AreItems c (complement bits) (map turned_item items)
-items-turned c bits items ok find are =
-    subst (λ (fs : List Found). AreItemsOf c (complement bits) fs (map turned_item items))
-    (sym (places-turned (rules_of c) bits (either c.polarity find) (omega (arith, ok.tolerance))))
-    (items-of-turned c bits (places (rules_of c) bits) items are)
+    → AreItems c (complement bits) (map complemented_item items)
+items-complemented c bits items ok find are =
+    subst (λ (fs : List Found). AreItemsOf c (complement bits) fs (map complemented_item items))
+    (sym (places-complemented (rules_of c) bits (either c.polarity find) (omega (arith, ok.tolerance))))
+    (items-of-complemented c bits (places (rules_of c) bits) items are)

@@ -102,7 +102,7 @@ read-more c slots words piece count index k by_depth long within read one j slot
   where
     at : (j < index) ⊎ (index ≤ j) → IsRead c (codeblock_in_slot c slots j slot) (words_at count (put_mid (index * count) k words piece) j)
     at (inl before) = subst (λ (ws : List Word). IsRead c (codeblock_in_slot c slots j slot) ws) (ap (λ n. words_at n words j) (sym by_depth) ∙ sym (words-before count index j k words piece before within)) (read j slot before)
-    at (inr behind) =
+    at (inr after) =
         let here : index ≡ j = omega arith in
         subst (λ (n : ℕ). IsRead c (codeblock_in_slot c slots n slot) (words_at count (put_mid (index * count) k words piece) n)) here
         (subst (λ (ws : List Word). IsRead c (codeblock_in_slot c slots index slot) ws) (sym (words-here count index k words piece long within)) (one slot))
@@ -144,7 +144,7 @@ item-more c olds slots index now d below long same one done j slot less = at (ca
     at : (j < index) ⊎ (index ≤ j) → IsItem c (get_or olds j slot).found (codeblock_in_slot c olds j slot) (item_in c (get_or (set slots index now) j slot))
     at (inl before) =
         subst (λ (s : Slot). IsItem c (get_or olds j slot).found (codeblock_in_slot c olds j slot) (item_in c s)) (sym (get_or-set_other slots index j now slot (λ e. absurd (omega arith)))) (done j slot before)
-    at (inr behind) =
+    at (inr after) =
         let here : index ≡ j = omega arith in
         subst (λ (n : ℕ). IsItem c (get_or olds n slot).found (codeblock_in_slot c olds n slot) (item_in c (get_or (set slots index now) n slot))) here
         (subst (λ (s : Slot). IsItem c (get_or olds index slot).found (codeblock_in_slot c olds index slot) (item_in c s)) (sym (get_or-set_same slots index now slot (omega arith)))

@@ -70,28 +70,28 @@ words-are c columns others answers words ok codes within nearest = absurd (assum
 -- ---- codeblocks
 
 -- the codeblock after an entry's place is the entry's block
-codeblock-is : (c : Configuration) (at : ℕ) (before : Option Before) (e : Entry) (front rest : List Bool) → length front ≡ at → length e.marker ≡ 32 → length e.block ≡ 8 * codeblock_length c
-    → codeblock_at c (front ++ (e.gap ++ (e.marker ++ (e.block ++ rest)))) (place_of (rules_of c) at before e) ≡ codeblock_in c (place_of (rules_of c) at before e).inverted e.block
-codeblock-is c at before e front rest long mark size =
+codeblock-is : (c : Configuration) (at : ℕ) (before : Option Before) (e : Entry) (prefix rest : List Bool) → length prefix ≡ at → length e.marker ≡ 32 → length e.block ≡ 8 * codeblock_length c
+    → codeblock_at c (prefix ++ (e.gap ++ (e.marker ++ (e.block ++ rest)))) (place_of (rules_of c) at before e) ≡ codeblock_in c (place_of (rules_of c) at before e).inverted e.block
+codeblock-is c at before e prefix rest long mark size =
     ap (codeblock_in c (place_of (rules_of c) at before e).inverted)
     ((λ i. take (8 * codeblock_length c) (drop (where_is i) (whole i)))
-    ∙ ap (take (8 * codeblock_length c)) (drop_at (front ++ (e.gap ++ e.marker)) (e.block ++ rest) (at + length e.gap + 32) (omega (arith, length-append front (e.gap ++ e.marker), length-append e.gap e.marker)))
+    ∙ ap (take (8 * codeblock_length c)) (drop_at (prefix ++ (e.gap ++ e.marker)) (e.block ++ rest) (at + length e.gap + 32) (omega (arith, length-append prefix (e.gap ++ e.marker), length-append e.gap e.marker)))
     ∙ take_at e.block rest (8 * codeblock_length c) size)
   where
     where_is : (place_of (rules_of c) at before e).place + 32 ≡ at + length e.gap + 32
     where_is = ap (λ n. n + 32) (place_of-place (rules_of c) at before e)
 
-    whole : front ++ (e.gap ++ (e.marker ++ (e.block ++ rest))) ≡ (front ++ (e.gap ++ e.marker)) ++ (e.block ++ rest)
-    whole = ap (λ l. front ++ l) (sym (append_assoc e.gap e.marker (e.block ++ rest))) ∙ sym (append_assoc front (e.gap ++ e.marker) (e.block ++ rest))
+    whole : prefix ++ (e.gap ++ (e.marker ++ (e.block ++ rest))) ≡ (prefix ++ (e.gap ++ e.marker)) ++ (e.block ++ rest)
+    whole = ap (λ l. prefix ++ l) (sym (append_assoc e.gap e.marker (e.block ++ rest))) ∙ sym (append_assoc prefix (e.gap ++ e.marker) (e.block ++ rest))
 
 -- what follows an entry, and where
-next-front : (c : Configuration) (at : ℕ) (before : Option Before) (e : Entry) (front rest : List Bool) → length front ≡ at → length e.marker ≡ 32 → length e.block ≡ 8 * codeblock_length c
-    → (front ++ (e.gap ++ (e.marker ++ (e.block ++ rest))) ≡ (front ++ (e.gap ++ (e.marker ++ e.block))) ++ rest)
-    × (length (front ++ (e.gap ++ (e.marker ++ e.block))) ≡ (place_of (rules_of c) at before e).place + 32 + 8 * codeblock_length c)
-next-front c at before e front rest long mark size = (
-  ap (λ l. front ++ l) (ap (λ l. e.gap ++ l) (sym (append_assoc e.marker e.block rest)) ∙ sym (append_assoc e.gap (e.marker ++ e.block) rest))
-      ∙ sym (append_assoc front (e.gap ++ (e.marker ++ e.block)) rest),
-  omega (arith, place_of-place (rules_of c) at before e, length-append front (e.gap ++ (e.marker ++ e.block)), length-append e.gap (e.marker ++ e.block), length-append e.marker e.block),
+next-prefix : (c : Configuration) (at : ℕ) (before : Option Before) (e : Entry) (prefix rest : List Bool) → length prefix ≡ at → length e.marker ≡ 32 → length e.block ≡ 8 * codeblock_length c
+    → (prefix ++ (e.gap ++ (e.marker ++ (e.block ++ rest))) ≡ (prefix ++ (e.gap ++ (e.marker ++ e.block))) ++ rest)
+    × (length (prefix ++ (e.gap ++ (e.marker ++ e.block))) ≡ (place_of (rules_of c) at before e).place + 32 + 8 * codeblock_length c)
+next-prefix c at before e prefix rest long mark size = (
+  ap (λ l. prefix ++ l) (ap (λ l. e.gap ++ l) (sym (append_assoc e.marker e.block rest)) ∙ sym (append_assoc e.gap (e.marker ++ e.block) rest))
+      ∙ sym (append_assoc prefix (e.gap ++ (e.marker ++ e.block)) rest),
+  omega (arith, place_of-place (rules_of c) at before e, length-append prefix (e.gap ++ (e.marker ++ e.block)), length-append e.gap (e.marker ++ e.block), length-append e.marker e.block),
 )
 
 -- what is said of the codeblock that was received of a frame
@@ -111,24 +111,24 @@ as_sent-one c f u codeblock item ok is size same it =
 
 -- ---- units
 
-as_sent : (c : Configuration) (at : ℕ) (before : Option Before) (units : List SentUnit) (front last : List Bool) (items : List ItemValue) → IsAccepted c → length front ≡ at
+as_sent : (c : Configuration) (at : ℕ) (before : Option Before) (units : List SentUnit) (prefix last : List Bool) (items : List ItemValue) → IsAccepted c → length prefix ≡ at
     → AreEntries (rules_of c) at before (entries_of units) last → AllByRecursion (λ u. IsFrame c u.frame) units
-    → AreItemsOf c (front ++ joined (entries_of units) last) (places_of (rules_of c) at before (entries_of units)) items
+    → AreItemsOf c (prefix ++ joined (entries_of units) last) (places_of (rules_of c) at before (entries_of units)) items
     → AreAsSent c (places_of (rules_of c) at before (entries_of units)) units items
-as_sent c at before [] front last [] ok long are frames items = tt
-as_sent c at before [] front last (item ∷ more) ok long are frames items = absurd items
-as_sent c at before (u ∷ units) front last [] ok long are frames items = absurd items
-as_sent c at before (u ∷ units) front last (item ∷ more) ok long are frames items =
+as_sent c at before [] prefix last [] ok long are frames items = tt
+as_sent c at before [] prefix last (item ∷ more) ok long are frames items = absurd items
+as_sent c at before (u ∷ units) prefix last [] ok long are frames items = absurd items
+as_sent c at before (u ∷ units) prefix last (item ∷ more) ok long are frames items =
     let e = u.received in
     let f = place_of (rules_of c) at before e in
     let rest = joined (entries_of units) last in
     let one = are.0 in
-    let next = next-front c at before e front rest long one.marker one.block in
-    let behind = f.place + 32 + 8 * codeblock_length c in (
-      as_sent-one c f u (codeblock_at c (front ++ (e.gap ++ (e.marker ++ (e.block ++ rest)))) f) item ok frames.0 one.block
-          (codeblock-is c at before e front rest long one.marker one.block) items.0,
-      as_sent c behind (Some (before_next before f)) units (front ++ (e.gap ++ (e.marker ++ e.block))) last more ok next.1 are.1 frames.1
-          (subst (λ (b : List Bool). AreItemsOf c b (places_of (rules_of c) behind (Some (before_next before f)) (entries_of units)) more) next.0 items.1),
+    let next = next-prefix c at before e prefix rest long one.marker one.block in
+    let after = f.place + 32 + 8 * codeblock_length c in (
+      as_sent-one c f u (codeblock_at c (prefix ++ (e.gap ++ (e.marker ++ (e.block ++ rest)))) f) item ok frames.0 one.block
+          (codeblock-is c at before e prefix rest long one.marker one.block) items.0,
+      as_sent c after (Some (before_next before f)) units (prefix ++ (e.gap ++ (e.marker ++ e.block))) last more ok next.1 are.1 frames.1
+          (subst (λ (b : List Bool). AreItemsOf c b (places_of (rules_of c) after (Some (before_next before f)) (entries_of units)) more) next.0 items.1),
     )
 
 -- the items of what was sent, however it was disturbed

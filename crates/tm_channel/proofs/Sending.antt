@@ -2,31 +2,31 @@
 use Rattle.std.proofs.Common.{◌≡◌, ℕ, ◌*◌, ◌<◌, arith, drop, List, [], ◌++◌, flat_map, Option, refl, sym, ◌∙◌, ap, subst}
 use Rattle.std.proofs.Math.Nat.{zero-div}
 use Rattle.std.proofs.lemmas.Grind.{flat_map-append}
-use Rattle.tm_base.specs.Written.{Wrote, WroteFront}
-use Rattle.tm_base.specs.Pieces.{beyond, further, GoesOn, Fed, FedFront}
-use Rattle.tm_base.proofs.Pieces.{fed-none, fed-more, fed-front, further-from_nothing}
+use Rattle.tm_base.specs.Written.{Wrote, WrotePrefix}
+use Rattle.tm_base.specs.Pieces.{beyond, further, GoesOn, Fed, FedPrefix}
+use Rattle.tm_base.proofs.Pieces.{fed-none, fed-more, fed-prefix, further-from_nothing}
 use Rattle.tm_config.specs.Configuration.{Configuration}
 use Rattle.tm_inner.specs.Symbols.{symbols_of_octets}
 use Rattle.tm_inner.specs.Sending.{StandsFor as InnerStandsFor}
 use Rattle.tm_inner.proofs.Symbols.{symbols-go_on, symbols-none}
-use Rattle.tm_codeblock.specs.Frames.{Splits, first_frames, whole_frames, behind_frames}
+use Rattle.tm_codeblock.specs.Frames.{Splits, first_frames, whole_frames, after_frames}
 use Rattle.tm_codeblock.specs.Cadu.{cadu}
-use Rattle.tm_codeblock.proofs.Frames.{splits, splits-more, frames-are, behind-is, whole_frames-more, whole_frames-none}
+use Rattle.tm_codeblock.proofs.Frames.{splits, splits-more, frames-are, after-is, whole_frames-more, whole_frames-none}
 use Rattle.tm_channel.specs.Sent.{cadus, sent}
-use Rattle.tm_channel.specs.Sending.{Sending, StandsFor, Sends, SendsFront}
-use Rattle.tm_channel.specs.Steps.{SendsFrames, SendsFramesFront}
+use Rattle.tm_channel.specs.Sending.{Sending, StandsFor, Sends, SendsPrefix}
+use Rattle.tm_channel.specs.Steps.{SendsFrames, SendsFramesPrefix}
 
 -- ---- what is sent for a longer list
 
 cadus-more : (c : Configuration) → 0 < c.frame_length → (given piece : List ℕ)
-    → cadus c (given ++ piece) ≡ cadus c given ++ flat_map (cadu c) (whole_frames c.frame_length (behind_frames c.frame_length given ++ piece))
+    → cadus c (given ++ piece) ≡ cadus c given ++ flat_map (cadu c) (whole_frames c.frame_length (after_frames c.frame_length given ++ piece))
 cadus-more c some given piece =
     ap (flat_map (cadu c)) (whole_frames-more c.frame_length given piece some)
-    ∙ flat_map-append (cadu c) (whole_frames c.frame_length given) (whole_frames c.frame_length (behind_frames c.frame_length given ++ piece))
+    ∙ flat_map-append (cadu c) (whole_frames c.frame_length given) (whole_frames c.frame_length (after_frames c.frame_length given ++ piece))
 
 pub sent-goes_on : (c : Configuration) → 0 < c.frame_length → GoesOn (sent c)
 sent-goes_on c some given piece =
-    let more = flat_map (cadu c) (whole_frames c.frame_length (behind_frames c.frame_length given ++ piece)) in
+    let more = flat_map (cadu c) (whole_frames c.frame_length (after_frames c.frame_length given ++ piece)) in
     let longer : sent c (given ++ piece) ≡ symbols_of_octets c (cadus c given ++ more) = ap (symbols_of_octets c) (cadus-more c some given piece) in
     longer ∙ symbols-go_on c (cadus c given) more
     ∙ ap (λ (l : List ℕ). sent c given ++ beyond (sent c given) l) (sym longer)
@@ -35,7 +35,7 @@ pub cadus-none : (c : Configuration) → cadus c [] ≡ []
 unfolding whole_frames
 cadus-none c = ap (λ n. flat_map (cadu c) (first_frames c.frame_length n [])) (zero-div c.frame_length)
 
-pub nothing-held : (size : ℕ) → [] ≡ behind_frames size []
+pub nothing-held : (size : ℕ) → [] ≡ after_frames size []
 nothing-held size = let none : 0 * size ≡ 0 = omega arith in sym (ap (λ n. drop (n * size) []) (zero-div size) ∙ ap (λ n. drop n []) none)
 
 pub sent-none : (c : Configuration) → 0 < c.frame_length → sent c [] ≡ []
@@ -57,11 +57,11 @@ sends-more a b c taken_a taken_b taken_c first second some p q = record {
       (subst (λ (x : Configuration). Fed StandsFor (sent x) b c taken_b taken_c second) p.config q.fed);
 }
 
-pub sends-front : (a b : Sending) (taken_a taken_b taken_c : Option (List ℕ)) (first second : List ℕ) → 0 < a.config.frame_length
-    → Sends a b taken_a taken_b first → SendsFront b taken_b taken_c second → SendsFront a taken_a taken_c (first ++ second)
-sends-front a b taken_a taken_b taken_c first second some p q =
-    fed-front StandsFor (sent a.config) (sent-goes_on a.config some) a b taken_a taken_b taken_c first second p.fed
-    (subst (λ (x : Configuration). FedFront StandsFor (sent x) b taken_b taken_c second) p.config q)
+pub sends-prefix : (a b : Sending) (taken_a taken_b taken_c : Option (List ℕ)) (first second : List ℕ) → 0 < a.config.frame_length
+    → Sends a b taken_a taken_b first → SendsPrefix b taken_b taken_c second → SendsPrefix a taken_a taken_c (first ++ second)
+sends-prefix a b taken_a taken_b taken_c first second some p q =
+    fed-prefix StandsFor (sent a.config) (sent-goes_on a.config some) a b taken_a taken_b taken_c first second p.fed
+    (subst (λ (x : Configuration). FedPrefix StandsFor (sent x) b taken_b taken_c second) p.config q)
 
 -- a sender that was given nothing before writes what is sent for the octets
 pub sends-all : (a b : Sending) (taken taken_now : Option (List ℕ)) (octets : List ℕ) → 0 < a.config.frame_length → StandsFor a [] → Sends a b taken taken_now octets
@@ -69,21 +69,21 @@ pub sends-all : (a b : Sending) (taken taken_now : Option (List ℕ)) (octets : 
 sends-all a b taken taken_now octets some new p =
     subst (Wrote taken taken_now) (further-from_nothing (sent a.config) octets (sent-none a.config some)) (p.fed.written [] new)
 
-pub sends-all_front : (a : Sending) (taken taken_now : Option (List ℕ)) (octets : List ℕ) → 0 < a.config.frame_length → StandsFor a [] → SendsFront a taken taken_now octets
-    → WroteFront taken taken_now (sent a.config octets)
-sends-all_front a taken taken_now octets some new p =
-    subst (WroteFront taken taken_now) (further-from_nothing (sent a.config) octets (sent-none a.config some)) (p.front [] new)
+pub sends-all_prefix : (a : Sending) (taken taken_now : Option (List ℕ)) (octets : List ℕ) → 0 < a.config.frame_length → StandsFor a [] → SendsPrefix a taken taken_now octets
+    → WrotePrefix taken taken_now (sent a.config octets)
+sends-all_prefix a taken taken_now octets some new p =
+    subst (WrotePrefix taken taken_now) (further-from_nothing (sent a.config) octets (sent-none a.config some)) (p.prefix [] new)
 
 -- ---- from what is kept to what was given
 
-from_held : (size : ℕ) (given octets held rest : List ℕ) (frames : List (List ℕ)) → 0 < size → held ≡ behind_frames size given → Splits size (held ++ octets) frames rest
+from_held : (size : ℕ) (given octets held rest : List ℕ) (frames : List (List ℕ)) → 0 < size → held ≡ after_frames size given → Splits size (held ++ octets) frames rest
     → Splits size (given ++ octets) (whole_frames size given ++ frames) rest
 from_held size given octets held rest frames some stands s =
-    splits-more size given octets (behind_frames size given) rest (whole_frames size given) frames (splits size given some)
+    splits-more size given octets (after_frames size given) rest (whole_frames size given) frames (splits size given some)
     (subst (λ (l : List ℕ). Splits size (l ++ octets) frames rest) stands s)
 
 -- what is due beyond is what the last stage owes for the units of the frames that are whole now
-due-is : (c : Configuration) (given octets held rest : List ℕ) (frames : List (List ℕ)) → 0 < c.frame_length → held ≡ behind_frames c.frame_length given → Splits c.frame_length (held ++ octets) frames rest
+due-is : (c : Configuration) (given octets held rest : List ℕ) (frames : List (List ℕ)) → 0 < c.frame_length → held ≡ after_frames c.frame_length given → Splits c.frame_length (held ++ octets) frames rest
     → (cadus c (given ++ octets) ≡ cadus c given ++ flat_map (cadu c) frames) × (further (sent c) given octets ≡ further (symbols_of_octets c) (cadus c given) (flat_map (cadu c) frames))
 due-is c given octets held rest frames some stands s =
     let longer : cadus c (given ++ octets) ≡ cadus c given ++ flat_map (cadu c) frames =
@@ -98,8 +98,8 @@ sends-frames a b taken taken_now octets some same p = record {
     stands = λ given stood.
         let due = due-is a.config given octets a.held b.held p.frames some stood.held p.split in
         record {
-          held = subst (λ (x : Configuration). b.held ≡ behind_frames x.frame_length (given ++ octets)) (sym p.config)
-              (sym (behind-is a.config.frame_length (given ++ octets) (whole_frames a.config.frame_length given ++ p.frames) b.held
+          held = subst (λ (x : Configuration). b.held ≡ after_frames x.frame_length (given ++ octets)) (sym p.config)
+              (sym (after-is a.config.frame_length (given ++ octets) (whole_frames a.config.frame_length given ++ p.frames) b.held
               (from_held a.config.frame_length given octets a.held b.held p.frames some stood.held p.split)));
           inner = subst (λ (x : Configuration). InnerStandsFor b.inner (cadus x (given ++ octets))) (sym p.config)
               (subst (InnerStandsFor b.inner) (sym due.0) (p.inner.fed.stands (cadus a.config given) stood.inner));
@@ -111,10 +111,10 @@ sends-frames a b taken taken_now octets some same p = record {
   };
 }
 
-pub sends-frames_front : (a : Sending) (taken taken_now : Option (List ℕ)) (octets : List ℕ) → 0 < a.config.frame_length → a.inner.config ≡ a.config → SendsFramesFront a taken taken_now octets → SendsFront a taken taken_now octets
-sends-frames_front a taken taken_now octets some same p = record {
-  front = λ given stood.
+pub sends-frames_prefix : (a : Sending) (taken taken_now : Option (List ℕ)) (octets : List ℕ) → 0 < a.config.frame_length → a.inner.config ≡ a.config → SendsFramesPrefix a taken taken_now octets → SendsPrefix a taken taken_now octets
+sends-frames_prefix a taken taken_now octets some same p = record {
+  prefix = λ given stood.
       let due = due-is a.config given octets a.held p.rest p.frames some stood.held p.split in
-      subst (WroteFront taken taken_now) (sym due.1)
-      (subst (λ (x : Configuration). WroteFront taken taken_now (further (symbols_of_octets x) (cadus a.config given) (flat_map (cadu a.config) p.frames))) same (p.inner.front (cadus a.config given) stood.inner));
+      subst (WrotePrefix taken taken_now) (sym due.1)
+      (subst (λ (x : Configuration). WrotePrefix taken taken_now (further (symbols_of_octets x) (cadus a.config given) (flat_map (cadu a.config) p.frames))) same (p.inner.prefix (cadus a.config given) stood.inner));
 }

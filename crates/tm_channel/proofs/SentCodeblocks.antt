@@ -24,7 +24,7 @@ use Rattle.tm_rs_code.specs.Code.{AreElements, IsSystematic, encode_word}
 use Rattle.tm_rs_code.specs.Nearest.{IsCodewordOf}
 use Rattle.tm_rs_code.proofs.Systematic.{systematic_exists}
 use Rattle.tm_sync.specs.Bits.{in_polarity}
-use Rattle.tm_sync.proofs.Turned.{length-complement}
+use Rattle.tm_sync.proofs.Complemented.{length-complement}
 use Rattle.tm_codeblock.specs.Cadu.{coded_octets, coded_column, codeblock_of, sent_codeblock}
 use Rattle.tm_codeblock.specs.ReceivedCodeblock.{codeblock_in, received_column, received_columns, data_octets, frame_of}
 use Rattle.tm_codeblock.proofs.Codeblocks.{sent-read}

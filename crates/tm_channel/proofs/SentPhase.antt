@@ -17,14 +17,14 @@ use Rattle.tm_conv.specs.Encoding.{bit_numbers, level, levels, sent_for}
 use Rattle.tm_conv.proofs.Clean.{AreDigits, bits-path, cost-sure, length-sure, path-append, sure-append}
 use Rattle.tm_conv.proofs.Paths.{length-path, steps_size-more}
 use Rattle.tm_conv.proofs.Sizes.{step_size_pos}
-use Rattle.tm_viterbi.specs.Clean.{turned_octets}
+use Rattle.tm_viterbi.specs.Clean.{complemented_octets}
 use Rattle.tm_viterbi.specs.Starts.{starts_from}
 use Rattle.tm_viterbi.proofs.CleanBlocks.{steps-mono}
 use Rattle.tm_viterbi.proofs.HasBlocks.{HasBest}
 use Rattle.tm_phase.specs.declared.choosing.Chosen.{Chosen}
 use Rattle.tm_phase.specs.Phase.{AreCompared, IsCostAt, IsPhase, octets_at, period_size}
 use Rattle.tm_inner.specs.Inner.{Inner, IsStartKnown, soft_value}
-use Rattle.tm_inner.specs.Phase.{IsChosen, PhaseAt, in_turn, phase_octets, skip_of, skipped_at}
+use Rattle.tm_inner.specs.Phase.{IsChosen, PhaseAt, with_phase, phase_octets, skip_of, skipped_at}
 use Rattle.tm_inner.specs.Symbols.{is_inverted, low_level, symbols_by}
 use Rattle.tm_inner.proofs.InnerBits.{AreBits-bit_numbers, drop-none, soft-sent}
 use Rattle.tm_codeblock.specs.Frames.{whole_frames}
@@ -54,15 +54,15 @@ sent-steps rate invert window register steps bits are = elim (cases_lt (length b
         omega (arith, all, rest, next, steps-mono rate 0 steps are.most most, steps_size-more rate 0 n, step_size_pos rate (0 + n))
 
 -- the octets of the first steps
-sent-front : (rate : Rate) (invert : Bool) (register steps : ℕ) (bits : List ℕ) → steps ≤ length bits
+sent-prefix : (rate : Rate) (invert : Bool) (register steps : ℕ) (bits : List ℕ) → steps ≤ length bits
     → take (steps_size rate 0 steps) (sure (path rate invert 0 register bits)) ≡ sure (path rate invert 0 register (take steps bits))
-sent-front rate invert register steps bits le =
-    let front = take steps bits in
-    let first = path rate invert 0 register front in
-    let rest = path rate invert (0 + length front) (register_after register front) (drop steps bits) in
+sent-prefix rate invert register steps bits le =
+    let prefix = take steps bits in
+    let first = path rate invert 0 register prefix in
+    let rest = path rate invert (0 + length prefix) (register_after register prefix) (drop steps bits) in
     let whole : sure (path rate invert 0 register bits) ≡ sure first ++ sure rest =
-    ap (λ l. sure (path rate invert 0 register l)) (sym (take-append-drop steps bits)) ∙ ap sure (path-append rate invert 0 register front (drop steps bits)) ∙ sure-append first rest in
-    let size : length (sure first) ≡ steps_size rate 0 steps = length-sure first ∙ length-path rate invert 0 register front ∙ ap (steps_size rate 0) (length-take-le steps bits le) in
+    ap (λ l. sure (path rate invert 0 register l)) (sym (take-append-drop steps bits)) ∙ ap sure (path-append rate invert 0 register prefix (drop steps bits)) ∙ sure-append first rest in
+    let size : length (sure first) ≡ steps_size rate 0 steps = length-sure first ∙ length-path rate invert 0 register prefix ∙ ap (steps_size rate 0) (length-take-le steps bits le) in
     ap (take (steps_size rate 0 steps)) whole ∙ take_at (sure first) (sure rest) (steps_size rate 0 steps) size
 
 -- the first candidate costs nothing where its best path does
@@ -92,7 +92,7 @@ phase-free best rate invert window register bits chosen small are p =
     length-sure symbols ∙ length-path rate invert 0 register (take steps bits) ∙ ap (steps_size rate 0) (length-take-le steps bits within) in
     let h = best (starts_from None) rate invert 0 steps 0 (sure symbols) refl (omega arith) size in
     let free : cost (path rate invert 0 h.0 h.1) (sure (path rate invert 0 register (take steps bits))) ≡ 0 = omega (arith, h.2.least register (take steps bits) was_sent, cost-sure symbols) in
-    let at = free-at rate invert steps (sure (path rate invert 0 register bits)) (sure symbols) h.0 h.1 (sent-front rate invert register steps bits within) h.2 free in (
+    let at = free-at rate invert steps (sure (path rate invert 0 register bits)) (sure symbols) h.0 h.1 (sent-prefix rate invert register steps bits within) h.2 free in (
       elim (cases_lt 0 chosen.skip) as (λ _. chosen.skip ≡ 0) [ inl some ↦ absurd (omega (arith, p.least.first 0 0 some at)) | inr none ↦ omega arith ],
       omega (arith, p.least.least 0 0 (omega (arith, p.least.below)) at),
     )
@@ -115,35 +115,35 @@ AreBits-complement : (bits : List ℕ) → AreBits (complement bits)
 AreBits-complement [] = All-nil (λ b. b < 2)
 AreBits-complement (bit ∷ bits) = All-cons (λ b. b < 2) (1 - bit) (complement bits) (omega arith) (AreBits-complement bits)
 
-value-turned : (c : Configuration) (symbol : ℕ) → symbol < 2 → soft_value c (255 - level (low_level c.soft) symbol) ≡ cond (1 - symbol == 0) 0 255
-value-turned c zero small = go c.soft
+value-complemented : (c : Configuration) (symbol : ℕ) → symbol < 2 → soft_value c (255 - level (low_level c.soft) symbol) ≡ cond (1 - symbol == 0) 0 255
+value-complemented c zero small = go c.soft
   where
     go : (form : SoftForm) → (let octet = 255 - low_level form in cond (is_signed form) ((octet + 128) % 256) octet)
         ≡ 255
     go Unsigned = refl
     go Signed = refl
-value-turned c (suc zero) small = go c.soft
+value-complemented c (suc zero) small = go c.soft
   where
     go : (form : SoftForm) → (let octet = 255 - (255 - low_level form) in cond (is_signed form)
         ((octet + 128) % 256) octet) ≡ 0
     go Unsigned = refl
     go Signed = refl
-value-turned c (suc (suc n)) small = absurd (omega arith)
+value-complemented c (suc (suc n)) small = absurd (omega arith)
 
-values-turned : (c : Configuration) (symbols : List ℕ) → AreDigits symbols → map (soft_value c) (turned_octets (levels (low_level c.soft) symbols)) ≡ sure (complement symbols)
-values-turned c [] are = refl
-values-turned c (symbol ∷ symbols) are = (λ i. value-turned c symbol are.0 i ∷ values-turned c symbols are.1 i)
+values-complemented : (c : Configuration) (symbols : List ℕ) → AreDigits symbols → map (soft_value c) (complemented_octets (levels (low_level c.soft) symbols)) ≡ sure (complement symbols)
+values-complemented c [] are = refl
+values-complemented c (symbol ∷ symbols) are = (λ i. value-complemented c symbol are.0 i ∷ values-complemented c symbols are.1 i)
 
-phase-turned_at : HasBest → Complements → (rate : Option Rate) (c : Configuration) (bits : List Bool) (chosen : Chosen) → c.skip ≡ 0
-    → PhaseAt rate c (map (soft_value c) (drop (skipped_at rate c) (turned_octets (symbols_by rate c bits)))) chosen → (chosen.skip ≡ 0) × (chosen.cost ≡ 0)
-phase-turned_at best turned None c bits chosen none p = p
-phase-turned_at best turned (Some rate) c bits chosen none p =
+phase-complemented_at : HasBest → Complements → (rate : Option Rate) (c : Configuration) (bits : List Bool) (chosen : Chosen) → c.skip ≡ 0
+    → PhaseAt rate c (map (soft_value c) (drop (skipped_at rate c) (complemented_octets (symbols_by rate c bits)))) chosen → (chosen.skip ≡ 0) × (chosen.cost ≡ 0)
+phase-complemented_at best complemented None c bits chosen none p = p
+phase-complemented_at best complemented (Some rate) c bits chosen none p =
     let invert = is_inverted rate c.invert in
     let numbers = bit_numbers bits in
     let symbols = sent_for rate (is_inverted rate c.invert) bits in
-    let soft : map (soft_value c) (drop c.skip (turned_octets (levels (low_level c.soft) symbols))) ≡ sure (path rate invert 0 63 (complement numbers)) =
-    ap (map (soft_value c)) (drop-none c.skip (turned_octets (levels (low_level c.soft) symbols)) none) ∙ values-turned c symbols (bits-path rate invert 0 0 numbers)
-    ∙ ap sure (sym (turned rate invert 0 0 numbers (omega arith) (AreBits-bit_numbers bits))) in
+    let soft : map (soft_value c) (drop c.skip (complemented_octets (levels (low_level c.soft) symbols))) ≡ sure (path rate invert 0 63 (complement numbers)) =
+    ap (map (soft_value c)) (drop-none c.skip (complemented_octets (levels (low_level c.soft) symbols)) none) ∙ values-complemented c symbols (bits-path rate invert 0 0 numbers)
+    ∙ ap sure (sym (complemented rate invert 0 0 numbers (omega arith) (AreBits-bit_numbers bits))) in
     phase-free best rate invert (c.keep + c.ahead) 63 (complement numbers) chosen (omega arith) (AreBits-complement numbers)
     (subst (λ (l : List ℕ). IsPhase rate invert (c.keep + c.ahead) l chosen) soft p)
 
@@ -162,10 +162,10 @@ pub phase-sent : HasBest → (c : Configuration) (input : List ℕ) (chosen : Op
 phase-sent best c input chosen none =
     chosen-is c (sent c input) chosen (λ it p. phase-at best c.inner c (bits_of (cadus c input)) it none p)
 
-pub phase-turned : HasBest → Complements → (c : Configuration) (input : List ℕ) (chosen : Option Chosen) → c.skip ≡ 0 → IsChosen c (turned_octets (sent c input)) chosen → chosen ≡ sent_phase c
-phase-turned best turned c input chosen none =
-    chosen-is c (turned_octets (sent c input)) chosen
-    (λ it p. phase-turned_at best turned c.inner c (bits_of (cadus c input)) it none p)
+pub phase-complemented : HasBest → Complements → (c : Configuration) (input : List ℕ) (chosen : Option Chosen) → c.skip ≡ 0 → IsChosen c (complemented_octets (sent c input)) chosen → chosen ≡ sent_phase c
+phase-complemented best complemented c input chosen none =
+    chosen-is c (complemented_octets (sent c input)) chosen
+    (λ it p. phase-complemented_at best complemented c.inner c (bits_of (cadus c input)) it none p)
 
 -- ---- what is handed over
 
@@ -181,10 +181,10 @@ sent-skip c = go (is_sought c.phase)
 pub handed-clean : HasBest → ((c : Configuration) (octets : List ℕ) (items : List ItemValue) → IsAccepted c → c.skip ≡ 0 → IsStartKnown c → AreOctets octets
     → Receive c 0 (sent c octets) items → items ≡ clean_items c 0 (whole_frames c.frame_length octets))
     → (c : Configuration) (octets : List ℕ) (handed : List (Handed ItemValue)) (bits : ℕ) → IsAccepted c → c.skip ≡ 0 → IsStartKnown c → AreOctets octets
-    → AreReceived c (sent c octets) handed bits → handed ≡ in_turn (sent_phase c) (clean_items c 0 (whole_frames c.frame_length octets))
+    → AreReceived c (sent c octets) handed bits → handed ≡ with_phase (sent_phase c) (clean_items c 0 (whole_frames c.frame_length octets))
 handed-clean best clean c octets handed bits ok none start small r =
     let chosen : r.chosen ≡ sent_phase c = phase-sent best c octets r.chosen none r.choice in
     let inner : Inner c 0 (sent c octets) r.are_items.0 = subst (λ (n : ℕ). Inner c n (sent c octets) r.are_items.0) (ap skip_of chosen ∙ sent-skip c) r.are_items.1 in
     let items : r.items ≡ clean_items c 0 (whole_frames c.frame_length octets) =
     clean c octets r.items ok none start small (record { bits = r.are_items.0; inner = inner; are_items = r.are_items.3 }) in
-    r.are ∙ ap (λ (o : Option Chosen). in_turn o r.items) chosen ∙ ap (in_turn (sent_phase c)) items
+    r.are ∙ ap (λ (o : Option Chosen). with_phase o r.items) chosen ∙ ap (with_phase (sent_phase c)) items

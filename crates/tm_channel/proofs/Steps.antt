@@ -3,13 +3,13 @@ use Rattle.std.proofs.Common.{◌≡◌, ℕ, ◌<◌, List, [], ◌∷◌, ◌+
 use Rattle.std.proofs.lemmas.List.{append-nil}
 use Rattle.std.proofs.lemmas.Grind.{flat_map-append}
 use Rattle.tm_config.specs.Configuration.{Configuration}
-use Rattle.tm_inner.specs.Sending.{InnerSending, Sends as InnerSends, SendsFront as InnerSendsFront}
-use Rattle.tm_inner.proofs.Sending.{sends-none, sends-more, sends-front, sends-front_of_longer}
-use Rattle.tm_codeblock.specs.Frames.{Splits, whole_frames, behind_frames}
+use Rattle.tm_inner.specs.Sending.{InnerSending, Sends as InnerSends, SendsPrefix as InnerSendsPrefix}
+use Rattle.tm_inner.proofs.Sending.{sends-none, sends-more, sends-prefix, sends-prefix_of_longer}
+use Rattle.tm_codeblock.specs.Frames.{Splits, whole_frames, after_frames}
 use Rattle.tm_codeblock.specs.Cadu.{cadu}
 use Rattle.tm_codeblock.proofs.Frames.{splits, splits-more}
 use Rattle.tm_channel.specs.Sending.{Sending}
-use Rattle.tm_channel.specs.Steps.{SendsFrames, SendsFramesFront}
+use Rattle.tm_channel.specs.Steps.{SendsFrames, SendsFramesPrefix}
 
 -- nothing
 pub frames-none : (s : Sending) (taken : Option (List ℕ)) → length s.held < s.config.frame_length → SendsFrames s s taken taken []
@@ -47,13 +47,13 @@ frames-whole a b taken taken_now octets frame same is sized some held inner = re
   inner = subst (InnerSends a.inner b.inner taken taken_now) (sym (append-nil (cadu a.config frame))) inner;
 }
 
-pub frames-whole_front : (a : Sending) (taken taken_now : Option (List ℕ)) (octets frame : List ℕ) → frame ≡ a.held ++ octets → length frame ≡ a.config.frame_length → 0 < a.config.frame_length
-    → InnerSendsFront a.inner taken taken_now (cadu a.config frame) → SendsFramesFront a taken taken_now octets
-frames-whole_front a taken taken_now octets frame is sized some inner = record {
+pub frames-whole_prefix : (a : Sending) (taken taken_now : Option (List ℕ)) (octets frame : List ℕ) → frame ≡ a.held ++ octets → length frame ≡ a.config.frame_length → 0 < a.config.frame_length
+    → InnerSendsPrefix a.inner taken taken_now (cadu a.config frame) → SendsFramesPrefix a taken taken_now octets
+frames-whole_prefix a taken taken_now octets frame is sized some inner = record {
   frames = frame ∷ [];
   rest = [];
   split = one-frame a.config.frame_length (a.held ++ octets) frame is sized some;
-  inner = subst (InnerSendsFront a.inner taken taken_now) (sym (append-nil (cadu a.config frame))) inner;
+  inner = subst (InnerSendsPrefix a.inner taken taken_now) (sym (append-nil (cadu a.config frame))) inner;
 }
 
 -- one piece after another
@@ -73,9 +73,9 @@ frames-more a b c taken_a taken_b taken_c first second p q = record {
 }
 
 -- a piece, and another of which a front was written
-pub frames-front : (a b : Sending) (taken_a taken_b taken_c : Option (List ℕ)) (first second : List ℕ)
-    → SendsFrames a b taken_a taken_b first → SendsFramesFront b taken_b taken_c second → SendsFramesFront a taken_a taken_c (first ++ second)
-frames-front a b taken_a taken_b taken_c first second p q = record {
+pub frames-prefix : (a b : Sending) (taken_a taken_b taken_c : Option (List ℕ)) (first second : List ℕ)
+    → SendsFrames a b taken_a taken_b first → SendsFramesPrefix b taken_b taken_c second → SendsFramesPrefix a taken_a taken_c (first ++ second)
+frames-prefix a b taken_a taken_b taken_c first second p q = record {
   frames = p.frames ++ q.frames;
   rest = q.rest;
   split =
@@ -83,23 +83,23 @@ frames-front a b taken_a taken_b taken_c first second p q = record {
       subst (λ (l : List ℕ). Splits a.config.frame_length l (p.frames ++ q.frames) q.rest) (append_assoc a.held first second)
       (splits-more a.config.frame_length (a.held ++ first) second b.held q.rest p.frames q.frames p.split then);
   inner =
-      let then : InnerSendsFront b.inner taken_b taken_c (flat_map (cadu a.config) q.frames) = subst (λ (x : Configuration). InnerSendsFront b.inner taken_b taken_c (flat_map (cadu x) q.frames)) p.config q.inner in
-      subst (InnerSendsFront a.inner taken_a taken_c) (sym (flat_map-append (cadu a.config) p.frames q.frames))
-      (sends-front a.inner b.inner taken_a taken_b taken_c (flat_map (cadu a.config) p.frames) (flat_map (cadu a.config) q.frames) p.inner then);
+      let then : InnerSendsPrefix b.inner taken_b taken_c (flat_map (cadu a.config) q.frames) = subst (λ (x : Configuration). InnerSendsPrefix b.inner taken_b taken_c (flat_map (cadu x) q.frames)) p.config q.inner in
+      subst (InnerSendsPrefix a.inner taken_a taken_c) (sym (flat_map-append (cadu a.config) p.frames q.frames))
+      (sends-prefix a.inner b.inner taken_a taken_b taken_c (flat_map (cadu a.config) p.frames) (flat_map (cadu a.config) q.frames) p.inner then);
 }
 
 -- a prefix of what is due for a piece is one of what is due for a longer piece
-pub frames-front_of_longer : (a : Sending) (taken taken_now : Option (List ℕ)) (first second : List ℕ) → 0 < a.config.frame_length
-    → SendsFramesFront a taken taken_now first → SendsFramesFront a taken taken_now (first ++ second)
-frames-front_of_longer a taken taken_now first second some p =
+pub frames-prefix_of_longer : (a : Sending) (taken taken_now : Option (List ℕ)) (first second : List ℕ) → 0 < a.config.frame_length
+    → SendsFramesPrefix a taken taken_now first → SendsFramesPrefix a taken taken_now (first ++ second)
+frames-prefix_of_longer a taken taken_now first second some p =
     let size = a.config.frame_length in
     let others = whole_frames size (p.rest ++ second) in
-    let held = behind_frames size (p.rest ++ second) in
+    let held = after_frames size (p.rest ++ second) in
     record {
       frames = p.frames ++ others;
       rest = held;
       split = subst (λ (l : List ℕ). Splits size l (p.frames ++ others) held) (append_assoc a.held first second)
           (splits-more size (a.held ++ first) second p.rest held p.frames others p.split (splits size (p.rest ++ second) some));
-      inner = subst (InnerSendsFront a.inner taken taken_now) (sym (flat_map-append (cadu a.config) p.frames others))
-          (sends-front_of_longer a.inner taken taken_now (flat_map (cadu a.config) p.frames) (flat_map (cadu a.config) others) p.inner);
+      inner = subst (InnerSendsPrefix a.inner taken taken_now) (sym (flat_map-append (cadu a.config) p.frames others))
+          (sends-prefix_of_longer a.inner taken taken_now (flat_map (cadu a.config) p.frames) (flat_map (cadu a.config) others) p.inner);
     }

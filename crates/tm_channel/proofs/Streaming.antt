@@ -33,13 +33,13 @@ drop-all P (suc count) [] all = tt
 drop-all P (suc count) (x ∷ xs) all = drop-all P count xs all.1
 
 -- a codeblock that ends with the bits
-kept-last : (c : Configuration) (bits front part : List Bool) (f : Found) → bits ≡ front ++ part → length part ≡ (rules_of c).block_bits → f.place + 32 + (rules_of c).block_bits ≡ length bits
+kept-last : (c : Configuration) (bits prefix part : List Bool) (f : Found) → bits ≡ prefix ++ part → length part ≡ (rules_of c).block_bits → f.place + 32 + (rules_of c).block_bits ≡ length bits
     → kept_at c bits f ≡ kept_of c f part
-kept-last c bits front part f parts size ends =
-    let long : length front ≡ f.place + 32 = omega (arith, ap length parts, length-append front part) in
+kept-last c bits prefix part f parts size ends =
+    let long : length prefix ≡ f.place + 32 = omega (arith, ap length parts, length-append prefix part) in
     let is : take (rules_of c).block_bits (drop (f.place + 32) bits) ≡ part =
     ap (λ l. take (rules_of c).block_bits (drop (f.place + 32) l)) parts
-    ∙ ap (take (rules_of c).block_bits) (drop_at front part (f.place + 32) long)
+    ∙ ap (take (rules_of c).block_bits) (drop_at prefix part (f.place + 32) long)
     ∙ ap (λ n. take n part) (sym size) ∙ take-length part in
     λ i. kept_of c f (is i)
 
@@ -78,7 +78,7 @@ stands-none c stands stands' part part' kept handed bits more longer h same now 
   within = subst (λ (fs : List Found). handed ≤ length fs) (sym same) h.within;
   waiting = kept-longer c stands part kept handed bits more h
       ∙ ap (λ (fs : List Found). map (kept_at c (bits ++ more)) (drop handed fs)) (sym same);
-  front = longer;
+  prefix = longer;
   parts = parts;
 }
 
@@ -86,8 +86,8 @@ stands-none c stands stands' part part' kept handed bits more longer h same now 
 pub record Whole (c : Configuration) (bits more : List Bool) (part : List Bool) (f : Found) : Type 0 where
   pub longer : places (rules_of c) (bits ++ more) ≡ places (rules_of c) bits ++ f ∷ []
   pub ends : f.place + 32 + (rules_of c).block_bits ≡ length (bits ++ more)
-  pub front : List Bool
-  pub parts : bits ++ more ≡ front ++ part
+  pub prefix : List Bool
+  pub parts : bits ++ more ≡ prefix ++ part
   pub size : length part ≡ (rules_of c).block_bits
 
 -- it is kept
@@ -98,7 +98,7 @@ pub stands-kept : (c : Configuration) (stands stands' : List Bool → List Found
     → Holding c stands' now kept' handed (bits ++ more)
 stands-kept c stands stands' old part now kept kept' handed bits more f h w is none told =
     let fs : List Found = places (rules_of c) bits in
-    let one : kept_at c (bits ++ more) f ≡ kept_of c f part = kept-last c (bits ++ more) w.front part f w.parts w.size w.ends in
+    let one : kept_at c (bits ++ more) f ≡ kept_of c f part = kept-last c (bits ++ more) w.prefix part f w.parts w.size w.ends in
     let all : drop handed (fs ++ f ∷ []) ≡ drop handed fs ++ f ∷ [] = drop-append-le handed fs (f ∷ []) h.within in
     let size = length-append fs (f ∷ []) in
     let below = h.within in
@@ -109,7 +109,7 @@ stands-kept c stands stands' old part now kept kept' handed bits more f h w is n
           ∙ sym (map-append (kept_at c (bits ++ more)) (drop handed fs) (f ∷ []))
           ∙ ap (map (kept_at c (bits ++ more))) (sym all)
           ∙ ap (λ (gs : List Found). map (kept_at c (bits ++ more)) (drop handed gs)) (sym w.longer);
-      front = bits ++ more;
+      prefix = bits ++ more;
       parts = sym (append-nil (bits ++ more)) ∙ ap (λ l. (bits ++ more) ++ l) (sym none);
     }
 
@@ -132,9 +132,9 @@ waiting-count c stands part kept handed bits h =
     ∙ length-drop handed (places (rules_of c) bits)
 
 -- what follows the places of a front that are due
-behind-due : (c : Configuration) (bits : List Bool) (fs : List Found)
+after-due : (c : Configuration) (bits : List Bool) (fs : List Found)
     → beyond (due c bits) fs ≡ drop (due_count c bits) fs
-behind-due c bits fs =
+after-due c bits fs =
     ap (λ k. drop k fs) (length-due c bits)
 
 -- where the batch is not full nothing more is due
@@ -142,7 +142,7 @@ due-none : (c : Configuration) (bits all : List Bool)
     → due_count c all ≡ due_count c bits
     → beyond (due c bits) (due c all) ≡ []
 due-none c bits all same =
-    behind-due c bits (due c all)
+    after-due c bits (due c all)
     ∙ ap (λ k. drop k (due c all)) (sym same ∙ sym (length-due c all))
     ∙ drop-length (due c all)
 
@@ -152,7 +152,7 @@ due-all : (c : Configuration) (bits all : List Bool)
     → beyond (due c bits) (due c all)
     ≡ drop (due_count c bits) (places (rules_of c) all)
 due-all c bits all whole =
-    behind-due c bits (due c all)
+    after-due c bits (due c all)
     ∙ ap (drop (due_count c bits))
     (ap (λ k. take k (places (rules_of c) all)) whole ∙ take-length (places (rules_of c) all))
 
@@ -176,7 +176,7 @@ turn-stands c stands part kept kept' bits all items h (inr (many, nothing, are))
       search = h.search;
       within = batches-le c.batch (length fs);
       waiting = nothing ∙ ap (map (kept_at c all)) (sym (ap (λ n. drop n fs) whole ∙ drop-length fs));
-      front = h.front;
+      prefix = h.prefix;
       parts = h.parts;
     }
 
@@ -330,7 +330,7 @@ pub items-last : (c : Configuration) (stands : List Bool → List Found → Type
     → AreItemsOf c bits (beyond (due c bits) (places (rules_of c) bits)) items
 items-last c stands part kept bits items h are =
     let waiting : List Found = drop (due_count c bits) (places (rules_of c) bits) in
-    subst (λ (fs : List Found). AreItemsOf c bits fs items) (sym (behind-due c bits (places (rules_of c) bits)))
+    subst (λ (fs : List Found). AreItemsOf c bits fs items) (sym (after-due c bits (places (rules_of c) bits)))
     (items-of c bits waiting items (subst (λ (ks : List Kept). AreItemsFor c ks items) h.waiting are))
 
 pub first-last : (c : Configuration) (stands : List Bool → List Found → Type 0) (part : List Bool) (kept : List Kept) (bits : List Bool) (count : ℕ) (items : List ItemValue)
@@ -339,7 +339,7 @@ pub first-last : (c : Configuration) (stands : List Bool → List Found → Type
     → AreFirstItemsOf c bits (beyond (due c bits) (places (rules_of c) bits)) items
 first-last c stands part kept bits count items h are =
     let waiting : List Found = drop (due_count c bits) (places (rules_of c) bits) in
-    subst (λ (fs : List Found). AreFirstItemsOf c bits fs items) (sym (behind-due c bits (places (rules_of c) bits)))
+    subst (λ (fs : List Found). AreFirstItemsOf c bits fs items) (sym (after-due c bits (places (rules_of c) bits)))
     (first-of c bits count waiting items (items-of c bits (take count waiting) items
     (subst (λ (ks : List Kept). AreItemsFor c ks items) (ap (take count) h.waiting ∙ take-map' (kept_at c bits) count waiting) are)))
 
@@ -352,7 +352,7 @@ stands-new c stands part kept told none nothing =
       within = batches-le c.batch (length (places (rules_of c) []));
       waiting = nothing ∙ ap (map (kept_at c [])) (sym (drop-nil (in_batches c.batch 0)))
           ∙ ap (λ (fs : List Found). map (kept_at c []) (drop (in_batches c.batch (length fs)) fs)) (sym no);
-      front = [];
+      prefix = [];
       parts = sym none;
     }
 
@@ -362,7 +362,7 @@ pub before-more : (c : Configuration) (stands : List Bool → List Found → Typ
     (handed : ℕ) (bits more : List Bool)
     → HoldingMore c stands part kept handed bits more → Holding c (λ l fs. Unit {0}) bits kept handed bits
 before-more c stands part kept handed bits more h = record
-    { search = tt; within = h.within; waiting = h.waiting; front = []; parts = refl }
+    { search = tt; within = h.within; waiting = h.waiting; prefix = []; parts = refl }
 
 -- there is none
 pub none-further : (c : Configuration) (s s' : Searching) (part : List Bool) (kept : List Kept) (handed : ℕ)
@@ -373,7 +373,7 @@ pub none-further : (c : Configuration) (s s' : Searching) (part : List Bool) (ke
 none-further c s s' part kept handed bits more rules same told h =
     let places_are : places (rules_of c) (bits ++ more) ≡ places (rules_of c) bits =
     ap (λ r. places r (bits ++ more)) (sym rules) ∙ told (bits ++ more) (places (rules_of c) bits) h.search in
-    stands-none c (λ l fs. Unit {0}) (StandsFor s') bits part kept handed bits more h.front
+    stands-none c (λ l fs. Unit {0}) (StandsFor s') bits part kept handed bits more h.prefix
     (before-more c (StandsFor s) part kept handed bits more h) places_are
     (subst (λ (v : Searching). StandsFor v (bits ++ more) (places (rules_of c) bits)) (sym same) h.search) h.parts
 
@@ -392,7 +392,7 @@ whole-further c s s' part kept handed f bits more rules long inside told h =
       record {
         longer = ap (λ r. places r (bits ++ more)) (sym rules) ∙ t.1;
         ends = ap (λ n. f.place + 32 + n) (sym size) ∙ t.2;
-        front = h.front;
+        prefix = h.prefix;
         parts = h.parts;
         size = long ∙ ap (λ (o : Option ℕ). unwrap_or o 0) inside ∙ size;
       },
@@ -410,8 +410,8 @@ more-inside c stands stands' part part' kept kept' handed bits more h grows same
   search = told;
   within = h.within;
   waiting = same ∙ h.waiting;
-  front = h.front;
-  parts = ap (λ l. l ++ more) h.parts ∙ append_assoc h.front part more ∙ ap (λ l. h.front ++ l) (sym grows);
+  prefix = h.prefix;
+  parts = ap (λ l. l ++ more) h.parts ∙ append_assoc h.prefix part more ∙ ap (λ l. h.prefix ++ l) (sym grows);
 }
 
 -- where none is under way, and the last bits begin one
@@ -424,7 +424,7 @@ more-begun c stands stands' part part' kept kept' handed bits before more h ends
   search = told;
   within = h.within;
   waiting = same ∙ h.waiting;
-  front = bits ++ before;
+  prefix = bits ++ before;
   parts = ap (λ l. bits ++ l) ends ∙ sym (append_assoc bits before part');
 }
 
@@ -438,7 +438,7 @@ more-outside c stands stands' part part' kept kept' handed bits more h none same
   search = told;
   within = h.within;
   waiting = same ∙ h.waiting;
-  front = bits ++ more;
+  prefix = bits ++ more;
   parts = sym (append-nil (bits ++ more)) ∙ ap (λ l. (bits ++ more) ++ l) (sym (empty part' none));
 }
   where

@@ -3,7 +3,7 @@ use Rattle.std.proofs.Common.{◌≡◌, List, [], ◌∷◌, ◌++◌, map, ref
 use Rattle.tm_base.specs.Handed.{Handed, Phase, Item}
 use Rattle.tm_base.specs.Takers.{HandedPart}
 use Rattle.tm_phase.specs.declared.choosing.Chosen.{Chosen}
-use Rattle.tm_inner.specs.Phase.{in_turn}
+use Rattle.tm_inner.specs.Phase.{with_phase}
 use Rattle.tm_inner.proofs.PhasePieces.{further}
 use Rattle.tm_channel.specs.Handing.{phase_from, phase_of}
 
@@ -18,9 +18,9 @@ pub phase_from-items : {I : Type 0} (before : Option Chosen) (items : List I) �
 phase_from-items before [] = refl
 phase_from-items before (item ∷ items) = phase_from-items before items
 
-pub phase_of-in_turn : {I : Type 0} (chosen : Option Chosen) (items : List I) → phase_of (in_turn chosen items) ≡ chosen
-phase_of-in_turn None items = phase_from-items None items
-phase_of-in_turn (Some chosen) items = phase_from-items (Some chosen) items
+pub phase_of-with_phase : {I : Type 0} (chosen : Option Chosen) (items : List I) → phase_of (with_phase chosen items) ≡ chosen
+phase_of-with_phase None items = phase_from-items None items
+phase_of-with_phase (Some chosen) items = phase_from-items (Some chosen) items
 
 phase_from-some : {I : Type 0} (before : Chosen) (handed : List (Handed I)) → phase_from (Some before) handed ≡ None → ⊥
 phase_from-some before [] none = absurd cc
@@ -28,11 +28,11 @@ phase_from-some before (Phase skip cost ∷ handed) none = phase_from-some (reco
 phase_from-some before (Item item ∷ handed) none = phase_from-some before handed none
 
 -- where none is handed over in all, none is at the end
-pub none-behind : {I : Type 0} (before : Option Chosen) (handed more : List (Handed I)) → phase_from before (handed ++ more) ≡ None → phase_of more ≡ None
-none-behind None [] more none = none
-none-behind (Some chosen) [] more none = absurd (phase_from-some chosen more none)
-none-behind before (Phase skip cost ∷ handed) more none = none-behind (Some (record { skip = skip; cost = cost })) handed more none
-none-behind before (Item item ∷ handed) more none = none-behind before handed more none
+pub none-after : {I : Type 0} (before : Option Chosen) (handed more : List (Handed I)) → phase_from before (handed ++ more) ≡ None → phase_of more ≡ None
+none-after None [] more none = none
+none-after (Some chosen) [] more none = absurd (phase_from-some chosen more none)
+none-after before (Phase skip cost ∷ handed) more none = none-after (Some (record { skip = skip; cost = cost })) handed more none
+none-after before (Item item ∷ handed) more none = none-after before handed more none
 
 -- where none is handed over, it stays
 phase_from-none : {I : Type 0} (before : Option Chosen) (handed : List (Handed I)) → phase_of handed ≡ None → phase_from before handed ≡ before
@@ -42,27 +42,27 @@ phase_from-none before (Item item ∷ handed) none = phase_from-none before hand
 
 -- ---- items after it
 
-pub in_turn-split : {I : Type 0} (chosen : Option Chosen) (items : List I) → in_turn chosen items ≡ in_turn chosen [] ++ map Item items
-in_turn-split None items = refl
-in_turn-split (Some chosen) items = refl
+pub with_phase-split : {I : Type 0} (chosen : Option Chosen) (items : List I) → with_phase chosen items ≡ with_phase chosen [] ++ map Item items
+with_phase-split None items = refl
+with_phase-split (Some chosen) items = refl
 
 -- further items after what was handed over, with no further phase
-pub turn-further : {I J : Type 0} (before : Option Chosen) (more : List (Handed J)) (done : List (Handed I)) (items others : List I) → phase_of more ≡ None → done ≡ in_turn before items
-    → done ++ (in_turn (phase_of more) [] ++ map Item others) ≡ in_turn (phase_from before more) (items ++ others)
+pub turn-further : {I J : Type 0} (before : Option Chosen) (more : List (Handed J)) (done : List (Handed I)) (items others : List I) → phase_of more ≡ None → done ≡ with_phase before items
+    → done ++ (with_phase (phase_of more) [] ++ map Item others) ≡ with_phase (phase_from before more) (items ++ others)
 turn-further before more done items others none are =
-    ap (λ (o : Option Chosen). done ++ (in_turn o [] ++ map Item others)) none
+    ap (λ (o : Option Chosen). done ++ (with_phase o [] ++ map Item others)) none
     ∙ further before done items others are
-    ∙ ap (λ (o : Option Chosen). in_turn o (items ++ others)) (sym (phase_from-none before more none))
+    ∙ ap (λ (o : Option Chosen). with_phase o (items ++ others)) (sym (phase_from-none before more none))
 
 -- ---- lists with nothing in them
 
-pub front-nil : {A : Type 0} (xs ys : List A) → xs ++ ys ≡ [] → (xs ≡ []) × (ys ≡ [])
-front-nil [] ys none = (refl, none)
-front-nil (x ∷ xs) ys none = absurd cc
+pub prefix-nil : {A : Type 0} (xs ys : List A) → xs ++ ys ≡ [] → (xs ≡ []) × (ys ≡ [])
+prefix-nil [] ys none = (refl, none)
+prefix-nil (x ∷ xs) ys none = absurd cc
 
 cons-nil : {A : Type 0} (x : A) (xs : List A) → x ∷ xs ≡ [] → ⊥
 cons-nil x xs none = absurd cc
 
 -- a taker fails at something
 pub part-some : {T I : Type 0} (took broke : T → I → T → Type 0) (taker now : T) (items : List I) → HandedPart took broke taker items now → items ≡ [] → ⊥
-part-some took broke taker now items part none = cons-nil part.next part.rest (front-nil part.front (part.next ∷ part.rest) (sym part.split ∙ none)).1
+part-some took broke taker now items part none = cons-nil part.next part.rest (prefix-nil part.prefix (part.next ∷ part.rest) (sym part.split ∙ none)).1

@@ -3,7 +3,7 @@ use Rattle.std.specs.Prelude.{◌≡◌, ◌↔◌, ℕ, Bool, true, false, List
 use Rattle.tm_base.specs.Calls.{CallAnswers}
 use Rattle.tm_base.specs.Handed.{Handed}
 use Rattle.tm_base.specs.Outside.{HasCause}
-use Rattle.tm_inner.specs.Receiving.{HandsFront}
+use Rattle.tm_inner.specs.Receiving.{HandsPrefix}
 use Rattle.tm_channel.specs.declared.receiver.RecvError.{RecvError}
 use Rattle.tm_channel.specs.declared.receiver.RecvError.TheVariants.{Stopped, Taker}
 use Rattle.tm_channel.specs.Items.{ItemValue}
@@ -33,7 +33,7 @@ pub record TakesOctets {T R E : Type 0} (took broke : T → Handed ItemValue →
   pub room : size_now ≡ size
   pub stream : now.bits.batch.config ≡ before.bits.batch.config
   pub handed : OnOk result (StagesHand took before now taker taker_now octets)
-  pub front : OnErr result (HandsFront took broke StagesFor
+  pub prefix : OnErr result (HandsPrefix took broke StagesFor
       (FirstWith before.inner.config now.inner.phased.chosen) before taker taker_now octets)
   pub cause : HasCause (faults taker) (faults taker_now) (is_last taker_now) result
 
@@ -54,7 +54,7 @@ pub record Feeds {T R : Type 0} (took broke : T → Handed ItemValue → T → T
   pub stops : IsTrue now.has_stopped ↔ OnOk result ⊥
   pub config : now.config ≡ before.config
   pub handed : OnOk result (FeedHands took before now taker taker_now octets)
-  pub front : IsErrOf result Taker → FeedBreaks took broke before taker taker_now octets
+  pub prefix : IsErrOf result Taker → FeedBreaks took broke before taker taker_now octets
   pub chosen : FeedChooses before now octets
 
 -- at the end what is left was handed over, or the first of it until the taker failed
@@ -65,5 +65,5 @@ pub record Finishes {T : Type 0} (took broke : T → Handed ItemValue → T → 
   pub stops : now.has_stopped ≡ true
   pub config : now.config ≡ before.config
   pub handed : IfOk result (FinishHands took before taker taker_now)
-  pub front : IsErrOf result Taker → FinishBreaks took broke before taker taker_now
+  pub prefix : IsErrOf result Taker → FinishBreaks took broke before taker taker_now
   pub chosen : FinishChooses before now

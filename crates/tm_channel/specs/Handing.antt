@@ -5,9 +5,9 @@ use Rattle.tm_base.specs.Handed.{Handed, Phase, Item}
 use Rattle.tm_config.specs.Configuration.{Configuration}
 use Rattle.tm_phase.specs.declared.choosing.Chosen.{Chosen}
 use Rattle.tm_inner.specs.Inner.{Inner}
-use Rattle.tm_inner.specs.Phase.{InTurn, InTurnSettled, InTurnSoFar}
+use Rattle.tm_inner.specs.Phase.{WithPhase, WithPhaseSettled, WithPhaseSoFar}
 use Rattle.tm_channel.specs.Items.{ItemValue, AreItems}
-use Rattle.tm_channel.specs.Receive.{ReceiveDue, ReceiveFirst, ReceiveFront}
+use Rattle.tm_channel.specs.Receive.{ReceiveDue, ReceiveFirst, ReceivePrefix}
 
 -- the last phase among what was handed over, or else this one
 abbrev pub phase_from : {I : Type 0} → Option Chosen → List (Handed I) → Option Chosen
@@ -27,17 +27,17 @@ ReceiveAll c phase octets count items = (bits : List Bool) × Inner c phase octe
 
 -- all that is handed over, and how many bits were received
 abbrev pub AreReceived : Configuration → List ℕ → List (Handed ItemValue) → ℕ → Type 0
-AreReceived c octets handed count = InTurn
+AreReceived c octets handed count = WithPhase
     (λ phase. ReceiveAll c phase octets count) c octets handed
 
 -- what is due, whatever octets come: the phase, once it is settled, and the items that are due
 abbrev pub AreReceivedDue : Configuration → List ℕ → List (Handed ItemValue) → Type 0
-AreReceivedDue c octets = InTurnSoFar (λ phase. ReceiveDue c phase octets) c octets
+AreReceivedDue c octets = WithPhaseSoFar (λ phase. ReceiveDue c phase octets) c octets
 
 -- the first of what is handed over, whatever octets come
 abbrev pub AreReceivedFirst : Configuration → List ℕ → List (Handed ItemValue) → Type 0
-AreReceivedFirst c octets = InTurnSettled (λ phase. ReceiveFirst c phase octets) c octets
+AreReceivedFirst c octets = WithPhaseSettled (λ phase. ReceiveFirst c phase octets) c octets
 
 -- the first of all
-abbrev pub AreReceivedFront : Configuration → List ℕ → List (Handed ItemValue) → Type 0
-AreReceivedFront c octets = InTurn (λ phase. ReceiveFront c phase octets) c octets
+abbrev pub AreReceivedPrefix : Configuration → List ℕ → List (Handed ItemValue) → Type 0
+AreReceivedPrefix c octets = WithPhase (λ phase. ReceivePrefix c phase octets) c octets

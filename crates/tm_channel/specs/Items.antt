@@ -6,7 +6,7 @@ use Rattle.tm_rs_solve.specs.declared.answers.Answer.{Answer}
 use Rattle.tm_rs_solve.specs.declared.answers.Answer.TheVariants.{Fixed, Beyond}
 use Rattle.tm_rs_solve.specs.Answers.{found}
 use Rattle.tm_sync.specs.declared.found.Found.{Found}
-use Rattle.tm_sync.specs.Places.{places, turned_place}
+use Rattle.tm_sync.specs.Places.{places, complemented_place}
 use Rattle.tm_codeblock.specs.ReceivedCodeblock.{rules_of, codeblock_at, received_columns, frame_of}
 
 -- what is said of one codeblock: where it stands, an answer for each column, and its frame
@@ -61,5 +61,5 @@ frames_of [] = []
 frames_of (item ∷ items) = item.frame ++ frames_of items
 
 -- the same item in the other polarity
-abbrev pub turned_item : ItemValue → ItemValue
-turned_item item = record item { found = turned_place item.found }
+abbrev pub complemented_item : ItemValue → ItemValue
+complemented_item item = record item { found = complemented_place item.found }

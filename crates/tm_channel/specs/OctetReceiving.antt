@@ -10,12 +10,12 @@ use Rattle.tm_viterbi.specs.Clean.{kept_bits}
 use Rattle.tm_conv.specs.declared.rates.Rate.{Rate}
 use Rattle.tm_phase.specs.declared.choosing.Chosen.{Chosen}
 use Rattle.tm_inner.specs.Inner.{inner_bits, plain_bits, plain_count}
-use Rattle.tm_inner.specs.Phase.{IsChosen, IsChosenSoFar, in_turn}
+use Rattle.tm_inner.specs.Phase.{IsChosen, IsChosenSoFar, with_phase}
 use Rattle.tm_inner.specs.Handing.{AreHanded, AreHandedDue}
 use Rattle.tm_inner.specs.Receiving.{InnerReceiving, StandsFor as InnerStandsFor}
 use Rattle.tm_channel.specs.Items.{ItemValue, AreItemsOf}
 use Rattle.tm_channel.specs.Due.{due}
-use Rattle.tm_channel.specs.Handing.{phase_of, AreReceived, AreReceivedDue, AreReceivedFirst, AreReceivedFront}
+use Rattle.tm_channel.specs.Handing.{phase_of, AreReceived, AreReceivedDue, AreReceivedFirst, AreReceivedPrefix}
 use Rattle.tm_channel.specs.Most.{AreFew}
 use Rattle.tm_channel.specs.Receiving.{Batching, Stands, waiting_bits, GoesOn, AreDue, AreFirstDue, AreLast, AreFirstLast}
 
@@ -50,7 +50,7 @@ pub record StagesFor (s : Stages) (given : List ℕ) (done : List (Handed ItemVa
   pub items : List ItemValue
   pub are_items : AreItemsOf s.inner.config (inner_bits s.inner.config given (items_of handed))
       (due s.inner.config (inner_bits s.inner.config given (items_of handed))) items
-  pub are : done ≡ in_turn (phase_of handed) items
+  pub are : done ≡ with_phase (phase_of handed) items
 
 -- stages that were given these octets and have handed over this, whose first stage has handed over
 -- more after these blocks
@@ -130,7 +130,7 @@ abbrev pub FinishBreaks : {T : Type 0} → (T → Handed ItemValue → T → Typ
 FinishBreaks took broke before taker taker_now = (tried : List (Handed ItemValue))
     × HandedPart took broke taker tried taker_now
     × ((given : List ℕ) (done : List (Handed ItemValue)) → StandsFor before given done
-    → AreReceivedFront before.config given (done ++ tried))
+    → AreReceivedPrefix before.config given (done ++ tried))
 
 -- the phase that is kept at the end is the one of all octets
 abbrev pub FinishChooses : OctetReceiving → OctetReceiving → Type 0

@@ -33,7 +33,7 @@ pub record ReceiveFirst (c : Configuration) (phase : ℕ) (octets : List ℕ) (i
       (places (rules_of c) (inner_bits c octets blocks)) items
 
 -- these are the first of the items of received octets
-pub record ReceiveFront (c : Configuration) (phase : ℕ) (octets : List ℕ) (items : List ItemValue) : Type 0 where
+pub record ReceivePrefix (c : Configuration) (phase : ℕ) (octets : List ℕ) (items : List ItemValue) : Type 0 where
   pub bits : List Bool
   pub inner : Inner c phase octets bits
   pub are_items : AreFirstItemsOf c bits (places (rules_of c) bits) items

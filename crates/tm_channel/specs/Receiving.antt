@@ -11,9 +11,9 @@ use Rattle.tm_channel.specs.Due.{due_count, due}
 
 -- ---- when an item is handed over
 
--- what stands in `all` after a prefix as long as `front`
+-- what stands in `all` after a prefix as long as `prefix`
 abbrev pub beyond : {A : Type 0} → List A → List A → List A
-beyond front all = drop (length front) all
+beyond prefix all = drop (length prefix) all
 
 -- these items are due once `piece` follows the bits, and were not due before
 abbrev pub AreFurther : Configuration → List Bool → List Bool → List ItemValue → Type 0
@@ -95,8 +95,8 @@ pub record Holding (c : Configuration) (stands : List Bool → List Found
   pub search : stands bits (places (rules_of c) bits)
   pub within : handed ≤ length (places (rules_of c) bits)
   pub waiting : kept ≡ map (kept_at c bits) (drop handed (places (rules_of c) bits))
-  pub front : List Bool
-  pub parts : bits ≡ front ++ part
+  pub prefix : List Bool
+  pub parts : bits ≡ prefix ++ part
 
 -- the same, but of `more` bits that the search was given, it was told nothing yet
 pub record HoldingMore (c : Configuration) (stands : List Bool → List Found
@@ -105,8 +105,8 @@ pub record HoldingMore (c : Configuration) (stands : List Bool → List Found
   pub search : stands (bits ++ more) (places (rules_of c) bits)
   pub within : handed ≤ length (places (rules_of c) bits)
   pub waiting : kept ≡ map (kept_at c bits) (drop handed (places (rules_of c) bits))
-  pub front : List Bool
-  pub parts : bits ++ more ≡ front ++ part
+  pub prefix : List Bool
+  pub parts : bits ++ more ≡ prefix ++ part
 
 -- what contracts see of a batch of codeblocks: the bits of the one under way, those that are kept,
 -- and the items that were written when these were repaired

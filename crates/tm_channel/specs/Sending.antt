@@ -1,9 +1,9 @@
 -- What a sender keeps, and for which octets, given so far, it stands.
 use Rattle.std.specs.Prelude.{◌≡◌, ℕ, List, Option}
-use Rattle.tm_base.specs.Pieces.{Fed, FedFront}
+use Rattle.tm_base.specs.Pieces.{Fed, FedPrefix}
 use Rattle.tm_config.specs.Configuration.{Configuration}
 use Rattle.tm_inner.specs.Sending.{InnerSending, StandsFor as InnerStandsFor}
-use Rattle.tm_codeblock.specs.Frames.{behind_frames}
+use Rattle.tm_codeblock.specs.Frames.{after_frames}
 use Rattle.tm_channel.specs.Sent.{cadus, sent}
 
 -- what contracts see of a sender: its configuration, a prefix of a frame, and its last stage
@@ -15,7 +15,7 @@ pub record Sending : Type 0 where
 -- it holds what follows the last whole frame, and its last stage was given the whole frames'
 -- units
 pub record StandsFor (sender : Sending) (octets : List ℕ) : Type 0 where
-  pub held : sender.held ≡ behind_frames sender.config.frame_length octets
+  pub held : sender.held ≡ after_frames sender.config.frame_length octets
   pub inner : InnerStandsFor sender.inner (cadus sender.config octets)
 
 -- given these octets, a sender went on and wrote what is due for them
@@ -24,6 +24,6 @@ pub record Sends (before now : Sending) (taken taken_now : Option (List ℕ)) (o
   pub fed : Fed StandsFor (sent before.config) before now taken taken_now octets
 
 -- given these octets, a sender wrote a prefix of what is due for them
-abbrev pub SendsFront : Sending → Option (List ℕ) → Option (List ℕ) → List ℕ → Type 0
-SendsFront before taken taken_now octets =
-    FedFront StandsFor (sent before.config) before taken taken_now octets
+abbrev pub SendsPrefix : Sending → Option (List ℕ) → Option (List ℕ) → List ℕ → Type 0
+SendsPrefix before taken taken_now octets =
+    FedPrefix StandsFor (sent before.config) before taken taken_now octets

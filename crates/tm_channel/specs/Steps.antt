@@ -1,6 +1,6 @@
 -- What a sender does with the next octets, by what it keeps alone.
 use Rattle.std.specs.Prelude.{◌≡◌, ℕ, List, ◌++◌, flat_map, Option}
-use Rattle.tm_inner.specs.Sending.{Sends as InnerSends, SendsFront as InnerSendsFront}
+use Rattle.tm_inner.specs.Sending.{Sends as InnerSends, SendsPrefix as InnerSendsPrefix}
 use Rattle.tm_codeblock.specs.Frames.{Splits}
 use Rattle.tm_codeblock.specs.Cadu.{cadu}
 use Rattle.tm_channel.specs.Sending.{Sending}
@@ -15,8 +15,8 @@ pub record SendsFrames (before now : Sending) (taken taken_now : Option (List �
       (flat_map (cadu before.config) frames)
 
 -- the same, but of the frames' units the last stage wrote a prefix
-pub record SendsFramesFront (before : Sending) (taken taken_now : Option (List ℕ)) (octets : List ℕ) : Type 0 where
+pub record SendsFramesPrefix (before : Sending) (taken taken_now : Option (List ℕ)) (octets : List ℕ) : Type 0 where
   pub frames : List (List ℕ)
   pub rest : List ℕ
   pub split : Splits before.config.frame_length (before.held ++ octets) frames rest
-  pub inner : InnerSendsFront before.inner taken taken_now (flat_map (cadu before.config) frames)
+  pub inner : InnerSendsPrefix before.inner taken taken_now (flat_map (cadu before.config) frames)

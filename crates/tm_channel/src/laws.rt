@@ -10,21 +10,21 @@ ghost use Rattle.tm_config.specs.declared.values.Sought.TheVariants.{Find};
 ghost use Rattle.tm_config.specs.Configuration.{Configuration};
 ghost use Rattle.tm_phase.specs.declared.choosing.Chosen.{Chosen};
 ghost use Rattle.tm_inner.specs.Inner.{Inner, IsStartKnown};
-ghost use Rattle.tm_viterbi.specs.Clean.{turned_octets};
-ghost use Rattle.tm_inner.specs.Phase.{IsChosen, in_turn};
+ghost use Rattle.tm_viterbi.specs.Clean.{complemented_octets};
+ghost use Rattle.tm_inner.specs.Phase.{IsChosen, with_phase};
 ghost use Rattle.tm_codeblock.specs.Frames.{whole_frames};
 ghost use Rattle.tm_codeblock.specs.ReceivedCodeblock.{received_columns};
 ghost use Rattle.tm_channel.specs.Sent.{sent, sent_phase};
-ghost use Rattle.tm_channel.specs.Items.{ItemValue, frames_of, turned_item};
-ghost use Rattle.tm_channel.specs.Handing.{AreReceived, AreReceivedDue, AreReceivedFirst, AreReceivedFront};
-ghost use Rattle.tm_channel.specs.Receive.{Receive, ReceiveDue, ReceiveFirst, ReceiveFront};
+ghost use Rattle.tm_channel.specs.Items.{ItemValue, frames_of, complemented_item};
+ghost use Rattle.tm_channel.specs.Handing.{AreReceived, AreReceivedDue, AreReceivedFirst, AreReceivedPrefix};
+ghost use Rattle.tm_channel.specs.Receive.{Receive, ReceiveDue, ReceiveFirst, ReceivePrefix};
 ghost use Rattle.tm_channel.specs.SentStream.{AreAsSent, AreNear, AreWithin, IsSent, SentUnit, clean_items, sent_columns, unit_frames, unit_places};
 ghost use Rattle.tm_channel.specs.Disturbed as disturbed;
 
 use tm_conv::{best_path_law, complement_law};
 use tm_inner::{clean_inner_law, due_bits_law, inner_law};
 use tm_phase::{phase_law, whole_window_law};
-use tm_viterbi::{closed_windows_law, due_law, turned_blocks_law};
+use tm_viterbi::{closed_windows_law, complemented_blocks_law, due_law};
 
 /// Received octets come to one list of items. It does nothing.
 pub fn items_law()
@@ -53,7 +53,7 @@ pub fn first_items_law()
         → ReceiveFirst c phase octets first → Receive c phase (octets ++ more) items
         → (rest : List ItemValue) × (items ≡ first ++ rest) }
     ensures finish { (c : Configuration) (phase : ℕ) (octets : List ℕ) (first items : List ItemValue) → IsAccepted c
-        → ReceiveFront c phase octets first → Receive c phase octets items
+        → ReceivePrefix c phase octets first → Receive c phase octets items
         → (rest : List ItemValue) × (items ≡ first ++ rest) }
 {
     closed_windows_law();
@@ -80,10 +80,10 @@ pub fn received_law()
         → IsAccepted c
         → AreReceivedFirst c octets first → AreReceived c (octets ++ more) all bits
         → (rest : List (Handed ItemValue)) × (all ≡ first ++ rest) }
-    ensures front { (c : Configuration) (octets : List ℕ) (front all : List (Handed ItemValue)) (bits : ℕ)
+    ensures prefix { (c : Configuration) (octets : List ℕ) (prefix all : List (Handed ItemValue)) (bits : ℕ)
         → IsAccepted c
-        → AreReceivedFront c octets front → AreReceived c octets all bits
-        → (rest : List (Handed ItemValue)) × (all ≡ front ++ rest) }
+        → AreReceivedPrefix c octets prefix → AreReceived c octets all bits
+        → (rest : List (Handed ItemValue)) × (all ≡ prefix ++ rest) }
 {
     items_law();
     due_items_law();
@@ -141,7 +141,7 @@ pub fn clean_law()
     ensures handed { (c : Configuration) (octets : List ℕ) (handed : List (Handed ItemValue)) (bits : ℕ) → IsAccepted c
         → c.skip ≡ 0 → IsStartKnown c → AreOctets octets
         → AreReceived c (sent c octets) handed bits
-        → handed ≡ in_turn (sent_phase c) (clean_items c 0 (whole_frames c.frame_length octets)) }
+        → handed ≡ with_phase (sent_phase c) (clean_items c 0 (whole_frames c.frame_length octets)) }
 {
     clean_inner_law();
     best_path_law();
@@ -154,15 +154,15 @@ pub fn clean_law()
 pub fn polarity_law()
     ensures uncoded { (c : Configuration) (phase : ℕ) (octets : List ℕ) (items : List ItemValue) → IsAccepted c
         → c.inner ≡ None → c.polarity ≡ Find → AreOctets octets
-        → Receive c phase octets items → Receive c phase (turned_octets octets) (map turned_item items) }
+        → Receive c phase octets items → Receive c phase (complemented_octets octets) (map complemented_item items) }
     ensures half_rate { (c : Configuration) (octets : List ℕ) (items : List ItemValue) → IsAccepted c
         → c.inner ≡ Some R12 → c.polarity ≡ Find → c.start ≡ Any → c.skip ≡ 0 → AreOctets octets
-        → Receive c 0 (turned_octets (sent c octets)) items
-        → items ≡ map turned_item (clean_items c 0 (whole_frames c.frame_length octets)) }
+        → Receive c 0 (complemented_octets (sent c octets)) items
+        → items ≡ map complemented_item (clean_items c 0 (whole_frames c.frame_length octets)) }
     ensures phase { (c : Configuration) (octets : List ℕ) (chosen : Option Chosen) → c.skip ≡ 0
-        → IsChosen c (turned_octets (sent c octets)) chosen → chosen ≡ sent_phase c }
+        → IsChosen c (complemented_octets (sent c octets)) chosen → chosen ≡ sent_phase c }
 {
-    turned_blocks_law();
+    complemented_blocks_law();
     best_path_law();
     complement_law();
 }

@@ -9,7 +9,7 @@ ghost use Rattle.tm_inner.specs.Phase.{IsChosen, IsChosenSoFar};
 ghost use Rattle.tm_workers.specs.Batch.{EachBecomes};
 ghost use Rattle.tm_workers.specs.Words.{Decodes};
 ghost use Rattle.tm_channel.specs.Items.{ItemValue};
-ghost use Rattle.tm_channel.specs.Handing.{AreReceived, AreReceivedDue, AreReceivedFirst, AreReceivedFront};
+ghost use Rattle.tm_channel.specs.Handing.{AreReceived, AreReceivedDue, AreReceivedFirst, AreReceivedPrefix};
 ghost use Rattle.tm_channel.specs.Calls.{Calls, Feeds, Finishes};
 ghost use Rattle.tm_channel.specs.OctetReceiving.{FeedBreaks, FeedChooses, FeedHands, FinishBreaks, FinishChooses, FinishHands, StandsFor};
 
@@ -179,7 +179,7 @@ impl Receiver {
         ensures config { self.new.config ≡ self.old.config }
         ensures handed { OnOk result
             (FeedHands (on_handed T.took_phase T.took) self.old self.new taker.old taker.new octets.now) }
-        ensures front { IsErrOf result RecvError.Taker
+        ensures prefix { IsErrOf result RecvError.Taker
             → FeedBreaks (on_handed T.took_phase T.took) (on_handed T.broke_phase T.broke) self.old taker.old taker.new
             octets.now }
         ensures chosen { FeedChooses self.old self.new octets.now }
@@ -244,7 +244,7 @@ impl Receiver {
         ensures stops { self.new.has_stopped ≡ true }
         ensures config { self.new.config ≡ self.old.config }
         ensures handed { IfOk result (FinishHands (on_handed T.took_phase T.took) self.old taker.old taker.new) }
-        ensures front { IsErrOf result RecvError.Taker
+        ensures prefix { IsErrOf result RecvError.Taker
             → FinishBreaks (on_handed T.took_phase T.took) (on_handed T.broke_phase T.broke) self.old taker.old
             taker.new }
         ensures chosen { FinishChooses self.old self.new }
@@ -293,10 +293,10 @@ pub fn receive_all<R: Threads + Sync, T: ItemTaker>(
     ensures handed { IfOk result (λ count. (all : List (Handed ItemValue))
         × HandedOver (on_handed T.took_phase T.took) taker.old all taker.new
         × (length octets.now < 2 ^ 60 → AreReceived config octets.now all count)) }
-    ensures front { IsErrOf result AllError.Taker
+    ensures prefix { IsErrOf result AllError.Taker
         → (tried : List (Handed ItemValue)) × HandedPart (on_handed T.took_phase T.took)
         (on_handed T.broke_phase T.broke) taker.old tried taker.new
-        × (length octets.now < 2 ^ 60 → AreReceivedFirst config octets.now tried ⊎ AreReceivedFront config octets.now tried) }
+        × (length octets.now < 2 ^ 60 → AreReceivedFirst config octets.now tried ⊎ AreReceivedPrefix config octets.now tried) }
     ensures unchanged { IsErrOf result AllError.Memory → taker.new ≡ taker.old }
     ensures later { T.faults taker.old ≤ T.faults taker.new }
     ensures rose { IsErrOf result AllError.Taker

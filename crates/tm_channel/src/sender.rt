@@ -2,11 +2,11 @@
 ghost use Rattle.std.specs.Prelude.{◌≡◌, ◌≢◌, ◌↔◌, ℕ, ◌+◌, ◌*◌, ◌/◌, ◌<◌, ◌≤◌, List, [], ◌++◌, length, flat_map, IsTrue, OnOk, OnErr, IsErrOf, false};
 ghost use Rattle.tm_base.specs.Outside.{Rose, HasCause};
 ghost use Rattle.tm_config.specs.Configuration.{codeblock_length};
-ghost use Rattle.tm_inner.specs.Sending.{Sends as InnerSends, SendsFront as InnerSendsFront};
-ghost use Rattle.tm_codeblock.specs.Frames.{behind_frames};
+ghost use Rattle.tm_inner.specs.Sending.{Sends as InnerSends, SendsPrefix as InnerSendsPrefix};
+ghost use Rattle.tm_codeblock.specs.Frames.{after_frames};
 ghost use Rattle.tm_codeblock.specs.Cadu.{cadu};
-ghost use Rattle.tm_channel.specs.Sending.{StandsFor, Sends, SendsFront};
-ghost use Rattle.tm_channel.specs.Steps.{SendsFrames, SendsFramesFront};
+ghost use Rattle.tm_channel.specs.Sending.{StandsFor, Sends, SendsPrefix};
+ghost use Rattle.tm_channel.specs.Steps.{SendsFrames, SendsFramesPrefix};
 
 use std::marker::Model;
 use tm_base::{Failed, Sink};
@@ -72,8 +72,8 @@ impl Sender {
         ensures failed { IsTrue self.new.inner.has_failed ↔ OnOk result ⊥ }
         ensures config { self.new.config ≡ self.old.config }
         ensures sent { OnOk result (Sends self.old self.new (O.taken out.old) (O.taken out.new) octets.now) }
-        ensures front { IsErrOf result SendError.Sink
-            → SendsFront self.old (O.taken out.old) (O.taken out.new) octets.now }
+        ensures prefix { IsErrOf result SendError.Sink
+            → SendsPrefix self.old (O.taken out.old) (O.taken out.new) octets.now }
         ensures later { O.faults out.old ≤ O.faults out.new }
         ensures rose { IsErrOf result SendError.Sink → Rose (O.faults out.old) (O.faults out.new) (O.is_last out.new) }
         ensures same { result ≢ Err SendError.Sink → O.faults out.new ≡ O.faults out.old }
@@ -90,7 +90,7 @@ impl Sender {
     /// How many octets follow the last whole frame of those given so far, where no push answered `Sink`.
     pub fn left_over(&self) -> u32
         ensures { (given : List ℕ) → StandsFor self.now given
-            → result ≡ length (behind_frames self.now.config.frame_length given) }
+            → result ≡ length (after_frames self.now.config.frame_length given) }
     {
         let held = &self.frame[..self.count];
         held.len() as u32
@@ -99,7 +99,7 @@ impl Sender {
     /// How many octets follow the last whole frame of those given, where no push answered `Sink`.
     pub fn finish(self) -> u32
         ensures { (given : List ℕ) → StandsFor self given
-            → result ≡ length (behind_frames self.config.frame_length given) }
+            → result ≡ length (after_frames self.config.frame_length given) }
     {
         self.left_over()
     }
@@ -110,7 +110,7 @@ impl Sender {
         ensures config { self.new.config ≡ self.old.config }
         ensures failed { IsTrue self.new.inner.has_failed ↔ OnOk result ⊥ }
         ensures sent { OnOk result (SendsFrames self.old self.new (O.taken out.old) (O.taken out.new) octets.now) }
-        ensures front { OnErr result (SendsFramesFront self.old (O.taken out.old) (O.taken out.new) octets.now) }
+        ensures prefix { OnErr result (SendsFramesPrefix self.old (O.taken out.old) (O.taken out.new) octets.now) }
         ensures cause { HasCause (O.faults out.old) (O.faults out.new) (O.is_last out.new) result }
     {
         let _count = self.count;
@@ -133,7 +133,7 @@ impl Sender {
         ensures config { self.new.config ≡ self.old.config }
         ensures failed { IsTrue self.new.inner.has_failed ↔ OnOk result ⊥ }
         ensures sent { OnOk result (SendsFrames self.old self.new (O.taken out.old) (O.taken out.new) piece.now) }
-        ensures front { OnErr result (SendsFramesFront self.old (O.taken out.old) (O.taken out.new) piece.now) }
+        ensures prefix { OnErr result (SendsFramesPrefix self.old (O.taken out.old) (O.taken out.new) piece.now) }
         ensures cause { HasCause (O.faults out.old) (O.faults out.new) (O.is_last out.new) result }
     {
         let end = self.count + piece.len();
@@ -160,7 +160,7 @@ fn send_frame<O: Sink>(
     ensures failed { IsTrue inner.new.has_failed ↔ OnOk result ⊥ }
     ensures sent { OnOk result (InnerSends inner.old inner.new (O.taken out.old) (O.taken out.new)
         (cadu config.now frame.now)) }
-    ensures front { OnErr result (InnerSendsFront inner.old (O.taken out.old) (O.taken out.new)
+    ensures prefix { OnErr result (InnerSendsPrefix inner.old (O.taken out.old) (O.taken out.new)
         (cadu config.now frame.now)) }
     ensures cause { HasCause (O.faults out.old) (O.faults out.new) (O.is_last out.new) result }
 {

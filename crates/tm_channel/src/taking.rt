@@ -5,8 +5,8 @@ ghost use Rattle.tm_base.specs.Handed.{Handed, on_handed};
 ghost use Rattle.tm_base.specs.Outside.{HasCause};
 ghost use Rattle.tm_base.specs.Takers.{HandedOver, HandedPart};
 ghost use Rattle.tm_inner.specs.Inner.{nearest_bit, plain_bits};
-ghost use Rattle.tm_inner.specs.Phase.{IsChosen, in_turn};
-ghost use Rattle.tm_inner.specs.Receiving.{HandsFront, StandsFor as InnerStandsFor};
+ghost use Rattle.tm_inner.specs.Phase.{IsChosen, with_phase};
+ghost use Rattle.tm_inner.specs.Receiving.{HandsPrefix, StandsFor as InnerStandsFor};
 ghost use Rattle.tm_viterbi.specs.WindowBlock.{WindowBlock};
 ghost use Rattle.tm_channel.specs.Calls.{TakesBits, TakesOctets};
 ghost use Rattle.tm_channel.specs.Receiving.{waiting_bits};
@@ -81,7 +81,7 @@ fn take_piece<P: Workers, T: ItemTaker>(
     ensures handed { OnOk result (StagesHand (on_handed T.took_phase T.took)
         (record { inner = inner.old; bits = stream.old })
         (record { inner = inner.new; bits = stream.new }) taker.old taker.new octets.now) }
-    ensures front { OnErr result (HandsFront (on_handed T.took_phase T.took) (on_handed T.broke_phase T.broke) StagesFor
+    ensures prefix { OnErr result (HandsPrefix (on_handed T.took_phase T.took) (on_handed T.broke_phase T.broke) StagesFor
         (FirstWith inner.old.config inner.new.phased.chosen)
         (record { inner = inner.old; bits = stream.old }) taker.old taker.new octets.now) }
     ensures cause { HasCause (T.faults taker.old) (T.faults taker.new) (T.is_last taker.new) result }
@@ -101,7 +101,7 @@ fn take_piece<P: Workers, T: ItemTaker>(
             Err(Failed) => Err(Failed),
         }
     } else {
-        match take_behind(inner, stream, skip, by, octets, taker) {
+        match take_after(inner, stream, skip, by, octets, taker) {
             Ok(()) => Ok(()),
             Err(Failed) => Err(Failed),
         }
@@ -139,9 +139,9 @@ fn hold_or_decode<P: Workers>(
 /// Hands over the symbol phase, where the first stage has handed it over.
 pub fn hand_phase<T: ItemTaker>(kept: &KeptBits, taker: &mut T) -> Result<(), Failed>
     ensures handed { OnOk result (HandedOver (on_handed T.took_phase T.took) taker.old
-        (in_turn kept.now.phase []) taker.new) }
-    ensures front { OnErr result (HandedPart (on_handed T.took_phase T.took) (on_handed T.broke_phase T.broke) taker.old
-        (in_turn kept.now.phase []) taker.new) }
+        (with_phase kept.now.phase []) taker.new) }
+    ensures prefix { OnErr result (HandedPart (on_handed T.took_phase T.took) (on_handed T.broke_phase T.broke) taker.old
+        (with_phase kept.now.phase []) taker.new) }
     ensures cause { HasCause (T.faults taker.old) (T.faults taker.new) (T.is_last taker.new) result }
 {
     match kept.phase() {
@@ -166,7 +166,7 @@ pub fn end<P: Workers>(by: &P, inner: &mut InnerReceiver, kept: &mut KeptBits) -
 }
 
 // Gives the bits of octets after the first `skip` ones to the second stage, where there is no inner code.
-fn take_behind<P: Workers, T: ItemTaker>(
+fn take_after<P: Workers, T: ItemTaker>(
     inner: &InnerReceiver,
     stream: &mut BitStream,
     skip: u64,

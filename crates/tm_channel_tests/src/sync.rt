@@ -194,7 +194,7 @@ fn marker_inside_a_codeblock_is_not_searched(rt: HostRuntime) -> Result<(), Fail
 }
 
 #[test]
-fn inside_counts_behind_each_kind_of_marker(rt: HostRuntime) -> Result<(), Fail> {
+fn inside_counts_after_each_kind_of_marker(rt: HostRuntime) -> Result<(), Fail> {
     let bits = bits_of(
         rt.alloc(),
         &[&[0xE5, 0x30, 0x03, 0xE2], &[0xFF], &[0xFF; 4], &[0xFF]],
@@ -209,9 +209,9 @@ fn inside_counts_behind_each_kind_of_marker(rt: HostRuntime) -> Result<(), Fail>
         assert_eq!(rt;
             search.inside(),
             u64::checked_sub(part, 32),
-            "behind {given} bits"
+            "after {given} bits"
         );
-        assert_eq!(rt; search.pending(), part == 40, "behind {given} bits");
+        assert_eq!(rt; search.pending(), part == 40, "after {given} bits");
         match search.next() {
             Some(found) => assert_eq!(rt; found.bridged, given == 80),
             None => {}
@@ -337,8 +337,8 @@ fn drawn_bits(alloc: Global, seed: u64, block_bits: u32) -> Result<Vec<bool>, Al
             }
         }
         state = step(state);
-        let turned = if state >> 8 & 3 == 0 { u32::MAX } else { 0 };
-        let mut marker = u32::from_be_bytes(MARKER) ^ turned;
+        let complemented = if state >> 8 & 3 == 0 { u32::MAX } else { 0 };
+        let mut marker = u32::from_be_bytes(MARKER) ^ complemented;
         for _ in 0..state >> 16 & 15 {
             state = step(state);
             marker ^= 1 << (state >> 20 & 31);
@@ -360,7 +360,7 @@ fn drawn_bits(alloc: Global, seed: u64, block_bits: u32) -> Result<Vec<bool>, Al
 #[test]
 fn search_finds_the_places_of_the_definition(rt: HostRuntime) -> Result<(), Fail> {
     let mut bridges: u64 = 0;
-    let mut turned: u64 = 0;
+    let mut complemented: u64 = 0;
     for seed in 1..121 {
         let block_bits = 1 + (seed % 5) as u32;
         let bits = drawn_bits(rt.alloc(), step(step(seed)), block_bits)?;
@@ -369,19 +369,19 @@ fn search_finds_the_places_of_the_definition(rt: HostRuntime) -> Result<(), Fail
                 for either in [false, true] {
                     let rules = rules_of(tolerance, fly, either, block_bits);
                     let (found, rest) = searched(&rt, rt.alloc(), rules, &bits)?;
-                    let (wanted, behind) = defined(rt.alloc(), rules, &bits)?;
+                    let (wanted, after) = defined(rt.alloc(), rules, &bits)?;
                     assert_eq!(rt; found.as_slice(), wanted.as_slice(), "{rules:?} at {seed}");
-                    assert_eq!(rt; rest, behind, "{rules:?} at {seed}");
+                    assert_eq!(rt; rest, after, "{rules:?} at {seed}");
                     for place in &found {
                         bridges = bridges.saturating_add(u64::from(place.bridged));
-                        turned = turned.saturating_add(u64::from(place.inverted));
+                        complemented = complemented.saturating_add(u64::from(place.inverted));
                     }
                 }
             }
         }
     }
     assert!(rt; bridges > 100);
-    assert!(rt; turned > 100);
+    assert!(rt; complemented > 100);
     Ok(())
 }
 

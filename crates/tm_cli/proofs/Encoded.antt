@@ -6,13 +6,13 @@ use Rattle.std.proofs.lemmas.Nat.{div-add-mod'}
 use Rattle.std.specs.Bool.{⊤}
 use Rattle.std.specs.Io.KnownBytes.{append_known}
 use Rattle.tm_base.specs.Pieces.{further}
-use Rattle.tm_base.specs.Written.{Wrote, WroteFront}
+use Rattle.tm_base.specs.Written.{Wrote, WrotePrefix}
 use Rattle.tm_config.specs.Accepted.{IsAccepted}
 use Rattle.tm_config.specs.Configuration.{Configuration}
-use Rattle.tm_codeblock.specs.Frames.{behind_frames}
-use Rattle.tm_channel.specs.Sending.{Sending, StandsFor, Sends, SendsFront}
+use Rattle.tm_codeblock.specs.Frames.{after_frames}
+use Rattle.tm_channel.specs.Sending.{Sending, StandsFor, Sends, SendsPrefix}
 use Rattle.tm_channel.specs.Sent.{sent}
-use Rattle.tm_channel.proofs.Sending.{sent-goes_on, sends-all, sends-all_front}
+use Rattle.tm_channel.proofs.Sending.{sent-goes_on, sends-all, sends-all_prefix}
 use Rattle.tm_driver.specs.Courses.{SinkState, SinkCourse}
 use Rattle.tm_driver.specs.Driven.{DrivenTo}
 use Rattle.tm_driver.specs.Lines.{left_over_text, outcome_by}
@@ -23,12 +23,12 @@ use Rattle.tm_driver.specs.declared.ending.Outcome.{Outcome}
 use Rattle.tm_driver.specs.declared.ending.Outcome.TheVariants.{Done as Whole, Bad as Beyond, LeftOver as Left}
 use Rattle.tm_driver.specs.declared.ending.Stop.{Stop}
 use Rattle.tm_driver.specs.declared.ending.Stop.TheVariants.{SinkFault as FeedFault}
-use Rattle.tm_driver.proofs.SinkTexts.{wrote-nothing, wrote-front, wrote-no_front}
+use Rattle.tm_driver.proofs.SinkTexts.{wrote-nothing, wrote-prefix, wrote-no_prefix}
 use Rattle.tm_cli.specs.Encode.{encode_meaning, left_over}
 
 -- how many octets follow the last whole frame
-length-behind : (size : ℕ) (octets : List ℕ) → length (behind_frames size octets) ≡ length octets % size
-length-behind size octets = omega (arith, length-drop (length octets / size * size) octets, div-add-mod' (length octets) size)
+length-after : (size : ℕ) (octets : List ℕ) → length (after_frames size octets) ≡ length octets % size
+length-after size octets = omega (arith, length-drop (length octets / size * size) octets, div-add-mod' (length octets) size)
 
 -- what is sent of octets, and what is told of those that are left over; and before the end of the input is known
 abbrev whole-output : Configuration → List ℕ → Output
@@ -52,7 +52,7 @@ early c accepted octets taken taken_now noted noted_now same all = (
             ap (take (length (sent c octets))) (sent-goes_on c (omega (arith, accepted.some_data)) octets more)
             ∙ take_at (sent c octets) (further (sent c) octets more) (length (sent c octets)) refl)),
       );
-      notes = subst (λ n. WroteFront noted n (left_over_text (left_over c (octets ++ more)))) (sym same) (wrote-no_front noted (left_over_text (left_over c (octets ++ more))));
+      notes = subst (λ n. WrotePrefix noted n (left_over_text (left_over c (octets ++ more)))) (sym same) (wrote-no_prefix noted (left_over_text (left_over c (octets ++ more))));
     },
   ),
 )
@@ -91,10 +91,10 @@ Fed sender out state notes a b octets = (0 < (sender a).config.frame_length) × 
 
 abbrev Stopped : {F R S : Type 0} → (F → Sending) → (F → R) → (R → SinkState) → (R → Type 0) → (F → S) → F → F → List ℕ → Stop → Type 0
 Stopped sender out state last notes a b octets stop = (stop ≡ FeedFault) × (0 < (sender a).config.frame_length) × (notes b ≡ notes a)
-    × SinkCourse true (state (out a)) (state (out b)) (last (out b)) × SendsFront (sender a) (state (out a)).taken (state (out b)).taken octets
+    × SinkCourse true (state (out a)) (state (out b)) (last (out b)) × SendsPrefix (sender a) (state (out a)).taken (state (out b)).taken octets
 
 abbrev IsRest : Sending → ℕ → Type 0
-IsRest s rest = (given : List ℕ) → StandsFor s given → rest ≡ length (behind_frames s.config.frame_length given)
+IsRest s rest = (given : List ℕ) → StandsFor s given → rest ≡ length (after_frames s.config.frame_length given)
 
 abbrev Finishes : {F R S : Type 0} → (F → Sending) → (F → R) → (F → S) → (S → SinkState) → F → F → Outcome → Type 0
 Finishes sender out notes noted a b outcome = (rest : ℕ) × IsRest (sender a) rest × (outcome ≡ outcome_by rest) × (out b ≡ out a)
@@ -102,22 +102,22 @@ Finishes sender out notes noted a b outcome = (rest : ℕ) × IsRest (sender a) 
 
 abbrev Fails : {F R S : Type 0} → (F → Sending) → (F → R) → (F → S) → (S → SinkState) → (S → Type 0) → F → F → Type 0
 Fails sender out notes noted last a b = (rest : ℕ) × IsRest (sender a) rest × (out b ≡ out a)
-    × SinkCourse true (noted (notes a)) (noted (notes b)) (last (notes b)) × WroteFront (noted (notes a)).taken (noted (notes b)).taken (left_over_text rest)
+    × SinkCourse true (noted (notes a)) (noted (notes b)) (last (notes b)) × WrotePrefix (noted (notes a)).taken (noted (notes b)).taken (left_over_text rest)
 
 -- what a new sender that was fed has written
 fed-all : (c : Configuration) (a b : Sending) (taken now : Option (List ℕ)) (octets : List ℕ) → a.config ≡ c → StandsFor a []
     → 0 < a.config.frame_length → Sends a b taken now octets → Wrote taken now (sent c octets)
 fed-all c a b taken now octets same new some p = subst (λ (x : Configuration). Wrote taken now (sent x octets)) same (sends-all a b taken now octets some new p)
 
-fed-front : (c : Configuration) (a : Sending) (taken now : Option (List ℕ)) (octets : List ℕ) → a.config ≡ c → StandsFor a []
-    → 0 < a.config.frame_length → SendsFront a taken now octets → WroteFront taken now (sent c octets)
-fed-front c a taken now octets same new some p = subst (λ (x : Configuration). WroteFront taken now (sent x octets)) same (sends-all_front a taken now octets some new p)
+fed-prefix : (c : Configuration) (a : Sending) (taken now : Option (List ℕ)) (octets : List ℕ) → a.config ≡ c → StandsFor a []
+    → 0 < a.config.frame_length → SendsPrefix a taken now octets → WrotePrefix taken now (sent c octets)
+fed-prefix c a taken now octets same new some p = subst (λ (x : Configuration). WrotePrefix taken now (sent x octets)) same (sends-all_prefix a taken now octets some new p)
 
 -- how many octets are left over then
 rest-is : (c : Configuration) (a b : Sending) (taken now : Option (List ℕ)) (octets : List ℕ) (rest : ℕ) → a.config ≡ c → StandsFor a []
     → Sends a b taken now octets → IsRest b rest → rest ≡ left_over c octets
 rest-is c a b taken now octets rest same new p finish = finish octets (p.fed.stands [] new)
-    ∙ ap (λ (x : Configuration). length (behind_frames x.frame_length octets)) (p.config ∙ same) ∙ length-behind c.frame_length octets
+    ∙ ap (λ (x : Configuration). length (after_frames x.frame_length octets)) (p.config ∙ same) ∙ length-after c.frame_length octets
 
 -- the whole output, where the input was read to its end and its rest was told
 record AllSent (c : Configuration) (octets : List ℕ) (taken taken_now noted noted_now : Option (List ℕ)) (rest : ℕ) (Told : List ℕ → Type 0) : Type 0 where
@@ -168,17 +168,17 @@ encode-ends sender out state out_last notes noted notes_last c a b ended unended
       whole-output c up_to,
       refl,
       record {
-        out = fed-front c (sender a) (state (out a)).taken (state (out b)).taken up_to same new p.0.1 p.0.4;
-        notes = subst (λ n. WroteFront (noted (notes a)).taken n (left_over_text (left_over c up_to))) (sym still) (wrote-no_front (noted (notes a)).taken (left_over_text (left_over c up_to)));
+        out = fed-prefix c (sender a) (state (out a)).taken (state (out b)).taken up_to same new p.0.1 p.0.4;
+        notes = subst (λ n. WrotePrefix (noted (notes a)).taken n (left_over_text (left_over c up_to))) (sym still) (wrote-no_prefix (noted (notes a)).taken (left_over_text (left_over c up_to)));
       },
       inl (subst (λ n. Wrote (noted (notes a)).taken n []) (sym still) (wrote-nothing (noted (notes a)).taken)),
     )
 encode-ends sender out state out_last notes noted notes_last c a b ended unended SinkFault octets accepted same new (inr p) =
     let end = p.0.at_end in
-    let all = all-sent sender out state notes noted (λ s. WroteFront s.taken (noted (notes b)).taken) c a p.0.middle b octets end.0 same new p.0.were_fed end.1 end.2 end.4 in (
+    let all = all-sent sender out state notes noted (λ s. WrotePrefix s.taken (noted (notes b)).taken) c a p.0.middle b octets end.0 same new p.0.were_fed end.1 end.2 end.4 in (
       whole-output c octets,
       ap (whole-output c) (sym (take_all c.limit octets p.0.within)),
-      record { out = wrote-front (state (out a)).taken (state (out b)).taken (sent c octets) all.wrote; notes = all.notes },
+      record { out = wrote-prefix (state (out a)).taken (state (out b)).taken (sent c octets) all.wrote; notes = all.notes },
       inr all.wrote,
     )
 

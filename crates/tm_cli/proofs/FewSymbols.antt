@@ -59,9 +59,9 @@ length-further c given piece =
     ≡ length (symbols_of_octets c given) + length (further (symbols_of_octets c) given piece) =
     sym (length-symbols_by c.inner c (given ++ piece)) ∙ ap length (symbols-go_on c given piece)
     ∙ length-append (symbols_of_octets c given) (further (symbols_of_octets c) given piece) in
-    let front : length (symbols_of_octets c given)
+    let prefix : length (symbols_of_octets c given)
     ≡ size_of c.inner c.pack (8 * length given) = length-symbols_by c.inner c given in
     let long : size_of c.inner c.pack (8 * length (given ++ piece)) ≡ size_of c.inner c.pack (8 * (length given + length piece)) =
     ap (λ (n : ℕ). size_of c.inner c.pack (8 * n)) (length-append given piece) in
     let most = size_of-more c.inner c.pack (length given) (length piece) in
-    omega (arith, both, front, long, most)
+    omega (arith, both, prefix, long, most)

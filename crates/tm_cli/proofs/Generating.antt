@@ -25,10 +25,10 @@ unfolding state_after
 state-more w m p zero s = refl
 state-more w m p (suc n) s = state-more w m p n (next_state w m p s)
 
-state-behind : (w m p a b s : ℕ) → state_after w m p a (state_after w m p b s) ≡ state_after w m p (b + a) s
+state-after : (w m p a b s : ℕ) → state_after w m p a (state_after w m p b s) ≡ state_after w m p (b + a) s
 unfolding state_after
-state-behind w m p a zero s = ap (λ (k : ℕ). state_after w m p k s) (sym (zero-add a))
-state-behind w m p a (suc b) s = state-behind w m p a b (next_state w m p s) ∙ ap (λ (k : ℕ). state_after w m p k s) (sym (suc-add b a))
+state-after w m p a zero s = ap (λ (k : ℕ). state_after w m p k s) (sym (zero-add a))
+state-after w m p a (suc b) s = state-after w m p a b (next_state w m p s) ∙ ap (λ (k : ℕ). state_after w m p k s) (sym (suc-add b a))
 
 -- one draw more
 pub drawn-more : (n : ℕ) (g : Lcg) → (pcg32 (drawn n g)).1 ≡ drawn (n + 1) g
@@ -37,7 +37,7 @@ drawn-more n g =
     (state-more 64 multiplier_64 g.increment n g.state ∙ ap (λ (k : ℕ). state_after 64 multiplier_64 g.increment k g.state) (sym (add-one n)))
 
 pub drawn-drawn : (a b : ℕ) (g : Lcg) → drawn a (drawn b g) ≡ drawn (b + a) g
-drawn-drawn a b g = ap (λ (s : ℕ). record g { state = s }) (state-behind 64 multiplier_64 g.increment a b g.state)
+drawn-drawn a b g = ap (λ (s : ℕ). record g { state = s }) (state-after 64 multiplier_64 g.increment a b g.state)
 
 -- what a generator that follows `n` draws gives, and where it stands then
 pub given : (n : ℕ) (g at now : Lcg) (word : ℕ) → at ≡ drawn n g → (word, now) ≡ pcg32 at → word ≡ draw g n
@@ -111,24 +111,24 @@ draws-more column hits g at now is drew =
 -- ---- units
 
 -- what is written after the marker
-pub behind-marker : (unit codeblock : List ℕ) → put_mid 4 (length unit - 4) unit codeblock ≡ take 4 unit ++ codeblock
-behind-marker unit codeblock =
+pub after-marker : (unit codeblock : List ℕ) → put_mid 4 (length unit - 4) unit codeblock ≡ take 4 unit ++ codeblock
+after-marker unit codeblock =
     ap (λ (l : List ℕ). take 4 unit ++ (codeblock ++ l)) (drop_all (length unit - 4) (drop 4 unit) (omega (arith, length-drop 4 unit)))
     ∙ ap (λ (l : List ℕ). take 4 unit ++ l) (append-nil codeblock)
 
 -- the codeblock after the marker is changed
-pub unit-is : (c : Configuration) (hits : ℕ) (g behind : Lcg) (frame unit now codeblock : List ℕ) → frame ≡ drawn_octets c.frame_length g → unit ≡ cadu c frame
-    → behind ≡ drawn c.frame_length g → codeblock ≡ changed_columns c c.depth hits behind (drop 4 unit) → now ≡ take 4 unit ++ codeblock
+pub unit-is : (c : Configuration) (hits : ℕ) (g after : Lcg) (frame unit now codeblock : List ℕ) → frame ≡ drawn_octets c.frame_length g → unit ≡ cadu c frame
+    → after ≡ drawn c.frame_length g → codeblock ≡ changed_columns c c.depth hits after (drop 4 unit) → now ≡ take 4 unit ++ codeblock
     → now ≡ generated_unit c hits g
 unfolding generated_unit cadu
-unit-is c hits g behind frame unit now codeblock drew made stand change is =
+unit-is c hits g after frame unit now codeblock drew made stand change is =
     is ∙ ap (λ (l : List ℕ). take 4 unit ++ l) change
-    ∙ ap (λ (l : List ℕ). take 4 l ++ changed_columns c c.depth hits behind (drop 4 l)) made
-    ∙ ap (λ (l : List ℕ). take 4 (cadu c l) ++ changed_columns c c.depth hits behind (drop 4 (cadu c l))) drew
+    ∙ ap (λ (l : List ℕ). take 4 l ++ changed_columns c c.depth hits after (drop 4 l)) made
+    ∙ ap (λ (l : List ℕ). take 4 (cadu c l) ++ changed_columns c c.depth hits after (drop 4 (cadu c l))) drew
     ∙ ap (λ (h : Lcg). take 4 (cadu c (drawn_octets c.frame_length g)) ++ changed_columns c c.depth hits h (drop 4 (cadu c (drawn_octets c.frame_length g)))) stand
 
-pub draws-unit : (c : Configuration) (hits : ℕ) (g behind now : Lcg) → behind ≡ drawn c.frame_length g → now ≡ drawn (c.depth * (hits + 1)) behind → now ≡ drawn (draw_count c hits) g
-draws-unit c hits g behind now is drew = drew ∙ ap (drawn (c.depth * (hits + 1))) is ∙ drawn-drawn (c.depth * (hits + 1)) c.frame_length g
+pub draws-unit : (c : Configuration) (hits : ℕ) (g after now : Lcg) → after ≡ drawn c.frame_length g → now ≡ drawn (c.depth * (hits + 1)) after → now ≡ drawn (draw_count c hits) g
+draws-unit c hits g after now is drew = drew ∙ ap (drawn (c.depth * (hits + 1))) is ∙ drawn-drawn (c.depth * (hits + 1)) c.frame_length g
 
 pub units-none : (c : Configuration) (hits : ℕ) (g : Lcg) → generated_units c 0 hits g ≡ []
 unfolding generated_units

@@ -16,18 +16,18 @@ use Rattle.tm_conv.specs.declared.rates.Rate.{Rate}
 use Rattle.tm_conv.specs.Path.{period}
 use Rattle.tm_phase.specs.declared.choosing.Chosen.{Chosen}
 use Rattle.tm_inner.specs.Inner.{Inner, IsStartKnown, plain_count, inner_bits}
-use Rattle.tm_inner.specs.Phase.{IsChosen, PhaseAt, phase_octets, skip_of, in_turn}
+use Rattle.tm_inner.specs.Phase.{IsChosen, PhaseAt, phase_octets, skip_of, with_phase}
 use Rattle.tm_inner.specs.Symbols.{symbols_of_octets}
-use Rattle.tm_inner.proofs.InTurn.{OnePhase, one-choice}
+use Rattle.tm_inner.proofs.WithPhase.{OnePhase, one-choice}
 use Rattle.tm_inner.proofs.ReceivedBits.{bits-coded, bits-plain, whole_steps}
 use Rattle.tm_rs_solve.specs.declared.answers.Answer.{Answer}
 use Rattle.tm_rs_solve.specs.declared.answers.Answer.TheVariants.{Fixed}
 use Rattle.tm_sync.specs.declared.found.Found.{Found}
-use Rattle.tm_viterbi.specs.Clean.{turned_octets}
+use Rattle.tm_viterbi.specs.Clean.{complemented_octets}
 use Rattle.tm_codeblock.specs.Frames.{whole_frames}
 use Rattle.tm_codeblock.specs.ReceivedCodeblock.{received_columns}
 use Rattle.tm_channel.specs.Sent.{cadus, sent, sent_phase}
-use Rattle.tm_channel.specs.Items.{ItemValue, are_fixed, frames_of, turned_item}
+use Rattle.tm_channel.specs.Items.{ItemValue, are_fixed, frames_of, complemented_item}
 use Rattle.tm_channel.specs.Handing.{AreReceived}
 use Rattle.tm_channel.specs.Receive.{Receive}
 use Rattle.tm_channel.specs.SentStream.{SentUnit, IsSent, AreRepaired, AreWithin, AreAsSent, AreNear, sent_columns, unit_codeblock, unit_frames, unit_places, clean_answers, clean_items}
@@ -38,7 +38,7 @@ use Rattle.tm_driver.specs.declared.ending.Ending.{Ending}
 use Rattle.tm_driver.specs.declared.ending.Ending.TheVariants.{Done, Bad, BadWindow, LeftOver, SourceFault, SinkFault, PastLimit}
 use Rattle.tm_cli.specs.Decode.{HasBad, decode_meaning}
 use Rattle.tm_cli.specs.Report.{bad, report_text}
-use Rattle.tm_cli.specs.Link.{KeepsCleanLink, KeepsDisturbedLink, KeepsTurnedInput, KeepsTurnedSymbols}
+use Rattle.tm_cli.specs.Link.{KeepsCleanLink, KeepsDisturbedLink, KeepsComplementedInput, KeepsComplementedSymbols}
 
 -- octets come to one list of bits, which there is, and to one list of items
 abbrev HasBits : Type 0
@@ -60,8 +60,8 @@ OneHanded = (c : Configuration) (octets : List ℕ) (handed others : List (Hande
 abbrev SentPhase : Type 0
 SentPhase = (c : Configuration) (octets : List ℕ) (chosen : Option Chosen) → c.skip ≡ 0 → IsChosen c (sent c octets) chosen → chosen ≡ sent_phase c
 
-abbrev TurnedPhase : Type 0
-TurnedPhase = (c : Configuration) (octets : List ℕ) (chosen : Option Chosen) → c.skip ≡ 0 → IsChosen c (turned_octets (sent c octets)) chosen → chosen ≡ sent_phase c
+abbrev ComplementedPhase : Type 0
+ComplementedPhase = (c : Configuration) (octets : List ℕ) (chosen : Option Chosen) → c.skip ≡ 0 → IsChosen c (complemented_octets (sent c octets)) chosen → chosen ≡ sent_phase c
 
 -- the bits and the items of what is sent for octets, and the frames of these items
 abbrev CleanBits : Type 0
@@ -86,15 +86,15 @@ SentFrames = (c : Configuration) (phase : ℕ) (octets : List ℕ) (bits : List 
     → AreNear c (unit_places c units) units → frames_of items ≡ unit_frames units
 
 -- the items of octets complemented, with no inner code and of symbols at rate 1/2
-abbrev TurnedItems : Type 0
-TurnedItems = (c : Configuration) (phase : ℕ) (octets : List ℕ) (items : List ItemValue) → IsAccepted c
+abbrev ComplementedItems : Type 0
+ComplementedItems = (c : Configuration) (phase : ℕ) (octets : List ℕ) (items : List ItemValue) → IsAccepted c
     → c.inner ≡ None → c.polarity ≡ Find → AreOctets octets
-    → Receive c phase octets items → Receive c phase (turned_octets octets) (map turned_item items)
+    → Receive c phase octets items → Receive c phase (complemented_octets octets) (map complemented_item items)
 
-abbrev TurnedSymbols : Type 0
-TurnedSymbols = (c : Configuration) (octets : List ℕ) (items : List ItemValue) → IsAccepted c → c.inner ≡ Some R12
+abbrev ComplementedSymbols : Type 0
+ComplementedSymbols = (c : Configuration) (octets : List ℕ) (items : List ItemValue) → IsAccepted c → c.inner ≡ Some R12
     → c.polarity ≡ Find → c.start ≡ Any → c.skip ≡ 0 → AreOctets octets
-    → Receive c 0 (turned_octets (sent c octets)) items → items ≡ map turned_item (clean_items c 0 (whole_frames c.frame_length octets))
+    → Receive c 0 (complemented_octets (sent c octets)) items → items ≡ map complemented_item (clean_items c 0 (whole_frames c.frame_length octets))
 
 -- ---- no column is uncorrectable
 
@@ -141,13 +141,13 @@ near-good c (f ∷ fs) (u ∷ units) (item ∷ items) are near =
 
 -- ---- items in the other polarity
 
-frames-turned : (items : List ItemValue) → frames_of (map turned_item items) ≡ frames_of items
-frames-turned [] = refl
-frames-turned (item ∷ items) = ap (λ l. item.frame ++ l) (frames-turned items)
+frames-complemented : (items : List ItemValue) → frames_of (map complemented_item items) ≡ frames_of items
+frames-complemented [] = refl
+frames-complemented (item ∷ items) = ap (λ l. item.frame ++ l) (frames-complemented items)
 
-bad-turned : (items : List ItemValue) → bad (map turned_item items) ≡ bad items
-bad-turned [] = refl
-bad-turned (item ∷ items) = ap (λ n. (if are_fixed item.answers then 0 else 1) + n) (bad-turned items)
+bad-complemented : (items : List ItemValue) → bad (map complemented_item items) ≡ bad items
+bad-complemented [] = refl
+bad-complemented (item ∷ items) = ap (λ n. (if are_fixed item.answers then 0 else 1) + n) (bad-complemented items)
 
 -- ---- octets of the same length
 
@@ -188,7 +188,7 @@ choice-plain c octets others (Some chosen) none is =
 -- ---- what was written
 
 -- the items of what is handed over in turn are these
-items_of-turn : (chosen : Option Chosen) (items : List ItemValue) → items_of (in_turn chosen items) ≡ items
+items_of-turn : (chosen : Option Chosen) (items : List ItemValue) → items_of (with_phase chosen items) ≡ items
 items_of-turn None items = items_of-items items
 items_of-turn (Some chosen) items = items_of-items items
 
@@ -200,7 +200,7 @@ record Came (status : ℕ) (c : Configuration) (octets : List ℕ) (chosen : Opt
   inner : Inner c (skip_of chosen) octets bits
   receive : Receive c (skip_of chosen) octets items
   out : Wrote taken taken_now (frames_of items)
-  notes : Wrote noted noted_now (report_text (in_turn chosen items) (length bits))
+  notes : Wrote noted noted_now (report_text (with_phase chosen items) (length bits))
   good : bad items ≡ 0 → status ≡ 0
 
 -- the status is 0 where nothing is uncorrectable
@@ -234,7 +234,7 @@ came one_phase one e status c octets chosen taken taken_now noted noted_now ok t
     let r = d.are_received in
     let all = r.are_items in
     let same : r.chosen ≡ chosen = one-choice one_phase c octets r.chosen chosen r.choice choice in
-    let handed : d.handed ≡ in_turn chosen r.items = r.are ∙ ap (λ (o : Option Chosen). in_turn o r.items) same in
+    let handed : d.handed ≡ with_phase chosen r.items = r.are ∙ ap (λ (o : Option Chosen). with_phase o r.items) same in
     let items : items_of d.handed ≡ r.items = ap (items_of {I = ItemValue}) handed ∙ items_of-turn chosen r.items in
     let inner : Inner c (skip_of chosen) octets all.0 = subst (λ (o : Option Chosen). Inner c (skip_of o) octets all.0) same all.1 in
     record {
@@ -243,7 +243,7 @@ came one_phase one e status c octets chosen taken taken_now noted noted_now ok t
       inner = inner;
       receive = record { bits = all.0; inner = inner; are_items = all.3 };
       out = subst (Wrote taken taken_now) (d.are_frames ∙ ap frames_of items) wrote.2.out;
-      notes = subst (Wrote noted noted_now) (d.is_report ∙ ap (λ (l : List (Handed ItemValue)). report_text l d.bits) handed ∙ ap (report_text (in_turn chosen r.items)) all.2) wrote.2.notes;
+      notes = subst (Wrote noted noted_now) (d.is_report ∙ ap (λ (l : List (Handed ItemValue)). report_text l d.bits) handed ∙ ap (report_text (with_phase chosen r.items)) all.2) wrote.2.notes;
       good = λ none. good-status e status c octets taken taken_now noted noted_now told ends read
           (λ h. h.2 (ap (λ (l : List (Handed ItemValue)). bad (items_of l)) (one c octets h.0 d.handed h.1.0 d.bits ok h.1.1 r) ∙ ap bad items ∙ none));
     }
@@ -273,7 +273,7 @@ keeps-clean sent_phases one_phase one clean_bits clean frames e status c octets 
     let count : length r.bits ≡ 8 * length (cadus c input) = ap length (clean_bits c (cadus c input) r.bits ok skip start inner) ∙ length-bits_of (cadus c input) in (
       r.good (ap bad items ∙ clean-good c 0 sent_frames),
       subst (Wrote taken taken_now) (ap frames_of items ∙ frames c 0 sent_frames) r.out,
-      subst (Wrote noted noted_now) (λ i. report_text (in_turn (sent_phase c) (items i)) (count i)) r.notes,
+      subst (Wrote noted noted_now) (λ i. report_text (with_phase (sent_phase c) (items i)) (count i)) r.notes,
     )
 
 pub keeps-disturbed : OnePhase → OneHanded → OneBits → SentItems → SentFrames → (e : Ending) (status : ℕ) (c : Configuration) (octets : List ℕ) (taken taken_now noted noted_now : Option (List ℕ))
@@ -285,43 +285,43 @@ keeps-disturbed one_phase one one_bits sent_items sent_frames e status c octets 
       r.items,
       as_sent,
       r.out,
-      subst (Wrote noted noted_now) (ap (λ (l : List Bool). report_text (in_turn chosen r.items) (length l)) (one_bits c (skip_of chosen) octets r.bits bits r.inner inner)) r.notes,
+      subst (Wrote noted noted_now) (ap (λ (l : List Bool). report_text (with_phase chosen r.items) (length l)) (one_bits c (skip_of chosen) octets r.bits bits r.inner inner)) r.notes,
       λ near. (
         r.good (near-good c (unit_places c units) units r.items as_sent near),
         subst (Wrote taken taken_now) (sent_frames c (skip_of chosen) octets bits units last r.items ok inner is r.receive near) r.out,
       ),
     )
 
-pub keeps-turned_input : OnePhase → OneHanded → OneItems → TurnedItems → (e : Ending) (status : ℕ) (c : Configuration) (octets : List ℕ) (taken taken_now noted noted_now : Option (List ℕ))
+pub keeps-complemented_input : OnePhase → OneHanded → OneItems → ComplementedItems → (e : Ending) (status : ℕ) (c : Configuration) (octets : List ℕ) (taken taken_now noted noted_now : Option (List ℕ))
     → IsAccepted c → status ≡ status_of e → Ends e (decode_meaning c) c.limit octets (taken_by taken taken_now noted noted_now) → (status ≡ 0) ⊎ (status ≡ 1)
-    → KeepsTurnedInput c octets taken taken_now noted noted_now
-keeps-turned_input one_phase one one_items turned e status c octets taken taken_now noted noted_now ok told ends read = λ other bits items chosen plain find small is choice inner are.
+    → KeepsComplementedInput c octets taken taken_now noted noted_now
+keeps-complemented_input one_phase one one_items complemented e status c octets taken taken_now noted noted_now ok told ends read = λ other bits items chosen plain find small is choice inner are.
     let r = came one_phase one e status c octets chosen taken taken_now noted noted_now ok told ends read (choice-plain c other octets chosen plain choice) in
-    let receive : Receive c (skip_of chosen) octets (map turned_item items) =
-    subst (λ (l : List ℕ). Receive c (skip_of chosen) l (map turned_item items)) (sym is)
-    (turned c (skip_of chosen) other items ok plain find small (record { bits = bits; inner = inner; are_items = are })) in
-    let same : r.items ≡ map turned_item items = one_items c (skip_of chosen) octets r.items (map turned_item items) ok r.receive receive in
+    let receive : Receive c (skip_of chosen) octets (map complemented_item items) =
+    subst (λ (l : List ℕ). Receive c (skip_of chosen) l (map complemented_item items)) (sym is)
+    (complemented c (skip_of chosen) other items ok plain find small (record { bits = bits; inner = inner; are_items = are })) in
+    let same : r.items ≡ map complemented_item items = one_items c (skip_of chosen) octets r.items (map complemented_item items) ok r.receive receive in
     let count : length r.bits ≡ length bits = same-count c (skip_of chosen) octets other r.bits bits (ap length is ∙ length-map other (λ octet. 255 - octet)) r.inner inner in (
-      subst (Wrote taken taken_now) (ap frames_of same ∙ frames-turned items) r.out,
-      subst (Wrote noted noted_now) (ap (λ (l : List ItemValue). report_text (in_turn chosen l) (length r.bits)) same ∙ ap (report_text (in_turn chosen (map turned_item items))) count) r.notes,
+      subst (Wrote taken taken_now) (ap frames_of same ∙ frames-complemented items) r.out,
+      subst (Wrote noted noted_now) (ap (λ (l : List ItemValue). report_text (with_phase chosen l) (length r.bits)) same ∙ ap (report_text (with_phase chosen (map complemented_item items))) count) r.notes,
     )
 
-pub keeps-turned_symbols : TurnedPhase → OnePhase → OneHanded → HasBits → CleanBits → CleanFrames → TurnedSymbols → (e : Ending) (status : ℕ) (c : Configuration) (octets : List ℕ) (taken taken_now noted noted_now : Option (List ℕ))
+pub keeps-complemented_symbols : ComplementedPhase → OnePhase → OneHanded → HasBits → CleanBits → CleanFrames → ComplementedSymbols → (e : Ending) (status : ℕ) (c : Configuration) (octets : List ℕ) (taken taken_now noted noted_now : Option (List ℕ))
     → IsAccepted c → status ≡ status_of e → Ends e (decode_meaning c) c.limit octets (taken_by taken taken_now noted noted_now) → (status ≡ 0) ⊎ (status ≡ 1)
-    → KeepsTurnedSymbols status c octets taken taken_now noted noted_now
-keeps-turned_symbols turned_phases one_phase one has_bits clean_bits frames turned e status c octets taken taken_now noted noted_now ok told ends read = λ input half find any skip small is.
+    → KeepsComplementedSymbols status c octets taken taken_now noted noted_now
+keeps-complemented_symbols complemented_phases one_phase one has_bits clean_bits frames complemented e status c octets taken taken_now noted noted_now ok told ends read = λ input half find any skip small is.
     let r = came-free one_phase one e status c octets taken taken_now noted noted_now ok told ends read
-    (λ chosen choice. turned_phases c input chosen skip (subst (λ (l : List ℕ). IsChosen c l chosen) is choice)) in
+    (λ chosen choice. complemented_phases c input chosen skip (subst (λ (l : List ℕ). IsChosen c l chosen) is choice)) in
     let clean = clean_items c 0 (whole_frames c.frame_length input) in
     let inner : Inner c 0 octets r.bits = subst (λ (n : ℕ). Inner c n octets r.bits) (sent-skip c) r.inner in
-    let receive : Receive c 0 (turned_octets (sent c input)) r.items =
-    subst (λ (n : ℕ). Receive c n (turned_octets (sent c input)) r.items) (sent-skip c) (subst (λ (l : List ℕ). Receive c (skip_of (sent_phase c)) l r.items) is r.receive) in
-    let items : r.items ≡ map turned_item clean = turned c input r.items ok half find any skip small receive in
+    let receive : Receive c 0 (complemented_octets (sent c input)) r.items =
+    subst (λ (n : ℕ). Receive c n (complemented_octets (sent c input)) r.items) (sent-skip c) (subst (λ (l : List ℕ). Receive c (skip_of (sent_phase c)) l r.items) is r.receive) in
+    let items : r.items ≡ map complemented_item clean = complemented c input r.items ok half find any skip small receive in
     let upright = has_bits c 0 (sent c input) ok in
     let count : length r.bits ≡ 8 * length (cadus c input) =
     same-count c 0 octets (sent c input) r.bits upright.0 (ap length is ∙ length-map (sent c input) (λ octet. 255 - octet)) inner upright.1
     ∙ ap length (clean_bits c (cadus c input) upright.0 ok skip (inr (inr half)) upright.1) ∙ length-bits_of (cadus c input) in (
-      r.good (ap bad items ∙ bad-turned clean ∙ clean-good c 0 (whole_frames c.frame_length input)),
-      subst (Wrote taken taken_now) (ap frames_of items ∙ frames-turned clean ∙ frames c 0 (whole_frames c.frame_length input)) r.out,
-      subst (Wrote noted noted_now) (λ i. report_text (in_turn (sent_phase c) (items i)) (count i)) r.notes,
+      r.good (ap bad items ∙ bad-complemented clean ∙ clean-good c 0 (whole_frames c.frame_length input)),
+      subst (Wrote taken taken_now) (ap frames_of items ∙ frames-complemented clean ∙ frames c 0 (whole_frames c.frame_length input)) r.out,
+      subst (Wrote noted noted_now) (λ i. report_text (with_phase (sent_phase c) (items i)) (count i)) r.notes,
     )

@@ -12,11 +12,11 @@ use Rattle.tm_conv.specs.declared.rates.Rate.{Rate}
 use Rattle.tm_conv.proofs.Sizes.{steps_size_ge}
 use Rattle.tm_viterbi.specs.Due.{first_place}
 use Rattle.tm_inner.specs.Inner.{Inner, DueAt, AreInnerDue, settings_of, soft_octets, inner_bits}
-use Rattle.tm_inner.specs.Phase.{InTurn, IsSettled, skip_of}
+use Rattle.tm_inner.specs.Phase.{WithPhase, IsSettled, skip_of}
 use Rattle.tm_inner.proofs.FewBits.{first-few, whole-few, first-of-due}
 use Rattle.tm_inner.proofs.GivenPieces.{few-soft}
 use Rattle.tm_inner.proofs.HandedPieces.{needed-some}
-use Rattle.tm_inner.proofs.PhasePieces.{items_of-in_turn}
+use Rattle.tm_inner.proofs.PhasePieces.{items_of-with_phase}
 use Rattle.tm_inner.proofs.ReceivedBits.{length-soft}
 use Rattle.tm_sync.specs.declared.found.Found.{Found}
 use Rattle.tm_sync.specs.Places.{places}
@@ -24,8 +24,8 @@ use Rattle.tm_sync.proofs.Longer.{places-count}
 use Rattle.tm_codeblock.specs.ReceivedCodeblock.{rules_of}
 use Rattle.tm_channel.specs.Due.{due_count, due}
 use Rattle.tm_channel.specs.Items.{ItemValue, AreItemsOf, AreFirstItemsOf}
-use Rattle.tm_channel.specs.Receive.{ReceiveDue, ReceiveFirst, ReceiveFront}
-use Rattle.tm_channel.specs.Handing.{ReceiveAll, AreReceived, AreReceivedDue, AreReceivedFirst, AreReceivedFront}
+use Rattle.tm_channel.specs.Receive.{ReceiveDue, ReceiveFirst, ReceivePrefix}
+use Rattle.tm_channel.specs.Handing.{ReceiveAll, AreReceived, AreReceivedDue, AreReceivedFirst, AreReceivedPrefix}
 use Rattle.tm_channel.specs.OctetReceiving.{OctetReceiving, StandsFor}
 use Rattle.tm_channel.specs.declared.receiver.RecvError.{RecvError}
 use Rattle.tm_channel.specs.declared.receiver.RecvError.TheVariants.{Taker, Stopped}
@@ -76,8 +76,8 @@ few-first c octets phase items r =
 few-bits : (c : Configuration) (octets : List ℕ) (phase : ℕ) (bits : List Bool) → Inner c phase octets bits → length bits ≤ 8 * length octets
 few-bits c octets phase bits inner = omega (arith, ap length inner.are_bits, whole-few c phase octets inner.blocks inner.left inner.are_blocks)
 
-few-front : (c : Configuration) (octets : List ℕ) (phase : ℕ) (items : List ItemValue) → ReceiveFront c phase octets items → length items ≤ 8 * length octets
-few-front c octets phase items r =
+few-prefix : (c : Configuration) (octets : List ℕ) (phase : ℕ) (items : List ItemValue) → ReceivePrefix c phase octets items → length items ≤ 8 * length octets
+few-prefix c octets phase items r =
     omega (arith, first-count c r.bits (places (rules_of c) r.bits) items r.are_items, places-count (rules_of c) r.bits, few-bits c octets phase r.bits r.inner)
 
 few-all : (c : Configuration) (count : ℕ) (octets : List ℕ) (phase : ℕ) (items : List ItemValue) → ReceiveAll c phase octets count items → length items ≤ 8 * length octets
@@ -85,24 +85,24 @@ few-all c count octets phase items r =
     omega (arith, all-count c r.0 (places (rules_of c) r.0) items r.3, places-count (rules_of c) r.0, few-bits c octets phase r.0 r.1)
 
 -- the same of what is handed over, with any phase before them
-few-in_turn : (AreItems : ℕ → List ItemValue → Type 0) (c : Configuration) (octets : List ℕ) (handed : List (Handed ItemValue)) (most : ℕ)
-    → ((phase : ℕ) (items : List ItemValue) → AreItems phase items → length items ≤ most) → InTurn AreItems c octets handed → length (items_of handed) ≤ most
-few-in_turn AreItems c octets handed most few turn =
-    let items : items_of handed ≡ turn.items = ap items_of turn.are ∙ items_of-in_turn turn.chosen turn.items in
+few-with_phase : (AreItems : ℕ → List ItemValue → Type 0) (c : Configuration) (octets : List ℕ) (handed : List (Handed ItemValue)) (most : ℕ)
+    → ((phase : ℕ) (items : List ItemValue) → AreItems phase items → length items ≤ most) → WithPhase AreItems c octets handed → length (items_of handed) ≤ most
+few-with_phase AreItems c octets handed most few turn =
+    let items : items_of handed ≡ turn.items = ap items_of turn.are ∙ items_of-with_phase turn.chosen turn.items in
     omega (arith, ap length items, few (skip_of turn.chosen) turn.items turn.are_items)
 
 pub few-received_due : (c : Configuration) (octets : List ℕ) (handed : List (Handed ItemValue)) → AreReceivedDue c octets handed → length (items_of handed) ≤ 8 * length octets
 few-received_due c octets handed (inl none) = omega (arith, ap (λ l. length (items_of l)) none.1)
-few-received_due c octets handed (inr turn) = few-in_turn (λ phase. ReceiveDue c phase octets) c octets handed (8 * length octets) (few-due c octets) turn.1
+few-received_due c octets handed (inr turn) = few-with_phase (λ phase. ReceiveDue c phase octets) c octets handed (8 * length octets) (few-due c octets) turn.1
 
 pub few-received_first : (c : Configuration) (octets : List ℕ) (handed : List (Handed ItemValue)) → AreReceivedFirst c octets handed → length (items_of handed) ≤ 8 * length octets
-few-received_first c octets handed turn = few-in_turn (λ phase. ReceiveFirst c phase octets) c octets handed (8 * length octets) (few-first c octets) turn.1
+few-received_first c octets handed turn = few-with_phase (λ phase. ReceiveFirst c phase octets) c octets handed (8 * length octets) (few-first c octets) turn.1
 
-pub few-received_front : (c : Configuration) (octets : List ℕ) (handed : List (Handed ItemValue)) → AreReceivedFront c octets handed → length (items_of handed) ≤ 8 * length octets
-few-received_front c octets handed = few-in_turn (λ phase. ReceiveFront c phase octets) c octets handed (8 * length octets) (few-front c octets)
+pub few-received_prefix : (c : Configuration) (octets : List ℕ) (handed : List (Handed ItemValue)) → AreReceivedPrefix c octets handed → length (items_of handed) ≤ 8 * length octets
+few-received_prefix c octets handed = few-with_phase (λ phase. ReceivePrefix c phase octets) c octets handed (8 * length octets) (few-prefix c octets)
 
 pub few-received : (c : Configuration) (count : ℕ) (octets : List ℕ) (handed : List (Handed ItemValue)) → AreReceived c octets handed count → length (items_of handed) ≤ 8 * length octets
-few-received c count octets handed = few-in_turn (λ phase. ReceiveAll c phase octets count) c octets handed (8 * length octets) (few-all c count octets)
+few-received c count octets handed = few-with_phase (λ phase. ReceiveAll c phase octets count) c octets handed (8 * length octets) (few-all c count octets)
 
 -- ---- for no octets nothing is due
 
@@ -188,14 +188,14 @@ all-handed took c receiver start taker taker_now octets last count small p hande
       HandedOver-append took start taker taker_now p.handed last p.holds handed,
     )
 
-pub front-handed : {T : Type 0} (took broke : T → Handed ItemValue → T → Type 0) (c : Configuration) (receiver : OctetReceiving) (start taker taker_now : T) (octets : List ℕ) (tried : List (Handed ItemValue))
+pub prefix-handed : {T : Type 0} (took broke : T → Handed ItemValue → T → Type 0) (c : Configuration) (receiver : OctetReceiving) (start taker taker_now : T) (octets : List ℕ) (tried : List (Handed ItemValue))
     → IsAccepted c → length octets ≤ c.limit → HandedDue c receiver (λ handed. HandedOver took start handed taker) octets → HandedPart took broke taker tried taker_now
-    → ((given : List ℕ) (done : List (Handed ItemValue)) → StandsFor receiver given done → AreReceivedFront receiver.config given (done ++ tried))
-    → (handed : List (Handed ItemValue)) × AreReceivedFront c octets handed × HandedPart took broke start handed taker_now
-front-handed took broke c receiver start taker taker_now octets tried accepted within p handed finish =
+    → ((given : List ℕ) (done : List (Handed ItemValue)) → StandsFor receiver given done → AreReceivedPrefix receiver.config given (done ++ tried))
+    → (handed : List (Handed ItemValue)) × AreReceivedPrefix c octets handed × HandedPart took broke start handed taker_now
+prefix-handed took broke c receiver start taker taker_now octets tried accepted within p handed finish =
     let all = p.handed ++ tried in (
       all,
-      subst (λ (k : Configuration). AreReceivedFront k octets all) p.config (finish octets p.handed (p.stands (few c octets accepted within)).0),
+      subst (λ (k : Configuration). AreReceivedPrefix k octets all) p.config (finish octets p.handed (p.stands (few c octets accepted within)).0),
       HandedPart-after took broke start taker taker_now p.handed tried p.holds handed,
     )
 
@@ -276,8 +276,8 @@ received-to {F} {T} receiver taker took broke told broke_end c a b ended unended
     let due = end.were_fed c (taker a) [] (due-none took c (receiver a) (taker a) accepted same stands) in
     elim end.at_end as (λ _. ReceivedTo took broke told broke_end c SinkFault octets (taker a) (taker b)) [
       | inl part ↦ (
-          let front = front-handed took broke c (receiver m) (taker a) (taker m) (taker b) octets part.tried accepted end.within due part.handed part.front in
-          inl (front.0, inr (subst (λ l. AreReceivedFront c l front.0) (sym (take_all c.limit octets end.within)) front.1), front.2)
+          let prefix = prefix-handed took broke c (receiver m) (taker a) (taker m) (taker b) octets part.tried accepted end.within due part.handed part.prefix in
+          inl (prefix.0, inr (subst (λ l. AreReceivedPrefix c l prefix.0) (sym (take_all c.limit octets end.within)) prefix.1), prefix.2)
           )
       | inr last ↦ inr (all-received took c (receiver m) (taker a) (taker m) (λ middle bits. broke_end middle bits (taker b)) octets accepted end.within due last)
     ]

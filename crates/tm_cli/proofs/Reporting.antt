@@ -1,6 +1,6 @@
 -- What sinks took of the phase and of items that were handed over one after another.
 use Rattle.std.proofs.Common.{◌≡◌, ◌⊎◌, inl, inr, ℕ, ◌+◌, ◌*◌, ◌<◌, ◌≤◌, ◌^◌, Bool, true, false, cond, List, [], ◌∷◌, ◌++◌, length, refl, sym, ◌∙◌, ap, subst, arith, append_assoc, length-append}
-use Rattle.tm_base.specs.Written.{WroteFront}
+use Rattle.tm_base.specs.Written.{WrotePrefix}
 use Rattle.tm_base.specs.Count.{raised_by}
 use Rattle.tm_base.specs.Takers.{HandedOver, HandedPart}
 use Rattle.tm_base.specs.Handed.{Handed, Phase, Item, items_of}
@@ -10,7 +10,7 @@ use Rattle.tm_driver.specs.Courses.{SinkState}
 use Rattle.tm_driver.specs.Lines.{phase_text}
 use Rattle.tm_driver.specs.Texts.{TookText, BrokeText}
 use Rattle.tm_driver.proofs.HandedAlong.{handed-along}
-use Rattle.tm_driver.proofs.SinkTexts.{took-none, took-more, broke-after, broke-front, took-front}
+use Rattle.tm_driver.proofs.SinkTexts.{took-none, took-more, broke-after, broke-prefix, took-prefix}
 use Rattle.tm_cli.specs.Lines.{item_text}
 use Rattle.tm_cli.specs.Receiving.{DecodedAll}
 use Rattle.tm_cli.specs.Report.{fixed_of, good, bad, handed_item_text, items_text}
@@ -18,10 +18,10 @@ use Rattle.tm_cli.specs.Taken.{no_counts, number_of, ReportedHanded, ReportedAll
 use Rattle.tm_cli.specs.declared.counts.Counts.{Counts}
 
 -- before what a taker failed at there are no more items than in all
-pub front-few : {I : Type 0} (handed front rest : List (Handed I)) (next : Handed I) → handed ≡ front ++ next ∷ rest → length (items_of front) ≤ length (items_of handed)
-front-few handed front rest next split =
-    let all : items_of handed ≡ items_of front ++ items_of (next ∷ rest) = ap items_of split ∙ items_of-append front (next ∷ rest) in
-    omega (arith, ap length all, length-append (items_of front) (items_of (next ∷ rest)))
+pub prefix-few : {I : Type 0} (handed prefix rest : List (Handed I)) (next : Handed I) → handed ≡ prefix ++ next ∷ rest → length (items_of prefix) ≤ length (items_of handed)
+prefix-few handed prefix rest next split =
+    let all : items_of handed ≡ items_of prefix ++ items_of (next ∷ rest) = ap items_of split ∙ items_of-append prefix (next ∷ rest) in
+    omega (arith, ap length all, length-append (items_of prefix) (items_of (next ∷ rest)))
 
 -- ---- the text of lists
 frames-append : (xs ys : List ItemValue) → frames_of (xs ++ ys) ≡ frames_of xs ++ frames_of ys
@@ -43,9 +43,9 @@ pub items_text-split : (xs ys : List (Handed ItemValue)) → items_text 0 (xs ++
 items_text-split xs ys = let n : 0 + length (items_of xs) ≡ length (items_of xs) = omega arith in items_text-append 0 xs ys ∙ ap (λ m. items_text 0 xs ++ items_text m ys) n
 
 -- one line stands before those after it
-text-behind : (n : ℕ) (next : Handed ItemValue) (rest : List (Handed ItemValue)) → (more : List ℕ) × (items_text n (next ∷ rest) ≡ handed_item_text n next ++ more)
-text-behind n (Phase skip cost) rest = (items_text n rest, refl)
-text-behind n (Item item) rest = (items_text (n + 1) rest, refl)
+text-after : (n : ℕ) (next : Handed ItemValue) (rest : List (Handed ItemValue)) → (more : List ℕ) × (items_text n (next ∷ rest) ≡ handed_item_text n next ++ more)
+text-after n (Phase skip cost) rest = (items_text n rest, refl)
+text-after n (Item item) rest = (items_text (n + 1) rest, refl)
 
 -- ---- counts
 pub raised : (n more : ℕ) → n + more < 2 ^ 64 → raised_by more n ≡ n + more
@@ -139,14 +139,14 @@ pub report-broke : {T : Type 0} (lines : T → SinkState) (last : T → Type 0) 
     (λ x h y. BrokeText (lines x) (lines y) (last y) [] (handed_item_text (number_of (counts x)) h)) a handed b
     → ReportBroke (lines a) (lines b) (last b) handed
 report-broke lines last counts handed a b new few part =
-    let fewer = front-few handed part.front part.rest part.next part.split in
-    let first = report-wrote lines counts part.front a part.middle new (omega arith) part.handed in
-    let number = next-number (lines a) (lines part.middle) (counts part.middle) part.front first (omega arith) in record {
-      prefix = part.front;
+    let fewer = prefix-few handed part.prefix part.rest part.next part.split in
+    let first = report-wrote lines counts part.prefix a part.middle new (omega arith) part.handed in
+    let number = next-number (lines a) (lines part.middle) (counts part.middle) part.prefix first (omega arith) in record {
+      prefix = part.prefix;
       next = part.next;
       rest = part.rest;
       split = part.split;
-      lines = broke-after (lines a) (lines part.middle) (lines b) (last b) (items_text 0 part.front) (handed_item_text (length (items_of part.front)) part.next) first.lines
+      lines = broke-after (lines a) (lines part.middle) (lines b) (last b) (items_text 0 part.prefix) (handed_item_text (length (items_of part.prefix)) part.next) first.lines
           (subst (λ (n : ℕ). BrokeText (lines part.middle) (lines b) (last b) [] (handed_item_text n part.next)) number part.failed);
     }
 
@@ -167,24 +167,24 @@ pub decoding-broke : {T : Type 0} (out notes : T → SinkState) (out_last notes_
     ⊎ (TookText (out x) (out y) (handed_frames (h ∷ [])) × BrokeText (notes x) (notes y) (notes_last y) [] (handed_item_text (number_of (counts x)) h))) a handed b
     → DecodingBroke (out a) (out b) (out_last b) (notes a) (notes b) (notes_last b) handed
 decoding-broke out notes out_last notes_last counts handed a b new few part =
-    let front = part.front in
+    let prefix = part.prefix in
     let next = part.next in
     let middle = part.middle in
-    let fewer = front-few handed front part.rest next part.split in
-    let first = decoding-wrote out notes counts front a middle new (omega arith) part.handed in
-    let number = next-number (notes a) (notes middle) (counts middle) front first.1 (omega arith) in record {
-      prefix = front;
+    let fewer = prefix-few handed prefix part.rest next part.split in
+    let first = decoding-wrote out notes counts prefix a middle new (omega arith) part.handed in
+    let number = next-number (notes a) (notes middle) (counts middle) prefix first.1 (omega arith) in record {
+      prefix = prefix;
       next = next;
       rest = part.rest;
       split = part.split;
-      broke = elim part.failed as (λ _. DecodingBrokeAt (out a) (out b) (out_last b) (notes a) (notes b) (notes_last b) front next) [
+      broke = elim part.failed as (λ _. DecodingBrokeAt (out a) (out b) (out_last b) (notes a) (notes b) (notes_last b) prefix next) [
         | inl p ↦ inl (
-          broke-after (out a) (out middle) (out b) (out_last b) (handed_frames front) (handed_frames (next ∷ [])) first.0 p.0,
-          subst (λ s. TookText (notes a) s (items_text 0 front)) (sym p.1) first.1.lines,
+          broke-after (out a) (out middle) (out b) (out_last b) (handed_frames prefix) (handed_frames (next ∷ [])) first.0 p.0,
+          subst (λ s. TookText (notes a) s (items_text 0 prefix)) (sym p.1) first.1.lines,
         )
         | inr p ↦ inr (
-          subst (λ l. TookText (out a) (out b) l) (sym (handed_frames-append front (next ∷ []))) (took-more (out a) (out middle) (out b) (handed_frames front) (handed_frames (next ∷ [])) first.0 p.0),
-          broke-after (notes a) (notes middle) (notes b) (notes_last b) (items_text 0 front) (handed_item_text (length (items_of front)) next) first.1.lines
+          subst (λ l. TookText (out a) (out b) l) (sym (handed_frames-append prefix (next ∷ []))) (took-more (out a) (out middle) (out b) (handed_frames prefix) (handed_frames (next ∷ [])) first.0 p.0),
+          broke-after (notes a) (notes middle) (notes b) (notes_last b) (items_text 0 prefix) (handed_item_text (length (items_of prefix)) next) first.1.lines
               (subst (λ (n : ℕ). BrokeText (notes middle) (notes b) (notes_last b) [] (handed_item_text n next)) number p.1),
         )
       ];
@@ -192,38 +192,38 @@ decoding-broke out notes out_last notes_last counts handed a b new few part =
 
 -- ---- after a fault fronts stand
 
-pub lines-front : (before now : SinkState) (last : Type 0) (front rest : List (Handed ItemValue)) (next : Handed ItemValue)
-    → BrokeText before now last (items_text 0 front) (handed_item_text (length (items_of front)) next) → WroteFront before.taken now.taken (items_text 0 (front ++ next ∷ rest))
-lines-front before now last front rest next broke =
-    let n : ℕ = length (items_of front) in
-    let text = text-behind n next rest in
-    subst (WroteFront before.taken now.taken) (sym (items_text-split front (next ∷ rest) ∙ ap (λ l. items_text 0 front ++ l) text.1))
-    (broke-front before now last (items_text 0 front) (handed_item_text n next) text.0 broke)
+pub lines-prefix : (before now : SinkState) (last : Type 0) (prefix rest : List (Handed ItemValue)) (next : Handed ItemValue)
+    → BrokeText before now last (items_text 0 prefix) (handed_item_text (length (items_of prefix)) next) → WrotePrefix before.taken now.taken (items_text 0 (prefix ++ next ∷ rest))
+lines-prefix before now last prefix rest next broke =
+    let n : ℕ = length (items_of prefix) in
+    let text = text-after n next rest in
+    subst (WrotePrefix before.taken now.taken) (sym (items_text-split prefix (next ∷ rest) ∙ ap (λ l. items_text 0 prefix ++ l) text.1))
+    (broke-prefix before now last (items_text 0 prefix) (handed_item_text n next) text.0 broke)
 
-pub report-front : (before now : SinkState) (last : Type 0) (handed : List (Handed ItemValue)) → ReportBroke before now last handed → WroteFront before.taken now.taken (items_text 0 handed)
-report-front before now last handed broke =
-    subst (WroteFront before.taken now.taken) (sym (ap (items_text 0) broke.split)) (lines-front before now last broke.prefix broke.rest broke.next broke.lines)
+pub report-prefix : (before now : SinkState) (last : Type 0) (handed : List (Handed ItemValue)) → ReportBroke before now last handed → WrotePrefix before.taken now.taken (items_text 0 handed)
+report-prefix before now last handed broke =
+    subst (WrotePrefix before.taken now.taken) (sym (ap (items_text 0) broke.split)) (lines-prefix before now last broke.prefix broke.rest broke.next broke.lines)
 
-pub decoding-fronts : (out out_now : SinkState) (out_last : Type 0) (notes notes_now : SinkState) (notes_last : Type 0) (handed : List (Handed ItemValue))
+pub decoding-prefixes : (out out_now : SinkState) (out_last : Type 0) (notes notes_now : SinkState) (notes_last : Type 0) (handed : List (Handed ItemValue))
     → DecodingBroke out out_now out_last notes notes_now notes_last handed
-    → WroteFront out.taken out_now.taken (handed_frames handed) × WroteFront notes.taken notes_now.taken (items_text 0 handed)
-decoding-fronts out out_now out_last notes notes_now notes_last handed broke =
-    let front = broke.prefix in
+    → WrotePrefix out.taken out_now.taken (handed_frames handed) × WrotePrefix notes.taken notes_now.taken (items_text 0 handed)
+decoding-prefixes out out_now out_last notes notes_now notes_last handed broke =
+    let prefix = broke.prefix in
     let next = broke.next in
     let rest = broke.rest in
-    let both : handed_frames (front ++ next ∷ []) ≡ handed_frames front ++ handed_frames (next ∷ []) = handed_frames-append front (next ∷ []) in
-    let frames : handed_frames handed ≡ handed_frames front ++ (handed_frames (next ∷ []) ++ handed_frames rest) =
-    ap handed_frames broke.split ∙ handed_frames-append front (next ∷ rest) ∙ ap (λ l. handed_frames front ++ l) (handed_frames-append (next ∷ []) rest) in
-    let lines : items_text 0 handed ≡ items_text 0 (front ++ next ∷ rest) = ap (items_text 0) broke.split in
-    elim broke.broke as (λ _. WroteFront out.taken out_now.taken (handed_frames handed) × WroteFront notes.taken notes_now.taken (items_text 0 handed)) [
+    let both : handed_frames (prefix ++ next ∷ []) ≡ handed_frames prefix ++ handed_frames (next ∷ []) = handed_frames-append prefix (next ∷ []) in
+    let frames : handed_frames handed ≡ handed_frames prefix ++ (handed_frames (next ∷ []) ++ handed_frames rest) =
+    ap handed_frames broke.split ∙ handed_frames-append prefix (next ∷ rest) ∙ ap (λ l. handed_frames prefix ++ l) (handed_frames-append (next ∷ []) rest) in
+    let lines : items_text 0 handed ≡ items_text 0 (prefix ++ next ∷ rest) = ap (items_text 0) broke.split in
+    elim broke.broke as (λ _. WrotePrefix out.taken out_now.taken (handed_frames handed) × WrotePrefix notes.taken notes_now.taken (items_text 0 handed)) [
       | inl p ↦ (
-        subst (WroteFront out.taken out_now.taken) (sym frames) (broke-front out out_now out_last (handed_frames front) (handed_frames (next ∷ [])) (handed_frames rest) p.0),
-        subst (WroteFront notes.taken notes_now.taken) (sym (lines ∙ items_text-split front (next ∷ rest)))
-            (took-front notes notes_now (items_text 0 front) (items_text (length (items_of front)) (next ∷ rest)) p.1),
+        subst (WrotePrefix out.taken out_now.taken) (sym frames) (broke-prefix out out_now out_last (handed_frames prefix) (handed_frames (next ∷ [])) (handed_frames rest) p.0),
+        subst (WrotePrefix notes.taken notes_now.taken) (sym (lines ∙ items_text-split prefix (next ∷ rest)))
+            (took-prefix notes notes_now (items_text 0 prefix) (items_text (length (items_of prefix)) (next ∷ rest)) p.1),
       )
       | inr p ↦ (
-        subst (WroteFront out.taken out_now.taken) (ap (λ l. l ++ handed_frames rest) both ∙ append_assoc (handed_frames front) (handed_frames (next ∷ [])) (handed_frames rest) ∙ sym frames)
-            (took-front out out_now (handed_frames (front ++ next ∷ [])) (handed_frames rest) p.0),
-        subst (WroteFront notes.taken notes_now.taken) (sym lines) (lines-front notes notes_now notes_last front rest next p.1),
+        subst (WrotePrefix out.taken out_now.taken) (ap (λ l. l ++ handed_frames rest) both ∙ append_assoc (handed_frames prefix) (handed_frames (next ∷ [])) (handed_frames rest) ∙ sym frames)
+            (took-prefix out out_now (handed_frames (prefix ++ next ∷ [])) (handed_frames rest) p.0),
+        subst (WrotePrefix notes.taken notes_now.taken) (sym lines) (lines-prefix notes notes_now notes_last prefix rest next p.1),
       )
     ]

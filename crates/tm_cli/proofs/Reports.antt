@@ -5,11 +5,11 @@ use Rattle.std.specs.Bool.{⊤}
 use Rattle.std.specs.Io.KnownBytes.{append_known}
 use Rattle.tm_base.specs.Takers.{HandedOver, HandedPart}
 use Rattle.tm_base.specs.Handed.{Handed, Phase, Item, on_handed, items_of}
-use Rattle.tm_base.specs.Written.{WroteFront}
+use Rattle.tm_base.specs.Written.{WrotePrefix}
 use Rattle.tm_config.specs.Accepted.{IsAccepted}
 use Rattle.tm_config.specs.Configuration.{Configuration}
 use Rattle.tm_channel.specs.Items.{ItemValue}
-use Rattle.tm_channel.specs.Handing.{AreReceived, AreReceivedDue, AreReceivedFirst, AreReceivedFront}
+use Rattle.tm_channel.specs.Handing.{AreReceived, AreReceivedDue, AreReceivedFirst, AreReceivedPrefix}
 use Rattle.tm_driver.specs.Courses.{SinkState, SinksCourse}
 use Rattle.tm_driver.specs.Lines.{phase_text}
 use Rattle.tm_driver.specs.Meaning.{Output, Ends, WroteBoth, WroteEarly, WrotePrefixes, taken_by}
@@ -18,15 +18,15 @@ use Rattle.tm_driver.specs.Texts.{TookText, BrokeText, StopsAt}
 use Rattle.tm_driver.specs.declared.ending.Ending.{Ending}
 use Rattle.tm_driver.specs.declared.ending.Ending.TheVariants.{Done, Bad, BadWindow, LeftOver, SourceFault, SinkFault, PastLimit}
 use Rattle.tm_driver.proofs.HandedAlong.{handed-along, part-along, handed-keeps, part-keeps}
-use Rattle.tm_driver.proofs.SinkTexts.{wrote-nothing, wrote-front, wrote-no_front, front-of, took-none, broke-front}
+use Rattle.tm_driver.proofs.SinkTexts.{wrote-nothing, wrote-prefix, wrote-no_prefix, prefix-of, took-none, broke-prefix}
 use Rattle.tm_cli.specs.Decode.{IsDecoded, IsDecodedDue, HasBad, AreInOrder, decode_meaning, report_meaning}
 use Rattle.tm_cli.specs.Lines.{item_text}
 use Rattle.tm_cli.specs.Receiving.{ReceivedTo, ReceivedAll, DecodedAll}
 use Rattle.tm_cli.specs.Report.{bad, handed_item_text, items_text, items_end_text, report_text}
 use Rattle.tm_cli.specs.Taken.{no_counts, number_of, Reported, ReportedHanded, ReportedAll, handed_frames, DecodingBroke}
 use Rattle.tm_cli.specs.declared.counts.Counts.{Counts}
-use Rattle.tm_cli.proofs.Received.{few-received, few-received_due, few-received_first, few-received_front}
-use Rattle.tm_cli.proofs.Reporting.{handed_frames-append, items_text-split, decoding-wrote, decoding-broke, decoding-fronts}
+use Rattle.tm_cli.proofs.Received.{few-received, few-received_due, few-received_first, few-received_prefix}
+use Rattle.tm_cli.proofs.Reporting.{handed_frames-append, items_text-split, decoding-wrote, decoding-broke, decoding-prefixes}
 
 -- frames and a report
 abbrev Decodes : {T K L R S : Type 0} → (T → K) → (T → L) → (T → R) → (R → SinkState) → (T → S) → (S → SinkState) → (T → Counts) → T → Handed ItemValue → T → Type 0
@@ -148,18 +148,18 @@ FirstGo = (c : Configuration) (octets more : List ℕ) (first all : List (Handed
 
 -- and the first at the end of the octets
 abbrev pub FirstEnd : Type 0
-FirstEnd = (c : Configuration) (octets : List ℕ) (front all : List (Handed ItemValue)) (bits : ℕ) → IsAccepted c
-    → AreReceivedFront c octets front → AreReceived c octets all bits → (rest : List (Handed ItemValue)) × (all ≡ front ++ rest)
+FirstEnd = (c : Configuration) (octets : List ℕ) (prefix all : List (Handed ItemValue)) (bits : ℕ) → IsAccepted c
+    → AreReceivedPrefix c octets prefix → AreReceived c octets all bits → (rest : List (Handed ItemValue)) × (all ≡ prefix ++ rest)
 
 -- this stands first in what is handed over of the octets
 abbrev StandFirst : Configuration → List ℕ → List (Handed ItemValue) → Type 0
 StandFirst c octets first = (all : List (Handed ItemValue)) (bits : ℕ) → AreReceived c octets all bits → (rest : List (Handed ItemValue)) × (all ≡ first ++ rest)
 
 some-first : FirstGo → FirstEnd → (c : Configuration) (octets : List ℕ) (first : List (Handed ItemValue)) → IsAccepted c
-    → AreReceivedFirst c octets first ⊎ AreReceivedFront c octets first → StandFirst c octets first
+    → AreReceivedFirst c octets first ⊎ AreReceivedPrefix c octets first → StandFirst c octets first
 some-first go end c octets first accepted are all bits received = elim are as (λ _. (rest : List (Handed ItemValue)) × (all ≡ first ++ rest)) [
   | inl fed ↦ go c octets [] first all bits accepted fed (subst (λ (l : List ℕ). AreReceived c l all bits) (sym (append-nil octets)) received)
-  | inr front ↦ end c octets first all bits accepted front received
+  | inr prefix ↦ end c octets first all bits accepted prefix received
 ]
 
 -- its frames and its report
@@ -202,22 +202,22 @@ pub not_bad : OneList → (c : Configuration) (count : ℕ) (octets : List ℕ) 
 not_bad one c count octets handed accepted all none has =
     has.2 (ap (λ l. bad (items_of l)) (one c octets has.0 handed has.1.0 count accepted has.1.1 all) ∙ none)
 
-told-front : (before now : SinkState) (last : Type 0) (handed : List (Handed ItemValue)) (count : ℕ)
-    → BrokeText before now last (items_text 0 handed) (items_end_text (items_of handed) count) → WroteFront before.taken now.taken (report_text handed count)
-told-front before now last handed count broke =
+told-prefix : (before now : SinkState) (last : Type 0) (handed : List (Handed ItemValue)) (count : ℕ)
+    → BrokeText before now last (items_text 0 handed) (items_end_text (items_of handed) count) → WrotePrefix before.taken now.taken (report_text handed count)
+told-prefix before now last handed count broke =
     let end = items_end_text (items_of handed) count in
-    subst (λ l. WroteFront before.taken now.taken (items_text 0 handed ++ l)) (append-nil end) (broke-front before now last (items_text 0 handed) end [] broke)
+    subst (λ l. WrotePrefix before.taken now.taken (items_text 0 handed ++ l)) (append-nil end) (broke-prefix before now last (items_text 0 handed) end [] broke)
 
 -- ---- how `decode` ends
 
 -- the first frames and lines are fronts of all frames and of the report
-decode-fronts : (c : Configuration) (octets : List ℕ) (first : List (Handed ItemValue)) (taken taken_now noted noted_now : Option (List ℕ)) (output : Output) → StandFirst c octets first
-    → WroteFront taken taken_now (handed_frames first) → WroteFront noted noted_now (items_text 0 first) → IsDecoded c octets output.out output.notes → WrotePrefixes output (taken_by taken taken_now noted noted_now)
-decode-fronts c octets first taken taken_now noted noted_now output stand out notes is =
+decode-prefixes : (c : Configuration) (octets : List ℕ) (first : List (Handed ItemValue)) (taken taken_now noted noted_now : Option (List ℕ)) (output : Output) → StandFirst c octets first
+    → WrotePrefix taken taken_now (handed_frames first) → WrotePrefix noted noted_now (items_text 0 first) → IsDecoded c octets output.out output.notes → WrotePrefixes output (taken_by taken taken_now noted noted_now)
+decode-prefixes c octets first taken taken_now noted noted_now output stand out notes is =
     let b = begin c octets first output.out output.notes stand is in
     record {
-      out = subst (WroteFront taken taken_now) (sym b.frames_are) (front-of taken taken_now (handed_frames first) b.rest out);
-      notes = subst (WroteFront noted noted_now) (sym b.report_is) (front-of noted noted_now (items_text 0 first) b.more notes);
+      out = subst (WrotePrefix taken taken_now) (sym b.frames_are) (prefix-of taken taken_now (handed_frames first) b.rest out);
+      notes = subst (WrotePrefix noted noted_now) (sym b.report_is) (prefix-of noted noted_now (items_text 0 first) b.more notes);
     }
 
 decode-early : HasList → DueFirst → (c : Configuration) (octets : List ℕ) (handed : List (Handed ItemValue)) (out out_now notes notes_now : SinkState) (counts : Counts) → IsAccepted c
@@ -229,42 +229,42 @@ decode-early exists stand c octets handed out out_now notes notes_now counts acc
       λ more. let whole = decode-output exists c (octets ++ more) accepted in (
         whole.0,
         whole.1,
-        decode-fronts c (octets ++ more) handed out.taken out_now.taken notes.taken notes_now.taken whole.0 (λ all bits received. stand c octets more handed all bits accepted due received)
-            (wrote-front out.taken out_now.taken (handed_frames handed) all.0.written) (wrote-front notes.taken notes_now.taken (items_text 0 handed) all.1.lines.written) whole.1,
+        decode-prefixes c (octets ++ more) handed out.taken out_now.taken notes.taken notes_now.taken whole.0 (λ all bits received. stand c octets more handed all bits accepted due received)
+            (wrote-prefix out.taken out_now.taken (handed_frames handed) all.0.written) (wrote-prefix notes.taken notes_now.taken (items_text 0 handed) all.1.lines.written) whole.1,
       ),
     )
 
 -- where a sink failed at one of the first, both took what stands before it
-in-order : (handed first behind : List (Handed ItemValue)) (bits : ℕ) (out out_now : SinkState) (out_last : Type 0) (notes notes_now : SinkState) (notes_last : Type 0) → handed ≡ first ++ behind
+in-order : (handed first after : List (Handed ItemValue)) (bits : ℕ) (out out_now : SinkState) (out_last : Type 0) (notes notes_now : SinkState) (notes_last : Type 0) → handed ≡ first ++ after
     → DecodingBroke out out_now out_last notes notes_now notes_last first → AreInOrder handed bits (taken_by out.taken out_now.taken notes.taken notes_now.taken)
-in-order handed first behind bits out out_now out_last notes notes_now notes_last split broke =
-    let front = broke.prefix in
+in-order handed first after bits out out_now out_last notes notes_now notes_last split broke =
+    let prefix = broke.prefix in
     let next = broke.next in
     record {
-      prefix = front;
-      rest = next ∷ (broke.rest ++ behind);
-      split = split ∙ ap (λ l. l ++ behind) broke.split ∙ append_assoc front (next ∷ broke.rest) behind;
-      stops = elim broke.broke as (λ _. StopsAt (handed_frames front) (items_text 0 front) (handed_frames (next ∷ [])) (handed_item_text (length (items_of front)) next)
+      prefix = prefix;
+      rest = next ∷ (broke.rest ++ after);
+      split = split ∙ ap (λ l. l ++ after) broke.split ∙ append_assoc prefix (next ∷ broke.rest) after;
+      stops = elim broke.broke as (λ _. StopsAt (handed_frames prefix) (items_text 0 prefix) (handed_frames (next ∷ [])) (handed_item_text (length (items_of prefix)) next)
           out.taken out_now.taken notes.taken notes_now.taken) [
             | inl p ↦ inl (p.0.written, p.1.written)
-            | inr p ↦ inr (p.0.written ∙ ap (append_known out.taken) (handed_frames-append front (next ∷ [])), p.1.written)
+            | inr p ↦ inr (p.0.written ∙ ap (append_known out.taken) (handed_frames-append prefix (next ∷ [])), p.1.written)
           ];
     }
 
 decode-failed : HasList → FirstGo → FirstEnd → (c : Configuration) (octets : List ℕ) (handed : List (Handed ItemValue)) (out out_now : SinkState) (out_last : Type 0) (notes notes_now : SinkState) (notes_last : Type 0) → IsAccepted c
-    → AreReceivedFirst c (take c.limit octets) handed ⊎ AreReceivedFront c (take c.limit octets) handed → DecodingBroke out out_now out_last notes notes_now notes_last handed
+    → AreReceivedFirst c (take c.limit octets) handed ⊎ AreReceivedPrefix c (take c.limit octets) handed → DecodingBroke out out_now out_last notes notes_now notes_last handed
     → Ends SinkFault (decode_meaning c) c.limit octets (taken_by out.taken out_now.taken notes.taken notes_now.taken)
 decode-failed exists go end c octets handed out out_now out_last notes notes_now notes_last accepted are broke =
-    let front = take c.limit octets in
-    let whole = decode-output exists c front accepted in
-    let first = some-first go end c front handed accepted are in
-    let fronts = decoding-fronts out out_now out_last notes notes_now notes_last handed broke in
+    let prefix = take c.limit octets in
+    let whole = decode-output exists c prefix accepted in
+    let first = some-first go end c prefix handed accepted are in
+    let prefixes = decoding-prefixes out out_now out_last notes notes_now notes_last handed broke in
     let all = whole.1.handed in
     let bits = whole.1.bits in
     let split = first all bits whole.1.are_received in (
       whole.0,
       whole.1,
-      decode-fronts c front handed out.taken out_now.taken notes.taken notes_now.taken whole.0 first fronts.0 fronts.1 whole.1,
+      decode-prefixes c prefix handed out.taken out_now.taken notes.taken notes_now.taken whole.0 first prefixes.0 prefixes.1 whole.1,
       (all, bits, whole.1.are_received, in-order all handed split.0 bits out out_now out_last notes notes_now notes_last split.1 broke),
     )
 
@@ -286,7 +286,7 @@ decode-broke c count octets handed out out_now notes notes_now last all within f
     let up_to : octets ≡ take c.limit octets = sym (take_all c.limit octets within) in (
       output,
       subst (λ (l : List ℕ). IsDecoded c l (handed_frames handed) text) up_to (decoded c count octets handed all),
-      record { out = wrote-front out.taken out_now.taken (handed_frames handed) frames.written; notes = told-front notes notes_now last handed count told },
+      record { out = wrote-prefix out.taken out_now.taken (handed_frames handed) frames.written; notes = told-prefix notes notes_now last handed count told },
       (
         handed,
         count,
@@ -418,7 +418,7 @@ decode-ends out_name notes_name out_sink out notes_sink notes out_last notes_las
 decode-ends out_name notes_name out_sink out notes_sink notes out_last notes_last counts c SinkFault octets a b exists one stand go end new accepted (inl p) =
     let most = accepted.limit in
     let os = take c.limit octets in
-    let small : length (items_of p.0) ≤ 8 * length os = elim p.1 [ inl are ↦ few-received_first c os p.0 are | inr are ↦ few-received_front c os p.0 are ] in
+    let small : length (items_of p.0) ≤ 8 * length os = elim p.1 [ inl are ↦ few-received_first c os p.0 are | inr are ↦ few-received_prefix c os p.0 are ] in
     let few : length (items_of p.0) < 2 ^ 53 = omega (arith, small, length-take c.limit octets) in
     let part = decoded-part out_name notes_name out_sink out notes_sink notes out_last notes_last counts p.0 a b new few p.2 in
     record {
@@ -440,7 +440,7 @@ decode-ends out_name notes_name out_sink out notes_sink notes out_last notes_las
 
 report-prefixes : (output : Output) (frames frames_now taken taken_now noted : Option (List ℕ)) → WrotePrefixes output (taken_by frames frames_now taken taken_now)
     → WrotePrefixes (record { out = output.notes; notes = [] }) (taken_by taken taken_now noted noted)
-report-prefixes output frames frames_now taken taken_now noted wrote = record { out = wrote.notes; notes = wrote-no_front noted [] }
+report-prefixes output frames frames_now taken taken_now noted wrote = record { out = wrote.notes; notes = wrote-no_prefix noted [] }
 
 report-early : (c : Configuration) (octets : List ℕ) (frames frames_now taken taken_now noted : Option (List ℕ))
     → WroteEarly (decode_meaning c) octets (taken_by frames frames_now taken taken_now) → WroteEarly (report_meaning c) octets (taken_by taken taken_now noted noted)

@@ -5,11 +5,11 @@ use Rattle.tm_base.specs.Outside.{Rose}
 use Rattle.tm_base.specs.Pieces.{further}
 use Rattle.tm_base.specs.Takers.{HandedOver}
 use Rattle.tm_base.specs.Handed.{Handed, Phase, Item, items_of}
-use Rattle.tm_base.specs.Written.{Wrote, WroteFront}
+use Rattle.tm_base.specs.Written.{Wrote, WrotePrefix}
 use Rattle.tm_config.specs.Accepted.{IsAccepted}
 use Rattle.tm_config.specs.Configuration.{Configuration, word_length, codeblock_length}
 use Rattle.tm_config.proofs.Lengths.{codeblock_length-le}
-use Rattle.tm_inner.specs.Sending.{InnerSending, SendsFront, Sends, StandsFor as SenderStandsFor}
+use Rattle.tm_inner.specs.Sending.{InnerSending, SendsPrefix, Sends, StandsFor as SenderStandsFor}
 use Rattle.tm_inner.specs.declared.sender.SendError.{SendError}
 use Rattle.tm_inner.specs.declared.sender.SendError.TheVariants.{Sink, Stopped}
 use Rattle.tm_inner.specs.Symbols.{symbols_of_octets}
@@ -35,7 +35,7 @@ use Rattle.tm_cli.proofs.Reporting.{report-wrote}
 -- ---- one unit
 
 -- what a sink that tells its octets has taken of what is due for a unit is less than its room
-pub symbols-fit : (c : Configuration) (given unit octets : List ℕ) → length unit ≤ 2044 → WroteFront (Some []) (Some octets) (further (symbols_of_octets c) given unit)
+pub symbols-fit : (c : Configuration) (given unit octets : List ℕ) → length unit ≤ 2044 → WrotePrefix (Some []) (Some octets) (further (symbols_of_octets c) given unit)
     → length octets ≡ 32768 → ⊥
 symbols-fit c given unit octets small wrote full =
     let text = further (symbols_of_octets c) given unit in
@@ -57,16 +57,16 @@ no-room-left false rose = elim rose [ inl more ↦ absurd (omega (arith, more)) 
 
 pub unit-sent : (sender : InnerSending) (given unit : List ℕ) (result : Result (Unit {0}) SendError) (before now : HeldSymbols)
     → before ≡ record { octets = []; is_full = false } → length unit ≤ 2044 → SenderStandsFor sender given → sender.has_failed ≡ false
-    → (IsErrOf result Stopped → IsTrue sender.has_failed) → (IsErrOf result Sink → SendsFront sender (Some before.octets) (Some now.octets) unit)
+    → (IsErrOf result Stopped → IsTrue sender.has_failed) → (IsErrOf result Sink → SendsPrefix sender (Some before.octets) (Some now.octets) unit)
     → (IsErrOf result Sink → Rose (cond before.is_full 1 0) (cond now.is_full 1 0) (now.is_full ≡ true)) → (now.is_full ≡ true → length now.octets ≡ 32768)
     → IsOk result
-unit-sent sender given unit (Ok x) before now new small stands fresh stopped front rose full = refl
-unit-sent sender given unit (Err Sink) before now new small stands fresh stopped front rose full =
+unit-sent sender given unit (Ok x) before now new small stands fresh stopped prefix rose full = refl
+unit-sent sender given unit (Err Sink) before now new small stands fresh stopped prefix rose full =
     let is_full : now.is_full ≡ true =
     no-room-left now.is_full (subst (λ (b : HeldSymbols). Rose (cond b.is_full 1 0) (cond now.is_full 1 0) (now.is_full ≡ true)) new (rose refl)) in
-    let wrote = subst (λ (b : HeldSymbols). WroteFront (Some b.octets) (Some now.octets) (further (symbols_of_octets sender.config) given unit)) new ((front refl).front given stands) in
+    let wrote = subst (λ (b : HeldSymbols). WrotePrefix (Some b.octets) (Some now.octets) (further (symbols_of_octets sender.config) given unit)) new ((prefix refl).prefix given stands) in
     absurd (symbols-fit sender.config given unit now.octets small wrote (full is_full))
-unit-sent sender given unit (Err Stopped) before now new small stands fresh stopped front rose full = cc (stopped refl, fresh)
+unit-sent sender given unit (Err Stopped) before now new small stands fresh stopped prefix rose full = cc (stopped refl, fresh)
 
 -- and what is due for it is received
 pub unit-received : (c : Configuration) (sender sender_now : InnerSending) (receiver receiver_now : OctetReceiving) (start counts counts_now : Counts) (given unit octets : List ℕ)

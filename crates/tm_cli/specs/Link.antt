@@ -9,11 +9,11 @@ use Rattle.tm_conv.specs.declared.rates.Rate.TheVariants.{R12}
 use Rattle.tm_viterbi.specs.declared.block.Start.TheVariants.{Any}
 use Rattle.tm_phase.specs.declared.choosing.Chosen.{Chosen}
 use Rattle.tm_inner.specs.Inner.{Inner, IsStartKnown}
-use Rattle.tm_inner.specs.Phase.{IsChosen, skip_of, in_turn}
+use Rattle.tm_inner.specs.Phase.{IsChosen, skip_of, with_phase}
 use Rattle.tm_codeblock.specs.Frames.{whole_frames}
 use Rattle.tm_channel.specs.Sent.{cadus, sent, sent_phase}
-use Rattle.tm_viterbi.specs.Clean.{turned_octets}
-use Rattle.tm_channel.specs.Items.{ItemValue, AreItems, frames_of, turned_item}
+use Rattle.tm_viterbi.specs.Clean.{complemented_octets}
+use Rattle.tm_channel.specs.Items.{ItemValue, AreItems, frames_of, complemented_item}
 use Rattle.tm_channel.specs.SentStream.{SentUnit, IsSent, AreAsSent, AreNear, unit_frames, unit_places, clean_items}
 use Rattle.tm_cli.specs.Report.{report_text}
 
@@ -26,7 +26,7 @@ KeepsCleanLink status c octets taken taken_now noted noted_now =
     (input : List ℕ) → c.skip ≡ 0 → IsStartKnown c → AreOctets input → octets ≡ sent c input
     → (status ≡ 0) × Wrote taken taken_now (concat (whole_frames c.frame_length input))
     × Wrote noted noted_now (report_text
-    (in_turn (sent_phase c) (clean_items c 0 (whole_frames c.frame_length input))) (8 * length
+    (with_phase (sent_phase c) (clean_items c 0 (whole_frames c.frame_length input))) (8 * length
     (cadus c input)))
 
 -- Where the octets after the phase come to the bits of units, however disturbed and with gaps
@@ -40,30 +40,30 @@ KeepsDisturbedLink status c octets taken taken_now noted noted_now =
     → IsChosen c octets chosen → Inner c (skip_of chosen) octets bits → IsSent c bits units last
     → (items : List ItemValue) × AreAsSent c (unit_places c units) units items
     × Wrote taken taken_now (frames_of items)
-    × Wrote noted noted_now (report_text (in_turn chosen items) (length bits))
+    × Wrote noted noted_now (report_text (with_phase chosen items) (length bits))
     × (AreNear c (unit_places c units) units → (status ≡ 0)
     × Wrote taken taken_now (unit_frames units))
 
 -- With no inner code and inverted markers, the octets complemented, each 255 less what it was, have
 -- the same frames, and the report says of each codeblock that it was received in the other polarity.
-abbrev pub KeepsTurnedInput : Configuration → List ℕ
+abbrev pub KeepsComplementedInput : Configuration → List ℕ
     → (taken taken_now noted noted_now : Option (List ℕ)) → Type 0
-KeepsTurnedInput c octets taken taken_now noted noted_now =
+KeepsComplementedInput c octets taken taken_now noted noted_now =
     (other : List ℕ) (bits : List Bool) (items : List ItemValue) (chosen : Option Chosen)
-    → c.inner ≡ None → c.polarity ≡ Find → AreOctets other → octets ≡ turned_octets other
+    → c.inner ≡ None → c.polarity ≡ Find → AreOctets other → octets ≡ complemented_octets other
     → IsChosen c other chosen → Inner c (skip_of chosen) other bits → AreItems c bits items
     → Wrote taken taken_now (frames_of items)
-    × Wrote noted noted_now (report_text (in_turn chosen (map turned_item items)) (length bits))
+    × Wrote noted noted_now (report_text (with_phase chosen (map complemented_item items)) (length bits))
 
 -- At rate 1/2 with inverted markers, where paths start from any register and none is skipped, the
 -- symbols that `encode` sends for an input, each complemented, come back as its whole frames, each
 -- in the other polarity and with nothing wrong, and the status is 0.
-abbrev pub KeepsTurnedSymbols : ℕ → Configuration → List ℕ
+abbrev pub KeepsComplementedSymbols : ℕ → Configuration → List ℕ
     → (taken taken_now noted noted_now : Option (List ℕ)) → Type 0
-KeepsTurnedSymbols status c octets taken taken_now noted noted_now =
+KeepsComplementedSymbols status c octets taken taken_now noted noted_now =
     (input : List ℕ) → c.inner ≡ Some R12 → c.polarity ≡ Find → c.start ≡ Any → c.skip ≡ 0
-    → AreOctets input → octets ≡ turned_octets (sent c input)
+    → AreOctets input → octets ≡ complemented_octets (sent c input)
     → (status ≡ 0) × Wrote taken taken_now (concat (whole_frames c.frame_length input))
     × Wrote noted noted_now (report_text
-    (in_turn (sent_phase c) (map turned_item
+    (with_phase (sent_phase c) (map complemented_item
     (clean_items c 0 (whole_frames c.frame_length input)))) (8 * length (cadus c input)))

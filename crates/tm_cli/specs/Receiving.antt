@@ -4,7 +4,7 @@ use Rattle.tm_base.specs.Handed.{Handed}
 use Rattle.tm_base.specs.Takers.{HandedOver, HandedPart}
 use Rattle.tm_config.specs.Configuration.{Configuration}
 use Rattle.tm_channel.specs.Items.{ItemValue}
-use Rattle.tm_channel.specs.Handing.{AreReceived, AreReceivedDue, AreReceivedFirst, AreReceivedFront}
+use Rattle.tm_channel.specs.Handing.{AreReceived, AreReceivedDue, AreReceivedFirst, AreReceivedPrefix}
 use Rattle.tm_channel.specs.OctetReceiving.{OctetReceiving, StandsFor}
 use Rattle.tm_driver.specs.Courses.{SinkState}
 use Rattle.tm_driver.specs.Texts.{TookText}
@@ -62,8 +62,8 @@ pub record HandedLastPart {T : Type 0} (took broke : T → Handed ItemValue → 
     → Type 0) (receiver : OctetReceiving) (before now : T) : Type 0 where
   pub tried : List (Handed ItemValue)
   pub handed : HandedPart took broke before tried now
-  pub front : (given : List ℕ) (done : List (Handed ItemValue)) → StandsFor receiver given done
-      → AreReceivedFront receiver.config given (done ++ tried)
+  pub prefix : (given : List ℕ) (done : List (Handed ItemValue)) → StandsFor receiver given done
+      → AreReceivedPrefix receiver.config given (done ++ tried)
 
 -- all of the octets of an input within the limit was taken, and then something holds of the number
 -- of bits
@@ -95,7 +95,7 @@ ReceivedTo took broke told broke_end c SourceFault octets before now = (handed :
 ReceivedTo took broke told broke_end c SinkFault octets before now =
     ((handed : List (Handed ItemValue))
     × (AreReceivedFirst c (take c.limit octets) handed
-    ⊎ AreReceivedFront c (take c.limit octets) handed)
+    ⊎ AreReceivedPrefix c (take c.limit octets) handed)
     × HandedPart took broke before handed now)
     ⊎ ReceivedAll took c octets before (λ middle bits. broke_end middle bits now)
 ReceivedTo took broke told broke_end c PastLimit octets before now = (handed : List

@@ -2,7 +2,7 @@
 use Rattle.std.specs.Prelude.{◌≡◌, ◌⊎◌, ℕ, ◌+◌, ◌≤◌, true, false, List, length, Some}
 use Rattle.clap.specs.Words.{Text}
 use Rattle.tm_base.specs.Outside.{Rose}
-use Rattle.tm_base.specs.Written.{Gave, Wrote, WroteFront}
+use Rattle.tm_base.specs.Written.{Gave, Wrote, WrotePrefix}
 use Rattle.tm_config.specs.Configuration.{Configuration}
 use Rattle.tm_driver.specs.Courses.{SourceState, SinkState, SourceCourse, SinkCourse, SinksCourse}
 use Rattle.tm_driver.specs.Meaning.{Ends, taken_by}
@@ -13,7 +13,7 @@ use Rattle.tm_path_commands.specs.Shown.{ShowsLeast, PassesCertified}
 use Rattle.tm_cli.specs.Command.{Command, reads}
 use Rattle.tm_cli.specs.Command.Command.{Encode, Decode, Check}
 use Rattle.tm_cli.specs.Lines.{refusal_text}
-use Rattle.tm_cli.specs.Link.{KeepsCleanLink, KeepsDisturbedLink, KeepsTurnedInput, KeepsTurnedSymbols}
+use Rattle.tm_cli.specs.Link.{KeepsCleanLink, KeepsDisturbedLink, KeepsComplementedInput, KeepsComplementedSymbols}
 use Rattle.tm_cli.specs.Meanings.{meaning_of}
 use Rattle.tm_cli.specs.Refusal.{reason_of, refusal_of}
 use Rattle.tm_cli.specs.declared.refusal.Refusal.{Refusal}
@@ -90,10 +90,10 @@ pub record Answers (status : ℕ) (command : Command) (c : Configuration) (call 
   pub disturbed : command ≡ Decode → (status ≡ 0) ⊎ (status ≡ 1)
       → KeepsDisturbedLink status c octets call.out.taken call.out_now.taken call.notes.taken call.notes_now.taken
   -- in the other polarity too
-  pub turned_input : command ≡ Decode → (status ≡ 0) ⊎ (status ≡ 1)
-      → KeepsTurnedInput c octets call.out.taken call.out_now.taken call.notes.taken call.notes_now.taken
-  pub turned_symbols : command ≡ Decode → (status ≡ 0) ⊎ (status ≡ 1)
-      → KeepsTurnedSymbols status c octets call.out.taken call.out_now.taken call.notes.taken call.notes_now.taken
+  pub complemented_input : command ≡ Decode → (status ≡ 0) ⊎ (status ≡ 1)
+      → KeepsComplementedInput c octets call.out.taken call.out_now.taken call.notes.taken call.notes_now.taken
+  pub complemented_symbols : command ≡ Decode → (status ≡ 0) ⊎ (status ≡ 1)
+      → KeepsComplementedSymbols status c octets call.out.taken call.out_now.taken call.notes.taken call.notes_now.taken
   -- where `check` answers 0, the paths of the certificate cost the least; what `certify` writes
   -- passes
   pub shown : command ≡ Check → status ≡ 0 → ShowsLeast c octets call.out.taken call.out_now.taken
@@ -109,4 +109,4 @@ pub record IsRefused (words : List Text) (notes notes_now : SinkState)
   pub line : (SinkCourse false notes notes_now notes_last
       × Wrote notes.taken notes_now.taken (refusal_text (reason_of why)))
       ⊎ (SinkCourse true notes notes_now notes_last
-      × WroteFront notes.taken notes_now.taken (refusal_text (reason_of why)))
+      × WrotePrefix notes.taken notes_now.taken (refusal_text (reason_of why)))

@@ -20,10 +20,10 @@ impl<'a, 'b, 'c, O: Sink, N: Sink> Feed for Encoding<'a, 'b, 'c, O, N> {
     ghost use Rattle.std.specs.Prelude.{◌≡◌, ◌<◌, ◌≤◌, ℕ, List, true, false, length, refl};
     ghost use Rattle.std.proofs.Common.{◌∙◌, subst};
     ghost use Rattle.tm_base.specs.Outside.{Rose};
-    ghost use Rattle.tm_base.specs.Written.{Wrote, WroteFront};
-    ghost use Rattle.tm_codeblock.specs.Frames.{behind_frames};
-    ghost use Rattle.tm_channel.specs.Sending.{Sends, SendsFront, StandsFor};
-    ghost use Rattle.tm_channel.proofs.Sending.{sends-none, sends-more, sends-front};
+    ghost use Rattle.tm_base.specs.Written.{Wrote, WrotePrefix};
+    ghost use Rattle.tm_codeblock.specs.Frames.{after_frames};
+    ghost use Rattle.tm_channel.specs.Sending.{Sends, SendsPrefix, StandsFor};
+    ghost use Rattle.tm_channel.proofs.Sending.{sends-none, sends-more, sends-prefix};
     ghost use Rattle.tm_driver.specs.Courses.{SinkWent, SinksWent, sink_call};
     ghost use Rattle.tm_driver.specs.Lines.{left_over_text, outcome_by};
     ghost use Rattle.tm_driver.specs.declared.ending.Stop.TheVariants.{SinkFault};
@@ -34,15 +34,15 @@ impl<'a, 'b, 'c, O: Sink, N: Sink> Feed for Encoding<'a, 'b, 'c, O, N> {
 
     ghost stopped = { λ a b octets stop. (stop ≡ SinkFault) × (0 < a.sender.now.config.frame_length) × (b.notes.now ≡ a.notes.now)
         × SinkWent true (sink_call O.taken O.faults O.is_last a.out.now b.out.now)
-        × SendsFront a.sender.now (O.taken a.out.now) (O.taken b.out.now) octets };
+        × SendsPrefix a.sender.now (O.taken a.out.now) (O.taken b.out.now) octets };
 
-    ghost finished = { λ a b outcome. (rest : ℕ) × ((given : List ℕ) → StandsFor a.sender.now given → rest ≡ length (behind_frames a.sender.now.config.frame_length given))
+    ghost finished = { λ a b outcome. (rest : ℕ) × ((given : List ℕ) → StandsFor a.sender.now given → rest ≡ length (after_frames a.sender.now.config.frame_length given))
         × (outcome ≡ outcome_by rest) × (b.out.now ≡ a.out.now)
         × Wrote (N.taken a.notes.now) (N.taken b.notes.now) (left_over_text rest) };
 
-    ghost failed = { λ a b. (rest : ℕ) × ((given : List ℕ) → StandsFor a.sender.now given → rest ≡ length (behind_frames a.sender.now.config.frame_length given))
+    ghost failed = { λ a b. (rest : ℕ) × ((given : List ℕ) → StandsFor a.sender.now given → rest ≡ length (after_frames a.sender.now.config.frame_length given))
         × (b.out.now ≡ a.out.now) × SinkWent true (sink_call N.taken N.faults N.is_last a.notes.now b.notes.now)
-        × WroteFront (N.taken a.notes.now) (N.taken b.notes.now) (left_over_text rest) };
+        × WrotePrefix (N.taken a.notes.now) (N.taken b.notes.now) (left_over_text rest) };
 
     ghost sinks = { λ a b failed. SinksWent failed (sink_call O.taken O.faults O.is_last a.out.now b.out.now)
         (sink_call N.taken N.faults N.is_last a.notes.now b.notes.now) };
@@ -64,7 +64,7 @@ impl<'a, 'b, 'c, O: Sink, N: Sink> Feed for Encoding<'a, 'b, 'c, O, N> {
       p.0,
       q.2 ∙ p.1,
       subst (λ (n : ℕ). Rose n (O.faults c.out.now) (O.is_last c.out.now) × (n ≤ O.faults c.out.now)) p.2 q.3,
-      sends-front a.sender.now b.sender.now (O.taken a.out.now) (O.taken b.out.now) (O.taken c.out.now) first second p.0 p.3 q.4,
+      sends-prefix a.sender.now b.sender.now (O.taken a.out.now) (O.taken b.out.now) (O.taken c.out.now) first second p.0 p.3 q.4,
     ) };
 
     ghost sinks_none = { λ a. (refl, refl) };

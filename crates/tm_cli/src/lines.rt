@@ -1,7 +1,7 @@
 // The lines of a report.
 ghost use Rattle.std.specs.Prelude.{◌≡◌, ◌+◌, ◌*◌, ◌≤◌, ◌++◌, length, flat_map, OnOk, OnErr};
 ghost use Rattle.tm_base.specs.Outside.{HasCause};
-ghost use Rattle.tm_base.specs.Written.{Wrote, WroteFront};
+ghost use Rattle.tm_base.specs.Written.{Wrote, WrotePrefix};
 ghost use Rattle.tm_cli.specs.Lines.{marker_text, answer_text, answers_text, item_text, report_end_text};
 
 use tm_base::{Failed, Sink};
@@ -67,7 +67,7 @@ fn add_answers(line: &mut Line, answers: &[Answer])
 /// count of faults rose.
 pub fn frame_line<O: Sink>(out: &mut O, number: u64, item: &Item<'_>) -> Result<(), Failed>
     ensures ok { OnOk result (Wrote (O.taken out.old) (O.taken out.new) (item_text number item.now)) }
-    ensures err { OnErr result (WroteFront (O.taken out.old) (O.taken out.new) (item_text number item.now)) }
+    ensures err { OnErr result (WrotePrefix (O.taken out.old) (O.taken out.new) (item_text number item.now)) }
     ensures cause { HasCause (O.faults out.old) (O.faults out.new) (O.is_last out.new) result }
 {
     let mut line = Line::new();
@@ -91,7 +91,7 @@ pub fn frames_line<O: Sink>(
     bits: u64,
 ) -> Result<(), Failed>
     ensures ok { OnOk result (Wrote (O.taken out.old) (O.taken out.new) (report_end_text good bad fixed bits)) }
-    ensures err { OnErr result (WroteFront (O.taken out.old) (O.taken out.new) (report_end_text good bad fixed bits)) }
+    ensures err { OnErr result (WrotePrefix (O.taken out.old) (O.taken out.new) (report_end_text good bad fixed bits)) }
     ensures cause { HasCause (O.faults out.old) (O.faults out.new) (O.is_last out.new) result }
 {
     let mut line = Line::new();

@@ -3,7 +3,7 @@ ghost use Rattle.std.specs.Prelude.{◌≡◌, ◌⊎◌, ℕ, List, Option};
 ghost use Rattle.tm_config.specs.Accepted.{IsAccepted};
 ghost use Rattle.tm_config.specs.Configuration.{Configuration};
 ghost use Rattle.tm_cli.specs.Decode.{decode_meaning};
-ghost use Rattle.tm_cli.specs.Link.{KeepsCleanLink, KeepsDisturbedLink, KeepsTurnedInput, KeepsTurnedSymbols};
+ghost use Rattle.tm_cli.specs.Link.{KeepsCleanLink, KeepsDisturbedLink, KeepsComplementedInput, KeepsComplementedSymbols};
 ghost use Rattle.tm_driver.specs.Meaning.{Ends, taken_by};
 ghost use Rattle.tm_driver.specs.Statuses.{status_of};
 ghost use Rattle.tm_driver.specs.declared.ending.Ending.{Ending};
@@ -27,18 +27,18 @@ pub fn link_law()
         → Ends ending (decode_meaning c) c.limit octets (taken_by taken taken_now noted noted_now)
         → (status ≡ 0) ⊎ (status ≡ 1)
         → KeepsDisturbedLink status c octets taken taken_now noted noted_now }
-    ensures turned_input { (ending : Ending) (status : ℕ) (c : Configuration) (octets : List ℕ)
+    ensures complemented_input { (ending : Ending) (status : ℕ) (c : Configuration) (octets : List ℕ)
         (taken taken_now noted noted_now : Option (List ℕ))
         → IsAccepted c → status ≡ status_of ending
         → Ends ending (decode_meaning c) c.limit octets (taken_by taken taken_now noted noted_now)
         → (status ≡ 0) ⊎ (status ≡ 1)
-        → KeepsTurnedInput c octets taken taken_now noted noted_now }
-    ensures turned_symbols { (ending : Ending) (status : ℕ) (c : Configuration) (octets : List ℕ)
+        → KeepsComplementedInput c octets taken taken_now noted noted_now }
+    ensures complemented_symbols { (ending : Ending) (status : ℕ) (c : Configuration) (octets : List ℕ)
         (taken taken_now noted noted_now : Option (List ℕ))
         → IsAccepted c → status ≡ status_of ending
         → Ends ending (decode_meaning c) c.limit octets (taken_by taken taken_now noted noted_now)
         → (status ≡ 0) ⊎ (status ≡ 1)
-        → KeepsTurnedSymbols status c octets taken taken_now noted noted_now }
+        → KeepsComplementedSymbols status c octets taken taken_now noted noted_now }
 {
     items_law();
     received_law();

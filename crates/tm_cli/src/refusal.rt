@@ -1,7 +1,7 @@
 // Why the words are refused, and what they ask for.
 ghost use Rattle.std.specs.Prelude.{◌≡◌, ◌≤◌, length, map, string_bytes, Some, None, ℕ, OnOk, OnErr};
 ghost use Rattle.tm_base.specs.Outside.{HasCause};
-ghost use Rattle.tm_base.specs.Written.{Wrote, WroteFront};
+ghost use Rattle.tm_base.specs.Written.{Wrote, WrotePrefix};
 ghost use Rattle.tm_cli.specs.Lines.{refusal_text};
 ghost use Rattle.tm_config.specs.Configuration.{configuration_of, Configuration};
 ghost use Rattle.tm_config.specs.Accepted.{IsAccepted};
@@ -105,7 +105,7 @@ pub fn ask(alloc: Global, words: &[String]) -> Asked
 /// Writes why the words are refused.
 pub fn refusal_line<N: Sink>(notes: &mut N, why: Refusal) -> Result<(), Failed>
     ensures ok { OnOk result (Wrote (N.taken notes.old) (N.taken notes.new) (refusal_text (reason_of why))) }
-    ensures err { OnErr result (WroteFront (N.taken notes.old) (N.taken notes.new) (refusal_text (reason_of why))) }
+    ensures err { OnErr result (WrotePrefix (N.taken notes.old) (N.taken notes.new) (refusal_text (reason_of why))) }
     ensures cause { HasCause (N.faults notes.old) (N.faults notes.new) (N.is_last notes.new) result }
 {
     let mut line = Line::new();

@@ -264,7 +264,7 @@ fn decodes_frames_and_their_report(rt: HostRuntime) -> Result<(), Fail> {
 }
 
 #[test]
-fn reports_behind_the_phase(rt: HostRuntime) -> Result<(), Fail> {
+fn reports_after_the_phase(rt: HostRuntime) -> Result<(), Fail> {
     let mut out = sink(&rt, rt.alloc(), 1024);
     let mut report = Report {
         lines: &mut out,
@@ -280,7 +280,7 @@ fn reports_behind_the_phase(rt: HostRuntime) -> Result<(), Fail> {
 }
 
 #[test]
-fn traces_behind_the_phase(rt: HostRuntime) -> Result<(), Fail> {
+fn traces_after_the_phase(rt: HostRuntime) -> Result<(), Fail> {
     let mut out = sink(&rt, rt.alloc(), 1024);
     let mut trace = Trace {
         lines: &mut out,

@@ -68,12 +68,12 @@ codeblock-uncoded c frame [] none empty = rw none (append-nil frame)
 codeblock-uncoded c frame (x ∷ rest) none empty = absurd (omega arith)
 
 -- the unit, with and without the randomizer
-pub unit-masked : (c : Configuration) (frame front codeblock sent : List ℕ) → c.randomize ≡ true → front ≡ marker
-    → codeblock ≡ codeblock_of c frame → sent ≡ masked codeblock → front ++ sent ≡ cadu c frame
+pub unit-masked : (c : Configuration) (frame prefix codeblock sent : List ℕ) → c.randomize ≡ true → prefix ≡ marker
+    → codeblock ≡ codeblock_of c frame → sent ≡ masked codeblock → prefix ++ sent ≡ cadu c frame
 unfolding cadu codeblock_of
-unit-masked c frame front codeblock sent on first is masks = rw on (λ i. first i ++ (masks ∙ ap masked is) i)
+unit-masked c frame prefix codeblock sent on first is masks = rw on (λ i. first i ++ (masks ∙ ap masked is) i)
 
-pub unit-plain : (c : Configuration) (frame front codeblock : List ℕ) → c.randomize ≡ false → front ≡ marker
-    → codeblock ≡ codeblock_of c frame → front ++ codeblock ≡ cadu c frame
+pub unit-plain : (c : Configuration) (frame prefix codeblock : List ℕ) → c.randomize ≡ false → prefix ≡ marker
+    → codeblock ≡ codeblock_of c frame → prefix ++ codeblock ≡ cadu c frame
 unfolding cadu codeblock_of
-unit-plain c frame front codeblock off first is = rw off (λ i. first i ++ is i)
+unit-plain c frame prefix codeblock off first is = rw off (λ i. first i ++ is i)

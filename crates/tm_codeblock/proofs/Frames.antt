@@ -5,7 +5,7 @@ use Rattle.std.proofs.lemmas.List.Folds.{concat-append}
 use Rattle.std.proofs.lemmas.List.{take_at, drop_at, length-take-le, drop-drop}
 use Rattle.std.proofs.lemmas.Nat.{div-mul-add, div-add-mod', mod_below}
 use Rattle.std.proofs.lemmas.Grind.{common_steps}
-use Rattle.tm_codeblock.specs.Frames.{first_frames, whole_frames, behind_frames, HaveSize, Splits}
+use Rattle.tm_codeblock.specs.Frames.{first_frames, whole_frames, after_frames, HaveSize, Splits}
 
 length-concat : (size : ℕ) (frames : List (List ℕ)) → HaveSize size frames → length (concat frames) ≡ length frames * size
 length-concat size [] sized = omega arith
@@ -15,9 +15,9 @@ first-are : (size : ℕ) (frames : List (List ℕ)) (held : List ℕ) → HaveSi
 first-are size [] held sized = refl
 first-are size (frame ∷ frames) held sized =
     let joined = append_assoc frame (concat frames) held in
-    let front : take size ((frame ++ concat frames) ++ held) ≡ frame = rw joined (take_at frame (concat frames ++ held) size sized.0) in
+    let prefix : take size ((frame ++ concat frames) ++ held) ≡ frame = rw joined (take_at frame (concat frames ++ held) size sized.0) in
     let rest : drop size ((frame ++ concat frames) ++ held) ≡ concat frames ++ held = rw joined (drop_at frame (concat frames ++ held) size sized.0) in
-    (λ i. front i ∷ first_frames size (length frames) (rest i)) ∙ ap (λ fs. frame ∷ fs) (first-are size frames held sized.1)
+    (λ i. prefix i ∷ first_frames size (length frames) (rest i)) ∙ ap (λ fs. frame ∷ fs) (first-are size frames held sized.1)
 
 count-is : (size : ℕ) (octets : List ℕ) (frames : List (List ℕ)) (held : List ℕ) → Splits size octets frames held → length octets / size ≡ length frames
 count-is size octets frames held s =
@@ -29,8 +29,8 @@ unfolding whole_frames
 frames-are size octets frames held s =
     (λ i. first_frames size (count-is size octets frames held s i) (s.whole i)) ∙ first-are size frames held s.sized
 
-pub behind-is : (size : ℕ) (octets : List ℕ) (frames : List (List ℕ)) (held : List ℕ) → Splits size octets frames held → behind_frames size octets ≡ held
-behind-is size octets frames held s =
+pub after-is : (size : ℕ) (octets : List ℕ) (frames : List (List ℕ)) (held : List ℕ) → Splits size octets frames held → after_frames size octets ≡ held
+after-is size octets frames held s =
     (λ i. drop (count-is size octets frames held s i * size) (s.whole i))
     ∙ drop_at (concat frames) held (length frames * size) (length-concat size frames s.sized)
 
@@ -46,7 +46,7 @@ first-split size (suc count) octets le =
       (length-take-le size octets (grind arith), more.1),
     )
 
-pub splits : (size : ℕ) (octets : List ℕ) → 0 < size → Splits size octets (whole_frames size octets) (behind_frames size octets)
+pub splits : (size : ℕ) (octets : List ℕ) → 0 < size → Splits size octets (whole_frames size octets) (after_frames size octets)
 unfolding whole_frames
 splits size octets pos =
     let parts = first-split size (length octets / size) octets (omega (arith, div-add-mod' (length octets) size)) in
@@ -69,11 +69,11 @@ splits-more size octets more held rest frames others s t = record {
     joined (f ∷ fs) h = (h.0, joined fs h.1)
 
 -- the whole frames of a longer list are those of its front, and then others
-pub whole_frames-more : (size : ℕ) (octets more : List ℕ) → 0 < size → whole_frames size (octets ++ more) ≡ whole_frames size octets ++ whole_frames size (behind_frames size octets ++ more)
+pub whole_frames-more : (size : ℕ) (octets more : List ℕ) → 0 < size → whole_frames size (octets ++ more) ≡ whole_frames size octets ++ whole_frames size (after_frames size octets ++ more)
 whole_frames-more size octets more pos =
-    let held = behind_frames size octets in
+    let held = after_frames size octets in
     let others = whole_frames size (held ++ more) in
-    let rest = behind_frames size (held ++ more) in
+    let rest = after_frames size (held ++ more) in
     frames-are size (octets ++ more) (whole_frames size octets ++ others) rest
     (splits-more size octets more held rest (whole_frames size octets) others (splits size octets pos) (splits size (held ++ more) pos))
 

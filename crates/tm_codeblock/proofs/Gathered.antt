@@ -86,11 +86,11 @@ joined-is p x extra v first second few is =
     let same : x ≡ both % 2 ^ 8 = omega arith in
     ap (λ n. n % 2 ^ extra) same ∙ ap (λ n. both % 2 ^ n % 2 ^ extra) eight ∙ mod-mod-pow both (8 - extra) extra in
     let swap : 8 + extra ≡ extra + 8 = omega arith in
-    let front : both / 2 ^ 8 ≡ p = omega arith in
+    let prefix : both / 2 ^ 8 ≡ p = omega arith in
     let back : both % 2 ^ 8 ≡ x % 2 ^ 8 = omega arith in
     (λ i. octet i ++ low_bits-same extra x both rest i)
     ∙ sym (low_bits-split 8 extra both) ∙ ap (λ n. low_bits n both) swap ∙ low_bits-split extra 8 both
-    ∙ (λ i. low_bits extra (front i) ++ low_bits-same 8 both x back i)
+    ∙ (λ i. low_bits extra (prefix i) ++ low_bits-same 8 both x back i)
 
 pub push-octet : (octets now : List ℕ) (extra p x v : ℕ) → low_bits 8 v ++ low_bits extra x ≡ low_bits extra p ++ low_bits 8 x → now ≡ octets ++ v ∷ []
     → bits_of now ++ low_bits extra x ≡ (bits_of octets ++ low_bits extra p) ++ low_bits 8 x
@@ -113,8 +113,8 @@ gathered octets whole extra p bits view long most =
     omega arith
 
 -- no bits follow the whole octets
-pub none-behind : (bits view : List Bool) (extra p : ℕ) → extra ≡ 0 → bits ++ low_bits extra p ≡ view → bits ≡ view
-none-behind bits view extra p none is = sym (append-nil bits) ∙ ap (λ l. bits ++ l) (sym (ap (λ n. low_bits n p) none ∙ low_bits-zero p)) ∙ is
+pub none-after : (bits view : List Bool) (extra p : ℕ) → extra ≡ 0 → bits ++ low_bits extra p ≡ view → bits ≡ view
+none-after bits view extra p none is = sym (append-nil bits) ∙ ap (λ l. bits ++ l) (sym (ap (λ n. low_bits n p) none ∙ low_bits-zero p)) ∙ is
 
 -- octets after whole ones
 pub push-octets : (octets piece now : List ℕ) (extra p : ℕ) → extra ≡ 0 → now ≡ octets ++ piece → bits_of now ++ low_bits extra p ≡ (bits_of octets ++ low_bits extra p) ++ bits_of piece

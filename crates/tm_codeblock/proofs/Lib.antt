@@ -1,4 +1,4 @@
 pub mod Frames
 pub mod Codeblocks
 pub mod Gathered
-pub mod TurnedOver
+pub mod Complemented

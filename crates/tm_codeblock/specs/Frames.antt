@@ -12,8 +12,8 @@ unfoldable pub whole_frames : ℕ → List ℕ → List (List ℕ)
 whole_frames size octets = first_frames size (length octets / size) octets
 
 -- the octets after the last whole frame
-abbrev pub behind_frames : ℕ → List ℕ → List ℕ
-behind_frames size octets = drop (length octets / size * size) octets
+abbrev pub after_frames : ℕ → List ℕ → List ℕ
+after_frames size octets = drop (length octets / size * size) octets
 
 -- each list has `size` octets
 abbrev pub HaveSize : ℕ → List (List ℕ) → Type 0

@@ -17,7 +17,7 @@ pub fn read_codeblock(config: &Config, inverted: bool, received: &[u8], codebloc
 {
     codeblock.copy_from_slice(received);
     if inverted {
-        turn_over(codeblock);
+        complement_octets(codeblock);
     }
     if is_randomized(config) {
         mask(codeblock);
@@ -35,7 +35,7 @@ pub fn finds_polarity(config: &Config) -> bool
 }
 
 // Turns each bit of octets over.
-fn turn_over(octets: &mut [u8])
+fn complement_octets(octets: &mut [u8])
     ensures { octets.new ≡ octets_of (complement (bits_of octets.old)) }
 {
     for k in 0..octets.len() {

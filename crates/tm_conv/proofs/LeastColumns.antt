@@ -86,22 +86,22 @@ least_more : (starts : ℕ → Bool) (rate : Rate) (invert : Bool) (t steps last
 least_more starts rate invert t steps last low octets here size step ways other others is =
     let count : length others ≡ steps + 1
     = EndsIn-steps rate invert t (steps + 1) last other (octets ++ here) others (length-more rate t steps octets here size step) is in
-    let fronts = take steps others in
+    let prefixes = take steps others in
     let bit = get_or others steps 0 in
-    let from = register_after other fronts in
-    let whole : others ≡ fronts ++ bit ∷ [] = sym (take_all (steps + 1) others (omega (arith, count))) ∙ take_more others steps 0 (omega (arith, count)) in
-    let long : length fronts ≡ steps = length-take-le steps others (omega (arith, count)) in
-    let each : AreBits fronts = All-take (λ b. b < 2) steps others is.each in
+    let from = register_after other prefixes in
+    let whole : others ≡ prefixes ++ bit ∷ [] = sym (take_all (steps + 1) others (omega (arith, count))) ∙ take_more others steps 0 (omega (arith, count)) in
+    let long : length prefixes ≡ steps = length-take-le steps others (omega (arith, count)) in
+    let each : AreBits prefixes = All-take (λ b. b < 2) steps others is.each in
     let is_bit : bit < 2 = All-get_or (λ b. b < 2) others steps 0 (omega (arith, count)) is.each in
-    let goes : next_register from bit ≡ last = sym (register_after-push other fronts bit) ∙ ap (register_after other) (sym whole) ∙ is.ends in
-    let before : EndsIn rate invert t octets from other fronts = record {
+    let goes : next_register from bit ≡ last = sym (register_after-push other prefixes bit) ∙ ap (register_after other) (sym whole) ∙ is.ends in
+    let before : EndsIn rate invert t octets from other prefixes = record {
       register = is.register;
       each = each;
-      covers = length-path rate invert t other fronts ∙ ap (steps_size rate t) long ∙ sym size;
+      covers = length-path rate invert t other prefixes ∙ ap (steps_size rate t) long ∙ sym size;
       ends = refl;
     } in
-    let sum = ap (total starts rate invert t (octets ++ here) other) whole ∙ total-push starts rate invert t steps bit other octets here fronts size long in
-    omega (arith, sum, ways from bit other fronts (register_after-small other fronts is.register each) is_bit goes before)
+    let sum = ap (total starts rate invert t (octets ++ here) other) whole ∙ total-push starts rate invert t steps bit other octets here prefixes size long in
+    omega (arith, sum, ways from bit other prefixes (register_after-small other prefixes is.register each) is_bit goes before)
 
 -- a register is reached from two, 2 * (register % 32) and the one after it, by the bit register / 32
 two_ways : (from bit last : ℕ) → from < 64 → bit < 2 → next_register from bit ≡ last
@@ -155,10 +155,10 @@ least_to starts rate invert t zero octets size last small =
 least_to starts rate invert t (suc steps) octets size last small =
     let count = steps_size rate t steps in
     let more : length octets ≡ count + step_size rate (t + steps) = size ∙ ap (steps_size rate t) (let e : suc steps ≡ steps + 1 = omega arith in e) ∙ steps_size-more rate t steps in
-    let front : length (take count octets) ≡ count = length-take-le count octets (omega (arith, more)) in
+    let prefix : length (take count octets) ≡ count = length-take-le count octets (omega (arith, more)) in
     let here : length (drop count octets) ≡ step_size rate (t + steps) = length-drop count octets ∙ omega (arith, more) in
     subst (λ (l : List ℕ). LeastTo starts rate invert t l last) (take-append-drop count octets)
-    (least_to-more starts rate invert t steps (take count octets) (drop count octets) front here (least_to starts rate invert t steps (take count octets) front) last small)
+    (least_to-more starts rate invert t steps (take count octets) (drop count octets) prefix here (least_to starts rate invert t steps (take count octets) prefix) last small)
 
 -- ---- the column
 pub IsColumn-exists : (starts : ℕ → Bool) (rate : Rate) (invert : Bool) (t steps : ℕ) (octets : List ℕ) → length octets ≡ steps_size rate t steps

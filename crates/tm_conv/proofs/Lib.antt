@@ -12,4 +12,4 @@ mod OctetTables
 mod KeptSymbols
 mod LanesTaken
 mod OctetPaths
-mod BitsInTurn
+mod BitsInOrder

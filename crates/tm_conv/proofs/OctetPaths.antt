@@ -95,12 +95,12 @@ stored : (out lanes : List ℕ) (count k kept : ℕ) → k ≡ 16 → length lan
     → take (count + kept) (put_mid count k out (put_chunk 0 (take k (drop count out)) lanes)) ≡ take count out ++ take kept lanes
 stored out lanes count k kept is long most room =
     let free : length (take k (drop count out)) ≡ length lanes = length-take-le k (drop count out) (omega (arith, length-drop count out)) ∙ is ∙ sym long in
-    let front : length (take count out) ≡ count = length-take-le count out (omega arith) in
+    let prefix : length (take count out) ≡ count = length-take-le count out (omega arith) in
     let all = put_mid count k out lanes in
     ap (λ (v : List ℕ). take (count + kept) (put_mid count k out v)) (put_chunk_whole (take k (drop count out)) lanes free)
     ∙ sym (take-take (count + kept) (count + 16) all (omega arith))
     ∙ ap (take (count + kept)) (take-put_mid count k out lanes (count + 16) (omega (arith, long)) (omega arith))
-    ∙ ap (λ n. take (n + kept) (take count out ++ lanes)) (sym front)
+    ∙ ap (λ n. take (n + kept) (take count out ++ lanes)) (sym prefix)
     ∙ take-append-add (take count out) lanes kept
 
 pub symbols-more : (rate : Rate) (invert : Bool) (low phase register place here : ℕ) (octets out lanes : List ℕ) (i count k kept : ℕ) → i < length octets

@@ -45,8 +45,8 @@ IsBest-unique starts rate invert t octets r q bits others a b =
     let words : backwards r bits ≡ backwards q others = same_words (backwards r bits) (backwards q others)
     (length-append (reverse bits) (register_bits r) ∙ omega (arith, length-append (reverse others) (register_bits q), length-reverse {A = ℕ} bits, length-reverse {A = ℕ} others, long)) first second in
     let n = length (reverse bits) in
-    let fronts : reverse bits ≡ reverse others
+    let prefixes : reverse bits ≡ reverse others
     = sym (take_at (reverse bits) (register_bits r) n refl) ∙ ap (λ v. take n v) words ∙ take_at (reverse others) (register_bits q) n (length-reverse others ∙ sym long ∙ sym (length-reverse bits)) in
     let backs : register_bits r ≡ register_bits q
     = sym (drop_at (reverse bits) (register_bits r) n refl) ∙ ap (λ v. drop n v) words ∙ drop_at (reverse others) (register_bits q) n (length-reverse others ∙ sym long ∙ sym (length-reverse bits)) in
-    (same_register r q a.candidate.register b.candidate.register backs, sym (reverse-reverse bits) ∙ ap reverse fronts ∙ reverse-reverse others)
+    (same_register r q a.candidate.register b.candidate.register backs, sym (reverse-reverse bits) ∙ ap reverse prefixes ∙ reverse-reverse others)

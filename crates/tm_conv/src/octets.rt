@@ -103,8 +103,8 @@ fn octet_symbols(
 
 // The register after an octet, whatever it was before.
 #[inline(always)]
-fn register_behind(octet: u8) -> u8
-    ensures behind { (register : ℕ) → register < 64 → result ≡ register_after register (bit_numbers (bits_of_octet octet)) }
+fn register_of(octet: u8) -> u8
+    ensures after { (register : ℕ) → register < 64 → result ≡ register_after register (bit_numbers (bits_of_octet octet)) }
     ensures small { result < 64 }
 {
     REGISTER_AFTER[usize::from(octet)]
@@ -112,7 +112,7 @@ fn register_behind(octet: u8) -> u8
 
 // The place in the puncture pattern after an octet.
 #[inline(always)]
-fn phase_behind(rate: Rate, phase: u8) -> u8
+fn phase_after(rate: Rate, phase: u8) -> u8
     requires { phase < period rate }
     ensures { result ≡ (phase + 8) % period rate }
 {
@@ -148,8 +148,8 @@ fn encode_from(
         let (symbols, kept) = octet_symbols(rate, invert, low, phase, register, *octet);
         symbols.copy_to_slice(&mut out[count..count + 16]);
         count += usize::from(kept);
-        register = register_behind(*octet);
-        phase = phase_behind(rate, phase);
+        register = register_of(*octet);
+        phase = phase_after(rate, phase);
     }
     (count, register, phase)
 }

@@ -92,6 +92,6 @@ pub fn steps_len(rate: Rate, t: u64, count: usize) -> usize
     requires { t + count ≤ 2 ^ 62 }
     ensures { result ≡ steps_size rate t count }
 {
-    let behind = symbols_of(rate, t + count as u64);
-    (behind - symbols_of(rate, t)) as usize
+    let after = symbols_of(rate, t + count as u64);
+    (after - symbols_of(rate, t)) as usize
 }

@@ -12,12 +12,12 @@ pub part-along : {T I : Type 0} (P Q B C : T → I → T → Type 0) → ((a : T
     → ((a : T) (i : I) (b : T) → B a i b → C a i b)
     → (items : List I) (a b : T) → HandedPart P B a items b → HandedPart Q C a items b
 part-along P Q B C each last items a b part = record {
-  front = part.front;
+  prefix = part.prefix;
   next = part.next;
   rest = part.rest;
   middle = part.middle;
   split = part.split;
-  handed = handed-along P Q each part.front a part.middle part.handed;
+  handed = handed-along P Q each part.prefix a part.middle part.handed;
   failed = last part.middle part.next b part.failed;
 }
 
@@ -30,4 +30,4 @@ handed-keeps P key each (i ∷ items) a b handed = handed-keeps P key each items
 pub part-keeps : {T I K : Type 0} (P B : T → I → T → Type 0) (key : T → K) → ((a : T) (i : I) (b : T) → P a i b → key b ≡ key a)
     → ((a : T) (i : I) (b : T) → B a i b → key b ≡ key a)
     → (items : List I) (a b : T) → HandedPart P B a items b → key b ≡ key a
-part-keeps P B key each last items a b part = last part.middle part.next b part.failed ∙ handed-keeps P key each part.front a part.middle part.handed
+part-keeps P B key each last items a b part = last part.middle part.next b part.failed ∙ handed-keeps P key each part.prefix a part.middle part.handed

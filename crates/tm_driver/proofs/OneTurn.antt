@@ -26,12 +26,12 @@ kept-is limit kept xs ys le cases =
 -- the octets up to the limit go on by those that are kept of a turn
 pub turn-is : (limit room count kept : ℕ) (octets buf rest : List ℕ) → length octets + room ≡ limit + 1 → 0 < count → count ≤ room → count ≤ length buf →
     ((kept ≡ count) × (0 < room - count)) ⊎ ((kept ≡ count - 1) × (room - count ≡ 0)) → take limit (octets ++ take count buf) ≡ take limit octets ++ take kept (buf ++ rest)
-turn-is limit room count kept octets buf rest total some within front cases =
+turn-is limit room count kept octets buf rest total some within prefix cases =
     kept-is limit kept octets (take count buf) (omega arith) (which cases)
     ∙ ap (λ l. octets ++ l) same ∙ ap (λ l. l ++ take kept (buf ++ rest)) (sym (take_all limit octets (omega arith)))
   where
     long : length (take count buf) ≡ count
-    long = length-take-le count buf front
+    long = length-take-le count buf prefix
 
     below : kept ≤ count
     below = elim cases [ inl c ↦ omega arith | inr c ↦ omega arith ]

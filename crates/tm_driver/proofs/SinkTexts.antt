@@ -4,7 +4,7 @@ use Rattle.std.proofs.Math.Seq.{take-append-add, take-length}
 use Rattle.std.proofs.lemmas.List.{append-nil}
 use Rattle.std.specs.Io.KnownBytes.{append_known}
 use Rattle.tm_base.specs.Outside.{Rose}
-use Rattle.tm_base.specs.Written.{Wrote, WroteFront}
+use Rattle.tm_base.specs.Written.{Wrote, WrotePrefix}
 use Rattle.tm_base.proofs.Known.{append_known-more, append_known-nil}
 use Rattle.tm_driver.specs.Courses.{SinkState}
 use Rattle.tm_driver.specs.Texts.{TookText, BrokeText}
@@ -20,18 +20,18 @@ pub wrote-nothing : (known : Option (List ℕ)) → Wrote known known []
 wrote-nothing known = sym (append_known-nil known)
 
 -- the whole is a prefix, and nothing is one
-pub wrote-front : (before now : Option (List ℕ)) (text : List ℕ) → Wrote before now text → WroteFront before now text
-wrote-front before now text wrote = (length text, wrote ∙ ap (append_known before) (sym (take-length text)))
+pub wrote-prefix : (before now : Option (List ℕ)) (text : List ℕ) → Wrote before now text → WrotePrefix before now text
+wrote-prefix before now text wrote = (length text, wrote ∙ ap (append_known before) (sym (take-length text)))
 
-pub wrote-no_front : (known : Option (List ℕ)) (text : List ℕ) → WroteFront known known text
-wrote-no_front known text = (0, wrote-nothing known)
+pub wrote-no_prefix : (known : Option (List ℕ)) (text : List ℕ) → WrotePrefix known known text
+wrote-no_prefix known text = (0, wrote-nothing known)
 
 -- one text, and then another or a prefix of it
 pub wrote-then : (start now after : Option (List ℕ)) (a b : List ℕ) → Wrote start now a → Wrote now after b → Wrote start after (a ++ b)
 wrote-then start now after a b one two = two ∙ ap (λ k. append_known k b) one ∙ append_known-more start a b
 
-pub wrote-then_front : (start now after : Option (List ℕ)) (a b : List ℕ) → Wrote start now a → WroteFront now after b → WroteFront start after (a ++ b)
-wrote-then_front start now after a b one two = (
+pub wrote-then_prefix : (start now after : Option (List ℕ)) (a b : List ℕ) → Wrote start now a → WrotePrefix now after b → WrotePrefix start after (a ++ b)
+wrote-then_prefix start now after a b one two = (
   length a + two.0,
   two.1 ∙ ap (λ k. append_known k (take two.0 b)) one ∙ append_known-more start a (take two.0 b) ∙ ap (append_known start) (sym (take-append-add a b two.0)),
 )
@@ -42,13 +42,13 @@ part-of zero text more = (0, refl)
 part-of (suc n) [] more = (0, refl)
 part-of (suc n) (t ∷ ts) more = let r = part-of n ts more in (suc r.0, ap (λ l. t ∷ l) r.1)
 
-pub front-of : (before now : Option (List ℕ)) (text more : List ℕ) → WroteFront before now text → WroteFront before now (text ++ more)
-front-of before now text more wrote = let r = part-of wrote.0 text more in (r.0, wrote.1 ∙ ap (append_known before) r.1)
+pub prefix-of : (before now : Option (List ℕ)) (text more : List ℕ) → WrotePrefix before now text → WrotePrefix before now (text ++ more)
+prefix-of before now text more wrote = let r = part-of wrote.0 text more in (r.0, wrote.1 ∙ ap (append_known before) r.1)
 
 -- a text and a part of the next are a prefix of both and more
-pub part-front : (before now : Option (List ℕ)) (first text more : List ℕ) → (count : ℕ) × Wrote before now (first ++ take count text)
-    → WroteFront before now (first ++ (text ++ more))
-part-front before now first text more w =
+pub part-prefix : (before now : Option (List ℕ)) (first text more : List ℕ) → (count : ℕ) × Wrote before now (first ++ take count text)
+    → WrotePrefix before now (first ++ (text ++ more))
+part-prefix before now first text more w =
     let r = part-of w.0 text more in (
       length first + r.0,
       w.1 ∙ ap (append_known before) (ap (λ l. first ++ l) r.1 ∙ sym (take-append-add first (text ++ more) r.0)),
@@ -62,9 +62,9 @@ took-none a = record { written = wrote-nothing a.taken; same = refl }
 pub took-more : (a b c : SinkState) (x y : List ℕ) → TookText a b x → TookText b c y → TookText a c (x ++ y)
 took-more a b c x y p q = record { written = wrote-then a.taken b.taken c.taken x y p.written q.written; same = q.same ∙ p.same }
 
-pub broke-behind : (a b c : SinkState) (last : Type 0) (x first text : List ℕ) → TookText a b x → BrokeText b c last first text
+pub broke-later : (a b c : SinkState) (last : Type 0) (x first text : List ℕ) → TookText a b x → BrokeText b c last first text
     → BrokeText a c last (x ++ first) text
-broke-behind a b c last x first text p q =
+broke-later a b c last x first text p q =
     let w = q.written in
     let part = take w.0 text in record {
       written = (
@@ -77,13 +77,13 @@ broke-behind a b c last x first text p q =
 
 -- a sink took a text, and failed in the next
 pub broke-after : (a b c : SinkState) (last : Type 0) (x text : List ℕ) → TookText a b x → BrokeText b c last [] text → BrokeText a c last x text
-broke-after a b c last x text p q = subst (λ l. BrokeText a c last l text) (append-nil x) (broke-behind a b c last x [] text p q)
+broke-after a b c last x text p q = subst (λ l. BrokeText a c last l text) (append-nil x) (broke-later a b c last x [] text p q)
 
 -- where a sink failed, it has taken a prefix
-pub broke-front : (a c : SinkState) (last : Type 0) (first text more : List ℕ) → BrokeText a c last first text
-    → WroteFront a.taken c.taken (first ++ (text ++ more))
-broke-front a c last first text more p = part-front a.taken c.taken first text more p.written
+pub broke-prefix : (a c : SinkState) (last : Type 0) (first text more : List ℕ) → BrokeText a c last first text
+    → WrotePrefix a.taken c.taken (first ++ (text ++ more))
+broke-prefix a c last first text more p = part-prefix a.taken c.taken first text more p.written
 
 -- where a sink took a text, it has taken a prefix of the text and more
-pub took-front : (a c : SinkState) (text more : List ℕ) → TookText a c text → WroteFront a.taken c.taken (text ++ more)
-took-front a c text more p = front-of a.taken c.taken text more (wrote-front a.taken c.taken text p.written)
+pub took-prefix : (a c : SinkState) (text more : List ℕ) → TookText a c text → WrotePrefix a.taken c.taken (text ++ more)
+took-prefix a c text more p = prefix-of a.taken c.taken text more (wrote-prefix a.taken c.taken text p.written)

@@ -1,6 +1,6 @@
 -- What a command writes, and what each way to end shows of it.
 use Rattle.std.specs.Prelude.{◌≡◌, ℕ, ◌+◌, ◌≤◌, List, ◌++◌, length, take, Option}
-use Rattle.tm_base.specs.Written.{Wrote, WroteFront}
+use Rattle.tm_base.specs.Written.{Wrote, WrotePrefix}
 use Rattle.tm_driver.specs.Driven.{but_last_turn}
 use Rattle.tm_driver.specs.declared.ending.Ending.{Ending}
 use Rattle.tm_driver.specs.declared.ending.Ending.TheVariants.{Done, Bad, BadWindow, LeftOver, SourceFault, SinkFault, PastLimit}
@@ -27,8 +27,8 @@ pub record WroteBoth (output : Output) (taken : Taken) : Type 0 where
 
 -- each sink took a prefix of its part
 pub record WrotePrefixes (output : Output) (taken : Taken) : Type 0 where
-  pub out : WroteFront taken.out taken.out_now output.out
-  pub notes : WroteFront taken.notes taken.notes_now output.notes
+  pub out : WrotePrefix taken.out taken.out_now output.out
+  pub notes : WrotePrefix taken.notes taken.notes_now output.notes
 
 -- the meaning of a command, for the octets of its input
 pub record Meaning : Type 1 where

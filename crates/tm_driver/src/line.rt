@@ -1,7 +1,7 @@
 // A line of text, made without memory and written at once.
 ghost use Rattle.std.specs.Prelude.{◌≡◌, ◌+◌, ◌≤◌, ◌++◌, [], length, decimal, OnOk, OnErr};
 ghost use Rattle.tm_base.specs.Outside.{HasCause};
-ghost use Rattle.tm_base.specs.Written.{Wrote, WroteFront};
+ghost use Rattle.tm_base.specs.Written.{Wrote, WrotePrefix};
 
 use itoa::Buffer;
 use std::marker::Model;
@@ -58,7 +58,7 @@ impl Line {
     /// Writes the line.
     pub fn put<O: Sink>(&self, out: &mut O) -> Result<(), Failed>
         ensures ok { OnOk result (Wrote (O.taken out.old) (O.taken out.new) self.now) }
-        ensures err { OnErr result (WroteFront (O.taken out.old) (O.taken out.new) self.now) }
+        ensures err { OnErr result (WrotePrefix (O.taken out.old) (O.taken out.new) self.now) }
         ensures cause { HasCause (O.faults out.old) (O.faults out.new) (O.is_last out.new) result }
     {
         put_all(out, &self.room[..self.count])

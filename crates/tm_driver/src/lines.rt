@@ -1,7 +1,7 @@
 // The lines that several commands write.
 ghost use Rattle.std.specs.Prelude.{◌≡◌, IfOk, OnOk, OnErr};
 ghost use Rattle.tm_base.specs.Outside.{HasCause};
-ghost use Rattle.tm_base.specs.Written.{Wrote, WroteFront};
+ghost use Rattle.tm_base.specs.Written.{Wrote, WrotePrefix};
 ghost use Rattle.tm_driver.specs.Lines.{left_over_text, outcome_by, phase_text};
 
 use crate::ending::Outcome;
@@ -11,7 +11,7 @@ use tm_base::{Failed, Sink};
 // Writes how many octets follow the last whole frame or record, where there are some.
 fn left_over_line<N: Sink>(notes: &mut N, rest: u32) -> Result<(), Failed>
     ensures ok { OnOk result (Wrote (N.taken notes.old) (N.taken notes.new) (left_over_text rest)) }
-    ensures err { OnErr result (WroteFront (N.taken notes.old) (N.taken notes.new) (left_over_text rest)) }
+    ensures err { OnErr result (WrotePrefix (N.taken notes.old) (N.taken notes.new) (left_over_text rest)) }
     ensures cause { HasCause (N.faults notes.old) (N.faults notes.new) (N.is_last notes.new) result }
 {
     let mut line = Line::new();
@@ -26,7 +26,7 @@ fn left_over_line<N: Sink>(notes: &mut N, rest: u32) -> Result<(), Failed>
 /// Writes how many octets follow the last whole frame or record, where there are some, and answers what came of the input by that.
 pub fn tell_rest<N: Sink>(notes: &mut N, rest: u32) -> Result<Outcome, Failed>
     ensures ok { IfOk result (λ outcome. (outcome ≡ outcome_by rest) × Wrote (N.taken notes.old) (N.taken notes.new) (left_over_text rest)) }
-    ensures err { OnErr result (WroteFront (N.taken notes.old) (N.taken notes.new) (left_over_text rest)) }
+    ensures err { OnErr result (WrotePrefix (N.taken notes.old) (N.taken notes.new) (left_over_text rest)) }
     ensures cause { HasCause (N.faults notes.old) (N.faults notes.new) (N.is_last notes.new) result }
 {
     match left_over_line(notes, rest) {
@@ -40,7 +40,7 @@ pub fn tell_rest<N: Sink>(notes: &mut N, rest: u32) -> Result<Outcome, Failed>
 /// `Failed` comes only where the sink's count of faults rose.
 pub fn phase_line<O: Sink>(out: &mut O, skip: u8, cost: u64) -> Result<(), Failed>
     ensures ok { OnOk result (Wrote (O.taken out.old) (O.taken out.new) (phase_text skip cost)) }
-    ensures err { OnErr result (WroteFront (O.taken out.old) (O.taken out.new) (phase_text skip cost)) }
+    ensures err { OnErr result (WrotePrefix (O.taken out.old) (O.taken out.new) (phase_text skip cost)) }
     ensures cause { HasCause (O.faults out.old) (O.faults out.new) (O.is_last out.new) result }
 {
     let mut line = Line::new();

@@ -86,9 +86,9 @@ low_fit row long = places_fit row (low_places row) (λ v. v % 16) (lows row long
 pub high_fit : (row : List ℕ) → length row ≡ 16 → ((i : ℕ) → i < 16 → get_or row i 0 < 256) → SwzOk w8 16 16 0 (high_places row)
 high_fit row long fits = places_fit row (high_places row) (λ v. v / 16) (highs row long fits)
 
-pub turned_by_halves : (f : ℕ → ℕ) (low high row : List ℕ) → AreHalves f low high → length row ≡ 16 → ((i : ℕ) → i < 16 → get_or row i 0 < 256)
+pub mapped_by_halves : (f : ℕ → ℕ) (low high row : List ℕ) → AreHalves f low high → length row ≡ 16 → ((i : ℕ) → i < 16 → get_or row i 0 < 256)
     → zip2 bit_xor (swz_l w8 16 low 0 (low_places row)) (swz_l w8 16 high 0 (high_places row)) ≡ map f row
-turned_by_halves f low high row are long fits =
+mapped_by_halves f low high row are long fits =
     let js = low_places row in
     let ks = high_places row in
     let hj = lows row long in

@@ -29,7 +29,7 @@ const HIGH_ELEMENTS: [u8; 16] = [
 
 // Sixteen octets converted by the tables of their halves.
 #[inline(always)]
-fn turned(low: [u8; 16], high: [u8; 16], octets: u8x16) -> u8x16
+fn mapped(low: [u8; 16], high: [u8; 16], octets: u8x16) -> u8x16
     ensures { (f : ℕ → ℕ) → AreHalves f low high → result ≡ map f octets }
 {
     let by_low = u8x16::from_array(low).swizzle_dyn(octets & u8x16::splat(15));
@@ -46,7 +46,7 @@ fn put_octets(elements: &[Gf], at: usize, octets: &mut [u8])
 {
     let mut sixteen = [0; 16];
     all_to_numbers(&elements[at..at + 16], &mut sixteen);
-    turned(LOW_OCTETS, HIGH_OCTETS, u8x16::from_array(sixteen)).copy_to_slice(&mut octets[at..]);
+    mapped(LOW_OCTETS, HIGH_OCTETS, u8x16::from_array(sixteen)).copy_to_slice(&mut octets[at..]);
 }
 
 // Turns the sixteen octets from place `at` on.
@@ -56,7 +56,7 @@ fn put_elements(octets: &[u8], at: usize, elements: &mut [Gf])
     ensures { numbers (take at elements.old) ≡ map dual_element (take at octets.now)
         → numbers (take (at + 16) elements.new) ≡ map dual_element (take (at + 16) octets.now) }
 {
-    let found = turned(
+    let found = mapped(
         LOW_ELEMENTS,
         HIGH_ELEMENTS,
         u8x16::from_slice(&octets[at..]),

@@ -2,8 +2,8 @@
 use Rattle.std.proofs.Common.{◌≡◌, ℕ, ◌+◌, ◌-◌, Bool, List, ◌++◌, Option, take, drop, sym, ◌∙◌, ap, subst, arith}
 use Rattle.std.proofs.Math.Seq.{take-add}
 use Rattle.tm_base.specs.Bits.{bits_of}
-use Rattle.tm_base.specs.Written.{Wrote, WroteFront}
-use Rattle.tm_base.specs.Pieces.{Fed, FedFront, further}
+use Rattle.tm_base.specs.Written.{Wrote, WrotePrefix}
+use Rattle.tm_base.specs.Pieces.{Fed, FedPrefix, further}
 use Rattle.tm_base.proofs.Packing.{bits_of-append}
 use Rattle.tm_conv.specs.Encoding.{Encoding, StandsFor as EncoderStandsFor, levels, sent_for}
 use Rattle.tm_inner.specs.Sending.{EncodesFor, encoded}
@@ -28,10 +28,10 @@ fed-piece before now low piece symbols taken taken_now on wrote = record {
   written = λ given stood. subst (Wrote taken taken_now) (sym (symbols-due before now low piece symbols given on stood)) wrote;
 }
 
-pub fed-piece_front : (before now : Encoding) (low : ℕ) (piece symbols : List ℕ) (taken taken_now : Option (List ℕ)) → GoesOnBy before now low piece symbols → WroteFront taken taken_now symbols
-    → FedFront EncodesFor (encoded before.rate before.invert low) before taken taken_now piece
-fed-piece_front before now low piece symbols taken taken_now on wrote = record {
-  front = λ given stood. subst (WroteFront taken taken_now) (sym (symbols-due before now low piece symbols given on stood)) wrote;
+pub fed-piece_prefix : (before now : Encoding) (low : ℕ) (piece symbols : List ℕ) (taken taken_now : Option (List ℕ)) → GoesOnBy before now low piece symbols → WrotePrefix taken taken_now symbols
+    → FedPrefix EncodesFor (encoded before.rate before.invert low) before taken taken_now piece
+fed-piece_prefix before now low piece symbols taken taken_now on wrote = record {
+  prefix = λ given stood. subst (WrotePrefix taken taken_now) (sym (symbols-due before now low piece symbols given on stood)) wrote;
 }
 
 -- a piece after the octets before it

@@ -10,7 +10,7 @@ use Rattle.tm_conv.proofs.Sizes.{steps_size_ge, steps_size-add}
 use Rattle.tm_viterbi.specs.WindowBlock.{WindowBlock}
 use Rattle.tm_viterbi.specs.Blocks.{kept_steps}
 use Rattle.tm_viterbi.specs.Clean.{kept_bits}
-use Rattle.tm_viterbi.specs.Due.{Place, Closed, behind, first_place}
+use Rattle.tm_viterbi.specs.Due.{Place, Closed, after_block, first_place}
 use Rattle.tm_viterbi.specs.Starts.{first_start}
 use Rattle.tm_viterbi.proofs.CleanBlocks.{steps-mono}
 use Rattle.tm_inner.specs.Inner.{settings_of, soft_octets, BlocksAt, DueAt, plain_bits, bits_at, AreInnerBlocks, AreInnerDue, inner_bits}
@@ -26,11 +26,11 @@ closed-few rate invert keep ahead from to (b ∷ blocks) closed =
     let is = closed.0.is_block in
     let less : b.kept ≤ b.steps = omega (arith, is.kept, is.steps, kept-le keep ahead n) in
     let most : b.steps ≤ n = omega (arith, is.steps) in
-    let front : length (take b.kept b.bits) ≡ b.kept =
+    let prefix : length (take b.kept b.bits) ≡ b.kept =
     omega (arith, length-take b.kept b.bits, block-bits rate invert keep ahead from.starts from.t n from.octets b closed.0.room is) in
-    let behind = closed-few rate invert keep ahead (behind rate from b) to blocks closed.1 in
+    let after = closed-few rate invert keep ahead (after_block rate from b) to blocks closed.1 in
     let inside : steps_size rate from.t b.kept ≤ length from.octets = omega (arith, closed.0.room, steps-mono rate from.t b.kept n (omega arith)) in
-    omega (arith, length-append (take b.kept b.bits) (kept_bits blocks), front, behind, inside, length-drop (steps_size rate from.t b.kept) from.octets, steps_size_ge rate from.t b.kept)
+    omega (arith, length-append (take b.kept b.bits) (kept_bits blocks), prefix, after, inside, length-drop (steps_size rate from.t b.kept) from.octets, steps_size_ge rate from.t b.kept)
 
 few-first : (rate : Option Rate) (c : Configuration) (phase : ℕ) (octets : List ℕ) (blocks : List WindowBlock) → FirstAt rate c phase octets blocks
     → length (bits_at rate c octets blocks) ≤ 8 * length octets
@@ -86,12 +86,12 @@ closed-taken rate invert keep ahead from to (b ∷ blocks) closed =
     let is = closed.0.is_block in
     let less : b.kept ≤ b.steps = omega (arith, is.kept, is.steps, kept-le keep ahead n) in
     let most : b.steps ≤ n = omega (arith, is.steps) in
-    let front : length (take b.kept b.bits) ≡ b.kept =
+    let prefix : length (take b.kept b.bits) ≡ b.kept =
     omega (arith, length-take b.kept b.bits, block-bits rate invert keep ahead from.starts from.t n from.octets b closed.0.room is) in
     let inside : steps_size rate from.t b.kept ≤ length from.octets = omega (arith, closed.0.room, steps-mono rate from.t b.kept n (omega arith)) in
-    let rest = closed-taken rate invert keep ahead (behind rate from b) to blocks closed.1 in
+    let rest = closed-taken rate invert keep ahead (after_block rate from b) to blocks closed.1 in
     let m : ℕ = length (kept_bits blocks) in
-    let all : length (kept_bits (b ∷ blocks)) ≡ b.kept + m = length-append (take b.kept b.bits) (kept_bits blocks) ∙ ap (λ k. k + m) front in
+    let all : length (kept_bits (b ∷ blocks)) ≡ b.kept + m = length-append (take b.kept b.bits) (kept_bits blocks) ∙ ap (λ k. k + m) prefix in
     let sum = steps_size-add rate from.t b.kept m in
     record {
       octets = omega (arith, rest.octets, inside, sum, length-drop (steps_size rate from.t b.kept) from.octets, ap (steps_size rate from.t) all);
@@ -162,18 +162,18 @@ last-few c phase given done all left =
 keeps : (keep ahead : ℕ) → kept_steps keep ahead (keep + ahead + 1) ≡ keep
 keeps keep ahead = grind (arith, nat_tests)
 
-closed-kept : (rate : Rate) (invert : Bool) (keep ahead : ℕ) (from to : Place) (front blocks : List WindowBlock) → Closed rate invert keep ahead from (front ++ blocks) to
+closed-kept : (rate : Rate) (invert : Bool) (keep ahead : ℕ) (from to : Place) (prefix blocks : List WindowBlock) → Closed rate invert keep ahead from (prefix ++ blocks) to
     → length (kept_bits blocks) ≡ length blocks * keep
-closed-kept rate invert keep ahead from to (b ∷ front) blocks closed = closed-kept rate invert keep ahead (behind rate from b) to front blocks closed.1
+closed-kept rate invert keep ahead from to (b ∷ prefix) blocks closed = closed-kept rate invert keep ahead (after_block rate from b) to prefix blocks closed.1
 closed-kept rate invert keep ahead from to [] [] closed = omega arith
 closed-kept rate invert keep ahead from to [] (b ∷ blocks) closed =
     let n : ℕ = keep + ahead + 1 in
     let is = closed.0.is_block in
     let less : b.kept ≤ b.steps = omega (arith, is.kept, is.steps, kept-le keep ahead n) in
-    let front : length (take b.kept b.bits) ≡ b.kept =
+    let prefix : length (take b.kept b.bits) ≡ b.kept =
     omega (arith, length-take b.kept b.bits, block-bits rate invert keep ahead from.starts from.t n from.octets b closed.0.room is) in
-    let rest = closed-kept rate invert keep ahead (behind rate from b) to [] blocks closed.1 in
-    omega (arith, length-append (take b.kept b.bits) (kept_bits blocks), front, is.kept ∙ keeps keep ahead, rest)
+    let rest = closed-kept rate invert keep ahead (after_block rate from b) to [] blocks closed.1 in
+    omega (arith, length-append (take b.kept b.bits) (kept_bits blocks), prefix, is.kept ∙ keeps keep ahead, rest)
 
 -- the last of the blocks that are due
 pub due-kept : (c : Configuration) (phase : ℕ) (given : List ℕ) (done more : List WindowBlock) → AreInnerDue c phase given (done ++ more) → length (kept_bits more) ≡ length more * c.keep

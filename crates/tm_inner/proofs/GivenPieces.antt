@@ -17,7 +17,7 @@ use Rattle.tm_inner.specs.Inner.{soft_value, soft_octets, BlocksAt, DueAt, AreIn
 use Rattle.tm_inner.specs.Phase.{skipped_at, phase_octets}
 use Rattle.tm_inner.specs.InnerDecoding.{StandsIn, settings_in}
 use Rattle.tm_base.specs.HeldOctets.{HeldOctets}
-use Rattle.tm_inner.specs.Receiving.{HasClosedAll, IsDecoderOf, DecodesFor, FindsFirst, FirstAt, AreInnerFirst, Hands, HandsFront, InnerReceiving, from_form, soft_form}
+use Rattle.tm_inner.specs.Receiving.{HasClosedAll, IsDecoderOf, DecodesFor, FindsFirst, FirstAt, AreInnerFirst, Hands, HandsPrefix, InnerReceiving, from_form, soft_form}
 use Rattle.tm_inner.proofs.DueBits.{drop-split}
 use Rattle.tm_inner.proofs.DueBlocks.{due-in}
 
@@ -43,10 +43,10 @@ hands-more took Stands a b c taker middle now first second p q = record {
       (subst (Stands c ((given ++ first) ++ second)) (append_assoc done p.more q.more) last);
 }
 
-pub hands-front : {T I S : Type 0} (took broke : T → I → T → Type 0) (Stands : S → List ℕ → List I → Type 0) (First : List ℕ → List I → Type 0)
+pub hands-prefix : {T I S : Type 0} (took broke : T → I → T → Type 0) (Stands : S → List ℕ → List I → Type 0) (First : List ℕ → List I → Type 0)
     (a b : S) (taker middle now : T) (first second : List ℕ)
-    → Hands took Stands a b taker middle first → HandsFront took broke Stands First b middle now second → HandsFront took broke Stands First a taker now (first ++ second)
-hands-front took broke Stands First a b taker middle now first second p q = record {
+    → Hands took Stands a b taker middle first → HandsPrefix took broke Stands First b middle now second → HandsPrefix took broke Stands First a taker now (first ++ second)
+hands-prefix took broke Stands First a b taker middle now first second p q = record {
   tried = p.more ++ q.tried;
   handed = HandedPart-after took broke taker middle now p.more q.tried p.handed q.handed;
   first = λ given done few stood.
@@ -62,7 +62,7 @@ Stay {I} First = (octets more : List ℕ) (items : List I) → First octets item
 
 pub hands-longer : {T I S : Type 0} (took broke : T → I → T → Type 0) (Stands : S → List ℕ → List I → Type 0) (First : List ℕ → List I → Type 0)
     (a : S) (taker now : T) (first second : List ℕ) → Stay First
-    → HandsFront took broke Stands First a taker now first → HandsFront took broke Stands First a taker now (first ++ second)
+    → HandsPrefix took broke Stands First a taker now first → HandsPrefix took broke Stands First a taker now (first ++ second)
 hands-longer took broke Stands First a taker now first second stay p = record {
   tried = p.tried;
   handed = p.handed;
@@ -95,11 +95,11 @@ first-of c (Some d) phase given blocks of is =
     subst (λ (r : Option Rate). FirstAt r c phase given blocks) (sym of.1) (subst (λ (s : Settings). AreFirst s (soft_octets c phase given) blocks) of.2 is)
 
 -- first blocks of closed windows, or first ones of all
-pub front-of : (c : Configuration) (d : InnerDecoder) (phase : ℕ) (given : List ℕ) (blocks : List WindowBlock) → IsDecoderOf c (Some d)
+pub prefix-of : (c : Configuration) (d : InnerDecoder) (phase : ℕ) (given : List ℕ) (blocks : List WindowBlock) → IsDecoderOf c (Some d)
     → AreFirst (settings_in d) (soft_octets c phase given) blocks ⊎ ((left : ℕ) × AreBlocksOf (settings_in d) (soft_octets c phase given) blocks left)
     → AreInnerFirst c phase given blocks ⊎ ((left : ℕ) × AreInnerBlocks c phase given blocks left)
-front-of c d phase given blocks of (inl first) = inl (first-of c (Some d) phase given blocks of first)
-front-of c d phase given blocks of (inr all) = inr (all.0, blocks-of c d phase given blocks all.0 of all.1)
+prefix-of c d phase given blocks of (inl first) = inl (first-of c (Some d) phase given blocks of first)
+prefix-of c d phase given blocks of (inr all) = inr (all.0, blocks-of c d phase given blocks all.0 of all.1)
 
 -- of two causes the other
 pub taker_alone : {T : Type 0} (e : FeedError) → (IsErrOf {T = T} (Err e) Stopped → ⊥) → IsErrOf {T = T} (Err e) Taker
@@ -145,9 +145,9 @@ pub hands-some : {T : Type 0} (took : T → WindowBlock → T → Type 0) (d now
     → Hands took StandsIn d now taker taker_now soft → Hands took DecodesFor (Some d) (Some now) taker taker_now soft
 hands-some took d now taker taker_now soft p = record { more = p.more; handed = p.handed; stands = p.stands }
 
-pub hands_front-some : {T : Type 0} (took broke : T → WindowBlock → T → Type 0) (d : InnerDecoder) (taker taker_now : T) (soft : List ℕ)
-    → HandsFront took broke StandsIn (AreFirst (settings_in d)) d taker taker_now soft → HandsFront took broke DecodesFor (FindsFirst (Some d)) (Some d) taker taker_now soft
-hands_front-some took broke d taker taker_now soft p = record { tried = p.tried; handed = p.handed; first = p.first }
+pub hands_prefix-some : {T : Type 0} (took broke : T → WindowBlock → T → Type 0) (d : InnerDecoder) (taker taker_now : T) (soft : List ℕ)
+    → HandsPrefix took broke StandsIn (AreFirst (settings_in d)) d taker taker_now soft → HandsPrefix took broke DecodesFor (FindsFirst (Some d)) (Some d) taker taker_now soft
+hands_prefix-some took broke d taker taker_now soft p = record { tried = p.tried; handed = p.handed; first = p.first }
 
 pub decoded : {T : Type 0} (took : T → WindowBlock → T → Type 0) (o : Option InnerDecoder) (d now : InnerDecoder) (taker taker_now : T) (soft all : List ℕ) → o ≡ Some d → soft ≡ all
     → Hands took StandsIn d now taker taker_now soft → Hands took DecodesFor o (Some now) taker taker_now all
@@ -155,11 +155,11 @@ decoded took o d now taker taker_now soft all is same p =
     subst (Hands took DecodesFor o (Some now) taker taker_now) same
     (subst (λ (q : Option InnerDecoder). Hands took DecodesFor q (Some now) taker taker_now soft) (sym is) (hands-some took d now taker taker_now soft p))
 
-pub decoded_front : {T : Type 0} (took broke : T → WindowBlock → T → Type 0) (o : Option InnerDecoder) (d : InnerDecoder) (taker taker_now : T) (soft all : List ℕ) → o ≡ Some d → soft ≡ all
-    → HandsFront took broke StandsIn (AreFirst (settings_in d)) d taker taker_now soft → HandsFront took broke DecodesFor (FindsFirst o) o taker taker_now all
-decoded_front took broke o d taker taker_now soft all is same p =
-    subst (HandsFront took broke DecodesFor (FindsFirst o) o taker taker_now) same
-    (subst (λ (q : Option InnerDecoder). HandsFront took broke DecodesFor (FindsFirst q) q taker taker_now soft) (sym is) (hands_front-some took broke d taker taker_now soft p))
+pub decoded_prefix : {T : Type 0} (took broke : T → WindowBlock → T → Type 0) (o : Option InnerDecoder) (d : InnerDecoder) (taker taker_now : T) (soft all : List ℕ) → o ≡ Some d → soft ≡ all
+    → HandsPrefix took broke StandsIn (AreFirst (settings_in d)) d taker taker_now soft → HandsPrefix took broke DecodesFor (FindsFirst o) o taker taker_now all
+decoded_prefix took broke o d taker taker_now soft all is same p =
+    subst (HandsPrefix took broke DecodesFor (FindsFirst o) o taker taker_now) same
+    (subst (λ (q : Option InnerDecoder). HandsPrefix took broke DecodesFor (FindsFirst q) q taker taker_now soft) (sym is) (hands_prefix-some took broke d taker taker_now soft p))
 
 -- ---- the octets of an inner receiver
 
@@ -194,20 +194,20 @@ pub few-soft : (c : Configuration) (given : List ℕ) → length (phase_octets c
 few-soft c given = omega (arith, length-map (drop (skipped_at c.inner c) given) (soft_value c), length-drop (skipped_at c.inner c) given)
 
 -- those after the phase are the ones that are decoded
-pub soft-behind : (c : Configuration) (phase n : ℕ) (given : List ℕ) → n ≡ c.skip → drop phase (map (soft_value c) (drop n given)) ≡ soft_octets c phase given
-soft-behind c phase n given is = drop-map (soft_value c) phase (drop n given) ∙ ap (λ k. map (soft_value c) (drop phase (drop k given))) is
+pub soft-after : (c : Configuration) (phase n : ℕ) (given : List ℕ) → n ≡ c.skip → drop phase (map (soft_value c) (drop n given)) ≡ soft_octets c phase given
+soft-after c phase n given is = drop-map (soft_value c) phase (drop n given) ∙ ap (λ k. map (soft_value c) (drop phase (drop k given))) is
 
-pub decodes-behind : (c : Configuration) (decoder : Option InnerDecoder) (phase : ℕ) (given : List ℕ) (blocks : List WindowBlock) → IsDecoderOf c decoder
+pub decodes-after : (c : Configuration) (decoder : Option InnerDecoder) (phase : ℕ) (given : List ℕ) (blocks : List WindowBlock) → IsDecoderOf c decoder
     → DecodesFor decoder (drop phase (phase_octets c given)) blocks → DecodesFor decoder (soft_octets c phase given) blocks
-decodes-behind c None phase given blocks of is = is
-decodes-behind c (Some d) phase given blocks of is =
-    subst (λ (l : List ℕ). StandsIn d l blocks) (soft-behind c phase (skipped_at c.inner c) given (ap (λ (r : Option Rate). skipped_at r c) of.1)) is
+decodes-after c None phase given blocks of is = is
+decodes-after c (Some d) phase given blocks of is =
+    subst (λ (l : List ℕ). StandsIn d l blocks) (soft-after c phase (skipped_at c.inner c) given (ap (λ (r : Option Rate). skipped_at r c) of.1)) is
 
-pub finds-behind : (c : Configuration) (decoder : Option InnerDecoder) (phase : ℕ) (given : List ℕ) (blocks : List WindowBlock) → IsDecoderOf c decoder
+pub finds-after : (c : Configuration) (decoder : Option InnerDecoder) (phase : ℕ) (given : List ℕ) (blocks : List WindowBlock) → IsDecoderOf c decoder
     → FindsFirst decoder (drop phase (phase_octets c given)) blocks → FindsFirst decoder (soft_octets c phase given) blocks
-finds-behind c None phase given blocks of is = is
-finds-behind c (Some d) phase given blocks of is =
-    subst (λ (l : List ℕ). AreFirst (settings_in d) l blocks) (soft-behind c phase (skipped_at c.inner c) given (ap (λ (r : Option Rate). skipped_at r c) of.1)) is
+finds-after c None phase given blocks of is = is
+finds-after c (Some d) phase given blocks of is =
+    subst (λ (l : List ℕ). AreFirst (settings_in d) l blocks) (soft-after c phase (skipped_at c.inner c) given (ap (λ (r : Option Rate). skipped_at r c) of.1)) is
 
 -- ---- octets that are held
 

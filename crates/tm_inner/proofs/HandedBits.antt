@@ -18,13 +18,13 @@ use Rattle.tm_viterbi.specs.Starts.{first_start}
 use Rattle.tm_phase.specs.declared.choosing.Chosen.{Chosen}
 use Rattle.tm_phase.specs.Phase.{period_size}
 use Rattle.tm_inner.specs.Inner.{settings_of, soft_value, soft_octets, BlocksAt, AreInnerBlocks, AreInnerDue}
-use Rattle.tm_inner.specs.Phase.{IsChosenBy, IsSettled, needed_at, skipped_at, phase_octets, skip_of, in_turn}
+use Rattle.tm_inner.specs.Phase.{IsChosenBy, IsSettled, needed_at, skipped_at, phase_octets, skip_of, with_phase}
 use Rattle.tm_inner.specs.Receiving.{FirstAt, AreInnerFirst}
 use Rattle.tm_inner.specs.Handing.{AreHanded, AreHandedDue}
 use Rattle.tm_inner.proofs.DueBits.{kept-append}
 use Rattle.tm_inner.proofs.ReceivedBits.{kept-count, length-soft}
-use Rattle.tm_inner.proofs.PhasePieces.{items_of-in_turn}
-use Rattle.tm_inner.proofs.InTurn.{settled-stays}
+use Rattle.tm_inner.proofs.PhasePieces.{items_of-with_phase}
+use Rattle.tm_inner.proofs.WithPhase.{settled-stays}
 use Rattle.tm_inner.proofs.HandedPieces.{needed-some}
 use Rattle.tm_inner.proofs.FewBits.{closed-few, due-kept, due-none, first-of-due, more-few, last-few}
 
@@ -80,8 +80,8 @@ whole-bits (Some rate) c phase octets blocks left are =
     omega (arith, kept, are.steps.whole, steps_size_ge rate 0 are.count, length-soft c phase octets)
 
 -- what was handed over, and blocks or anything else after it
-items-of : (chosen : Option Chosen) (items : List WindowBlock) (done more : List (Handed WindowBlock)) → done ++ more ≡ in_turn chosen items → items_of done ++ items_of more ≡ items
-items-of chosen items done more are = sym (items_of-append done more) ∙ ap items_of are ∙ items_of-in_turn chosen items
+items-of : (chosen : Option Chosen) (items : List WindowBlock) (done more : List (Handed WindowBlock)) → done ++ more ≡ with_phase chosen items → items_of done ++ items_of more ≡ items
+items-of chosen items done more are = sym (items_of-append done more) ∙ ap items_of are ∙ items_of-with_phase chosen items
 
 nothing : (done more : List (Handed WindowBlock)) → done ++ more ≡ [] → (done ≡ []) × (more ≡ [])
 nothing [] more none = (refl, none)
@@ -89,7 +89,7 @@ nothing (x ∷ done) more none = absurd cc
 
 -- where blocks wait after what was handed over, it begins with the phase that it goes on with
 same-skip : (c : Configuration) (soft soft_now : List ℕ) (chosen other : Option Chosen) (waiting items all : List WindowBlock) (done more : List (Handed WindowBlock))
-    → IsChosenBy c soft chosen → IsChosenBy c soft_now other → done ++ map Item waiting ≡ in_turn chosen items → done ++ more ≡ in_turn other all → skip_of chosen ≡ skip_of other
+    → IsChosenBy c soft chosen → IsChosenBy c soft_now other → done ++ map Item waiting ≡ with_phase chosen items → done ++ more ≡ with_phase other all → skip_of chosen ≡ skip_of other
 same-skip c soft soft_now None None waiting items all done more is now are whole = refl
 same-skip c soft soft_now None (Some b) waiting items all done more is now are whole = absurd (never_both c.phase is now.0)
 same-skip c soft soft_now (Some a) None waiting items all done more is now are whole = absurd (never_both c.phase now is.0)

@@ -12,11 +12,11 @@ use Rattle.tm_inner.specs.declared.inner_decoder.InnerDecoder.{InnerDecoder}
 use Rattle.tm_viterbi.specs.Due.{AreFirst}
 use Rattle.tm_phase.specs.declared.choosing.Chosen.{Chosen}
 use Rattle.tm_inner.specs.Inner.{settings_of, soft_value, soft_octets, AreInnerBlocks, AreInnerDue, inner_bits}
-use Rattle.tm_inner.specs.Phase.{IsChosen, IsChosenSoFar, IsChosenBy, IsChosenSoFar, IsSettledBy, IsSoFarBy, needed_at, skipped_at, phase_octets, skip_of, in_turn}
-use Rattle.tm_inner.specs.Receiving.{AreInnerFirst, HasClosedAll, IsDecoderOf, DecodesFor, FirstFor, FirstAt, Hands, HandsFront, InnerReceiving, StandsFor, Phasing, Goes, PhasesFor, IsFrontBy, IsFirstBy, soft_form}
-use Rattle.tm_inner.specs.Handing.{AreHanded, AreHandedDue, AreHandedFirst, AreHandedFront}
-use Rattle.tm_inner.proofs.GivenPieces.{due-of, decodes-behind, few-soft, phase_octets-more, soft-behind}
-use Rattle.tm_inner.proofs.PhasePieces.{NoneWaits, further, items_of-in_turn, none-goes, so-far}
+use Rattle.tm_inner.specs.Phase.{IsChosen, IsChosenSoFar, IsChosenBy, IsChosenSoFar, IsSettledBy, IsSoFarBy, needed_at, skipped_at, phase_octets, skip_of, with_phase}
+use Rattle.tm_inner.specs.Receiving.{AreInnerFirst, HasClosedAll, IsDecoderOf, DecodesFor, FirstFor, FirstAt, Hands, HandsPrefix, InnerReceiving, StandsFor, Phasing, Goes, PhasesFor, IsPrefixBy, IsFirstBy, soft_form}
+use Rattle.tm_inner.specs.Handing.{AreHanded, AreHandedDue, AreHandedFirst, AreHandedPrefix}
+use Rattle.tm_inner.proofs.GivenPieces.{due-of, decodes-after, few-soft, phase_octets-more, soft-after}
+use Rattle.tm_inner.proofs.PhasePieces.{NoneWaits, further, items_of-with_phase, none-goes, so-far}
 
 -- the phase needs an octet or more
 pub needed-some : (rate : Option Rate) (c : Configuration) → 1 ≤ c.keep → 1 ≤ needed_at rate c
@@ -30,7 +30,7 @@ phases-none p none held fresh some (inl given) = inr (
     choice = subst (IsChosenBy p.config []) (sym none) given;
     blocks = [];
     decodes = subst (λ (o : Option Chosen). DecodesFor p.decoder (drop (skip_of o) []) []) (sym none) fresh;
-    are = ap (λ (o : Option Chosen). in_turn o []) (sym none);
+    are = ap (λ (o : Option Chosen). with_phase o []) (sym none);
   },
   inl given,
 )
@@ -52,17 +52,17 @@ stands-so-far r given done stood =
     subst (λ (k : Configuration). IsSoFarBy k (phase_octets r.config given) r.phased.chosen) stood.same (phases-so-far r.phased (phase_octets r.config given) done stood.phases)
 
 -- first blocks after the phase are those of received octets
-first-behind : (rate : Option Rate) (c : Configuration) (phase : ℕ) (given : List ℕ) (blocks : List WindowBlock)
+first-after : (rate : Option Rate) (c : Configuration) (phase : ℕ) (given : List ℕ) (blocks : List WindowBlock)
     → FirstFor rate c (drop phase (map (soft_value c) (drop (skipped_at rate c) given))) blocks → FirstAt rate c phase given blocks
-first-behind None c phase given blocks is = is
-first-behind (Some rate) c phase given blocks is = subst (λ (l : List ℕ). AreFirst (settings_of c rate) l blocks) (soft-behind c phase c.skip given refl) is
+first-after None c phase given blocks is = is
+first-after (Some rate) c phase given blocks is = subst (λ (l : List ℕ). AreFirst (settings_of c rate) l blocks) (soft-after c phase c.skip given refl) is
 
-pub handed-front : (c : Configuration) (given : List ℕ) (handed : List (Handed WindowBlock)) → IsFrontBy c (phase_octets c given) handed → AreHandedFront c given handed
-handed-front c given handed h = record {
+pub handed-prefix : (c : Configuration) (given : List ℕ) (handed : List (Handed WindowBlock)) → IsPrefixBy c (phase_octets c given) handed → AreHandedPrefix c given handed
+handed-prefix c given handed h = record {
   chosen = h.chosen;
   choice = h.choice;
   items = h.blocks;
-  are_items = inl (first-behind c.inner c (skip_of h.chosen) given h.blocks h.first);
+  are_items = inl (first-after c.inner c (skip_of h.chosen) given h.blocks h.first);
   are = h.are;
 }
 
@@ -73,13 +73,13 @@ handed-first c given handed h = (
     chosen = h.1.chosen;
     choice = h.1.choice;
     items = h.1.blocks;
-    are_items = first-behind c.inner c (skip_of h.1.chosen) given h.1.blocks h.1.first;
+    are_items = first-after c.inner c (skip_of h.1.chosen) given h.1.blocks h.1.first;
     are = h.1.are;
   },
 )
 
-pub front-first : (c : Configuration) (given : List ℕ) (handed : List (Handed WindowBlock)) → AreHandedFirst c given handed → AreHandedFront c given handed
-front-first c given handed h = record { chosen = h.1.chosen; choice = h.1.choice; items = h.1.items; are_items = inl h.1.are_items; are = h.1.are }
+pub prefix-first : (c : Configuration) (given : List ℕ) (handed : List (Handed WindowBlock)) → AreHandedFirst c given handed → AreHandedPrefix c given handed
+prefix-first c given handed h = record { chosen = h.1.chosen; choice = h.1.choice; items = h.1.items; are_items = inl h.1.are_items; are = h.1.are }
 
 pub handed-due : (p : Phasing) (given : List ℕ) (done : List (Handed WindowBlock)) → IsDecoderOf p.config p.decoder
     → ((soft : List ℕ) (done : List (Handed WindowBlock)) → Goes p soft done → HasClosedAll p.decoder)
@@ -92,7 +92,7 @@ handed-due p given done of closed (inr g) = inr (
     choice = g.0.choice;
     items = g.0.blocks;
     are_items = due-of p.config p.decoder (skip_of p.chosen) given g.0.blocks of (closed (phase_octets p.config given) done g.0)
-        (decodes-behind p.config p.decoder (skip_of p.chosen) given g.0.blocks of g.0.decodes);
+        (decodes-after p.config p.decoder (skip_of p.chosen) given g.0.blocks of g.0.decodes);
     are = g.0.are;
   },
 )
@@ -106,7 +106,7 @@ pub due-further : (p : Phasing) (given : List ℕ) (done : List (Handed WindowBl
 due-further p given done count of none counted (inl w) = absurd (none (w.0.find, w.0.none))
 due-further p given done count of none counted (inr g) =
     let phase = skip_of p.chosen in
-    let h = counted p.config phase given g.0.blocks of (decodes-behind p.config p.decoder phase given g.0.blocks of g.0.decodes) in (
+    let h = counted p.config phase given g.0.blocks of (decodes-after p.config p.decoder phase given g.0.blocks of g.0.decodes) in (
       h.0,
       h.1,
       inr (
@@ -133,22 +133,22 @@ handed-last p given done last left of are g = (
     chosen = p.chosen;
     choice = g.choice;
     items = g.blocks ++ last;
-    are_items = are p.config (skip_of p.chosen) given g.blocks of (decodes-behind p.config p.decoder (skip_of p.chosen) given g.blocks of g.decodes);
+    are_items = are p.config (skip_of p.chosen) given g.blocks of (decodes-after p.config p.decoder (skip_of p.chosen) given g.blocks of g.decodes);
     are = further p.chosen done g.blocks last g.are;
   },
   refl,
 )
 
 -- the taker fails at one of the last blocks
-pub handed-last_front : (p : Phasing) (given : List ℕ) (done : List (Handed WindowBlock)) (tried : List WindowBlock) → IsDecoderOf p.config p.decoder
+pub handed-last_prefix : (p : Phasing) (given : List ℕ) (done : List (Handed WindowBlock)) (tried : List WindowBlock) → IsDecoderOf p.config p.decoder
     → ((c : Configuration) (phase : ℕ) (given : List ℕ) (done : List WindowBlock) → IsDecoderOf c p.decoder
     → DecodesFor p.decoder (soft_octets c phase given) done → AreInnerFirst c phase given (done ++ tried) ⊎ ((left : ℕ) × AreInnerBlocks c phase given (done ++ tried) left))
-    → Goes p (phase_octets p.config given) done → AreHandedFront p.config given (done ++ map Item tried)
-handed-last_front p given done tried of are g = record {
+    → Goes p (phase_octets p.config given) done → AreHandedPrefix p.config given (done ++ map Item tried)
+handed-last_prefix p given done tried of are g = record {
   chosen = p.chosen;
   choice = g.choice;
   items = g.blocks ++ tried;
-  are_items = are p.config (skip_of p.chosen) given g.blocks of (decodes-behind p.config p.decoder (skip_of p.chosen) given g.blocks of g.decodes);
+  are_items = are p.config (skip_of p.chosen) given g.blocks of (decodes-after p.config p.decoder (skip_of p.chosen) given g.blocks of g.decodes);
   are = further p.chosen done g.blocks tried g.are;
 }
 
@@ -178,12 +178,12 @@ stands-further took before now taker taker_now octets skipped inside config phas
           (handed-due now.phased (given ++ octets) (done ++ h.more) of closed (subst (λ (k : Configuration). PhasesFor now.phased (phase_octets k (given ++ octets)) (done ++ h.more)) (sym same) phases)),
     )
 
-pub front-further : {T : Type 0} (took broke : T → Handed WindowBlock → T → Type 0) (before : InnerReceiving) (taker taker_now : T) (octets : List ℕ) (skipped : ℕ)
+pub prefix-further : {T : Type 0} (took broke : T → Handed WindowBlock → T → Type 0) (before : InnerReceiving) (taker taker_now : T) (octets : List ℕ) (skipped : ℕ)
     → skipped ≡ min (skipped_at before.config.inner before.config - before.count) (length octets)
-    → (h : HandsFront took broke PhasesFor (IsFirstBy before.config) before.phased taker taker_now (soft_form before.config (drop skipped octets)))
+    → (h : HandsPrefix took broke PhasesFor (IsFirstBy before.config) before.phased taker taker_now (soft_form before.config (drop skipped octets)))
     → (given : List ℕ) (done : List (Handed WindowBlock)) → length given + length octets < 2 ^ 60 → StandsFor before given done
     → AreHandedFirst before.config (given ++ octets) (done ++ h.tried)
-front-further took broke before taker taker_now octets skipped skip h given done few stood =
+prefix-further took broke before taker taker_now octets skipped skip h given done few stood =
     let c = before.config in
     let all = phase_octets-more c given octets skipped (skip ∙ ap (λ (n : ℕ). min (skipped_at c.inner c - n) (length octets)) (sym stood.count)) in
     let size : length (soft_form c (drop skipped octets)) ≤ length octets = omega (arith, length-map (drop skipped octets) (soft_value c), length-drop skipped octets) in
@@ -221,7 +221,7 @@ all-handed r chosen last phase bits left inside skip counts handed given done st
     subst (λ (k : Configuration). PhasesFor r.phased (phase_octets k given) done → (all : AreHanded k given (done ++ last) left) × (all.chosen ≡ chosen)) inside (handed given done stood.few) stood.phases in
     let all = h.0 in
     let same : skip_of all.chosen ≡ phase = ap skip_of h.1 ∙ sym skip in
-    let items : items_of (done ++ last) ≡ all.items = ap items_of all.are ∙ items_of-in_turn all.chosen all.items in (
+    let items : items_of (done ++ last) ≡ all.items = ap items_of all.are ∙ items_of-with_phase all.chosen all.items in (
       all,
       counts given all.items left stood.count stood.few (subst (λ (n : ℕ). AreInnerBlocks c n given all.items left) same all.are_items)
           ∙ ap (λ (l : List WindowBlock). length (inner_bits c given l)) (sym items),

@@ -11,6 +11,6 @@ pub mod DueBlocks
 pub mod GivenPieces
 pub mod PhasePieces
 pub mod HandedPieces
-pub mod InTurn
+pub mod WithPhase
 pub mod HandedBits
 pub mod WorkedBits

@@ -56,9 +56,9 @@ soft-octet c y octet = grind (arith, nat_tests)
 
 soft-each : (c : Configuration) (phase : ℕ) (octets : List ℕ) → AreOctets octets → AreOctets (soft_octets c phase octets)
 soft-each c phase octets each =
-    let front = All-drop (λ v. v < 256) c.skip octets each in
-    let behind = All-drop (λ v. v < 256) phase (drop c.skip octets) front in
-    All-map (λ v. v < 256) (soft_value c) (drop phase (drop c.skip octets)) (All-weaker (λ v. v < 256) (λ v. soft_value c v < 256) (soft-octet c) (drop phase (drop c.skip octets)) behind)
+    let prefix = All-drop (λ v. v < 256) c.skip octets each in
+    let after = All-drop (λ v. v < 256) phase (drop c.skip octets) prefix in
+    All-map (λ v. v < 256) (soft_value c) (drop phase (drop c.skip octets)) (All-weaker (λ v. v < 256) (λ v. soft_value c v < 256) (soft-octet c) (drop phase (drop c.skip octets)) after)
 
 small-at : (rate : Option Rate) (c : Configuration) (phase : ℕ) (octets : List ℕ) (blocks : List WindowBlock) (left : ℕ) → AreOctets octets
     → BlocksAt rate c phase octets blocks left → All (IsSmall (c.keep + c.ahead)) blocks

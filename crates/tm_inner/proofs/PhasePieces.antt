@@ -16,9 +16,9 @@ use Rattle.tm_phase.specs.Phase.{IsPhase, octets_needed}
 use Rattle.tm_config.specs.declared.values.Sought.TheVariants.{Find}
 use Rattle.tm_config.proofs.Choices.{never_both}
 use Rattle.tm_inner.specs.Symbols.{is_inverted}
-use Rattle.tm_inner.specs.Phase.{PhaseAt, IsChosenBy, IsSettledBy, IsSoFarBy, needed_at, skip_of, in_turn}
+use Rattle.tm_inner.specs.Phase.{PhaseAt, IsChosenBy, IsSettledBy, IsSoFarBy, needed_at, skip_of, with_phase}
 use Rattle.tm_inner.specs.Inner.{settings_of}
-use Rattle.tm_inner.specs.Receiving.{IsDecoderOf, DecodesFor, FindsFirst, FirstFor, Hands, HandsFront, Phasing, Waits, Goes, PhasesFor, IsFrontBy, IsFirstBy}
+use Rattle.tm_inner.specs.Receiving.{IsDecoderOf, DecodesFor, FindsFirst, FirstFor, Hands, HandsPrefix, Phasing, Waits, Goes, PhasesFor, IsPrefixBy, IsFirstBy}
 
 -- ---- the phase and the octets after
 
@@ -58,16 +58,16 @@ so-far c soft (Some chosen) settled is = (settled, is)
 
 -- ---- what was handed over
 
-pub in_turn-more : {I : Type 0} (chosen : Option Chosen) (items more : List I) → in_turn chosen (items ++ more) ≡ in_turn chosen items ++ map Item more
-in_turn-more None items more = map-append Item items more
-in_turn-more (Some chosen) items more = ap (λ l. Phase chosen.skip chosen.cost ∷ l) (map-append Item items more)
+pub with_phase-more : {I : Type 0} (chosen : Option Chosen) (items more : List I) → with_phase chosen (items ++ more) ≡ with_phase chosen items ++ map Item more
+with_phase-more None items more = map-append Item items more
+with_phase-more (Some chosen) items more = ap (λ l. Phase chosen.skip chosen.cost ∷ l) (map-append Item items more)
 
-pub items_of-in_turn : {I : Type 0} (chosen : Option Chosen) (items : List I) → items_of (in_turn chosen items) ≡ items
-items_of-in_turn None items = items_of-items items
-items_of-in_turn (Some chosen) items = items_of-items items
+pub items_of-with_phase : {I : Type 0} (chosen : Option Chosen) (items : List I) → items_of (with_phase chosen items) ≡ items
+items_of-with_phase None items = items_of-items items
+items_of-with_phase (Some chosen) items = items_of-items items
 
-pub further : {I : Type 0} (chosen : Option Chosen) (done : List (Handed I)) (items more : List I) → done ≡ in_turn chosen items → done ++ map Item more ≡ in_turn chosen (items ++ more)
-further chosen done items more are = ap (λ l. l ++ map Item more) are ∙ sym (in_turn-more chosen items more)
+pub further : {I : Type 0} (chosen : Option Chosen) (done : List (Handed I)) (items more : List I) → done ≡ with_phase chosen items → done ++ map Item more ≡ with_phase chosen (items ++ more)
+further chosen done items more are = ap (λ l. l ++ map Item more) are ∙ sym (with_phase-more chosen items more)
 
 -- ---- first blocks of soft octets
 
@@ -102,20 +102,20 @@ abbrev pub Chooses : {T : Type 0} → (T → ℕ → ℕ → T → Type 0) → (
 Chooses took_phase took p now taker taker_now = (more : List (Handed WindowBlock)) × HandedOver (on_handed took_phase took) taker more taker_now
     × ((soft : List ℕ) (done : List (Handed WindowBlock)) → length soft < 2 ^ 60 → Waits p soft done → Goes now soft (done ++ more))
 
-abbrev pub ChoosesFront : {T : Type 0} → (T → ℕ → ℕ → T → Type 0) → (T → ℕ → ℕ → T → Type 0) → (T → WindowBlock → T → Type 0) → (T → WindowBlock → T → Type 0) → Phasing → T → T → Type 0
-ChoosesFront took_phase broke_phase took broke p taker taker_now = (tried : List (Handed WindowBlock)) × HandedPart (on_handed took_phase took) (on_handed broke_phase broke) taker tried taker_now
-    × ((soft : List ℕ) (done : List (Handed WindowBlock)) → length soft < 2 ^ 60 → Waits p soft done → IsFrontBy p.config soft (done ++ tried))
+abbrev pub ChoosesPrefix : {T : Type 0} → (T → ℕ → ℕ → T → Type 0) → (T → ℕ → ℕ → T → Type 0) → (T → WindowBlock → T → Type 0) → (T → WindowBlock → T → Type 0) → Phasing → T → T → Type 0
+ChoosesPrefix took_phase broke_phase took broke p taker taker_now = (tried : List (Handed WindowBlock)) × HandedPart (on_handed took_phase took) (on_handed broke_phase broke) taker tried taker_now
+    × ((soft : List ℕ) (done : List (Handed WindowBlock)) → length soft < 2 ^ 60 → Waits p soft done → IsPrefixBy p.config soft (done ++ tried))
 
 -- the phase is chosen by the octets that wait, and the decoder is given those after it
 pub chooses : {T : Type 0} (took_phase : T → ℕ → ℕ → T → Type 0) (took : T → WindowBlock → T → Type 0) (p : Phasing) (decoder : Option InnerDecoder) (chosen : Chosen)
     (taker middle taker_now : T) (rest : List ℕ) → p.config.phase ≡ Find → PhaseAt p.config.inner p.config p.held chosen → rest ≡ drop chosen.skip p.held
     → took_phase taker chosen.skip chosen.cost middle → Hands took DecodesFor p.decoder decoder middle taker_now rest
     → Chooses took_phase took p (record p { decoder = decoder; chosen = Some chosen }) taker taker_now
-chooses took_phase took p decoder chosen taker middle taker_now rest find is behind taken h = (
+chooses took_phase took p decoder chosen taker middle taker_now rest find is after taken h = (
   Phase chosen.skip chosen.cost ∷ map Item h.more,
   (middle, taken, HandedOver-items took_phase took middle taker_now h.more h.handed),
   λ soft done few w.
-      let same : rest ≡ drop chosen.skip soft = behind ∙ ap (drop chosen.skip) w.held in record {
+      let same : rest ≡ drop chosen.skip soft = after ∙ ap (drop chosen.skip) w.held in record {
         choice = (find, subst (λ (l : List ℕ). PhaseAt p.config.inner p.config l chosen) w.held is);
         blocks = h.more;
         decodes = subst (λ (l : List ℕ). DecodesFor decoder l h.more) same (h.stands [] [] (omega (arith, few, ap length same, length-drop chosen.skip soft)) w.fresh);
@@ -126,7 +126,7 @@ chooses took_phase took p decoder chosen taker middle taker_now rest find is beh
 -- the taker fails at the phase
 pub chooses-none : {T : Type 0} (took_phase broke_phase : T → ℕ → ℕ → T → Type 0) (took broke : T → WindowBlock → T → Type 0) (p : Phasing) (chosen : Chosen) (taker taker_now : T)
     → p.config.phase ≡ Find → PhaseAt p.config.inner p.config p.held chosen → broke_phase taker chosen.skip chosen.cost taker_now
-    → ChoosesFront took_phase broke_phase took broke p taker taker_now
+    → ChoosesPrefix took_phase broke_phase took broke p taker taker_now
 chooses-none took_phase broke_phase took broke p chosen taker taker_now find is failed = (
   Phase chosen.skip chosen.cost ∷ [],
   HandedPart-first (on_handed took_phase took) (on_handed broke_phase broke) taker taker_now (Phase chosen.skip chosen.cost) [] failed,
@@ -140,16 +140,16 @@ chooses-none took_phase broke_phase took broke p chosen taker taker_now find is 
 )
 
 -- it fails at a block after the phase
-pub chooses-front : {T : Type 0} (took_phase broke_phase : T → ℕ → ℕ → T → Type 0) (took broke : T → WindowBlock → T → Type 0) (p : Phasing) (chosen : Chosen)
+pub chooses-prefix : {T : Type 0} (took_phase broke_phase : T → ℕ → ℕ → T → Type 0) (took broke : T → WindowBlock → T → Type 0) (p : Phasing) (chosen : Chosen)
     (taker middle taker_now : T) (rest : List ℕ) → p.config.phase ≡ Find → PhaseAt p.config.inner p.config p.held chosen → rest ≡ drop chosen.skip p.held
     → IsDecoderOf p.config p.decoder → took_phase taker chosen.skip chosen.cost middle
-    → HandsFront took broke DecodesFor (FindsFirst p.decoder) p.decoder middle taker_now rest → ChoosesFront took_phase broke_phase took broke p taker taker_now
-chooses-front took_phase broke_phase took broke p chosen taker middle taker_now rest find is behind of taken h = (
+    → HandsPrefix took broke DecodesFor (FindsFirst p.decoder) p.decoder middle taker_now rest → ChoosesPrefix took_phase broke_phase took broke p taker taker_now
+chooses-prefix took_phase broke_phase took broke p chosen taker middle taker_now rest find is after of taken h = (
   Phase chosen.skip chosen.cost ∷ map Item h.tried,
   HandedPart-after (on_handed took_phase took) (on_handed broke_phase broke) taker middle taker_now (Phase chosen.skip chosen.cost ∷ []) (map Item h.tried) (middle, taken, refl)
       (HandedPart-items took_phase broke_phase took broke middle taker_now h.tried h.handed),
   λ soft done few w.
-      let same : rest ≡ drop chosen.skip soft = behind ∙ ap (drop chosen.skip) w.held in record {
+      let same : rest ≡ drop chosen.skip soft = after ∙ ap (drop chosen.skip) w.held in record {
         chosen = Some chosen;
         choice = (find, subst (λ (l : List ℕ). PhaseAt p.config.inner p.config l chosen) w.held is);
         blocks = h.tried;
@@ -194,10 +194,10 @@ module _ (stays : PhaseStays) (within : PhaseWithin) where
   phases-gathered p decoder form soft done gathered none (inr g) =
       inr (goes-gathered p decoder form soft done gathered g.1 g.0, settled-more p.config soft form g.1)
 
-  pub goes-front : {T : Type 0} (took broke : T → WindowBlock → T → Type 0) (p : Phasing) (taker taker_now : T) (form : List ℕ) → IsDecoderOf p.config p.decoder
-      → (h : HandsFront took broke DecodesFor (FindsFirst p.decoder) p.decoder taker taker_now form) (soft : List ℕ) (done : List (Handed WindowBlock)) → length soft + length form < 2 ^ 60
+  pub goes-prefix : {T : Type 0} (took broke : T → WindowBlock → T → Type 0) (p : Phasing) (taker taker_now : T) (form : List ℕ) → IsDecoderOf p.config p.decoder
+      → (h : HandsPrefix took broke DecodesFor (FindsFirst p.decoder) p.decoder taker taker_now form) (soft : List ℕ) (done : List (Handed WindowBlock)) → length soft + length form < 2 ^ 60
       → IsSettledBy p.config soft → Goes p soft done → IsFirstBy p.config (soft ++ form) (done ++ map Item h.tried)
-  goes-front took broke p taker taker_now form of h soft done few settled g =
+  goes-prefix took broke p taker taker_now form of h soft done few settled g =
       let k = skip_of p.chosen in (
         settled-more p.config soft form settled,
         record {
@@ -211,8 +211,8 @@ module _ (stays : PhaseStays) (within : PhaseWithin) where
         },
       )
 
-  front-more : StayClosed → (c : Configuration) (soft more : List ℕ) (handed : List (Handed WindowBlock)) → IsSettledBy c soft → IsFrontBy c soft handed → IsFirstBy c (soft ++ more) handed
-  front-more closed c soft more handed settled h =
+  prefix-more : StayClosed → (c : Configuration) (soft more : List ℕ) (handed : List (Handed WindowBlock)) → IsSettledBy c soft → IsPrefixBy c soft handed → IsFirstBy c (soft ++ more) handed
+  prefix-more closed c soft more handed settled h =
       let k = skip_of h.chosen in (
         settled-more c soft more settled,
         record {
@@ -238,15 +238,15 @@ module _ (stays : PhaseStays) (within : PhaseWithin) where
     ];
   }
 
-  pub front-going : {T : Type 0} (took_phase broke_phase : T → ℕ → ℕ → T → Type 0) (took broke : T → WindowBlock → T → Type 0) (p : Phasing) (taker taker_now : T) (form : List ℕ)
-      → NoneWaits p → IsDecoderOf p.config p.decoder → HandsFront took broke DecodesFor (FindsFirst p.decoder) p.decoder taker taker_now form
-      → HandsFront (on_handed took_phase took) (on_handed broke_phase broke) PhasesFor (IsFirstBy p.config) p taker taker_now form
-  front-going took_phase broke_phase took broke p taker taker_now form none of h = record {
+  pub prefix-going : {T : Type 0} (took_phase broke_phase : T → ℕ → ℕ → T → Type 0) (took broke : T → WindowBlock → T → Type 0) (p : Phasing) (taker taker_now : T) (form : List ℕ)
+      → NoneWaits p → IsDecoderOf p.config p.decoder → HandsPrefix took broke DecodesFor (FindsFirst p.decoder) p.decoder taker taker_now form
+      → HandsPrefix (on_handed took_phase took) (on_handed broke_phase broke) PhasesFor (IsFirstBy p.config) p taker taker_now form
+  prefix-going took_phase broke_phase took broke p taker taker_now form none of h = record {
     tried = map Item h.tried;
     handed = HandedPart-items took_phase broke_phase took broke taker taker_now h.tried h.handed;
     first = λ soft done few stood. elim stood as (λ _. IsFirstBy p.config (soft ++ form) (done ++ map Item h.tried)) [
       | inl w ↦ absurd (none (w.0.find, w.0.none))
-      | inr g ↦ goes-front took broke p taker taker_now form of h soft done few g.1 g.0
+      | inr g ↦ goes-prefix took broke p taker taker_now form of h soft done few g.1 g.0
     ];
   }
 
@@ -295,14 +295,14 @@ module _ (stays : PhaseStays) (within : PhaseWithin) where
     more = h.0 ++ map Item k.more;
     handed = HandedOver-append (on_handed took_phase took) taker middle taker_now h.0 (map Item k.more) h.1 (HandedOver-items took_phase took middle taker_now k.more k.handed);
     stands = λ soft done few stood. elim stood as (λ _. PhasesFor (record now { decoder = decoder }) (soft ++ (form ++ rest)) (done ++ (h.0 ++ map Item k.more))) [
-      | inl w ↦ inr (behind soft done few w.0)
+      | inl w ↦ inr (after soft done few w.0)
       | inr g ↦ absurd (none-goes p soft done find none g.0)
     ];
   }
     where
-      behind : (soft : List ℕ) (done : List (Handed WindowBlock)) → length soft + length (form ++ rest) < 2 ^ 60 → Waits p soft done
+      after : (soft : List ℕ) (done : List (Handed WindowBlock)) → length soft + length (form ++ rest) < 2 ^ 60 → Waits p soft done
           → Goes (record now { decoder = decoder }) (soft ++ (form ++ rest)) (done ++ (h.0 ++ map Item k.more)) × IsSettledBy now.config (soft ++ (form ++ rest))
-      behind soft done few w =
+      after soft done few w =
           let settled : IsSettledBy now.config (soft ++ form) = subst (λ (c : Configuration). IsSettledBy c (soft ++ form)) (sym config)
           (inr (omega (arith, many, ap (λ (l : List ℕ). length (l ++ form)) w.held))) in
           let there = h.2 (soft ++ form) done (omega (arith, few, length-append soft form, length-append form rest)) (waits-more p form soft done w) in
@@ -313,30 +313,30 @@ module _ (stays : PhaseStays) (within : PhaseWithin) where
           )
 
   -- the taker fails at the choice
-  pub front-choosing : StayClosed → {T : Type 0} (took_phase broke_phase : T → ℕ → ℕ → T → Type 0) (took broke : T → WindowBlock → T → Type 0) (p : Phasing) (taker taker_now : T) (form rest : List ℕ)
+  pub prefix-choosing : StayClosed → {T : Type 0} (took_phase broke_phase : T → ℕ → ℕ → T → Type 0) (took broke : T → WindowBlock → T → Type 0) (p : Phasing) (taker taker_now : T) (form rest : List ℕ)
       → p.config.phase ≡ Find → p.chosen ≡ None → needed_at p.config.inner p.config ≤ length (p.held ++ form)
-      → ChoosesFront took_phase broke_phase took broke (holding p (p.held ++ form)) taker taker_now
-      → HandsFront (on_handed took_phase took) (on_handed broke_phase broke) PhasesFor (IsFirstBy p.config) p taker taker_now (form ++ rest)
-  front-choosing closed took_phase broke_phase took broke p taker taker_now form rest find none many h = record {
+      → ChoosesPrefix took_phase broke_phase took broke (holding p (p.held ++ form)) taker taker_now
+      → HandsPrefix (on_handed took_phase took) (on_handed broke_phase broke) PhasesFor (IsFirstBy p.config) p taker taker_now (form ++ rest)
+  prefix-choosing closed took_phase broke_phase took broke p taker taker_now form rest find none many h = record {
     tried = h.0;
     handed = h.1;
     first = λ soft done few stood. elim stood as (λ _. IsFirstBy p.config (soft ++ (form ++ rest)) (done ++ h.0)) [
       | inl w ↦ (
           let settled : IsSettledBy p.config (soft ++ form) = inr (omega (arith, many, ap (λ (l : List ℕ). length (l ++ form)) w.0.held)) in
           let there = h.2 (soft ++ form) done (omega (arith, few, length-append soft form, length-append form rest)) (waits-more p form soft done w.0) in
-          subst (λ (l : List ℕ). IsFirstBy p.config l (done ++ h.0)) (append_assoc soft form rest) (front-more stays within closed p.config (soft ++ form) rest (done ++ h.0) settled there)
+          subst (λ (l : List ℕ). IsFirstBy p.config l (done ++ h.0)) (append_assoc soft form rest) (prefix-more stays within closed p.config (soft ++ form) rest (done ++ h.0) settled there)
           )
       | inr g ↦ absurd (none-goes p soft done find none g.0)
     ];
   }
 
   -- it fails at a block of the rest
-  pub front-behind : {T : Type 0} (took_phase broke_phase : T → ℕ → ℕ → T → Type 0) (took broke : T → WindowBlock → T → Type 0) (p now : Phasing)
+  pub prefix-after : {T : Type 0} (took_phase broke_phase : T → ℕ → ℕ → T → Type 0) (took broke : T → WindowBlock → T → Type 0) (p now : Phasing)
       (taker middle taker_now : T) (form rest : List ℕ) → p.config.phase ≡ Find → p.chosen ≡ None → needed_at p.config.inner p.config ≤ length (p.held ++ form)
       → now.config ≡ p.config → IsDecoderOf now.config now.decoder → Chooses took_phase took (holding p (p.held ++ form)) now taker middle
-      → HandsFront took broke DecodesFor (FindsFirst now.decoder) now.decoder middle taker_now rest
-      → HandsFront (on_handed took_phase took) (on_handed broke_phase broke) PhasesFor (IsFirstBy p.config) p taker taker_now (form ++ rest)
-  front-behind took_phase broke_phase took broke p now taker middle taker_now form rest find none many config of h k = record {
+      → HandsPrefix took broke DecodesFor (FindsFirst now.decoder) now.decoder middle taker_now rest
+      → HandsPrefix (on_handed took_phase took) (on_handed broke_phase broke) PhasesFor (IsFirstBy p.config) p taker taker_now (form ++ rest)
+  prefix-after took_phase broke_phase took broke p now taker middle taker_now form rest find none many config of h k = record {
     tried = h.0 ++ map Item k.tried;
     handed = HandedPart-after (on_handed took_phase took) (on_handed broke_phase broke) taker middle taker_now h.0 (map Item k.tried) h.1
         (HandedPart-items took_phase broke_phase took broke middle taker_now k.tried k.handed);
@@ -345,7 +345,7 @@ module _ (stays : PhaseStays) (within : PhaseWithin) where
           let settled : IsSettledBy now.config (soft ++ form) = subst (λ (c : Configuration). IsSettledBy c (soft ++ form)) (sym config)
           (inr (omega (arith, many, ap (λ (l : List ℕ). length (l ++ form)) w.0.held))) in
           let there = h.2 (soft ++ form) done (omega (arith, few, length-append soft form, length-append form rest)) (waits-more p form soft done w.0) in
-          let more = goes-front stays within took broke now middle taker_now rest of k (soft ++ form) (done ++ h.0) (omega (arith, few, length-append soft form, length-append form rest)) settled there in
+          let more = goes-prefix stays within took broke now middle taker_now rest of k (soft ++ form) (done ++ h.0) (omega (arith, few, length-append soft form, length-append form rest)) settled there in
           subst (λ (c : Configuration). IsFirstBy c (soft ++ (form ++ rest)) (done ++ (h.0 ++ map Item k.tried))) config
           (subst (λ (l : List ℕ). IsFirstBy now.config l (done ++ (h.0 ++ map Item k.tried))) (append_assoc soft form rest)
           (subst (IsFirstBy now.config ((soft ++ form) ++ rest)) (append_assoc done h.0 (map Item k.tried)) more))

@@ -92,10 +92,10 @@ count-nearest c n is = ap (λ (pack : Bool). if pack then 8 * n else n) is
 
 -- ---- bits that are nearest to octets, after the first ones
 
-pub nearest-behind : (c : Configuration) (skip from : ℕ) (octets bits : List ℕ) → from ≡ min skip (length octets)
+pub nearest-after : (c : Configuration) (skip from : ℕ) (octets bits : List ℕ) → from ≡ min skip (length octets)
     → map (λ bit. bit == 1) bits ≡ map (nearest_bit c) (take (length octets - from) (drop from octets))
     → map (λ bit. bit == 1) bits ≡ drop skip (map (nearest_bit c) octets)
-nearest-behind c skip from octets bits is are =
+nearest-after c skip from octets bits is are =
     are ∙ ap (map (nearest_bit c)) (take_rest octets from ∙ ap (λ n. drop n octets) is ∙ drop_min skip octets) ∙ sym (drop-map (nearest_bit c) skip octets)
 
 -- ---- an octet's bit, read from its soft value

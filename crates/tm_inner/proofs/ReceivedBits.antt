@@ -96,9 +96,9 @@ kept-count rate invert keep ahead starts t n octets (b ∷ blocks) whole are =
     let sum : b.kept + (n - b.kept) ≡ n = omega arith in
     let rest : steps_size rate (t + b.kept) (n - b.kept) ≤ length (drop (steps_size rate t b.kept) octets) =
     omega (arith, whole, length-drop (steps_size rate t b.kept) octets, steps_size-add rate t b.kept (n - b.kept), ap (steps_size rate t) sum) in
-    let behind = kept-count rate invert keep ahead (Some b.end_state) (t + b.kept) (n - b.kept) (drop (steps_size rate t b.kept) octets) blocks rest are.2 in
-    let front : length (take b.kept b.bits) ≡ b.kept = omega (arith, length-take b.kept b.bits, block-bits rate invert keep ahead starts t n octets b whole is) in
-    omega (arith, length-append (take b.kept b.bits) (kept_bits blocks), front, behind)
+    let after = kept-count rate invert keep ahead (Some b.end_state) (t + b.kept) (n - b.kept) (drop (steps_size rate t b.kept) octets) blocks rest are.2 in
+    let prefix : length (take b.kept b.bits) ≡ b.kept = omega (arith, length-take b.kept b.bits, block-bits rate invert keep ahead starts t n octets b whole is) in
+    omega (arith, length-append (take b.kept b.bits) (kept_bits blocks), prefix, after)
 
 -- ---- the bits of octets
 

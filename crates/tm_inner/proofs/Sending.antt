@@ -4,15 +4,15 @@ use Rattle.std.proofs.Math.Seq.{take-append-add}
 use Rattle.std.proofs.lemmas.List.{take-append-le}
 use Rattle.std.specs.Io.KnownBytes.{append_known}
 use Rattle.tm_base.specs.Bits.{AreOctets, bits_of}
-use Rattle.tm_base.specs.Written.{Wrote, WroteFront}
-use Rattle.tm_base.specs.Pieces.{Fed, FedFront, further}
+use Rattle.tm_base.specs.Written.{Wrote, WrotePrefix}
+use Rattle.tm_base.specs.Pieces.{Fed, FedPrefix, further}
 use Rattle.tm_base.proofs.Known.{append_known-more}
-use Rattle.tm_base.proofs.Pieces.{fed-none, fed-more, fed-front, fed-front_of_longer}
+use Rattle.tm_base.proofs.Pieces.{fed-none, fed-more, fed-prefix, fed-prefix_of_longer}
 use Rattle.tm_config.specs.Configuration.{Configuration}
 use Rattle.tm_conv.specs.declared.rates.Rate.{Rate}
 use Rattle.tm_conv.specs.Encoding.{Encoding}
 use Rattle.tm_inner.specs.Symbols.{low_level, plain_symbols, symbols_by, symbols_of_octets}
-use Rattle.tm_inner.specs.Sending.{InnerSending, IsEncoderOf, KeepsFor, StandsFor, Sends, SendsFront, spread}
+use Rattle.tm_inner.specs.Sending.{InnerSending, IsEncoderOf, KeepsFor, StandsFor, Sends, SendsPrefix, spread}
 use Rattle.tm_inner.proofs.Symbols.{octets-due, spread-append, spread-due, symbols-go_on}
 
 pub sends-none : (sender : InnerSending) (taken : Option (List ℕ)) → Sends sender sender taken taken []
@@ -29,15 +29,15 @@ sends-more a b c taken_a taken_b taken_c first second p q = record {
       (subst (λ (x : Configuration). Fed StandsFor (symbols_of_octets x) b c taken_b taken_c second) p.config q.fed);
 }
 
-pub sends-front : (a b : InnerSending) (taken_a taken_b taken_c : Option (List ℕ)) (first second : List ℕ)
-    → Sends a b taken_a taken_b first → SendsFront b taken_b taken_c second → SendsFront a taken_a taken_c (first ++ second)
-sends-front a b taken_a taken_b taken_c first second p q =
-    fed-front StandsFor (symbols_of_octets a.config) (symbols-go_on a.config) a b taken_a taken_b taken_c first second p.fed
-    (subst (λ (x : Configuration). FedFront StandsFor (symbols_of_octets x) b taken_b taken_c second) p.config q)
+pub sends-prefix : (a b : InnerSending) (taken_a taken_b taken_c : Option (List ℕ)) (first second : List ℕ)
+    → Sends a b taken_a taken_b first → SendsPrefix b taken_b taken_c second → SendsPrefix a taken_a taken_c (first ++ second)
+sends-prefix a b taken_a taken_b taken_c first second p q =
+    fed-prefix StandsFor (symbols_of_octets a.config) (symbols-go_on a.config) a b taken_a taken_b taken_c first second p.fed
+    (subst (λ (x : Configuration). FedPrefix StandsFor (symbols_of_octets x) b taken_b taken_c second) p.config q)
 
-pub sends-front_of_longer : (a : InnerSending) (taken taken_now : Option (List ℕ)) (first second : List ℕ) → SendsFront a taken taken_now first → SendsFront a taken taken_now (first ++ second)
-sends-front_of_longer a taken taken_now first second p =
-    fed-front_of_longer StandsFor (symbols_of_octets a.config) (symbols-go_on a.config) a taken taken_now first second p
+pub sends-prefix_of_longer : (a : InnerSending) (taken taken_now : Option (List ℕ)) (first second : List ℕ) → SendsPrefix a taken taken_now first → SendsPrefix a taken taken_now (first ++ second)
+sends-prefix_of_longer a taken taken_now first second p =
+    fed-prefix_of_longer StandsFor (symbols_of_octets a.config) (symbols-go_on a.config) a taken taken_now first second p
 
 -- ---- with no inner code the octets are written, or one for each of their bits
 
@@ -76,31 +76,31 @@ fed-plain c None taken taken_now piece written are wrote = record {
 }
 fed-plain c (Some encoder) taken taken_now piece written are wrote = let none = are.0 in absurd cc
 
-pub fed-plain_front : (c : Configuration) (encoder : Option Encoding) (taken taken_now : Option (List ℕ)) (piece written : List ℕ) → ArePlain c encoder piece written
-    → WroteFront taken taken_now written → FedFront KeepsFor (symbols_of_octets c) encoder taken taken_now piece
-fed-plain_front c None taken taken_now piece written are wrote = record {
-  front = λ given stood. subst (WroteFront taken taken_now) (sym (are.1 given)) wrote;
+pub fed-plain_prefix : (c : Configuration) (encoder : Option Encoding) (taken taken_now : Option (List ℕ)) (piece written : List ℕ) → ArePlain c encoder piece written
+    → WrotePrefix taken taken_now written → FedPrefix KeepsFor (symbols_of_octets c) encoder taken taken_now piece
+fed-plain_prefix c None taken taken_now piece written are wrote = record {
+  prefix = λ given stood. subst (WrotePrefix taken taken_now) (sym (are.1 given)) wrote;
 }
-fed-plain_front c (Some encoder) taken taken_now piece written are wrote = let none = are.0 in absurd cc
+fed-plain_prefix c (Some encoder) taken taken_now piece written are wrote = let none = are.0 in absurd cc
 
 -- ---- an octet for each bit, one piece after another
 
-pub spread-more : (low : ℕ) (taken here now : Option (List ℕ)) (front piece all : List ℕ) → front ++ piece ≡ all
-    → Wrote taken here (spread low front) → Wrote here now (spread low piece) → Wrote taken now (spread low all)
-spread-more low taken here now front piece all is p q =
+pub spread-more : (low : ℕ) (taken here now : Option (List ℕ)) (prefix piece all : List ℕ) → prefix ++ piece ≡ all
+    → Wrote taken here (spread low prefix) → Wrote here now (spread low piece) → Wrote taken now (spread low all)
+spread-more low taken here now prefix piece all is p q =
     q ∙ ap (λ (k : Option (List ℕ)). append_known k (spread low piece)) p
-    ∙ append_known-more taken (spread low front) (spread low piece)
-    ∙ ap (append_known taken) (sym (spread-append low front piece) ∙ ap (spread low) is)
+    ∙ append_known-more taken (spread low prefix) (spread low piece)
+    ∙ ap (append_known taken) (sym (spread-append low prefix piece) ∙ ap (spread low) is)
 
-pub spread-front : (low : ℕ) (taken here now : Option (List ℕ)) (front piece rest all : List ℕ) (count : ℕ) → front ++ (piece ++ rest) ≡ all
-    → Wrote taken here (spread low front) → count ≤ length (spread low piece) → Wrote here now (take count (spread low piece))
-    → WroteFront taken now (spread low all)
-spread-front low taken here now front piece rest all count is p within q =
-    let one = spread low front in
+pub spread-prefix : (low : ℕ) (taken here now : Option (List ℕ)) (prefix piece rest all : List ℕ) (count : ℕ) → prefix ++ (piece ++ rest) ≡ all
+    → Wrote taken here (spread low prefix) → count ≤ length (spread low piece) → Wrote here now (take count (spread low piece))
+    → WrotePrefix taken now (spread low all)
+spread-prefix low taken here now prefix piece rest all count is p within q =
+    let one = spread low prefix in
     let two = spread low piece in
     let three = spread low rest in
     let whole : spread low all ≡ one ++ (two ++ three) =
-    ap (spread low) (sym is) ∙ spread-append low front (piece ++ rest) ∙ ap (λ l. one ++ l) (spread-append low piece rest) in (
+    ap (spread low) (sym is) ∙ spread-append low prefix (piece ++ rest) ∙ ap (λ l. one ++ l) (spread-append low piece rest) in (
       length one + count,
       q ∙ ap (λ (k : Option (List ℕ)). append_known k (take count two)) p
           ∙ append_known-more taken one (take count two)

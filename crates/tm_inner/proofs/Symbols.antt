@@ -59,11 +59,11 @@ next rate invert low given piece =
 encoded-append : (rate : Rate) (invert : Bool) (low : ℕ) (given piece : List ℕ) → encoded rate invert low (given ++ piece) ≡ encoded rate invert low given ++ next rate invert low given piece
 unfolding next
 encoded-append rate invert low given piece =
-    let front = bit_numbers (bits_of given) in
+    let prefix = bit_numbers (bits_of given) in
     let back = bit_numbers (bits_of piece) in
     ap (λ l. levels low (path rate invert 0 0 l)) (ap bit_numbers (bits_of-append given piece) ∙ map-append bit_number (bits_of given) (bits_of piece))
-    ∙ ap (levels low) (path-append rate invert 0 0 front back)
-    ∙ map-append (level low) (path rate invert 0 0 front) (path rate invert (0 + length front) (register_after 0 front) back)
+    ∙ ap (levels low) (path-append rate invert 0 0 prefix back)
+    ∙ map-append (level low) (path rate invert 0 0 prefix) (path rate invert (0 + length prefix) (register_after 0 prefix) back)
 
 pub encoded-goes_on : (rate : Rate) (invert : Bool) (low : ℕ) → GoesOn (encoded rate invert low)
 encoded-goes_on rate invert low given piece = on (encoded rate invert low) given piece (next rate invert low given piece) (encoded-append rate invert low given piece)

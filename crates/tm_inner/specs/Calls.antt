@@ -12,8 +12,8 @@ use Rattle.tm_inner.specs.declared.receiver.InnerEnd.{InnerEnd}
 use Rattle.tm_inner.specs.Inner.{inner_bits}
 use Rattle.tm_inner.specs.InnerDecoding.{has_stopped_in, settings_in, StandsIn}
 use Rattle.tm_inner.specs.Phase.{IsChosen, IsChosenSoFar}
-use Rattle.tm_inner.specs.Receiving.{Hands, HandsFront, InnerReceiving, StandsFor}
-use Rattle.tm_inner.specs.Handing.{AreHanded, AreHandedDue, AreHandedFirst, AreHandedFront}
+use Rattle.tm_inner.specs.Receiving.{Hands, HandsPrefix, InnerReceiving, StandsFor}
+use Rattle.tm_inner.specs.Handing.{AreHanded, AreHandedDue, AreHandedFirst, AreHandedPrefix}
 
 -- ---- of the decoder
 
@@ -26,7 +26,7 @@ pub record GivesSoft {T R E : Type 0} (took broke : T → WindowBlock → T → 
   pub fresh : OnOk result (has_stopped_in now ≡ false)
   pub stopped : OnErr result (has_stopped_in now ≡ true)
   pub handed : OnOk result (Hands took StandsIn before now taker taker_now soft)
-  pub front : OnErr result (HandsFront took broke StandsIn (AreFirst (settings_in before)) before
+  pub prefix : OnErr result (HandsPrefix took broke StandsIn (AreFirst (settings_in before)) before
       taker taker_now soft)
   pub cause : HasCause (faults taker) (faults taker_now) (is_last taker_now) result
 
@@ -53,7 +53,7 @@ pub record Feeds {R : Type 0} (before now : InnerReceiving) (octets : List ℕ)
       → StandsFor before given done
       → StandsFor now (given ++ octets) (done ++ more)
       × AreHandedDue before.config (given ++ octets) (done ++ more)))
-  pub front : IsErrOf result Taker → (tried : List (Handed WindowBlock)) × taker.broke tried
+  pub prefix : IsErrOf result Taker → (tried : List (Handed WindowBlock)) × taker.broke tried
       × ((given : List ℕ) (done : List (Handed WindowBlock)) → length given + length octets < 2 ^ 60
       → StandsFor before given done
       → AreHandedFirst before.config (given ++ octets) (done ++ tried))
@@ -71,7 +71,7 @@ pub record Finishes (before now : InnerReceiving) (taker : TakerCall (Handed Win
       × ((given : List ℕ) (done : List (Handed WindowBlock)) → StandsFor before given done
       → AreHanded before.config given (done ++ last) end.leftover
       × (end.bits ≡ length (inner_bits before.config given (items_of (done ++ last))))))
-  pub front : IsErrOf result Taker → (tried : List (Handed WindowBlock)) × taker.broke tried
+  pub prefix : IsErrOf result Taker → (tried : List (Handed WindowBlock)) × taker.broke tried
       × ((given : List ℕ) (done : List (Handed WindowBlock)) → StandsFor before given done
-      → AreHandedFront before.config given (done ++ tried))
+      → AreHandedPrefix before.config given (done ++ tried))
   pub left : IfOk result (λ end. end.leftover ≤ 1)

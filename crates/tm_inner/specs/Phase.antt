@@ -60,25 +60,25 @@ skip_of None = 0
 skip_of (Some chosen) = chosen.skip
 
 -- the phase that was chosen, and then items
-abbrev pub in_turn : {I : Type 0} → Option Chosen → List I → List (Handed I)
-in_turn None items = map Item items
-in_turn (Some chosen) items = Phase chosen.skip chosen.cost ∷ map Item items
+abbrev pub with_phase : {I : Type 0} → Option Chosen → List I → List (Handed I)
+with_phase None items = map Item items
+with_phase (Some chosen) items = Phase chosen.skip chosen.cost ∷ map Item items
 
 -- what is handed over for received octets: their phase, where it is to be found, and then items,
 -- which hang on the phase
-pub record InTurn {I : Type 0} (AreItems : ℕ → List I → Type 0) (c : Configuration) (octets : List ℕ) (handed : List (Handed I)) : Type 0 where
+pub record WithPhase {I : Type 0} (AreItems : ℕ → List I → Type 0) (c : Configuration) (octets : List ℕ) (handed : List (Handed I)) : Type 0 where
   pub chosen : Option Chosen
   pub choice : IsChosen c octets chosen
   pub items : List I
   pub are_items : AreItems (skip_of chosen) items
-  pub are : handed ≡ in_turn chosen items
+  pub are : handed ≡ with_phase chosen items
 
 -- the same of what is due whatever octets come: nothing before the phase is settled
-abbrev pub InTurnSettled : {I : Type 0} → (ℕ → List I → Type 0) → Configuration → List ℕ
+abbrev pub WithPhaseSettled : {I : Type 0} → (ℕ → List I → Type 0) → Configuration → List ℕ
     → List (Handed I) → Type 0
-InTurnSettled AreItems c octets handed = IsSettled c octets × InTurn AreItems c octets handed
+WithPhaseSettled AreItems c octets handed = IsSettled c octets × WithPhase AreItems c octets handed
 
-abbrev pub InTurnSoFar : {I : Type 0} → (ℕ → List I → Type 0) → Configuration → List ℕ
+abbrev pub WithPhaseSoFar : {I : Type 0} → (ℕ → List I → Type 0) → Configuration → List ℕ
     → List (Handed I) → Type 0
-InTurnSoFar AreItems c octets handed = ((IsSettled c octets → ⊥)
-    × (handed ≡ [])) ⊎ InTurnSettled AreItems c octets handed
+WithPhaseSoFar AreItems c octets handed = ((IsSettled c octets → ⊥)
+    × (handed ≡ [])) ⊎ WithPhaseSettled AreItems c octets handed

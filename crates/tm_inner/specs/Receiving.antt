@@ -12,7 +12,7 @@ use Rattle.tm_inner.specs.declared.inner_decoder.InnerDecoder.{InnerDecoder}
 use Rattle.tm_phase.specs.declared.choosing.Chosen.{Chosen}
 use Rattle.tm_inner.specs.Inner.{settings_of, soft_value, soft_octets}
 use Rattle.tm_inner.specs.InnerDecoding.{HasClosed, settings_in, has_stopped_in, StandsIn}
-use Rattle.tm_inner.specs.Phase.{IsChosenBy, IsSettledBy, phase_octets, skip_of, in_turn}
+use Rattle.tm_inner.specs.Phase.{IsChosenBy, IsSettledBy, phase_octets, skip_of, with_phase}
 
 -- the decoder is that of the configuration's inner code, and there is none where it has no inner
 -- code
@@ -67,7 +67,7 @@ pub record Goes (p : Phasing) (soft : List ℕ) (done : List (Handed WindowBlock
   pub choice : IsChosenBy p.config soft p.chosen
   pub blocks : List WindowBlock
   pub decodes : DecodesFor p.decoder (drop (skip_of p.chosen) soft) blocks
-  pub are : done ≡ in_turn p.chosen blocks
+  pub are : done ≡ with_phase p.chosen blocks
 
 -- a decoder that was given these soft octets and no others, after the choice of the phase once it
 -- is settled
@@ -81,16 +81,16 @@ FirstFor None c soft blocks = blocks ≡ []
 FirstFor (Some rate) c soft blocks = AreFirst (settings_of c rate) soft blocks
 
 -- the phase of soft octets, and the blocks of first windows after it
-pub record IsFrontBy (c : Configuration) (soft : List ℕ) (handed : List (Handed WindowBlock)) : Type 0 where
+pub record IsPrefixBy (c : Configuration) (soft : List ℕ) (handed : List (Handed WindowBlock)) : Type 0 where
   pub chosen : Option Chosen
   pub choice : IsChosenBy c soft chosen
   pub blocks : List WindowBlock
   pub first : FirstFor c.inner c (drop (skip_of chosen) soft) blocks
-  pub are : handed ≡ in_turn chosen blocks
+  pub are : handed ≡ with_phase chosen blocks
 
 -- the same once the phase is settled
 abbrev pub IsFirstBy : Configuration → List ℕ → List (Handed WindowBlock) → Type 0
-IsFirstBy c soft handed = IsSettledBy c soft × IsFrontBy c soft handed
+IsFirstBy c soft handed = IsSettledBy c soft × IsPrefixBy c soft handed
 
 -- what contracts see of an inner receiver
 pub record InnerReceiving : Type 0 where
@@ -136,7 +136,7 @@ pub record Hands {T I S : Type 0} (took : T → I → T → Type 0)
       → Stands now (given ++ octets) (done ++ more)
 
 -- given the octets, a value hands over a part of the first of it, at which the taker fails
-pub record HandsFront {T I S : Type 0} (took broke : T → I → T → Type 0)
+pub record HandsPrefix {T I S : Type 0} (took broke : T → I → T → Type 0)
     (Stands : S → List ℕ → List I → Type 0)
     (First : List ℕ → List I → Type 0) (before : S) (taker taker_now : T) (octets : List ℕ) : Type 0 where
   pub tried : List I

@@ -1,7 +1,7 @@
 -- What an inner sender keeps, and for which octets, given so far, it stands.
 use Rattle.std.specs.Prelude.{◌≡◌, ℕ, Bool, List, Option, Some, None}
 use Rattle.tm_base.specs.Bits.{bits_of}
-use Rattle.tm_base.specs.Pieces.{Fed, FedFront}
+use Rattle.tm_base.specs.Pieces.{Fed, FedPrefix}
 use Rattle.tm_config.specs.Configuration.{Configuration}
 use Rattle.tm_conv.specs.declared.rates.Rate.{Rate}
 use Rattle.tm_conv.specs.Encoding.{Encoding, StandsFor as EncoderStandsFor, bit_numbers, levels, sent_for}
@@ -48,6 +48,6 @@ pub record Sends (before now : InnerSending) (taken taken_now : Option (List ℕ
   pub fed : Fed StandsFor (symbols_of_octets before.config) before now taken taken_now octets
 
 -- given these octets, a sender wrote a prefix of what is due for them
-abbrev pub SendsFront : InnerSending → Option (List ℕ) → Option (List ℕ) → List ℕ → Type 0
-SendsFront before taken taken_now octets =
-    FedFront StandsFor (symbols_of_octets before.config) before taken taken_now octets
+abbrev pub SendsPrefix : InnerSending → Option (List ℕ) → Option (List ℕ) → List ℕ → Type 0
+SendsPrefix before taken taken_now octets =
+    FedPrefix StandsFor (symbols_of_octets before.config) before taken taken_now octets

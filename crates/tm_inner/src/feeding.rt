@@ -8,7 +8,7 @@ ghost use Rattle.tm_viterbi.specs.WindowBlock.{WindowBlock};
 ghost use Rattle.tm_inner.specs.Calls.{GivesSoft};
 ghost use Rattle.tm_inner.specs.Inner.{AreInnerBlocks, AreInnerDue, soft_octets};
 ghost use Rattle.tm_inner.specs.InnerDecoding.{HasClosed, HasWorkers, settings_in, has_stopped_in, StandsIn};
-ghost use Rattle.tm_inner.specs.Receiving.{AreInnerFirst, HasClosedAll, IsDecoderOf, HasStopped, DecodesFor, FindsFirst, Hands, HandsFront, from_form};
+ghost use Rattle.tm_inner.specs.Receiving.{AreInnerFirst, HasClosedAll, IsDecoderOf, HasStopped, DecodesFor, FindsFirst, Hands, HandsPrefix, from_form};
 
 use crate::code::{is_inverted, rate_of};
 use crate::inner_decoder::InnerDecoder;
@@ -69,7 +69,7 @@ pub fn decode<F: Feeding<B>, B: BlockTaker>(
     ensures closed { OnOk result (HasClosedAll decoder.new) }
     ensures handed { OnOk result (Hands B.took DecodesFor decoder.old decoder.new blocks.old blocks.new
         (from_form is_signed octets.now)) }
-    ensures front { OnErr result (HandsFront B.took B.broke DecodesFor
+    ensures prefix { OnErr result (HandsPrefix B.took B.broke DecodesFor
         (FindsFirst decoder.old) decoder.old blocks.old blocks.new (from_form is_signed octets.now)) }
     ensures cause { HasCause (B.faults blocks.old) (B.faults blocks.new) (B.is_last blocks.new) result }
 {
@@ -122,7 +122,7 @@ fn gather_signed(decoder: &mut InnerDecoder, octets: &[u8]) -> usize
         let end = done + PIECE.min(octets.len() - done);
         let piece = &mut room[..end - done];
         piece.copy_from_slice(&octets[done..end]);
-        turn(piece);
+        to_unsigned(piece);
         if !gather(decoder, piece) {
             return done;
         }
@@ -156,7 +156,7 @@ pub fn end<F: Feeding<B>, B: BlockTaker>(
     ensures handed { IfOk result (λ left. (last : List WindowBlock) × HandedOver B.took blocks.old last blocks.new
         × ((c : Configuration) (phase : ℕ) (given : List ℕ) (done : List WindowBlock) → IsDecoderOf c decoder.old
         → DecodesFor decoder.old (soft_octets c phase given) done → AreInnerBlocks c phase given (done ++ last) left)) }
-    ensures front { OnErr result ((tried : List WindowBlock) × HandedPart B.took B.broke blocks.old tried blocks.new
+    ensures prefix { OnErr result ((tried : List WindowBlock) × HandedPart B.took B.broke blocks.old tried blocks.new
         × ((c : Configuration) (phase : ℕ) (given : List ℕ) (done : List WindowBlock) → IsDecoderOf c decoder.old
         → DecodesFor decoder.old (soft_octets c phase given) done → AreInnerFirst c phase given (done ++ tried)
         ⊎ ((left : ℕ) × AreInnerBlocks c phase given (done ++ tried) left))) }
@@ -229,7 +229,7 @@ fn feed_signed<F: Feeding<B>, B: BlockTaker>(
         let end = done + PIECE.min(octets.len() - done);
         let piece = &mut room[..end - done];
         piece.copy_from_slice(&octets[done..end]);
-        turn(piece);
+        to_unsigned(piece);
         match give(by, decoder, piece, blocks) {
             Ok(()) => {}
             Err(Failed) => return Err(Failed),
@@ -240,7 +240,7 @@ fn feed_signed<F: Feeding<B>, B: BlockTaker>(
 }
 
 // Turns signed octets to unsigned ones.
-pub fn turn(octets: &mut [u8])
+pub fn to_unsigned(octets: &mut [u8])
     ensures { octets.new ≡ from_form true octets.old }
 {
     for k in 0..octets.len() {

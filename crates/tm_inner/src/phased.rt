@@ -6,8 +6,8 @@ ghost use Rattle.tm_base.specs.Takers.{HandedOver, HandedPart};
 ghost use Rattle.tm_viterbi.specs.WindowBlock.{WindowBlock};
 ghost use Rattle.tm_inner.specs.Phase.{IsChosenBy, IsSoFarBy, PhaseAt, needed_at, phase_octets, skip_of};
 ghost use Rattle.tm_inner.specs.InnerDecoding.{HasWorkers};
-ghost use Rattle.tm_inner.specs.Receiving.{HasClosedAll, IsDecoderOf, HasStopped, Hands, HandsFront, PhasesFor, Waits, Goes, IsFrontBy, IsFirstBy, soft_form};
-ghost use Rattle.tm_inner.specs.Handing.{AreHanded, AreHandedDue, AreHandedFront};
+ghost use Rattle.tm_inner.specs.Receiving.{HasClosedAll, IsDecoderOf, HasStopped, Hands, HandsPrefix, PhasesFor, Waits, Goes, IsPrefixBy, IsFirstBy, soft_form};
+ghost use Rattle.tm_inner.specs.Handing.{AreHanded, AreHandedDue, AreHandedPrefix};
 
 use crate::code::{is_inverted, is_signed, rate_of};
 use crate::feeding::{count_due, decode, decoder_of, end, gather_octets};
@@ -95,7 +95,7 @@ impl Phased {
         ensures closed { OnOk result ((soft : List ℕ) (done : List (Handed WindowBlock)) → Goes self.new soft done
             → HasClosedAll self.new.decoder) }
         ensures handed { OnOk result (Hands (on_handed B.took_phase B.took) PhasesFor self.old self.new blocks.old blocks.new (soft_form self.old.config octets.now)) }
-        ensures front { OnErr result (HandsFront (on_handed B.took_phase B.took)
+        ensures prefix { OnErr result (HandsPrefix (on_handed B.took_phase B.took)
             (on_handed B.broke_phase B.broke) PhasesFor (IsFirstBy self.old.config)
             self.old blocks.old blocks.new (soft_form self.old.config octets.now)) }
         ensures cause { HasCause (B.faults blocks.old) (B.faults blocks.new) (B.is_last blocks.new) result }
@@ -167,11 +167,11 @@ impl Phased {
             × ((given : List ℕ) (done : List (Handed WindowBlock)) → length given < 2 ^ 60
             → PhasesFor self.old (phase_octets self.old.config given) done
             → (all : AreHanded self.old.config given (done ++ last) left) × (all.chosen ≡ self.new.chosen))) }
-        ensures front { OnErr result ((tried : List (Handed WindowBlock))
+        ensures prefix { OnErr result ((tried : List (Handed WindowBlock))
             × HandedPart (on_handed B.took_phase B.took) (on_handed B.broke_phase B.broke) blocks.old tried blocks.new
             × ((given : List ℕ) (done : List (Handed WindowBlock)) → length given < 2 ^ 60
             → PhasesFor self.old (phase_octets self.old.config given) done
-            → AreHandedFront self.old.config given (done ++ tried))) }
+            → AreHandedPrefix self.old.config given (done ++ tried))) }
         ensures left { IfOk result (λ left. left ≤ 1) }
         ensures cause { HasCause (B.faults blocks.old) (B.faults blocks.new) (B.is_last blocks.new) result }
     {
@@ -218,10 +218,10 @@ impl Phased {
             × HandedOver (on_handed B.took_phase B.took) blocks.old more blocks.new
             × ((soft : List ℕ) (done : List (Handed WindowBlock)) → length soft < 2 ^ 60 → PhasesFor self.old soft done
             → Goes self.new soft (done ++ more))) }
-        ensures front { OnErr result ((tried : List (Handed WindowBlock))
+        ensures prefix { OnErr result ((tried : List (Handed WindowBlock))
             × HandedPart (on_handed B.took_phase B.took) (on_handed B.broke_phase B.broke) blocks.old tried blocks.new
             × ((soft : List ℕ) (done : List (Handed WindowBlock)) → length soft < 2 ^ 60 → PhasesFor self.old soft done
-            → IsFrontBy self.old.config soft (done ++ tried))) }
+            → IsPrefixBy self.old.config soft (done ++ tried))) }
         ensures cause { HasCause (B.faults blocks.old) (B.faults blocks.new) (B.is_last blocks.new) result }
     {
         if !self.waits() {
@@ -243,10 +243,10 @@ impl Phased {
             × HandedOver (on_handed B.took_phase B.took) blocks.old more blocks.new
             × ((soft : List ℕ) (done : List (Handed WindowBlock)) → length soft < 2 ^ 60 → Waits self.old soft done
             → Goes self.new soft (done ++ more))) }
-        ensures front { OnErr result ((tried : List (Handed WindowBlock))
+        ensures prefix { OnErr result ((tried : List (Handed WindowBlock))
             × HandedPart (on_handed B.took_phase B.took) (on_handed B.broke_phase B.broke) blocks.old tried blocks.new
             × ((soft : List ℕ) (done : List (Handed WindowBlock)) → length soft < 2 ^ 60 → Waits self.old soft done
-            → IsFrontBy self.old.config soft (done ++ tried))) }
+            → IsPrefixBy self.old.config soft (done ++ tried))) }
         ensures cause { HasCause (B.faults blocks.old) (B.faults blocks.new) (B.is_last blocks.new) result }
     {
         let chosen = phase_of(&self.config, self.held.as_slice());

@@ -12,11 +12,11 @@ ghost use Rattle.tm_inner.specs.Phase.{IsChosen, IsChosenSoFar, phase_octets, sk
 ghost use Rattle.tm_inner.specs.InnerDecoding.{HasWorkers};
 ghost use Rattle.tm_inner.specs.Receiving.{StandsFor};
 ghost use Rattle.tm_inner.specs.Calls.{Calls, Feeds, Finishes};
-ghost use Rattle.tm_inner.specs.Handing.{AreHanded, AreHandedDue, AreHandedFirst, AreHandedFront};
+ghost use Rattle.tm_inner.specs.Handing.{AreHanded, AreHandedDue, AreHandedFirst, AreHandedPrefix};
 
 use crate::code::{is_packed, is_signed, rate_of};
 use crate::counting::{count_bits, plain_count};
-use crate::feeding::turn;
+use crate::feeding::to_unsigned;
 use crate::nearest::nearest_bits;
 use crate::phased::Phased;
 use crate::workers::{Alone, Feeding, WithWorkers};
@@ -141,7 +141,7 @@ impl InnerReceiver {
             → StandsFor self.old given done
             → StandsFor self.new (given ++ octets.now) (done ++ more)
             × AreHandedDue self.old.config (given ++ octets.now) (done ++ more))) }
-        ensures front { IsErrOf result FeedError.Taker
+        ensures prefix { IsErrOf result FeedError.Taker
             → (tried : List (Handed WindowBlock))
             × HandedPart (on_handed B.took_phase B.took) (on_handed B.broke_phase B.broke) blocks.old tried blocks.new
             × ((given : List ℕ) (done : List (Handed WindowBlock)) → length given + length octets.now < 2 ^ 60
@@ -248,11 +248,11 @@ impl InnerReceiver {
             × ((given : List ℕ) (done : List (Handed WindowBlock)) → StandsFor self.old given done
             → AreHanded self.old.config given (done ++ last) end.leftover
             × (end.bits ≡ length (inner_bits self.old.config given (items_of (done ++ last)))))) }
-        ensures front { IsErrOf result FeedError.Taker
+        ensures prefix { IsErrOf result FeedError.Taker
             → (tried : List (Handed WindowBlock))
             × HandedPart (on_handed B.took_phase B.took) (on_handed B.broke_phase B.broke) blocks.old tried blocks.new
             × ((given : List ℕ) (done : List (Handed WindowBlock)) → StandsFor self.old given done
-            → AreHandedFront self.old.config given (done ++ tried)) }
+            → AreHandedPrefix self.old.config given (done ++ tried)) }
         ensures left { IfOk result (λ end. end.leftover ≤ 1) }
     {
         if self.has_stopped {
@@ -320,7 +320,7 @@ impl InnerReceiver {
     /// Converts the next octets, before they are fed, to soft octets of which 0 is the surest 0 and 255 the surest 1.
     /// Answers how many of the first are still to be skipped. The symbol phase, where it is to be found, is found in
     /// those after them.
-    pub fn turn_soft(&self, octets: &mut [u8]) -> usize
+    pub fn to_soft(&self, octets: &mut [u8]) -> usize
         ensures size { length octets.new ≡ length octets.old }
         ensures skipped { result ≤ length octets.old }
         ensures soft { (given : List ℕ) (done : List (Handed WindowBlock)) → StandsFor self.now given done
@@ -328,7 +328,7 @@ impl InnerReceiver {
             ≡ phase_octets self.now.config given ++ drop result octets.new }
     {
         if is_signed(&self.config) {
-            turn(octets);
+            to_unsigned(octets);
         }
         self.octets_to_skip(octets.len())
     }

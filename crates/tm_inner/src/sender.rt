@@ -1,11 +1,11 @@
 // The sender's last stage.
 ghost use Rattle.std.specs.Prelude.{◌≡◌, ◌≢◌, ◌↔◌, ◌≤◌, List, [], ℕ, IsTrue, OnOk, OnErr, IsErrOf, false};
 ghost use Rattle.tm_base.specs.Outside.{HasCause, Rose};
-ghost use Rattle.tm_base.specs.Pieces.{Fed, FedFront};
-ghost use Rattle.tm_base.specs.Written.{Wrote, WroteFront};
+ghost use Rattle.tm_base.specs.Pieces.{Fed, FedPrefix};
+ghost use Rattle.tm_base.specs.Written.{Wrote, WrotePrefix};
 ghost use Rattle.tm_config.specs.Configuration.{Configuration};
 ghost use Rattle.tm_inner.specs.Symbols.{low_level, symbols_of_octets};
-ghost use Rattle.tm_inner.specs.Sending.{EncodesFor, IsEncoderOf, KeepsFor, StandsFor, Sends, SendsFront, encoded, spread};
+ghost use Rattle.tm_inner.specs.Sending.{EncodesFor, IsEncoderOf, KeepsFor, StandsFor, Sends, SendsPrefix, encoded, spread};
 
 use crate::code::{encoder_of, is_packed, low_level};
 use crate::spreading::spread;
@@ -84,8 +84,8 @@ impl InnerSender {
         ensures failed { IsTrue self.new.has_failed ↔ OnOk result ⊥ }
         ensures config { self.new.config ≡ self.old.config }
         ensures sent { OnOk result (Sends self.old self.new (O.taken out.old) (O.taken out.new) octets.now) }
-        ensures front { IsErrOf result SendError.Sink
-            → SendsFront self.old (O.taken out.old) (O.taken out.new) octets.now }
+        ensures prefix { IsErrOf result SendError.Sink
+            → SendsPrefix self.old (O.taken out.old) (O.taken out.new) octets.now }
         ensures later { O.faults out.old ≤ O.faults out.new }
         ensures rose { IsErrOf result SendError.Sink → Rose (O.faults out.old) (O.faults out.new) (O.is_last out.new) }
         ensures same { result ≢ Err SendError.Sink → O.faults out.new ≡ O.faults out.old }
@@ -121,9 +121,9 @@ fn send<O: Sink>(
     ensures of { (c : Configuration) → IsEncoderOf c encoder.old → IsEncoderOf c encoder.new }
     ensures sent { OnOk result ((c : Configuration) → IsEncoderOf c encoder.old → is_packed ≡ c.pack → low ≡ low_level c.soft
         → Fed KeepsFor (symbols_of_octets c) encoder.old encoder.new (O.taken out.old) (O.taken out.new) octets.now) }
-    ensures front { OnErr result ((c : Configuration) → IsEncoderOf c encoder.old → is_packed ≡ c.pack
+    ensures prefix { OnErr result ((c : Configuration) → IsEncoderOf c encoder.old → is_packed ≡ c.pack
         → low ≡ low_level c.soft
-        → FedFront KeepsFor (symbols_of_octets c) encoder.old (O.taken out.old) (O.taken out.new) octets.now) }
+        → FedPrefix KeepsFor (symbols_of_octets c) encoder.old (O.taken out.old) (O.taken out.new) octets.now) }
     ensures cause { HasCause (O.faults out.old) (O.faults out.new) (O.is_last out.new) result }
 {
     match encoder {
@@ -141,7 +141,7 @@ fn send<O: Sink>(
 // Writes an octet for each bit of the octets, a 0 as the octet `low` and a 1 as its complement.
 fn send_bits<O: Sink>(low: u8, octets: &[u8], out: &mut O) -> Result<(), Failed>
     ensures sent { OnOk result (Wrote (O.taken out.old) (O.taken out.new) (spread low octets.now)) }
-    ensures front { OnErr result (WroteFront (O.taken out.old) (O.taken out.new) (spread low octets.now)) }
+    ensures prefix { OnErr result (WrotePrefix (O.taken out.old) (O.taken out.new) (spread low octets.now)) }
     ensures cause { HasCause (O.faults out.old) (O.faults out.new) (O.is_last out.new) result }
 {
     let mut room = [0; ROOM];
@@ -167,7 +167,7 @@ fn send_symbols<O: Sink>(
     ensures invert { encoder.new.invert ≡ encoder.old.invert }
     ensures sent { OnOk result (Fed EncodesFor (encoded encoder.old.rate encoder.old.invert low)
         encoder.old encoder.new (O.taken out.old) (O.taken out.new) octets.now) }
-    ensures front { OnErr result (FedFront EncodesFor (encoded encoder.old.rate encoder.old.invert low)
+    ensures prefix { OnErr result (FedPrefix EncodesFor (encoded encoder.old.rate encoder.old.invert low)
         encoder.old (O.taken out.old) (O.taken out.new) octets.now) }
     ensures cause { HasCause (O.faults out.old) (O.faults out.new) (O.is_last out.new) result }
 {

@@ -5,7 +5,7 @@ ghost use Rattle.tm_base.specs.Takers.{HandedOver, HandedPart};
 ghost use Rattle.tm_base.specs.Outside.{Rose};
 ghost use Rattle.tm_viterbi.specs.WindowBlock.{WindowBlock};
 ghost use Rattle.tm_inner.specs.Inner.{inner_bits};
-ghost use Rattle.tm_inner.specs.Handing.{AreHanded, AreHandedFront};
+ghost use Rattle.tm_inner.specs.Handing.{AreHanded, AreHandedPrefix};
 
 use crate::receiver::{InnerEnd, InnerReceiver};
 use std::alloc::Global;
@@ -27,10 +27,10 @@ pub fn inner_all<B: BlockTaker>(
         × HandedOver (on_handed B.took_phase B.took) blocks.old all blocks.new
         × (length octets.now < 2 ^ 60 → AreHanded config.now octets.now all end.leftover
         × (end.bits ≡ length (inner_bits config.now octets.now (items_of all))))) }
-    ensures front { IsErrOf result AllError.Taker
+    ensures prefix { IsErrOf result AllError.Taker
         → (tried : List (Handed WindowBlock)) × HandedPart (on_handed B.took_phase B.took)
         (on_handed B.broke_phase B.broke) blocks.old tried blocks.new
-        × (length octets.now < 2 ^ 60 → AreHandedFront config.now octets.now tried) }
+        × (length octets.now < 2 ^ 60 → AreHandedPrefix config.now octets.now tried) }
     ensures left { IfOk result (λ end. end.leftover ≤ 1) }
     ensures unchanged { IsErrOf result AllError.Memory → blocks.new ≡ blocks.old }
     ensures later { B.faults blocks.old ≤ B.faults blocks.new }

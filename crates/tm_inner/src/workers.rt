@@ -30,7 +30,7 @@ pub trait Feeding<B: BlockTaker> {
             × ((given : List ℕ) (done : List WindowBlock) → length given + length piece.now < 2 ^ 60
             → StandsIn decoder.old given done → StandsIn decoder.new (given ++ piece.now) (done ++ more))) }
         ensures closed { OnOk result (HasClosed decoder.new) }
-        ensures front { IsErrOf result FeedError.Taker → (tried : List WindowBlock)
+        ensures prefix { IsErrOf result FeedError.Taker → (tried : List WindowBlock)
             × HandedPart B.took B.broke blocks.old tried blocks.new
             × ((given : List ℕ) (done : List WindowBlock) → StandsIn decoder.old given done
             → AreFirst (settings_in decoder.old) (given ++ piece.now) (done ++ tried)) }
@@ -48,7 +48,7 @@ pub trait Feeding<B: BlockTaker> {
         ensures handed { IfOk result (λ left. (last : List WindowBlock) × HandedOver B.took blocks.old last blocks.new
             × ((given : List ℕ) (done : List WindowBlock) → StandsIn decoder.old given done
             → AreBlocksOf (settings_in decoder.old) given (done ++ last) left)) }
-        ensures front { IsErrOf result FeedError.Taker → (tried : List WindowBlock)
+        ensures prefix { IsErrOf result FeedError.Taker → (tried : List WindowBlock)
             × HandedPart B.took B.broke blocks.old tried blocks.new
             × ((given : List ℕ) (done : List WindowBlock) → StandsIn decoder.old given done
             → AreFirst (settings_in decoder.old) given (done ++ tried)

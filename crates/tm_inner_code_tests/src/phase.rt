@@ -21,7 +21,7 @@ fn drawn(seed: u64) -> [u8; 48] {
 
 // One octet before undisturbed symbols.
 #[test]
-fn symbols_behind_an_octet(rt: HostRuntime) {
+fn symbols_after_an_octet(rt: HostRuntime) {
     let mut octets = [0; 65];
     for i in 0..64 {
         octets[1 + i] = if MARKER_SYMBOLS >> (63 - i) & 1 == 1 {

@@ -139,8 +139,8 @@ fn decoded(
     let mut rest = octets;
     let mut cuts = cuts;
     for _ in 0..octets.len() {
-        let (most, behind) = next_cut(cuts);
-        cuts = behind;
+        let (most, after) = next_cut(cuts);
+        cuts = after;
         let count = rest.len().min(most);
         decoder.feed(&rest[..count], &mut blocks)?;
         rest = &rest[count..];
@@ -380,19 +380,19 @@ fn sums_of_second_sum(octet: u8) -> [u32; 64] {
 
 #[test]
 fn sums_of_a_step(rt: HostRuntime) {
-    let (before, behind) = sums_of_pair(Some(0), [0x80, 0x00]);
+    let (before, after) = sums_of_pair(Some(0), [0x80, 0x00]);
     for register in 0..64usize {
         let wanted = if register == 0 { 0 } else { 1 << 30 };
         assert_eq!(rt; before[register], wanted);
         if register % 32 != 0 {
-            assert!(rt; (1 << 30) + 127 <= behind[register]);
-            assert!(rt; behind[register] <= (1 << 30) + 128);
+            assert!(rt; (1 << 30) + 127 <= after[register]);
+            assert!(rt; after[register] <= (1 << 30) + 128);
         }
     }
-    assert_eq!(rt; (behind[0], behind[32]), (0x17F, 0x7F));
-    let (before, behind) = sums_of_pair(None, [0x00, 0x00]);
+    assert_eq!(rt; (after[0], after[32]), (0x17F, 0x7F));
+    let (before, after) = sums_of_pair(None, [0x00, 0x00]);
     assert_eq!(rt; before, [0; 64]);
-    assert_eq!(rt; (behind[0], behind[1], behind[32]), (255, 0, 255));
+    assert_eq!(rt; (after[0], after[1], after[32]), (255, 0, 255));
     assert_eq!(rt; sums_of_second_sum(0x80), [127; 64]);
 }
 

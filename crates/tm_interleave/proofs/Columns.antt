@@ -33,17 +33,17 @@ pub length-column : {X : Type 0} (depth size i : ℕ) (block : List X) → i < d
 length-column depth size i block below whole = long depth i block size below (omega arith) (omega arith)
 
 -- after the block the columns go on at j
-goes_on : {X : Type 0} (depth i j rounds : ℕ) (front back : List X) → i < depth → j < depth → j + length front ≡ i + rounds * depth → column depth i (front ++ back) ≡ column depth i front ++ column depth j back
+goes_on : {X : Type 0} (depth i j rounds : ℕ) (prefix back : List X) → i < depth → j < depth → j + length prefix ≡ i + rounds * depth → column depth i (prefix ++ back) ≡ column depth i prefix ++ column depth j back
 goes_on depth i j zero [] back below within meets = let same : i ≡ j = omega (arith, zero-mul depth) in ap (λ n. column depth n back) same
 goes_on depth i j (suc rounds) [] back below within meets = absurd (omega (arith, suc-mul rounds depth))
-goes_on depth zero j zero (x ∷ front) back below within meets = absurd (omega (arith, zero-mul depth))
-goes_on depth zero j (suc rounds) (x ∷ front) back below within meets =
-    ap (λ l. x ∷ l) (goes_on depth (depth - 1) j rounds front back (omega arith) within (omega (arith, suc-mul rounds depth)))
-goes_on depth (suc i) j rounds (x ∷ front) back below within meets = goes_on depth i j rounds front back (omega arith) within (omega arith)
+goes_on depth zero j zero (x ∷ prefix) back below within meets = absurd (omega (arith, zero-mul depth))
+goes_on depth zero j (suc rounds) (x ∷ prefix) back below within meets =
+    ap (λ l. x ∷ l) (goes_on depth (depth - 1) j rounds prefix back (omega arith) within (omega (arith, suc-mul rounds depth)))
+goes_on depth (suc i) j rounds (x ∷ prefix) back below within meets = goes_on depth i j rounds prefix back (omega arith) within (omega arith)
 
 -- the columns of whole rows and of what follows them
-pub column-append : {X : Type 0} (depth rows i : ℕ) (front back : List X) → i < depth → length front ≡ depth * rows → column depth i (front ++ back) ≡ column depth i front ++ column depth i back
-column-append depth rows i front back below whole = goes_on depth i i rows front back below below (omega (arith, mul_comm depth rows))
+pub column-append : {X : Type 0} (depth rows i : ℕ) (prefix back : List X) → i < depth → length prefix ≡ depth * rows → column depth i (prefix ++ back) ≡ column depth i prefix ++ column depth i back
+column-append depth rows i prefix back below whole = goes_on depth i i rows prefix back below below (omega (arith, mul_comm depth rows))
 
 -- symbol m of a block stands in column m % depth
 pub get_or-block : {X : Type 0} (depth : ℕ) (block : List X) (m : ℕ) (d : X) → 0 < depth → get_or (column depth (m % depth) block) (m / depth) d ≡ get_or block m d

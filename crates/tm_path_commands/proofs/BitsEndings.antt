@@ -3,7 +3,7 @@ use Rattle.std.proofs.Common.{◌≡◌, ◌⊎◌, inl, inr, ℕ, ◌+◌, ◌%
 use Rattle.std.proofs.lemmas.List.{append-nil, drop_all, take_all}
 use Rattle.tm_base.specs.Bits.{bits_of, octets_of}
 use Rattle.tm_base.specs.Handed.{Handed, items_of}
-use Rattle.tm_base.specs.Written.{Wrote, WroteFront}
+use Rattle.tm_base.specs.Written.{Wrote, WrotePrefix}
 use Rattle.tm_base.proofs.Packing.{AreOctets-octets_of, length-bits_of, octets_of-append, octets_of-bits_of}
 use Rattle.tm_config.specs.Accepted.{IsAccepted}
 use Rattle.tm_config.specs.Configuration.{Configuration}
@@ -11,13 +11,13 @@ use Rattle.tm_conv.specs.declared.rates.Rate.{Rate}
 use Rattle.tm_phase.specs.declared.choosing.Chosen.{Chosen}
 use Rattle.tm_viterbi.specs.WindowBlock.{WindowBlock}
 use Rattle.tm_inner.specs.Inner.{AreInnerBlocks, AreInnerDue, bits_at, inner_bits}
-use Rattle.tm_inner.specs.Phase.{in_turn, skip_of}
+use Rattle.tm_inner.specs.Phase.{with_phase, skip_of}
 use Rattle.tm_inner.specs.Receiving.{InnerReceiving, StandsFor}
 use Rattle.tm_inner.specs.Handing.{AreHanded, AreHandedDue}
 use Rattle.tm_inner.proofs.DueBits.{StandFirst, StayClosed, bits-first}
-use Rattle.tm_inner.proofs.InTurn.{HasPhase, OnePhase, choice-stays, in_turn-exists, one-choice}
+use Rattle.tm_inner.proofs.WithPhase.{HasPhase, OnePhase, choice-stays, with_phase-exists, one-choice}
 use Rattle.tm_inner.proofs.InnerBits.{HasBlocks, has_blocks}
-use Rattle.tm_inner.proofs.PhasePieces.{PhaseStays, items_of-in_turn}
+use Rattle.tm_inner.proofs.PhasePieces.{PhaseStays, items_of-with_phase}
 use Rattle.tm_inner.proofs.PlainBits.{bits-nil}
 use Rattle.tm_driver.specs.Driven.{DrivenTo}
 use Rattle.tm_driver.specs.Meaning.{Ends, Output, WroteEarly, WrotePrefixes, taken_by}
@@ -25,45 +25,45 @@ use Rattle.tm_driver.specs.declared.ending.Ending.{Ending}
 use Rattle.tm_driver.specs.declared.ending.Outcome.TheVariants as outcome
 use Rattle.tm_driver.specs.declared.ending.Stop.TheVariants as stop
 use Rattle.tm_driver.proofs.Driven.{Shows, WroteInOrder, done-driven}
-use Rattle.tm_driver.proofs.SinkTexts.{front-of, wrote-front, wrote-nothing, wrote-then, wrote-then_front}
+use Rattle.tm_driver.proofs.SinkTexts.{prefix-of, wrote-prefix, wrote-nothing, wrote-then, wrote-then_prefix}
 use Rattle.tm_path_commands.specs.Bits.{CutsWriting, EndsWriting, FailsWriting, Gathers, GathersLast, IsEmptied, Packing, PhaseWaits, Writes, WritesAll, WritesAllPart, WritesMore, WritesPart, WrotePart, WroteWaiting, AreBitsInOrder, IsBits, bits_meaning, bits_of_handed, end_line, fill, filled_octets, line_of, open_bits, phase_line}
 use Rattle.tm_path_commands.specs.Lines.{trace_end_text}
 use Rattle.tm_path_commands.proofs.TraceEndings.{stands-new}
-use Rattle.tm_path_commands.proofs.BitsGathered.{bits-unsettled, line-append, line-in_turn}
+use Rattle.tm_path_commands.proofs.BitsGathered.{bits-unsettled, line-append, line-with_phase}
 use Rattle.tm_path_commands.proofs.PackedBits.{few-open, octets-more, octets-none, split-open}
 
 -- ---- parts of what is written
 
-front-nothing : (before now : Option (List ℕ)) → WroteFront before now [] → Wrote before now []
-front-nothing before now wrote = subst (Wrote before now) (take_all wrote.0 [] (omega arith)) wrote.1
+prefix-nothing : (before now : Option (List ℕ)) → WrotePrefix before now [] → Wrote before now []
+prefix-nothing before now wrote = subst (Wrote before now) (take_all wrote.0 [] (omega arith)) wrote.1
 
 -- of nothing and of anything
-no-part : (before now : Option (List ℕ)) (text : List ℕ) → Wrote before now [] → WroteFront before now text
+no-part : (before now : Option (List ℕ)) (text : List ℕ) → Wrote before now [] → WrotePrefix before now text
 no-part before now text wrote = (0, wrote)
 
 -- a part after what was written before
-part-behind : (start out out_now noted notes notes_now : Option (List ℕ)) (before octets told line : List ℕ)
+part-after : (start out out_now noted notes notes_now : Option (List ℕ)) (before octets told line : List ℕ)
     → Wrote start out before → Wrote noted notes told
     → (line ≡ []) ⊎ (before ≡ []) → WrotePart line octets out out_now notes notes_now
     → WrotePart (told ++ line) (before ++ octets) start out_now noted notes_now
-part-behind start out out_now noted notes notes_now before octets told line wrote wrote_line first (inr part) =
+part-after start out out_now noted notes notes_now before octets told line wrote wrote_line first (inr part) =
     inr (
-      wrote-then_front start out out_now before octets wrote part.0,
+      wrote-then_prefix start out out_now before octets wrote part.0,
       wrote-then noted notes notes_now told line
           wrote_line part.1,
     )
-part-behind start out out_now noted notes notes_now before octets told line wrote wrote_line (inr none) (inl part) =
+part-after start out out_now noted notes notes_now before octets told line wrote wrote_line (inr none) (inl part) =
     inl (
       subst (Wrote start out_now) (append-nil before ∙ none) (wrote-then start out out_now before [] wrote part.0),
-      wrote-then_front noted notes notes_now told line wrote_line part.1,
+      wrote-then_prefix noted notes notes_now told line wrote_line part.1,
     )
-part-behind start out out_now noted notes notes_now before octets told line wrote wrote_line (inl none) (inl part) =
+part-after start out out_now noted notes notes_now before octets told line wrote wrote_line (inl none) (inl part) =
     let same : Wrote start out_now before = subst (Wrote start out_now) (append-nil before)
     (wrote-then start out out_now before [] wrote part.0) in
     let nothing : Wrote notes notes_now line = subst (Wrote notes notes_now) (sym none)
-    (front-nothing notes notes_now (subst (WroteFront notes notes_now) none part.1)) in
+    (prefix-nothing notes notes_now (subst (WrotePrefix notes notes_now) none part.1)) in
     inr (
-      front-of start out_now before octets (wrote-front start out_now before same),
+      prefix-of start out_now before octets (wrote-prefix start out_now before same),
       wrote-then noted notes
           notes_now told line wrote_line nothing,
     )
@@ -93,19 +93,19 @@ module _ (receiver now : InnerReceiving) (packing packed : Packing) (octets : Li
   writes-more emptied is wrote c start noted given accepted was within =
       let p = was (few-before given octets within) in
       let g = h.holds c p.written given p.handed accepted within p.holds p.is_written in
-      let front : List Bool = bits_of (octets_of packed.bits) in
-      let size = length-append p.written front in
+      let prefix : List Bool = bits_of (octets_of packed.bits) in
+      let size = length-append p.written prefix in
       let left : emptied.bits ≡ open_bits packed.bits = ap (λ (q : Packing). q.bits) is in
-      let whole_octets : octets_of front ≡ octets_of packed.bits = octets_of-bits_of (octets_of packed.bits)
+      let whole_octets : octets_of prefix ≡ octets_of packed.bits = octets_of-bits_of (octets_of packed.bits)
       (AreOctets-octets_of packed.bits) in
       record {
         handed = p.handed ++ h.more;
-        written = p.written ++ front;
+        written = p.written ++ prefix;
         holds = record {
           config = g.0.config;
           stands = g.0.stands;
           room = ap (λ (q : Packing). q.room) is ∙ g.0.room;
-          bits = ap (λ l. (p.written ++ front) ++ l) left ∙ append_assoc p.written front (open_bits packed.bits)
+          bits = ap (λ l. (p.written ++ prefix) ++ l) left ∙ append_assoc p.written prefix (open_bits packed.bits)
               ∙ ap (λ l. p.written ++ l) (split-open packed.bits) ∙ g.0.bits;
           windows = ap (λ (q : Packing). q.windows) is ∙ g.0.windows;
         };
@@ -115,7 +115,7 @@ module _ (receiver now : InnerReceiving) (packing packed : Packing) (octets : Li
         };
         whole = omega (arith, size, p.whole, length-bits_of (octets_of packed.bits));
         out = subst (Wrote start out_now)
-            (sym (octets_of-append p.written front p.whole ∙ ap (λ l. octets_of p.written ++ l) whole_octets))
+            (sym (octets_of-append p.written prefix p.whole ∙ ap (λ l. octets_of p.written ++ l) whole_octets))
             (wrote-then start out out_now (octets_of p.written) (octets_of packed.bits) p.out wrote.1);
         notes = subst (Wrote noted notes_now) (ap (λ l. phase_line p.handed ++ l) g.1.line
             ∙ sym (line-append p.handed h.more))
@@ -138,7 +138,7 @@ module _ (receiver now : InnerReceiving) (packing packed : Packing) (octets : Li
             out_now noted notes_now) line
             (subst (λ (l : List ℕ). WrotePart (phase_line p.handed ++ line_of packed.phase) l start out_now noted
             notes_now) all
-            (part-behind start out out_now noted notes notes_now (octets_of p.written) (octets_of packed.bits)
+            (part-after start out out_now noted notes notes_now (octets_of p.written) (octets_of packed.bits)
             (phase_line p.handed) (line_of packed.phase)
             p.out p.notes (first-of packed p.written h.more g.1) part));
       }
@@ -214,7 +214,7 @@ module _ (receiver : InnerReceiving) (packing packed : Packing) (count left : �
             noted notes_now) (the-line c start noted octets accepted p)
             (subst (λ (l : List ℕ). WrotePart (phase_line p.handed ++ line_of packed.phase) l start out_now noted
             notes_now) (all-of-them c start noted octets accepted p)
-            (part-behind start out out_now noted notes notes_now (octets_of p.written) (octets_of packed.bits)
+            (part-after start out out_now noted notes notes_now (octets_of p.written) (octets_of packed.bits)
             (phase_line p.handed) (line_of packed.phase)
             p.out p.notes (first-of packed p.written h.last g.1) part)));
       }
@@ -222,7 +222,7 @@ module _ (receiver : InnerReceiving) (packing packed : Packing) (count left : �
   -- or in the last line
   pub cuts-line : (emptied : Packing) (middle notes_now : Option (List ℕ)) → IsEmptied packed emptied
       → WroteWaiting packed out out_now notes middle
-      → WroteFront middle notes_now (trace_end_text emptied.windows count left)
+      → WrotePrefix middle notes_now (trace_end_text emptied.windows count left)
       → CutsWriting receiver packing out notes out_now notes_now
   cuts-line emptied middle notes_now is wrote line c start noted octets accepted p =
       let all : List (Handed WindowBlock) = p.handed ++ h.last in
@@ -232,9 +232,9 @@ module _ (receiver : InnerReceiving) (packing packed : Packing) (count left : �
         are_handed = (h.holds c p.written octets p.handed accepted p.holds p.is_written).0.are_handed;
         part = inr (
           out-all c start noted octets accepted p wrote.1,
-          wrote-then_front noted middle notes_now (phase_line all) (end_line c octets all left)
+          wrote-then_prefix noted middle notes_now (phase_line all) (end_line c octets all left)
               (line-all c start noted octets accepted p middle wrote.0)
-              (subst (WroteFront middle notes_now) (last-line c start noted octets accepted p emptied is) line),
+              (subst (WrotePrefix middle notes_now) (last-line c start noted octets accepted p emptied is) line),
         );
       }
 
@@ -275,13 +275,13 @@ shows-part c octets taken taken_now noted noted_now w =
       output-of c octets handed w.left,
       is-bits c octets handed w.left w.are_handed,
       elim w.part as (λ _. WrotePrefixes (output-of c octets handed w.left) (taken_by taken taken_now noted noted_now)) [
-        | inl (inl p) ↦ record { out = no-part taken taken_now all p.0; notes = front-of noted noted_now line end p.1 }
+        | inl (inl p) ↦ record { out = no-part taken taken_now all p.0; notes = prefix-of noted noted_now line end p.1 }
         | inl (inr p) ↦ record {
           out = p.0;
-          notes = front-of noted noted_now line end
-              (wrote-front noted noted_now line p.1);
+          notes = prefix-of noted noted_now line end
+              (wrote-prefix noted noted_now line p.1);
         }
-        | inr p ↦ record { out = wrote-front taken taken_now all p.0; notes = p.1 }
+        | inr p ↦ record { out = wrote-prefix taken taken_now all p.0; notes = p.1 }
       ],
       (
         handed,
@@ -302,7 +302,7 @@ module _ (exists : HasBlocks) (stands : StandFirst) (phase : HasPhase) (one : On
   handed-all : (c : Configuration) (octets : List ℕ) → IsAccepted c → (handed : List (Handed WindowBlock))
       × (left : ℕ) × AreHanded c octets handed left
   handed-all c octets accepted =
-      let all = in_turn-exists (λ n blocks. (left : ℕ) × AreInnerBlocks c n octets blocks left) phase c octets
+      let all = with_phase-exists (λ n blocks. (left : ℕ) × AreInnerBlocks c n octets blocks left) phase c octets
       (λ n. let b = has_blocks exists c n octets accepted in (b.0, (b.1, b.2))) in
       let h = all.1 in (
         all.0,
@@ -324,8 +324,8 @@ module _ (exists : HasBlocks) (stands : StandFirst) (phase : HasPhase) (one : On
     line : ((phase_line due ≡ []) × (bits_of_handed c octets due ≡ [])) ⊎ (phase_line due ≡ phase_line all)
 
   turn-items : (chosen : Option Chosen) (items : List WindowBlock) (handed : List (Handed WindowBlock))
-      → handed ≡ in_turn chosen items → items_of handed ≡ items
-  turn-items chosen items handed are = ap items_of are ∙ items_of-in_turn chosen items
+      → handed ≡ with_phase chosen items → items_of handed ≡ items
+  turn-items chosen items handed are = ap items_of are ∙ items_of-with_phase chosen items
 
   later : (c : Configuration) (octets more : List ℕ) (due all : List (Handed WindowBlock)) (left : ℕ)
       → AreHandedDue c octets due → AreHanded c (octets ++ more) all left → Later c octets (octets ++ more) due all
@@ -348,20 +348,20 @@ module _ (exists : HasBlocks) (stands : StandFirst) (phase : HasPhase) (one : On
         bits = ap (inner_bits c (octets ++ more)) (turn-items q.chosen q.items all q.are) ∙ first.1
             ∙ ap (λ (l : List WindowBlock). inner_bits c octets l ++ first.0)
             (sym (turn-items t.chosen t.items due t.are));
-        line = inr (ap phase_line t.are ∙ line-in_turn t.chosen t.items ∙ ap line_of same
-            ∙ sym (line-in_turn q.chosen q.items) ∙ sym (ap phase_line q.are));
+        line = inr (ap phase_line t.are ∙ line-with_phase t.chosen t.items ∙ ap line_of same
+            ∙ sym (line-with_phase q.chosen q.items) ∙ sym (ap phase_line q.are));
       }
 
   -- a prefix of what is due is one of all
   due-octets : (c : Configuration) (octets longer : List ℕ) (due all : List (Handed WindowBlock))
       → Later c octets longer due all → (before now : Option (List ℕ))
-      → WroteFront before now (octets_of (bits_of_handed c octets due))
-      → WroteFront before now (filled_octets (bits_of_handed c longer all))
+      → WrotePrefix before now (octets_of (bits_of_handed c octets due))
+      → WrotePrefix before now (filled_octets (bits_of_handed c longer all))
   due-octets c octets longer due all l before now wrote =
       let r = octets-more (bits_of_handed c octets due) (l.rest ++ fill) in
       let same : filled_octets (bits_of_handed c longer all) ≡ octets_of (bits_of_handed c octets due) ++ r.0 =
       ap filled_octets l.bits ∙ ap octets_of (append_assoc (bits_of_handed c octets due) l.rest fill) ∙ r.1 in
-      subst (WroteFront before now) (sym same) (front-of before now (octets_of (bits_of_handed c octets due)) r.0 wrote)
+      subst (WrotePrefix before now) (sym same) (prefix-of before now (octets_of (bits_of_handed c octets due)) r.0 wrote)
 
   due-part : (c : Configuration) (octets longer : List ℕ) (due all : List (Handed WindowBlock))
       → Later c octets longer due all → (taken taken_now noted noted_now : Option (List ℕ))
@@ -372,17 +372,17 @@ module _ (exists : HasBlocks) (stands : StandFirst) (phase : HasPhase) (one : On
         | inl none ↦ inl (
           (elim part as (λ _. Wrote taken taken_now []) [
             | inl p ↦ p.0
-            | inr p ↦ front-nothing taken taken_now (subst (λ (b : List Bool). WroteFront taken taken_now (octets_of b))
+            | inr p ↦ prefix-nothing taken taken_now (subst (λ (b : List Bool). WrotePrefix taken taken_now (octets_of b))
                 none.1 p.0)
           ]),
           no-part noted noted_now (phase_line all) (elim part as (λ _. Wrote noted noted_now []) [
-            | inl p ↦ front-nothing noted noted_now (subst (WroteFront noted noted_now) none.0 p.1)
+            | inl p ↦ prefix-nothing noted noted_now (subst (WrotePrefix noted noted_now) none.0 p.1)
             | inr p ↦ subst (Wrote noted noted_now) none.0 p.1
           ]),
         )
         | inr same ↦ (elim part as (λ _. WrotePart (phase_line all) (filled_octets (bits_of_handed c longer all)) taken
             taken_now noted noted_now) [
-              | inl p ↦ inl (p.0, subst (WroteFront noted noted_now) same p.1)
+              | inl p ↦ inl (p.0, subst (WrotePrefix noted noted_now) same p.1)
               | inr p ↦ inr (
                 due-octets c octets longer due all l taken taken_now p.0,
                 subst (Wrote noted noted_now) same p.1,
@@ -433,12 +433,12 @@ module _ (exists : HasBlocks) (stands : StandFirst) (phase : HasPhase) (one : On
               is-bits c longer all.0 all.1 all.2,
               record {
                 out = due-octets c octets longer handed all.0 l taken taken_now
-                    (wrote-front taken taken_now (octets_of bits) out);
-                notes = elim l.line as (λ _. WroteFront noted noted_now (phase_line all.0 ++ end)) [
+                    (wrote-prefix taken taken_now (octets_of bits) out);
+                notes = elim l.line as (λ _. WrotePrefix noted noted_now (phase_line all.0 ++ end)) [
                   | inl none ↦ no-part noted noted_now (phase_line all.0 ++ end)
                       (subst (Wrote noted noted_now) none.0 w.notes)
-                  | inr same ↦ front-of noted noted_now (phase_line all.0) end
-                      (wrote-front noted noted_now (phase_line all.0) (subst (Wrote noted noted_now) same w.notes))
+                  | inr same ↦ prefix-of noted noted_now (phase_line all.0) end
+                      (wrote-prefix noted noted_now (phase_line all.0) (subst (Wrote noted noted_now) same w.notes))
                 ];
               },
             ),

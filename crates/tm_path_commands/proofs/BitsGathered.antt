@@ -16,12 +16,12 @@ use Rattle.tm_phase.specs.declared.choosing.Chosen.{Chosen}
 use Rattle.tm_viterbi.specs.Clean.{kept_bits}
 use Rattle.tm_viterbi.specs.WindowBlock.{WindowBlock}
 use Rattle.tm_inner.specs.Inner.{BlocksAt, DueAt, plain_bits, bits_at, inner_bits, soft_value, AreInnerBlocks}
-use Rattle.tm_inner.specs.Phase.{IsChosenBy, IsSettled, in_turn, needed_at, phase_octets, skip_of, skipped_at}
+use Rattle.tm_inner.specs.Phase.{IsChosenBy, IsSettled, with_phase, needed_at, phase_octets, skip_of, skipped_at}
 use Rattle.tm_inner.specs.Receiving.{InnerReceiving, StandsFor}
 use Rattle.tm_inner.specs.Handing.{AreHanded, AreHandedDue}
 use Rattle.tm_inner.proofs.DueBits.{kept-append}
 use Rattle.tm_inner.proofs.HandedBits.{handed-last-few, handed-more-few, needed-few}
-use Rattle.tm_inner.proofs.PhasePieces.{items_of-in_turn}
+use Rattle.tm_inner.proofs.PhasePieces.{items_of-with_phase}
 use Rattle.tm_inner.proofs.PlainBits.{bits-nil, plain-few}
 use Rattle.tm_path_commands.specs.Bits.{Adds, AddsPhase, AddsWindow, Gathers, GathersLast, HandsWindows, Holds, IsWritten, Packing, PhaseWaits, bits_of_handed, fill, line_of, phase_line}
 use Rattle.tm_path_commands.specs.Tracing.{StandsAt}
@@ -40,15 +40,15 @@ all_bits-append : (xs ys : List WindowBlock) → all_bits (xs ++ ys) ≡ all_bit
 all_bits-append xs ys = ap (map is_one) (kept-append xs ys) ∙ map-append is_one (kept_bits xs) (kept_bits ys)
 
 -- the phase that waits after what was handed over
-abbrev phase_behind : Option Chosen → List (Handed WindowBlock) → Option Chosen
-phase_behind chosen [] = chosen
-phase_behind chosen (Phase skip cost ∷ handed) = phase_behind (Some record { skip = skip; cost = cost }) handed
-phase_behind chosen (Item block ∷ handed) = phase_behind chosen handed
+abbrev phase_after : Option Chosen → List (Handed WindowBlock) → Option Chosen
+phase_after chosen [] = chosen
+phase_after chosen (Phase skip cost ∷ handed) = phase_after (Some record { skip = skip; cost = cost }) handed
+phase_after chosen (Item block ∷ handed) = phase_after chosen handed
 
 -- what waits then
 record Waits (before now : Packing) (more : List (Handed WindowBlock)) : Type 0 where
   room : now.room ≡ before.room
-  phase : now.phase ≡ phase_behind before.phase more
+  phase : now.phase ≡ phase_after before.phase more
   windows : before.windows + length (items_of more) < 2 ^ 64 → now.windows ≡ before.windows + length (items_of more)
   bits : length before.bits + length (kept_bits (items_of more)) < 8 * before.room + 8
       → now.bits ≡ before.bits ++ all_bits (items_of more)
@@ -69,7 +69,7 @@ waits before now (Phase skip cost ∷ more) handed =
     let bits = ap (λ (p : Packing). p.bits) is in
     record {
       room = rest.room ∙ room;
-      phase = rest.phase ∙ ap (λ (p : Packing). phase_behind p.phase more) is;
+      phase = rest.phase ∙ ap (λ (p : Packing). phase_after p.phase more) is;
       windows = λ few. rest.windows (omega (arith, few, windows)) ∙ ap (λ n. n + length (items_of more)) windows;
       bits = λ few. rest.bits (omega (arith, few, room, ap length bits)) ∙ ap (λ l. l ++ all_bits (items_of more)) bits;
     }
@@ -82,7 +82,7 @@ waits before now (Item block ∷ more) handed =
     let rest = waits middle now more handed.2 in
     record {
       room = rest.room ∙ one.room;
-      phase = rest.phase ∙ ap (λ (o : Option Chosen). phase_behind o more) one.phase;
+      phase = rest.phase ∙ ap (λ (o : Option Chosen). phase_after o more) one.phase;
       windows = λ few.
           let raised : middle.windows ≡ before.windows + 1 = omega (arith, one.windows, few) in
           let next = rest.windows (omega (arith, raised, few)) in omega (arith, next, raised);
@@ -109,54 +109,54 @@ line-items [] = refl
 line-items (item ∷ items) = line-items items
 
 -- it is that of the phase that was chosen
-pub line-in_turn : (chosen : Option Chosen) (items : List WindowBlock)
-    → phase_line (in_turn chosen items) ≡ line_of chosen
-line-in_turn None items = line-items items
-line-in_turn (Some chosen) items =
+pub line-with_phase : (chosen : Option Chosen) (items : List WindowBlock)
+    → phase_line (with_phase chosen items) ≡ line_of chosen
+line-with_phase None items = line-items items
+line-with_phase (Some chosen) items =
     let text = phase_text chosen.skip chosen.cost in
     ap (λ l. text ++ l) (line-items items) ∙ append-nil text
 
-phase-items : (chosen : Option Chosen) (items : List WindowBlock) → phase_behind chosen (map Item items) ≡ chosen
+phase-items : (chosen : Option Chosen) (items : List WindowBlock) → phase_after chosen (map Item items) ≡ chosen
 phase-items chosen [] = refl
 phase-items chosen (item ∷ items) = phase-items chosen items
 
 -- after items stand items alone
-behind-items : (xs ys : List (Handed WindowBlock)) (items : List WindowBlock) → xs ++ ys ≡ map Item items
+after-items : (xs ys : List (Handed WindowBlock)) (items : List WindowBlock) → xs ++ ys ≡ map Item items
     → (rest : List WindowBlock) × (ys ≡ map Item rest)
-behind-items [] ys items same = (items, same)
-behind-items (x ∷ xs) ys [] same = absurd cc
-behind-items (x ∷ xs) ys (item ∷ items) same = behind-items xs ys items cc
+after-items [] ys items same = (items, same)
+after-items (x ∷ xs) ys [] same = absurd cc
+after-items (x ∷ xs) ys (item ∷ items) same = after-items xs ys items cc
 
 -- the phase of what was handed over more, and whether nothing was before
 record HasLine (before more : List (Handed WindowBlock)) (chosen : Option Chosen) : Type 0 where
-  line : line_of (phase_behind None more) ≡ phase_line more
+  line : line_of (phase_after None more) ≡ phase_line more
   first : (phase_line more ≡ []) ⊎ ((before ≡ []) × (chosen ≡ None → ⊥))
 
 of-items : (before more : List (Handed WindowBlock)) (chosen : Option Chosen) (items : List WindowBlock)
     → more ≡ map Item items → HasLine before more chosen
 of-items before more chosen items are = record {
-  line = ap (λ l. line_of (phase_behind None l)) are ∙ ap line_of (phase-items None items) ∙ sym (line-items items)
+  line = ap (λ l. line_of (phase_after None l)) are ∙ ap line_of (phase-items None items) ∙ sym (line-items items)
       ∙ ap phase_line (sym are);
   first = inl (ap phase_line are ∙ line-items items);
 }
 
 has-line : (before more : List (Handed WindowBlock)) (chosen : Option Chosen) (items : List WindowBlock)
-    → before ++ more ≡ in_turn chosen items → HasLine before more chosen
+    → before ++ more ≡ with_phase chosen items → HasLine before more chosen
 has-line [] more None items same = of-items [] more None items same
 has-line [] more (Some chosen) items same = record {
-  line = ap (λ l. line_of (phase_behind None l)) same ∙ ap line_of (phase-items (Some chosen) items)
-      ∙ sym (line-in_turn (Some chosen) items) ∙ ap phase_line (sym same);
+  line = ap (λ l. line_of (phase_after None l)) same ∙ ap line_of (phase-items (Some chosen) items)
+      ∙ sym (line-with_phase (Some chosen) items) ∙ ap phase_line (sym same);
   first = inr (refl, λ none. cc none);
 }
 has-line (x ∷ before) more None items same =
-    let rest = behind-items (x ∷ before) more items same in of-items (x ∷ before) more None rest.0 rest.1
+    let rest = after-items (x ∷ before) more items same in of-items (x ∷ before) more None rest.0 rest.1
 has-line (x ∷ before) more (Some chosen) items same =
-    let rest = behind-items before more items cc in of-items (x ∷ before) more (Some chosen) rest.0 rest.1
+    let rest = after-items before more items cc in of-items (x ∷ before) more (Some chosen) rest.0 rest.1
 
 -- ---- no bits come before the phase
 
 chosen-given : (c : Configuration) (soft : List ℕ) (chosen : Option Chosen) (items : List WindowBlock)
-    → IsChosenBy c soft chosen → [] ≡ in_turn chosen items → c.phase ≡ Given
+    → IsChosenBy c soft chosen → [] ≡ with_phase chosen items → c.phase ≡ Given
 chosen-given c soft None items is same = is
 chosen-given c soft (Some chosen) items is same = absurd cc
 
@@ -188,14 +188,14 @@ bits-before c given (inl due) find = bits-unsettled c.inner c given refl due.0
 bits-before c given (inr due) find = absurd
     (find (chosen-given c (phase_octets c given) due.1.chosen due.1.items due.1.choice due.1.are))
 
-front-none : (xs ys : List Bool) → xs ++ ys ≡ [] → xs ≡ []
-front-none [] ys none = refl
-front-none (x ∷ xs) ys none = absurd cc
+prefix-none : (xs ys : List Bool) → xs ++ ys ≡ [] → xs ≡ []
+prefix-none [] ys none = refl
+prefix-none (x ∷ xs) ys none = absurd cc
 
 phase-waits : (c : Configuration) (packing : Packing) (written rest : List Bool) (given soft : List ℕ)
     (done more : List (Handed WindowBlock)) (chosen : Option Chosen) (items : List WindowBlock)
     → AreHandedDue c given done → written ++ rest ≡ bits_of_handed c given done → IsChosenBy c soft chosen
-    → done ++ more ≡ in_turn chosen items → packing.phase ≡ phase_behind None more
+    → done ++ more ≡ with_phase chosen items → packing.phase ≡ phase_after None more
     → PhaseWaits packing written more
 phase-waits c packing written rest given soft done more chosen items due bits choice are phase =
     let h = has-line done more chosen items are in
@@ -203,7 +203,7 @@ phase-waits c packing written rest given soft done more chosen items due bits ch
       line = ap line_of phase ∙ h.line;
       first = elim h.first as (λ _. (phase_line more ≡ []) ⊎ (written ≡ [])) [
         | inl none ↦ inl none
-        | inr begins ↦ inr (front-none written rest (
+        | inr begins ↦ inr (prefix-none written rest (
             bits ∙ ap (λ (l : List (Handed WindowBlock)). bits_of_handed c given l) begins.0
             ∙ bits-before c given (subst (AreHandedDue c given) begins.0 due)
             (chosen-found c soft chosen choice begins.1)
@@ -219,7 +219,7 @@ none-due : (c : Configuration) (octets : List ℕ) (handed : List (Handed Window
 none-due c octets handed none (inl due) = ap items_of due.1
 none-due c octets handed none (inr due) =
     let t = due.1 in
-    ap items_of t.are ∙ items_of-in_turn t.chosen t.items
+    ap items_of t.are ∙ items_of-with_phase t.chosen t.items
     ∙ subst (λ (r : Option Rate). DueAt r c (skip_of t.chosen) octets t.items) none t.are_items
 
 back-none : {A : Type 0} (xs ys : List A) → xs ++ ys ≡ [] → ys ≡ []
@@ -289,7 +289,7 @@ module _ (receiver now : InnerReceiving) (packing packed : Packing) (octets : Li
       | inl due ↦ (
           let none : h.more ≡ [] = back-none done h.more due.1 in
           record {
-            line = ap line_of phase ∙ ap (λ l. line_of (phase_behind None l)) none
+            line = ap line_of phase ∙ ap (λ l. line_of (phase_after None l)) none
                 ∙ sym (ap phase_line none);
             first = inl (ap phase_line none);
           }
@@ -301,8 +301,8 @@ module _ (receiver now : InnerReceiving) (packing packed : Packing) (octets : Li
           )
     ]
       where
-        phase : final.phase ≡ phase_behind None h.more
-        phase = same ∙ all.phase ∙ ap (λ (o : Option Chosen). phase_behind o h.more) is.no_phase
+        phase : final.phase ≡ phase_after None h.more
+        phase = same ∙ all.phase ∙ ap (λ (o : Option Chosen). phase_after o h.more) is.no_phase
 
   -- with an inner code these bits are all
   pub gathers-coded : is_some receiver.config.inner ≡ true → Gathers receiver now packing packed octets
@@ -422,7 +422,7 @@ gathers-last receiver packing packed final count left last handed adds ends = re
         all.room,
         length-low_bits 7 0,
       )) in
-      let items : t.items ≡ items_of done ++ items_of last = sym (items_of-in_turn t.chosen t.items)
+      let items : t.items ≡ items_of done ++ items_of last = sym (items_of-with_phase t.chosen t.items)
       ∙ ap items_of (sym t.are) ∙ items_of-append done last in
       let more = last-bits c.inner c (skip_of t.chosen) octets (items_of done) (items_of last) left
       (subst (λ (l : List WindowBlock). AreInnerBlocks c (skip_of t.chosen) octets l left) items t.are_items) in
@@ -448,6 +448,6 @@ gathers-last receiver packing packed final count left last handed adds ends = re
         },
         phase-waits c final written packing.bits octets (phase_octets c octets) done last t.chosen t.items due p.bits
             t.choice t.are
-            (adds.phase ∙ all.phase ∙ ap (λ (o : Option Chosen). phase_behind o last) is.no_phase),
+            (adds.phase ∙ all.phase ∙ ap (λ (o : Option Chosen). phase_after o last) is.no_phase),
       );
 }

@@ -109,9 +109,9 @@ soft-octet c octet small = grind (arith, nat_tests)
 
 soft-small : (c : Configuration) (phase : ℕ) (octets : List ℕ) → AreOctets octets → AreOctets (soft_octets c phase octets)
 soft-small c phase octets small =
-    let behind = drop phase (drop c.skip octets) in
-    All-map (λ v. v < 256) (soft_value c) behind
-    (All-weaker (λ v. v < 256) (λ v. soft_value c v < 256) (soft-octet c) behind (All-drop (λ v. v < 256) phase (drop c.skip octets) (All-drop (λ v. v < 256) c.skip octets small)))
+    let after = drop phase (drop c.skip octets) in
+    All-map (λ v. v < 256) (soft_value c) after
+    (All-weaker (λ v. v < 256) (λ v. soft_value c v < 256) (soft-octet c) after (All-drop (λ v. v < 256) phase (drop c.skip octets) (All-drop (λ v. v < 256) c.skip octets small)))
 
 -- a certificate is whole, and its windows are of these blocks, which keep so many bits
 record Certifies (c d : Configuration) (given octets : List ℕ) (blocks : List WindowBlock) (rate : Rate) : Type 0 where

@@ -5,8 +5,8 @@ use Rattle.tm_base.specs.Takers.{HandedOver, HandedPart}
 use Rattle.tm_base.proofs.HandedItems.{items_of-append, items_of-items}
 use Rattle.tm_viterbi.specs.WindowBlock.{WindowBlock}
 use Rattle.tm_phase.specs.declared.choosing.Chosen.{Chosen}
-use Rattle.tm_inner.specs.Phase.{skip_of, in_turn}
-use Rattle.tm_cert_file.specs.Certifying.{Certifying, WroteBlock, WroteBlockFront, WroteBlocks, WroteBlocksFront, with_octets}
+use Rattle.tm_inner.specs.Phase.{skip_of, with_phase}
+use Rattle.tm_cert_file.specs.Certifying.{Certifying, WroteBlock, WroteBlockPrefix, WroteBlocks, WroteBlocksPrefix, with_octets}
 
 -- ---- what the phase and blocks do to a taker that keeps a certificate and a sink, each with a name
 
@@ -23,7 +23,7 @@ BrokePhase a skip cost b = ⊥
 
 abbrev pub BrokeBlock : {T K L O : Type 0} → (T → K) → (T → L) → (T → Certifying) → (T → O) → (O → Option (List ℕ)) → T → WindowBlock → T → Type 0
 BrokeBlock name sink certifying out taken a block b =
-    (name b ≡ name a) × (sink b ≡ sink a) × WroteBlockFront (certifying a) block (taken (out a)) (taken (out b))
+    (name b ≡ name a) × (sink b ≡ sink a) × WroteBlockPrefix (certifying a) block (taken (out a)) (taken (out b))
 
 -- ---- what is written of what is handed over
 
@@ -35,15 +35,15 @@ WroteHanded before now (Item block ∷ handed) taken taken_now =
     (middle : Certifying) × (taken_then : Option (List ℕ)) × WroteBlock before middle block taken taken_then × WroteHanded middle now handed taken_then taken_now
 
 -- the same of some of it, and a prefix of the window of the next block
-pub record WroteHandedFront (before : Certifying) (handed : List (Handed WindowBlock)) (taken taken_now : Option (List ℕ)) : Type 0 where
-  pub front : List (Handed WindowBlock)
+pub record WroteHandedPrefix (before : Certifying) (handed : List (Handed WindowBlock)) (taken taken_now : Option (List ℕ)) : Type 0 where
+  pub prefix : List (Handed WindowBlock)
   pub next : WindowBlock
   pub rest : List (Handed WindowBlock)
-  pub split : handed ≡ front ++ Item next ∷ rest
+  pub split : handed ≡ prefix ++ Item next ∷ rest
   pub middle : Certifying
   pub taken_then : Option (List ℕ)
-  pub wrote : WroteHanded before middle front taken taken_then
-  pub broke : WroteBlockFront middle next taken_then taken_now
+  pub wrote : WroteHanded before middle prefix taken taken_then
+  pub broke : WroteBlockPrefix middle next taken_then taken_now
 
 -- what was handed over, with the certificate and the sink the same ones
 pub record Took {K L : Type 0} (before now : K) (from to : L) (Wrote : Type 0) : Type 0 where
@@ -71,21 +71,21 @@ module _ {T K L O : Type 0} (name : T → K) (sink : T → L) (certifying : T �
   pub took-part : (handed : List (Handed WindowBlock)) (a b : T)
       → HandedPart (on_handed (TookPhase name sink certifying out) (TookBlock name sink certifying out taken))
       (on_handed BrokePhase (BrokeBlock name sink certifying out taken)) a handed b
-      → Took (name a) (name b) (sink a) (sink b) (WroteHandedFront (certifying a) handed (taken (out a)) (taken (out b)))
-  took-part handed a b part = by_next part.front part.next part.rest part.middle part.split part.handed part.failed
+      → Took (name a) (name b) (sink a) (sink b) (WroteHandedPrefix (certifying a) handed (taken (out a)) (taken (out b)))
+  took-part handed a b part = by_next part.prefix part.next part.rest part.middle part.split part.handed part.failed
     where
-      by_next : (front : List (Handed WindowBlock)) (next : Handed WindowBlock) (rest : List (Handed WindowBlock)) (middle : T) → handed ≡ front ++ next ∷ rest
-          → HandedOver (on_handed (TookPhase name sink certifying out) (TookBlock name sink certifying out taken)) a front middle
+      by_next : (prefix : List (Handed WindowBlock)) (next : Handed WindowBlock) (rest : List (Handed WindowBlock)) (middle : T) → handed ≡ prefix ++ next ∷ rest
+          → HandedOver (on_handed (TookPhase name sink certifying out) (TookBlock name sink certifying out taken)) a prefix middle
           → on_handed BrokePhase (BrokeBlock name sink certifying out taken) middle next b
-          → Took (name a) (name b) (sink a) (sink b) (WroteHandedFront (certifying a) handed (taken (out a)) (taken (out b)))
-      by_next front (Phase skip cost) rest middle split over failed = absurd failed
-      by_next front (Item block) rest middle split over failed =
-          let first = took-handed front a middle over in
+          → Took (name a) (name b) (sink a) (sink b) (WroteHandedPrefix (certifying a) handed (taken (out a)) (taken (out b)))
+      by_next prefix (Phase skip cost) rest middle split over failed = absurd failed
+      by_next prefix (Item block) rest middle split over failed =
+          let first = took-handed prefix a middle over in
           record {
             name = failed.0 ∙ first.name;
             sink = failed.1 ∙ first.sink;
             wrote = record {
-              front = front;
+              prefix = prefix;
               next = block;
               rest = rest;
               split = split;
@@ -104,54 +104,54 @@ wrote-items before now [] taken taken_now wrote = wrote
 wrote-items before now (item ∷ items) taken taken_now wrote = (wrote.0, wrote.1, wrote.2, wrote-items wrote.0 now items wrote.1 taken_now wrote.3)
 
 pub wrote-turn : (before now : Certifying) (chosen : Option Chosen) (items : List WindowBlock) (taken taken_now : Option (List ℕ))
-    → WroteHanded before now (in_turn chosen items) taken taken_now → WroteBlocks (with_octets before (drop (skip_of chosen) before.place.octets)) now items taken taken_now
+    → WroteHanded before now (with_phase chosen items) taken taken_now → WroteBlocks (with_octets before (drop (skip_of chosen) before.place.octets)) now items taken taken_now
 wrote-turn before now None items taken taken_now wrote = wrote-items before now items taken taken_now wrote
 wrote-turn before now (Some chosen) items taken taken_now wrote =
     wrote-items (with_octets before (drop chosen.skip before.place.octets)) now items taken taken_now wrote
 
 -- items that begin with these have no phase in these
-wrote-first : (before now : Certifying) (items : List WindowBlock) (front : List (Handed WindowBlock)) (next : WindowBlock) (rest : List (Handed WindowBlock)) (taken taken_now : Option (List ℕ))
-    → map Item items ≡ front ++ Item next ∷ rest → WroteHanded before now front taken taken_now → WroteBlocks before now (items_of front) taken taken_now
+wrote-first : (before now : Certifying) (items : List WindowBlock) (prefix : List (Handed WindowBlock)) (next : WindowBlock) (rest : List (Handed WindowBlock)) (taken taken_now : Option (List ℕ))
+    → map Item items ≡ prefix ++ Item next ∷ rest → WroteHanded before now prefix taken taken_now → WroteBlocks before now (items_of prefix) taken taken_now
 wrote-first before now items [] next rest taken taken_now split wrote = wrote
-wrote-first before now [] (h ∷ front) next rest taken taken_now split wrote = absurd cc
-wrote-first before now (x ∷ items) (Phase skip cost ∷ front) next rest taken taken_now split wrote = absurd cc
-wrote-first before now (x ∷ items) (Item y ∷ front) next rest taken taken_now split wrote =
-    let tail : map Item items ≡ front ++ Item next ∷ rest = cc in
-    (wrote.0, wrote.1, wrote.2, wrote-first wrote.0 now items front next rest wrote.1 taken_now tail wrote.3)
+wrote-first before now [] (h ∷ prefix) next rest taken taken_now split wrote = absurd cc
+wrote-first before now (x ∷ items) (Phase skip cost ∷ prefix) next rest taken taken_now split wrote = absurd cc
+wrote-first before now (x ∷ items) (Item y ∷ prefix) next rest taken taken_now split wrote =
+    let tail : map Item items ≡ prefix ++ Item next ∷ rest = cc in
+    (wrote.0, wrote.1, wrote.2, wrote-first wrote.0 now items prefix next rest wrote.1 taken_now tail wrote.3)
 
-front-items : (before middle : Certifying) (items : List WindowBlock) (front : List (Handed WindowBlock)) (next : WindowBlock) (rest : List (Handed WindowBlock)) (taken taken_then taken_now : Option (List ℕ))
-    → map Item items ≡ front ++ Item next ∷ rest → WroteHanded before middle front taken taken_then → WroteBlockFront middle next taken_then taken_now
-    → WroteBlocksFront before items taken taken_now
-front-items before middle items front next rest taken taken_then taken_now split wrote broke = record {
-  front = items_of front;
+prefix-items : (before middle : Certifying) (items : List WindowBlock) (prefix : List (Handed WindowBlock)) (next : WindowBlock) (rest : List (Handed WindowBlock)) (taken taken_then taken_now : Option (List ℕ))
+    → map Item items ≡ prefix ++ Item next ∷ rest → WroteHanded before middle prefix taken taken_then → WroteBlockPrefix middle next taken_then taken_now
+    → WroteBlocksPrefix before items taken taken_now
+prefix-items before middle items prefix next rest taken taken_then taken_now split wrote broke = record {
+  prefix = items_of prefix;
   next = next;
   rest = items_of rest;
-  split = sym (items_of-items items) ∙ ap items_of split ∙ items_of-append front (Item next ∷ rest);
+  split = sym (items_of-items items) ∙ ap items_of split ∙ items_of-append prefix (Item next ∷ rest);
   middle = middle;
   taken_then = taken_then;
-  wrote = wrote-first before middle items front next rest taken taken_then split wrote;
+  wrote = wrote-first before middle items prefix next rest taken taken_then split wrote;
   broke = broke;
 }
 
-pub front-behind : (before : Certifying) (items : List WindowBlock) (taken taken_now : Option (List ℕ)) → WroteHandedFront before (map Item items) taken taken_now
-    → WroteBlocksFront before items taken taken_now
-front-behind before items taken taken_now part =
-    front-items before part.middle items part.front part.next part.rest taken part.taken_then taken_now part.split part.wrote part.broke
+pub prefix-after : (before : Certifying) (items : List WindowBlock) (taken taken_now : Option (List ℕ)) → WroteHandedPrefix before (map Item items) taken taken_now
+    → WroteBlocksPrefix before items taken taken_now
+prefix-after before items taken taken_now part =
+    prefix-items before part.middle items part.prefix part.next part.rest taken part.taken_then taken_now part.split part.wrote part.broke
 
-pub front-turn : (before : Certifying) (chosen : Option Chosen) (items : List WindowBlock) (taken taken_now : Option (List ℕ))
-    → WroteHandedFront before (in_turn chosen items) taken taken_now → WroteBlocksFront (with_octets before (drop (skip_of chosen) before.place.octets)) items taken taken_now
-front-turn before None items taken taken_now part = front-behind before items taken taken_now part
-front-turn before (Some chosen) items taken taken_now part = by_front part.front part.split part.wrote
+pub prefix-turn : (before : Certifying) (chosen : Option Chosen) (items : List WindowBlock) (taken taken_now : Option (List ℕ))
+    → WroteHandedPrefix before (with_phase chosen items) taken taken_now → WroteBlocksPrefix (with_octets before (drop (skip_of chosen) before.place.octets)) items taken taken_now
+prefix-turn before None items taken taken_now part = prefix-after before items taken taken_now part
+prefix-turn before (Some chosen) items taken taken_now part = by_prefix part.prefix part.split part.wrote
   where
-    by_front : (front : List (Handed WindowBlock)) → Phase chosen.skip chosen.cost ∷ map Item items ≡ front ++ Item part.next ∷ part.rest
-        → WroteHanded before part.middle front taken part.taken_then → WroteBlocksFront (with_octets before (drop chosen.skip before.place.octets)) items taken taken_now
-    by_front [] split wrote = absurd cc
-    by_front (Item block ∷ front) split wrote = absurd cc
-    by_front (Phase skip cost ∷ front) split wrote =
+    by_prefix : (prefix : List (Handed WindowBlock)) → Phase chosen.skip chosen.cost ∷ map Item items ≡ prefix ++ Item part.next ∷ part.rest
+        → WroteHanded before part.middle prefix taken part.taken_then → WroteBlocksPrefix (with_octets before (drop chosen.skip before.place.octets)) items taken taken_now
+    by_prefix [] split wrote = absurd cc
+    by_prefix (Item block ∷ prefix) split wrote = absurd cc
+    by_prefix (Phase skip cost ∷ prefix) split wrote =
         let same : skip ≡ chosen.skip = cc in
-        let tail : map Item items ≡ front ++ Item part.next ∷ part.rest = cc in
-        front-items (with_octets before (drop chosen.skip before.place.octets)) part.middle items front part.next part.rest taken part.taken_then taken_now tail
-        (subst (λ (n : ℕ). WroteHanded (with_octets before (drop n before.place.octets)) part.middle front taken part.taken_then) same wrote) part.broke
+        let tail : map Item items ≡ prefix ++ Item part.next ∷ part.rest = cc in
+        prefix-items (with_octets before (drop chosen.skip before.place.octets)) part.middle items prefix part.next part.rest taken part.taken_then taken_now tail
+        (subst (λ (n : ℕ). WroteHanded (with_octets before (drop n before.place.octets)) part.middle prefix taken part.taken_then) same wrote) part.broke
 
 -- ---- with no block nothing is written
 
@@ -161,8 +161,8 @@ wrote-none before now [] taken taken_now none wrote = wrote.1
 wrote-none before now (Phase skip cost ∷ handed) taken taken_now none wrote = wrote-none (with_octets before (drop skip before.place.octets)) now handed taken taken_now none wrote
 wrote-none before now (Item block ∷ handed) taken taken_now none wrote = absurd cc
 
-pub front-none : (before : Certifying) (handed : List (Handed WindowBlock)) (taken taken_now : Option (List ℕ)) → items_of handed ≡ [] → WroteHandedFront before handed taken taken_now → ⊥
-front-none before handed taken taken_now none part = some (items_of part.front) (sym none ∙ ap items_of part.split ∙ items_of-append part.front (Item part.next ∷ part.rest))
+pub prefix-none : (before : Certifying) (handed : List (Handed WindowBlock)) (taken taken_now : Option (List ℕ)) → items_of handed ≡ [] → WroteHandedPrefix before handed taken taken_now → ⊥
+prefix-none before handed taken taken_now none part = some (items_of part.prefix) (sym none ∙ ap items_of part.split ∙ items_of-append part.prefix (Item part.next ∷ part.rest))
   where
     some : (xs : List WindowBlock) → [] ≡ xs ++ part.next ∷ items_of part.rest → ⊥
     some [] is = absurd cc

@@ -12,7 +12,7 @@ use Rattle.tm_inner.specs.Receiving.{InnerReceiving}
 use Rattle.tm_inner.specs.Handing.{AreHandedDue}
 use Rattle.tm_inner.proofs.DueBits.{StandFirst, StayClosed}
 use Rattle.tm_inner.proofs.FewBits.{first-of-due}
-use Rattle.tm_inner.proofs.InTurn.{HasPhase, in_turn-exists}
+use Rattle.tm_inner.proofs.WithPhase.{HasPhase, with_phase-exists}
 use Rattle.tm_inner.proofs.InnerBits.{HasBlocks, has_blocks}
 use Rattle.tm_inner.proofs.PhasePieces.{PhaseStays}
 use Rattle.tm_cert_file.specs.Certifying.{Certifying}
@@ -22,9 +22,9 @@ use Rattle.tm_driver.specs.declared.ending.Ending.{Ending}
 use Rattle.tm_driver.specs.declared.ending.Outcome.TheVariants as outcome
 use Rattle.tm_driver.specs.declared.ending.Stop.TheVariants as stop
 use Rattle.tm_driver.proofs.Driven.{Shows, WroteInOrder, done-driven}
-use Rattle.tm_driver.proofs.SinkTexts.{wrote-front, wrote-nothing}
+use Rattle.tm_driver.proofs.SinkTexts.{wrote-prefix, wrote-nothing}
 use Rattle.tm_path_commands.specs.Certify.{IsCertifiedAll, IsCertifiedSoFar, TextAt, certify_meaning}
-use Rattle.tm_path_commands.specs.Certifying.{Certifies, CertifiesMore, CertifyFails, CutsCertificate, EndsCertificate, FailsCertifying, WritesAt, WroteCertificate, WroteCertificateFront}
+use Rattle.tm_path_commands.specs.Certifying.{Certifies, CertifiesMore, CertifyFails, CutsCertificate, EndsCertificate, FailsCertifying, WritesAt, WroteCertificate, WroteCertificatePrefix}
 use Rattle.tm_path_commands.proofs.CertifyingPlace.{Longer}
 use Rattle.tm_path_commands.proofs.CertifyingPieces.{fails-longer}
 use Rattle.tm_path_commands.proofs.CertifyingEnd.{HasCertificate, OneCertificate, Split, fails-all}
@@ -36,9 +36,9 @@ shows-all c octets taken taken_now noted w = (
   (λ none. none, λ none. none),
 )
 
-shows-front : (c : Configuration) (octets : List ℕ) (taken taken_now noted : Option (List ℕ)) → WroteCertificateFront c taken taken_now octets
+shows-prefix : (c : Configuration) (octets : List ℕ) (taken taken_now noted : Option (List ℕ)) → WroteCertificatePrefix c taken taken_now octets
     → WroteInOrder (certify_meaning c) octets (taken_by taken taken_now noted noted)
-shows-front c octets taken taken_now noted w = (
+shows-prefix c octets taken taken_now noted w = (
   record { out = w.0; notes = [] },
   (w.1, refl),
   record { out = w.2; notes = (0, wrote-nothing noted) },
@@ -70,7 +70,7 @@ module _ (exists : HasBlocks) (stands : StandFirst) (phase : HasPhase) (stays : 
   -- octets have a certificate
   certificate-all : (c : Configuration) (octets : List ℕ) → IsAccepted c → (text : List ℕ) × IsCertifiedAll c octets text
   certificate-all c octets accepted =
-      let all = in_turn-exists (λ n blocks. (left : ℕ) × AreInnerBlocks c n octets blocks left) phase c octets
+      let all = with_phase-exists (λ n blocks. (left : ℕ) × AreInnerBlocks c n octets blocks left) phase c octets
       (λ n. let b = has_blocks exists c n octets accepted in (b.0, (b.1, b.2))) in
       let h = all.1 in
       let text = text-all has c.inner c (skip_of h.chosen) octets h.items h.are_items.0 h.are_items.1 in (
@@ -84,12 +84,12 @@ module _ (exists : HasBlocks) (stands : StandFirst) (phase : HasPhase) (stays : 
       )
 
   -- what was written is a prefix of it, whatever octets come
-  front-later : (c : Configuration) (octets more : List ℕ) (handed : List (Handed WindowBlock)) (text : List ℕ) (taken taken_now : Option (List ℕ)) → IsAccepted c
-      → taken_now ≡ append_known taken text → IsCertifiedSoFar c octets handed text → WroteCertificateFront c taken taken_now (octets ++ more)
-  front-later c octets more handed text taken taken_now accepted wrote (inl none) =
+  prefix-later : (c : Configuration) (octets more : List ℕ) (handed : List (Handed WindowBlock)) (text : List ℕ) (taken taken_now : Option (List ℕ)) → IsAccepted c
+      → taken_now ≡ append_known taken text → IsCertifiedSoFar c octets handed text → WroteCertificatePrefix c taken taken_now (octets ++ more)
+  prefix-later c octets more handed text taken taken_now accepted wrote (inl none) =
       let all = certificate-all c (octets ++ more) accepted in
       (all.0, all.1, (0, wrote ∙ ap (append_known taken) none.2))
-  front-later c octets more handed text taken taken_now accepted wrote (inr s) =
+  prefix-later c octets more handed text taken taken_now accepted wrote (inr s) =
       let h = s.are_due in
       let fails : CertifyFails c taken taken_now octets = record {
         handed = handed;
@@ -105,7 +105,7 @@ module _ (exists : HasBlocks) (stands : StandFirst) (phase : HasPhase) (stays : 
         );
         text = text;
         is_text = s.is_text;
-        wrote = wrote-front taken taken_now text wrote;
+        wrote = wrote-prefix taken taken_now text wrote;
       } in
       fails-all exists stands has one parts c taken taken_now (octets ++ more) accepted (fails-longer longer stay stays c taken taken_now octets more fails)
 
@@ -115,7 +115,7 @@ module _ (exists : HasBlocks) (stands : StandFirst) (phase : HasPhase) (stays : 
       let due = so-far c.inner c now octets t.handed t.text refl t.writes (subst (λ (k : Configuration). AreHandedDue k octets t.handed) t.config t.stands.1) in (
         (record { out = t.text; notes = [] }, ((t.handed, due), refl), record { out = t.wrote; notes = wrote-nothing noted }),
         λ more.
-            let later = front-later c octets more t.handed t.text taken taken_now accepted t.wrote due in
+            let later = prefix-later c octets more t.handed t.text taken taken_now accepted t.wrote due in
             (record { out = later.0; notes = [] }, (later.1, refl), record { out = later.2; notes = (0, wrote-nothing noted) }),
       )
 
@@ -143,7 +143,7 @@ module _ (exists : HasBlocks) (stands : StandFirst) (phase : HasPhase) (stays : 
       of-fed b octets within p = let most = accepted.limit in p c (out before) [] accepted (λ _. fresh) (omega arith)
 
       of-fails : (octets : List ℕ) → length octets ≤ c.limit → Fails before now octets
-          → WroteCertificateFront c (out before) (out now) octets
+          → WroteCertificatePrefix c (out before) (out now) octets
       of-fails octets within p =
           let most = accepted.limit in
           fails-all exists stands has one parts c (out before) (out now) octets accepted
@@ -157,8 +157,8 @@ module _ (exists : HasBlocks) (stands : StandFirst) (phase : HasPhase) (stays : 
           (taken_by (out before) (out now) noted noted)
           (λ o within p. ends-early c (receiver now) (kept now) o (out before) (out now) noted accepted
           (of-fed now o within p))
-          (λ o within p. shows-front c o (out before) (out now) noted (of-fails o within p))
+          (λ o within p. shows-prefix c o (out before) (out now) noted (of-fails o within p))
           (λ middle o within p end. shows-all c o (out before) (out now) noted
           (end c (out before) o accepted (of-fed middle o within p)))
-          (λ middle o within p end. shows-front c o (out before) (out now) noted
+          (λ middle o within p end. shows-prefix c o (out before) (out now) noted
           (end c (out before) o accepted (of-fed middle o within p)))

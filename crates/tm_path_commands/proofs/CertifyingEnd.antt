@@ -1,7 +1,7 @@
 -- The end of a certificate.
 use Rattle.std.proofs.Common.{◌≡◌, ◌⊎◌, inl, inr, ℕ, ◌<◌, ◌^◌, Bool, List, [], ◌++◌, length, Option, Some, None, refl, sym, ap, ◌∙◌, subst, arith}
 use Rattle.tm_base.specs.Handed.{Handed, items_of}
-use Rattle.tm_base.specs.Written.{Wrote, WroteFront}
+use Rattle.tm_base.specs.Written.{Wrote, WrotePrefix}
 use Rattle.tm_config.specs.Accepted.{IsAccepted}
 use Rattle.tm_config.specs.Configuration.{Configuration}
 use Rattle.tm_conv.specs.declared.rates.Rate.{Rate}
@@ -11,19 +11,19 @@ use Rattle.tm_viterbi.specs.Blocks.{AreBlocksOf}
 use Rattle.tm_viterbi.specs.Due.{Place, Closed, first_place}
 use Rattle.tm_phase.specs.declared.choosing.Chosen.{Chosen}
 use Rattle.tm_inner.specs.Inner.{settings_of, soft_octets, BlocksAt}
-use Rattle.tm_inner.specs.Phase.{IsChosen, phase_octets, skip_of, in_turn}
+use Rattle.tm_inner.specs.Phase.{IsChosen, phase_octets, skip_of, with_phase}
 use Rattle.tm_inner.specs.Receiving.{InnerReceiving, StandsFor, FirstAt, AreInnerFirst}
-use Rattle.tm_inner.specs.Handing.{AreHanded, AreHandedFront}
+use Rattle.tm_inner.specs.Handing.{AreHanded, AreHandedPrefix}
 use Rattle.tm_inner.proofs.DueBits.{StandFirst}
 use Rattle.tm_inner.proofs.InnerBits.{HasBlocks}
-use Rattle.tm_inner.proofs.PhasePieces.{items_of-in_turn}
+use Rattle.tm_inner.proofs.PhasePieces.{items_of-with_phase}
 use Rattle.tm_cert_file.specs.Certificate.{AreCertified, IsCertificate}
 use Rattle.tm_cert_file.specs.Certifying.{Certifying}
-use Rattle.tm_driver.proofs.SinkTexts.{front-of, wrote-nothing, wrote-then, wrote-then_front}
+use Rattle.tm_driver.proofs.SinkTexts.{prefix-of, wrote-nothing, wrote-then, wrote-then_prefix}
 use Rattle.tm_path_commands.specs.Certify.{TextAt}
-use Rattle.tm_path_commands.specs.Certifying.{Certifies, CertifyFails, WritesAt, WroteCertificate, WroteCertificateFront}
-use Rattle.tm_path_commands.proofs.CertifierTook.{WroteHanded, WroteHandedFront, wrote-none, front-none}
-use Rattle.tm_path_commands.proofs.CertifyingPlace.{Append, WritesClosedFront, WritesLast, WritesLastFront, from-stood, front-all, front-to, wrote-all}
+use Rattle.tm_path_commands.specs.Certifying.{Certifies, CertifyFails, WritesAt, WroteCertificate, WroteCertificatePrefix}
+use Rattle.tm_path_commands.proofs.CertifierTook.{WroteHanded, WroteHandedPrefix, wrote-none, prefix-none}
+use Rattle.tm_path_commands.proofs.CertifyingPlace.{Append, WritesClosedPrefix, WritesLast, WritesLastPrefix, from-stood, prefix-all, prefix-to, wrote-all}
 use Rattle.tm_path_commands.proofs.CertifyingPieces.{no-items, stood-now}
 
 -- ---- all of it was written
@@ -33,7 +33,7 @@ last-at : Append → WritesLast → (q : Option Rate) (c : Configuration) (old n
     → (h : AreHanded c octets (handed ++ last) left) → (rest : List ℕ) × TextAt q c (skip_of h.chosen) octets h.items (text ++ rest) × Wrote taken taken_now rest
 last-at append writes None c old now octets handed last left text taken taken_now accepted is few w wrote h =
     let none : h.items ≡ [] = (subst (λ (r : Option Rate). BlocksAt r c (skip_of h.chosen) octets h.items left) is h.are_items).0 in
-    let all : items_of (handed ++ last) ≡ [] = ap items_of h.are ∙ items_of-in_turn h.chosen h.items ∙ none in
+    let all : items_of (handed ++ last) ≡ [] = ap items_of h.are ∙ items_of-with_phase h.chosen h.items ∙ none in
     ([], ap (λ (l : List ℕ). l ++ []) w, wrote-none old now last taken taken_now (no-items handed last all) wrote ∙ wrote-nothing taken)
 last-at append writes (Some rate) c old now octets handed last left text taken taken_now accepted is few w wrote h =
     let stood = stood-now c rate old octets handed text w in
@@ -112,55 +112,55 @@ module _ (exists : HasBlocks) (stands : StandFirst) (has : HasCertificate) (one 
       }
 
   first-all : (c : Configuration) (start taken_now : Option (List ℕ)) (octets : List ℕ) (chosen : Option Chosen) (items : List WindowBlock) (text : List ℕ) → IsAccepted c
-      → IsChosen c octets chosen → AreInnerFirst c (skip_of chosen) octets items → TextAt c.inner c (skip_of chosen) octets items text → WroteFront start taken_now text
-      → WroteCertificateFront c start taken_now octets
+      → IsChosen c octets chosen → AreInnerFirst c (skip_of chosen) octets items → TextAt c.inner c (skip_of chosen) octets items text → WrotePrefix start taken_now text
+      → WroteCertificatePrefix c start taken_now octets
   first-all c start taken_now octets chosen items text accepted choice first is wrote =
       let all = all-at c.inner c (skip_of chosen) octets items text accepted first is in (
         all.whole,
         record {
-          handed = in_turn chosen all.blocks;
+          handed = with_phase chosen all.blocks;
           left = all.left;
           are_handed = record { chosen = chosen; choice = choice; items = all.blocks; are_items = all.are; are = refl };
           is_text = all.is_text;
         },
-        subst (WroteFront start taken_now) (sym all.split) (front-of start taken_now text all.more wrote),
+        subst (WrotePrefix start taken_now) (sym all.split) (prefix-of start taken_now text all.more wrote),
       )
 
   -- the sink failed in first windows
-  pub fails-all : (c : Configuration) (start taken_now : Option (List ℕ)) (octets : List ℕ) → IsAccepted c → CertifyFails c start taken_now octets → WroteCertificateFront c start taken_now octets
+  pub fails-all : (c : Configuration) (start taken_now : Option (List ℕ)) (octets : List ℕ) → IsAccepted c → CertifyFails c start taken_now octets → WroteCertificatePrefix c start taken_now octets
   fails-all c start taken_now octets accepted t =
       let h = t.are_first.1 in
       first-all c start taken_now octets h.chosen h.items t.text accepted h.choice h.are_items t.is_text t.wrote
 
   -- ---- the sink failed at the end
 
-  module _ (append : Append) (closes : WritesClosedFront) (ends : WritesLastFront) where
-    front-at : (q : Option Rate) (c : Configuration) (old : Certifying) (octets : List ℕ) (handed tried : List (Handed WindowBlock)) (text : List ℕ) (taken taken_now : Option (List ℕ))
-        → IsAccepted c → c.inner ≡ q → length octets < 2 ^ 44 → WritesAt q c old octets handed text → WroteHandedFront old tried taken taken_now
-        → (h : AreHandedFront c octets (handed ++ tried))
+  module _ (append : Append) (closes : WritesClosedPrefix) (ends : WritesLastPrefix) where
+    prefix-at : (q : Option Rate) (c : Configuration) (old : Certifying) (octets : List ℕ) (handed tried : List (Handed WindowBlock)) (text : List ℕ) (taken taken_now : Option (List ℕ))
+        → IsAccepted c → c.inner ≡ q → length octets < 2 ^ 44 → WritesAt q c old octets handed text → WroteHandedPrefix old tried taken taken_now
+        → (h : AreHandedPrefix c octets (handed ++ tried))
         → FirstAt q c (skip_of h.chosen) octets h.items ⊎ ((left : ℕ) × BlocksAt q c (skip_of h.chosen) octets h.items left)
-        → (rest : List ℕ) × TextAt q c (skip_of h.chosen) octets h.items (text ++ rest) × WroteFront taken taken_now rest
-    front-at None c old octets handed tried text taken taken_now accepted is few w part h are =
+        → (rest : List ℕ) × TextAt q c (skip_of h.chosen) octets h.items (text ++ rest) × WrotePrefix taken taken_now rest
+    prefix-at None c old octets handed tried text taken taken_now accepted is few w part h are =
         let none : h.items ≡ [] = elim are as (λ _. h.items ≡ []) [ inl first ↦ first | inr all ↦ all.1.0 ] in
-        let all : items_of (handed ++ tried) ≡ [] = ap items_of h.are ∙ items_of-in_turn h.chosen h.items ∙ none in
-        absurd (front-none old tried taken taken_now (no-items handed tried all) part)
-    front-at (Some rate) c old octets handed tried text taken taken_now accepted is few w part h are =
+        let all : items_of (handed ++ tried) ≡ [] = ap items_of h.are ∙ items_of-with_phase h.chosen h.items ∙ none in
+        absurd (prefix-none old tried taken taken_now (no-items handed tried all) part)
+    prefix-at (Some rate) c old octets handed tried text taken taken_now accepted is few w part h are =
         let stood = stood-now c rate old octets handed text w in
         let skip = skip_of h.chosen in
         let from = from-stood c rate old octets (phase_octets c octets) h.chosen h.items handed tried text is h.choice h.are stood in
-        elim are as (λ _. (rest : List ℕ) × TextAt (Some rate) c skip octets h.items (text ++ rest) × WroteFront taken taken_now rest) [
-          | inl first ↦ front-to c rate old octets skip h.items tried text accepted few append from closes first.0 taken taken_now first.1 part
-          | inr all ↦ front-all c rate old octets skip h.items tried text accepted few append from ends all.0 taken taken_now all.1 part
+        elim are as (λ _. (rest : List ℕ) × TextAt (Some rate) c skip octets h.items (text ++ rest) × WrotePrefix taken taken_now rest) [
+          | inl first ↦ prefix-to c rate old octets skip h.items tried text accepted few append from closes first.0 taken taken_now first.1 part
+          | inr all ↦ prefix-all c rate old octets skip h.items tried text accepted few append from ends all.0 taken taken_now all.1 part
         ]
 
-    pub certified-front : (c : Configuration) (r : InnerReceiving) (old : Certifying) (start taken taken_now : Option (List ℕ)) (octets : List ℕ) (tried : List (Handed WindowBlock))
-        → IsAccepted c → Certifies c r old start taken octets → WroteHandedFront old tried taken taken_now
-        → ((given : List ℕ) (done : List (Handed WindowBlock)) → StandsFor r given done → AreHandedFront r.config given (done ++ tried)) → WroteCertificateFront c start taken_now octets
-    certified-front c r old start taken taken_now octets tried accepted t part finish =
-        let h = subst (λ (k : Configuration). AreHandedFront k octets (t.handed ++ tried)) t.config (finish octets t.handed t.stands.0) in
-        let end = front-at c.inner c old octets t.handed tried t.text taken taken_now accepted refl t.few t.writes part h h.are_items in
-        let wrote = wrote-then_front start taken taken_now t.text end.0 t.wrote end.2 in
-        elim h.are_items as (λ _. WroteCertificateFront c start taken_now octets) [
+    pub certified-prefix : (c : Configuration) (r : InnerReceiving) (old : Certifying) (start taken taken_now : Option (List ℕ)) (octets : List ℕ) (tried : List (Handed WindowBlock))
+        → IsAccepted c → Certifies c r old start taken octets → WroteHandedPrefix old tried taken taken_now
+        → ((given : List ℕ) (done : List (Handed WindowBlock)) → StandsFor r given done → AreHandedPrefix r.config given (done ++ tried)) → WroteCertificatePrefix c start taken_now octets
+    certified-prefix c r old start taken taken_now octets tried accepted t part finish =
+        let h = subst (λ (k : Configuration). AreHandedPrefix k octets (t.handed ++ tried)) t.config (finish octets t.handed t.stands.0) in
+        let end = prefix-at c.inner c old octets t.handed tried t.text taken taken_now accepted refl t.few t.writes part h h.are_items in
+        let wrote = wrote-then_prefix start taken taken_now t.text end.0 t.wrote end.2 in
+        elim h.are_items as (λ _. WroteCertificatePrefix c start taken_now octets) [
           | inl first ↦ first-all c start taken_now octets h.chosen h.items (t.text ++ end.0) accepted h.choice first end.1 wrote
           | inr all ↦ (
             t.text ++ end.0,

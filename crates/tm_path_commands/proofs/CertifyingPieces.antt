@@ -4,7 +4,7 @@ use Rattle.std.proofs.Math.Seq.{take-add}
 use Rattle.std.proofs.lemmas.Bool.{cases_lt}
 use Rattle.std.proofs.lemmas.List.{take_all, drop_all, drop-append-le}
 use Rattle.tm_base.specs.Handed.{Handed, items_of}
-use Rattle.tm_base.specs.Written.{Wrote, WroteFront}
+use Rattle.tm_base.specs.Written.{Wrote, WrotePrefix}
 use Rattle.tm_base.proofs.HandedItems.{items_of-append}
 use Rattle.tm_config.specs.Accepted.{IsAccepted}
 use Rattle.tm_config.specs.Configuration.{Configuration}
@@ -21,15 +21,15 @@ use Rattle.tm_inner.specs.Receiving.{InnerReceiving, StandsFor, FirstAt, AreInne
 use Rattle.tm_inner.specs.Handing.{AreHandedDue, AreHandedFirst}
 use Rattle.tm_inner.proofs.DueBits.{StayClosed, soft-more}
 use Rattle.tm_inner.proofs.HandedBits.{needed-few}
-use Rattle.tm_inner.proofs.InTurn.{choice-stays, settled-stays}
-use Rattle.tm_inner.proofs.PhasePieces.{PhaseStays, PhaseWithin, items_of-in_turn}
+use Rattle.tm_inner.proofs.WithPhase.{choice-stays, settled-stays}
+use Rattle.tm_inner.proofs.PhasePieces.{PhaseStays, PhaseWithin, items_of-with_phase}
 use Rattle.tm_cert_file.specs.Certificate.{IsCertificate}
 use Rattle.tm_cert_file.specs.Certifying.{Certifying, with_octets}
-use Rattle.tm_driver.proofs.SinkTexts.{wrote-nothing, wrote-then, wrote-then_front}
+use Rattle.tm_driver.proofs.SinkTexts.{wrote-nothing, wrote-then, wrote-then_prefix}
 use Rattle.tm_path_commands.specs.Certify.{TextAt}
 use Rattle.tm_path_commands.specs.Certifying.{Certifies, CertifyFails, GavePiece, Goes, Waits, WritesAt}
-use Rattle.tm_path_commands.proofs.CertifierTook.{WroteHanded, WroteHandedFront, wrote-none, front-none}
-use Rattle.tm_path_commands.proofs.CertifyingPlace.{Append, Longer, Stood, StoodWaiting, StoodGoing, WritesClosed, WritesClosedFront, closed-longer, closed-one, from-stood, front-to, soft-skipped, with_more, wrote-to}
+use Rattle.tm_path_commands.proofs.CertifierTook.{WroteHanded, WroteHandedPrefix, wrote-none, prefix-none}
+use Rattle.tm_path_commands.proofs.CertifyingPlace.{Append, Longer, Stood, StoodWaiting, StoodGoing, WritesClosed, WritesClosedPrefix, closed-longer, closed-one, from-stood, prefix-to, soft-skipped, with_more, wrote-to}
 use Rattle.tm_conv.proofs.Sizes.{steps_size-most}
 use Rattle.tm_path_commands.proofs.TraceEndings.{stands-new}
 
@@ -54,11 +54,11 @@ no-items handed more none = nil-second (items_of handed) (items_of more) (sym (i
 no-due : (c : Configuration) (octets : List ℕ) (handed : List (Handed WindowBlock)) → c.inner ≡ None → AreHandedDue c octets handed → items_of handed ≡ []
 no-due c octets handed is (inl none) = ap items_of none.1
 no-due c octets handed is (inr h) =
-    ap items_of h.1.are ∙ items_of-in_turn h.1.chosen h.1.items ∙ subst (λ (r : Option Rate). DueAt r c (skip_of h.1.chosen) octets h.1.items) is h.1.are_items
+    ap items_of h.1.are ∙ items_of-with_phase h.1.chosen h.1.items ∙ subst (λ (r : Option Rate). DueAt r c (skip_of h.1.chosen) octets h.1.items) is h.1.are_items
 
 pub no-first : (c : Configuration) (octets : List ℕ) (handed : List (Handed WindowBlock)) → c.inner ≡ None → AreHandedFirst c octets handed → items_of handed ≡ []
 no-first c octets handed is h =
-    ap items_of h.1.are ∙ items_of-in_turn h.1.chosen h.1.items ∙ subst (λ (r : Option Rate). FirstAt r c (skip_of h.1.chosen) octets h.1.items) is h.1.are_items
+    ap items_of h.1.are ∙ items_of-with_phase h.1.chosen h.1.items ∙ subst (λ (r : Option Rate). FirstAt r c (skip_of h.1.chosen) octets h.1.items) is h.1.are_items
 
 -- ---- nothing was given yet
 
@@ -96,7 +96,7 @@ new-writes c now (Some rate) each due =
     by_due place (inr h) =
         let s = settings_of c rate in
         let soft = soft_octets c (skip_of h.1.chosen) [] in
-        let none : [] ≡ h.1.items = ap items_of h.1.are ∙ items_of-in_turn h.1.chosen h.1.items in
+        let none : [] ≡ h.1.items = ap items_of h.1.are ∙ items_of-with_phase h.1.chosen h.1.items in
         let P : List WindowBlock → Type 0 = λ items. Closed rate (is_inverted rate c.invert) c.keep c.ahead (first_place s soft) items now.place × IsCertificate s soft items [] in
         let both = subst P none (ap (first_place s) (no-soft_octets c (skip_of h.1.chosen)) ∙ sym place, refl) in
         inr (record { settled = h.0; are_due = h.1; closed = both.0; is_text = both.1 })
@@ -329,30 +329,30 @@ module _ (append : Append) (longer : Longer) (stay : StayClosed) (within : Phase
       }
 
   -- the sink failed in what is written
-  front-on : WritesClosedFront → (q : Option Rate) (handed tried : List (Handed WindowBlock)) (text : List ℕ) → IsAccepted c → c.inner ≡ q → length (octets ++ piece) < 2 ^ 44
-      → Given c old given octets piece p.soft → WritesAt q c old octets handed text → WroteHandedFront given tried taken taken_now → (h : AreHandedFirst c (octets ++ piece) (handed ++ tried))
-      → (last : List ℕ) × TextAt q c (skip_of h.1.chosen) (octets ++ piece) h.1.items (text ++ last) × WroteFront taken taken_now last
-  front-on closes None handed tried text accepted is few g w part h =
-      absurd (front-none given tried taken taken_now (no-items handed tried (no-first c (octets ++ piece) (handed ++ tried) is h)) part)
-  front-on closes (Some rate) handed tried text accepted is few g w part h =
+  prefix-on : WritesClosedPrefix → (q : Option Rate) (handed tried : List (Handed WindowBlock)) (text : List ℕ) → IsAccepted c → c.inner ≡ q → length (octets ++ piece) < 2 ^ 44
+      → Given c old given octets piece p.soft → WritesAt q c old octets handed text → WroteHandedPrefix given tried taken taken_now → (h : AreHandedFirst c (octets ++ piece) (handed ++ tried))
+      → (last : List ℕ) × TextAt q c (skip_of h.1.chosen) (octets ++ piece) h.1.items (text ++ last) × WrotePrefix taken taken_now last
+  prefix-on closes None handed tried text accepted is few g w part h =
+      absurd (prefix-none given tried taken taken_now (no-items handed tried (no-first c (octets ++ piece) (handed ++ tried) is h)) part)
+  prefix-on closes (Some rate) handed tried text accepted is few g w part h =
       let stood = stood-more longer stay within c rate old given octets piece p.soft handed text is g w in
       let skip = skip_of h.1.chosen in
       let first = first-some c rate skip (octets ++ piece) h.1.items is h.1.are_items in
       let from = from-stood c rate given (octets ++ piece) (phase_octets c (octets ++ piece)) h.1.chosen h.1.items handed tried text is h.1.choice h.1.are stood in
-      front-to c rate given (octets ++ piece) skip h.1.items tried text accepted few append from closes first.0 taken taken_now first.1 part
+      prefix-to c rate given (octets ++ piece) skip h.1.items tried text accepted few append from closes first.0 taken taken_now first.1 part
 
-  pub fails-more : WritesClosedFront → (tried : List (Handed WindowBlock)) → IsAccepted c → Certifies c r old start taken octets → length octets + length piece < 2 ^ 44
-      → WroteHandedFront given tried taken taken_now → HandsFirst r piece tried → CertifyFails c start taken_now (octets ++ piece)
+  pub fails-more : WritesClosedPrefix → (tried : List (Handed WindowBlock)) → IsAccepted c → Certifies c r old start taken octets → length octets + length piece < 2 ^ 44
+      → WroteHandedPrefix given tried taken taken_now → HandsFirst r piece tried → CertifyFails c start taken_now (octets ++ piece)
   fails-more closes tried accepted t few part hands =
       let short : length (octets ++ piece) < 2 ^ 44 = omega (arith, few, length-append octets piece) in
       let first = subst (λ (k : Configuration). AreHandedFirst k (octets ++ piece) (t.handed ++ tried)) t.config (hands octets t.handed (omega (arith, few)) t.stands.0) in
-      let on = front-on closes c.inner t.handed tried t.text accepted refl short (given-at t) t.writes part first in
+      let on = prefix-on closes c.inner t.handed tried t.text accepted refl short (given-at t) t.writes part first in
       record {
         handed = t.handed ++ tried;
         are_first = first;
         text = t.text ++ on.0;
         is_text = on.1;
-        wrote = wrote-then_front start taken taken_now t.text on.0 t.wrote on.2;
+        wrote = wrote-then_prefix start taken taken_now t.text on.0 t.wrote on.2;
       }
 
 -- ---- octets after those of first blocks

@@ -2,7 +2,7 @@
 use Rattle.std.proofs.Common.{◌≡◌, ◌⊎◌, inl, inr, ℕ, ◌+◌, ◌-◌, ◌*◌, ◌<◌, ◌≤◌, ◌^◌, List, [], ◌∷◌, ◌++◌, length, drop, map, Option, Some, None, Bool, refl, sym, ap, ◌∙◌, subst, arith, length-drop}
 use Rattle.std.proofs.lemmas.List.{drop-append-le}
 use Rattle.tm_base.specs.Handed.{Handed, Item}
-use Rattle.tm_base.specs.Written.{Wrote, WroteFront}
+use Rattle.tm_base.specs.Written.{Wrote, WrotePrefix}
 use Rattle.tm_config.specs.Accepted.{IsAccepted}
 use Rattle.tm_config.specs.Configuration.{Configuration}
 use Rattle.tm_config.proofs.Choices.{never_both}
@@ -11,17 +11,17 @@ use Rattle.tm_conv.specs.Path.{steps_size}
 use Rattle.tm_conv.proofs.Sizes.{steps_size-add, steps_size_ge}
 use Rattle.tm_viterbi.specs.WindowBlock.{WindowBlock}
 use Rattle.tm_viterbi.specs.Blocks.{IsBlock, AreBlocks, AreBlocksOf}
-use Rattle.tm_viterbi.specs.Due.{Place, Closed, behind, first_place}
+use Rattle.tm_viterbi.specs.Due.{Place, Closed, after_block, first_place}
 use Rattle.tm_viterbi.proofs.CleanBlocks.{steps-mono}
 use Rattle.tm_phase.specs.declared.choosing.Chosen.{Chosen}
 use Rattle.tm_inner.specs.Symbols.{is_inverted}
 use Rattle.tm_inner.specs.Inner.{settings_of, soft_octets}
-use Rattle.tm_inner.specs.Phase.{IsChosenBy, phase_octets, skip_of, skipped_at, in_turn}
-use Rattle.tm_inner.proofs.GivenPieces.{soft-behind}
+use Rattle.tm_inner.specs.Phase.{IsChosenBy, phase_octets, skip_of, skipped_at, with_phase}
+use Rattle.tm_inner.proofs.GivenPieces.{soft-after}
 use Rattle.tm_inner.proofs.ReceivedBits.{kept-le, length-soft}
 use Rattle.tm_cert_file.specs.Certificate.{AreCertified, IsCertificate}
-use Rattle.tm_cert_file.specs.Certifying.{Certifying, AreNext, WroteBlocks, WroteBlocksFront, with_octets, with_place}
-use Rattle.tm_path_commands.proofs.CertifierTook.{WroteHanded, WroteHandedFront, wrote-turn, wrote-items, front-turn, front-behind}
+use Rattle.tm_cert_file.specs.Certifying.{Certifying, AreNext, WroteBlocks, WroteBlocksPrefix, with_octets, with_place}
+use Rattle.tm_path_commands.proofs.CertifierTook.{WroteHanded, WroteHandedPrefix, wrote-turn, wrote-items, prefix-turn, prefix-after}
 
 -- ---- closed windows, and those after them
 
@@ -29,13 +29,13 @@ pub closed-rest : (rate : Rate) (invert : Bool) (keep ahead : ℕ) (from middle 
     → Closed rate invert keep ahead from (first ++ rest) to → Closed rate invert keep ahead middle rest to
 closed-rest rate invert keep ahead from middle to [] rest closed all = subst (λ (p : Place). Closed rate invert keep ahead p rest to) closed all
 closed-rest rate invert keep ahead from middle to (block ∷ first) rest closed all =
-    closed-rest rate invert keep ahead (behind rate from block) middle to first rest closed.1 all.1
+    closed-rest rate invert keep ahead (after_block rate from block) middle to first rest closed.1 all.1
 
 -- closed windows end at one place
 pub closed-one : (rate : Rate) (invert : Bool) (keep ahead : ℕ) (from to other : Place) (blocks : List WindowBlock) → Closed rate invert keep ahead from blocks to
     → Closed rate invert keep ahead from blocks other → to ≡ other
 closed-one rate invert keep ahead from to other [] closed all = sym closed ∙ all
-closed-one rate invert keep ahead from to other (block ∷ blocks) closed all = closed-one rate invert keep ahead (behind rate from block) to other blocks closed.1 all.1
+closed-one rate invert keep ahead from to other (block ∷ blocks) closed all = closed-one rate invert keep ahead (after_block rate from block) to other blocks closed.1 all.1
 
 -- a window keeps no more steps than remain
 kept-few : (rate : Rate) (invert : Bool) (keep ahead n : ℕ) (at : Place) (block : WindowBlock) → IsBlock rate invert keep ahead at.starts at.t n at.octets block → block.kept ≤ n
@@ -52,7 +52,7 @@ closed-few : (rate : Rate) (invert : Bool) (keep ahead : ℕ) (from to : Place) 
 closed-few rate invert keep ahead from to [] closed = subst (λ (p : Place). p.t + length p.octets ≤ from.t + length from.octets) closed (omega arith)
 closed-few rate invert keep ahead from to (block ∷ blocks) closed =
     let inside = kept-inside rate invert keep ahead (keep + ahead + 1) from block closed.0.room closed.0.is_block in
-    let rest = closed-few rate invert keep ahead (behind rate from block) to blocks closed.1 in
+    let rest = closed-few rate invert keep ahead (after_block rate from block) to blocks closed.1 in
     omega (arith, rest, length-drop (steps_size rate from.t block.kept) from.octets, steps_size_ge rate from.t block.kept, inside)
 
 -- octets that come after stay after
@@ -64,10 +64,10 @@ pub closed-longer : (rate : Rate) (invert : Bool) (keep ahead : ℕ) (from to la
 closed-longer rate invert keep ahead from to later [] octets closed longer = sym longer ∙ ap (λ (p : Place). with_more p octets) closed
 closed-longer rate invert keep ahead from to later (block ∷ blocks) octets closed longer =
     let inside = kept-inside rate invert keep ahead (keep + ahead + 1) from block closed.0.room closed.0.is_block in
-    let same : behind rate (with_more from octets) block ≡ with_more (behind rate from block) octets =
+    let same : after_block rate (with_more from octets) block ≡ with_more (after_block rate from block) octets =
     ap (λ (v : List ℕ). let p : Place = record { starts = Some block.end_state; t = from.t + block.kept; octets = v } in p)
     (drop-append-le (steps_size rate from.t block.kept) from.octets octets inside) in
-    closed-longer rate invert keep ahead (behind rate from block) to later blocks octets closed.1
+    closed-longer rate invert keep ahead (after_block rate from block) to later blocks octets closed.1
     (subst (λ (p : Place). Closed rate invert keep ahead p blocks later) same longer.1)
 
 -- the windows after closed ones of all
@@ -76,9 +76,9 @@ pub record LastBlocks (rate : Rate) (invert : Bool) (keep ahead : ℕ) (at : Pla
   pub whole : steps_size rate at.t count ≤ length at.octets
   pub are : AreBlocks rate invert keep ahead at.starts at.t count at.octets blocks
 
-whole-behind : (rate : Rate) (invert : Bool) (keep ahead n : ℕ) (at : Place) (block : WindowBlock) → steps_size rate at.t n ≤ length at.octets
+whole-after : (rate : Rate) (invert : Bool) (keep ahead n : ℕ) (at : Place) (block : WindowBlock) → steps_size rate at.t n ≤ length at.octets
     → IsBlock rate invert keep ahead at.starts at.t n at.octets block → steps_size rate (at.t + block.kept) (n - block.kept) ≤ length (drop (steps_size rate at.t block.kept) at.octets)
-whole-behind rate invert keep ahead n at block whole is =
+whole-after rate invert keep ahead n at block whole is =
     let few = kept-few rate invert keep ahead n at block is in
     let sum : block.kept + (n - block.kept) ≡ n = omega (arith, few) in
     omega (arith, whole, steps_size-add rate at.t block.kept (n - block.kept), ap (steps_size rate at.t) sum, length-drop (steps_size rate at.t block.kept) at.octets)
@@ -88,7 +88,7 @@ pub blocks-rest : (rate : Rate) (invert : Bool) (keep ahead n : ℕ) (from to : 
 blocks-rest rate invert keep ahead n from to [] rest closed whole are =
     subst (λ (p : Place). LastBlocks rate invert keep ahead p rest) closed (record { count = n; whole = whole; are = are })
 blocks-rest rate invert keep ahead n from to (block ∷ first) rest closed whole are =
-    blocks-rest rate invert keep ahead (n - block.kept) (behind rate from block) to first rest closed.1 (whole-behind rate invert keep ahead n from block whole are.1) are.2
+    blocks-rest rate invert keep ahead (n - block.kept) (after_block rate from block) to first rest closed.1 (whole-after rate invert keep ahead n from block whole are.1) are.2
 
 -- ---- what was handed over goes on
 
@@ -109,7 +109,7 @@ items-on (x ∷ items) (y ∷ all) more is =
     (h.0, ap (λ (v : WindowBlock). v ∷ all) same ∙ ap (λ (v : List WindowBlock). x ∷ v) h.1, h.2)
 
 pub goes-on : (c : Configuration) (soft soft_now : List ℕ) (chosen other : Option Chosen) (items all : List WindowBlock) (more : List (Handed WindowBlock))
-    → IsChosenBy c soft chosen → IsChosenBy c soft_now other → in_turn chosen items ++ more ≡ in_turn other all → GoesOn chosen other items all more
+    → IsChosenBy c soft chosen → IsChosenBy c soft_now other → with_phase chosen items ++ more ≡ with_phase other all → GoesOn chosen other items all more
 goes-on c soft soft_now None None items all more is now same = let h = items-on items all more same in record { skip = refl; rest = h.0; split = h.1; are = h.2 }
 goes-on c soft soft_now None (Some b) items all more is now same = absurd (never_both c.phase is now.0)
 goes-on c soft soft_now (Some a) None items all more is now same = absurd (never_both c.phase now is.0)
@@ -132,7 +132,7 @@ pub record StoodGoing (c : Configuration) (rate : Rate) (now : Certifying) (octe
   pub soft : List ℕ
   pub choice : IsChosenBy c soft chosen
   pub items : List WindowBlock
-  pub are : handed ≡ in_turn chosen items
+  pub are : handed ≡ with_phase chosen items
   pub closed : Closed rate (is_inverted rate c.invert) c.keep c.ahead (first_place (settings_of c rate) (soft_octets c (skip_of chosen) octets)) items now.place
   pub is_text : IsCertificate (settings_of c rate) (soft_octets c (skip_of chosen) octets) items text
 
@@ -154,17 +154,17 @@ pub record From (c : Configuration) (rate : Rate) (given : Certifying) (octets :
   pub closed : Closed rate (is_inverted rate c.invert) c.keep c.ahead (first_place (settings_of c rate) (soft_octets c skip octets)) items from.place
   pub is_text : IsCertificate (settings_of c rate) (soft_octets c skip octets) items text
   pub wrote : (now : Certifying) (taken taken_now : Option (List ℕ)) → WroteHanded given now more taken taken_now → WroteBlocks from now rest taken taken_now
-  pub broke : (taken taken_now : Option (List ℕ)) → WroteHandedFront given more taken taken_now → WroteBlocksFront from rest taken taken_now
+  pub broke : (taken taken_now : Option (List ℕ)) → WroteHandedPrefix given more taken taken_now → WroteBlocksPrefix from rest taken taken_now
 
 -- the soft octets after a phase
 pub soft-skipped : (c : Configuration) (rate : Rate) (skip : ℕ) (octets : List ℕ) → c.inner ≡ Some rate → drop skip (phase_octets c octets) ≡ soft_octets c skip octets
-soft-skipped c rate skip octets is = soft-behind c skip (skipped_at c.inner c) octets (ap (λ (r : Option Rate). skipped_at r c) is)
+soft-skipped c rate skip octets is = soft-after c skip (skipped_at c.inner c) octets (ap (λ (r : Option Rate). skipped_at r c) is)
 
 from-waiting : (c : Configuration) (rate : Rate) (given : Certifying) (octets : List ℕ) (other : Option Chosen) (all : List WindowBlock) (handed more : List (Handed WindowBlock)) (text : List ℕ)
-    → c.inner ≡ Some rate → handed ++ more ≡ in_turn other all → (s : Stood c rate given octets handed text) → StoodWaiting c rate given octets handed text
+    → c.inner ≡ Some rate → handed ++ more ≡ with_phase other all → (s : Stood c rate given octets handed text) → StoodWaiting c rate given octets handed text
     → From c rate given octets (skip_of other) all more text
 from-waiting c rate given octets other all handed more text is are s w =
-    let turn : more ≡ in_turn other all = ap (λ l. l ++ more) (sym w.nothing) ∙ are in
+    let turn : more ≡ with_phase other all = ap (λ l. l ++ more) (sym w.nothing) ∙ are in
     let skip = skip_of other in
     let place : with_octets given (drop skip given.place.octets) ≡ with_place given (first_place (settings_of c rate) (soft_octets c skip octets)) =
     ap (λ (p : Place). with_octets (with_place given p) (drop skip p.octets)) w.place
@@ -180,17 +180,17 @@ from-waiting c rate given octets other all handed more text is are s w =
       closed = sym (ap (λ (v : Certifying). v.place) place);
       is_text = w.is_text;
       wrote = λ now taken taken_now wrote. wrote-turn given now other all taken taken_now (subst (λ (l : List (Handed WindowBlock)). WroteHanded given now l taken taken_now) turn wrote);
-      broke = λ taken taken_now part. front-turn given other all taken taken_now (subst (λ (l : List (Handed WindowBlock)). WroteHandedFront given l taken taken_now) turn part);
+      broke = λ taken taken_now part. prefix-turn given other all taken taken_now (subst (λ (l : List (Handed WindowBlock)). WroteHandedPrefix given l taken taken_now) turn part);
     }
 
 from-going : (c : Configuration) (rate : Rate) (given : Certifying) (octets soft : List ℕ) (other : Option Chosen) (all : List WindowBlock) (handed more : List (Handed WindowBlock)) (text : List ℕ)
-    → IsChosenBy c soft other → handed ++ more ≡ in_turn other all → (s : Stood c rate given octets handed text) → StoodGoing c rate given octets handed text
+    → IsChosenBy c soft other → handed ++ more ≡ with_phase other all → (s : Stood c rate given octets handed text) → StoodGoing c rate given octets handed text
     → From c rate given octets (skip_of other) all more text
 from-going c rate given octets soft other all handed more text choice are s g =
     let on = goes-on c g.soft soft g.chosen other g.items all more g.choice choice (ap (λ l. l ++ more) (sym g.are) ∙ are) in
-    let Behind : ℕ → Type 0 = λ skip. Closed rate (is_inverted rate c.invert) c.keep c.ahead (first_place (settings_of c rate) (soft_octets c skip octets)) g.items given.place
+    let After : ℕ → Type 0 = λ skip. Closed rate (is_inverted rate c.invert) c.keep c.ahead (first_place (settings_of c rate) (soft_octets c skip octets)) g.items given.place
     × IsCertificate (settings_of c rate) (soft_octets c skip octets) g.items text in
-    let behind = subst Behind on.skip (g.closed, g.is_text) in
+    let after = subst After on.skip (g.closed, g.is_text) in
     record {
       items = g.items;
       rest = on.rest;
@@ -199,14 +199,14 @@ from-going c rate given octets soft other all handed more text choice are s g =
       is_rate = s.is_rate;
       is_invert = s.is_invert;
       is_room = s.is_room;
-      closed = behind.0;
-      is_text = behind.1;
+      closed = after.0;
+      is_text = after.1;
       wrote = λ now taken taken_now wrote. wrote-items given now on.rest taken taken_now (subst (λ (l : List (Handed WindowBlock)). WroteHanded given now l taken taken_now) on.are wrote);
-      broke = λ taken taken_now part. front-behind given on.rest taken taken_now (subst (λ (l : List (Handed WindowBlock)). WroteHandedFront given l taken taken_now) on.are part);
+      broke = λ taken taken_now part. prefix-after given on.rest taken taken_now (subst (λ (l : List (Handed WindowBlock)). WroteHandedPrefix given l taken taken_now) on.are part);
     }
 
 pub from-stood : (c : Configuration) (rate : Rate) (given : Certifying) (octets soft : List ℕ) (other : Option Chosen) (all : List WindowBlock) (handed more : List (Handed WindowBlock)) (text : List ℕ)
-    → c.inner ≡ Some rate → IsChosenBy c soft other → handed ++ more ≡ in_turn other all → Stood c rate given octets handed text
+    → c.inner ≡ Some rate → IsChosenBy c soft other → handed ++ more ≡ with_phase other all → Stood c rate given octets handed text
     → From c rate given octets (skip_of other) all more text
 from-stood c rate given octets soft other all handed more text is choice are s = elim s.stood as (λ _. From c rate given octets (skip_of other) all more text) [
   | inl w ↦ from-waiting c rate given octets other all handed more text is are s w
@@ -236,16 +236,16 @@ WritesLast = (c now : Certifying) (keep ahead steps : ℕ) (blocks : List Window
     → AreBlocks c.rate c.invert keep ahead c.place.starts c.place.t steps c.place.octets blocks
     → WroteBlocks c now blocks taken taken_now → (text : List ℕ) × AreNext c blocks text × Wrote taken taken_now text
 
-abbrev pub WritesClosedFront : Type 0
-WritesClosedFront = (c : Certifying) (keep ahead : ℕ) (to : Place) (blocks : List WindowBlock) (taken taken_now : Option (List ℕ))
+abbrev pub WritesClosedPrefix : Type 0
+WritesClosedPrefix = (c : Certifying) (keep ahead : ℕ) (to : Place) (blocks : List WindowBlock) (taken taken_now : Option (List ℕ))
     → keep ≤ 65536 → ahead ≤ 4096 → c.place.t + length c.place.octets ≤ 2 ^ 44 → Closed c.rate c.invert keep ahead c.place blocks to
-    → WroteBlocksFront c blocks taken taken_now → (text : List ℕ) × AreNext c blocks text × WroteFront taken taken_now text
+    → WroteBlocksPrefix c blocks taken taken_now → (text : List ℕ) × AreNext c blocks text × WrotePrefix taken taken_now text
 
-abbrev pub WritesLastFront : Type 0
-WritesLastFront = (c : Certifying) (keep ahead steps : ℕ) (blocks : List WindowBlock) (taken taken_now : Option (List ℕ))
+abbrev pub WritesLastPrefix : Type 0
+WritesLastPrefix = (c : Certifying) (keep ahead steps : ℕ) (blocks : List WindowBlock) (taken taken_now : Option (List ℕ))
     → keep ≤ 65536 → ahead ≤ 4096 → c.place.t + length c.place.octets ≤ 2 ^ 44 → steps_size c.rate c.place.t steps ≤ length c.place.octets
     → AreBlocks c.rate c.invert keep ahead c.place.starts c.place.t steps c.place.octets blocks
-    → WroteBlocksFront c blocks taken taken_now → (text : List ℕ) × AreNext c blocks text × WroteFront taken taken_now text
+    → WroteBlocksPrefix c blocks taken taken_now → (text : List ℕ) × AreNext c blocks text × WrotePrefix taken taken_now text
 
 -- ---- what is written from there
 
@@ -307,10 +307,10 @@ module _ (c : Configuration) (rate : Rate) (given : Certifying) (octets : List �
       }
 
   -- a prefix of them
-  pub front-to : WritesClosedFront → (to : Place) (taken taken_now : Option (List ℕ)) → Closed rate invert c.keep c.ahead (first_place (settings_of c rate) soft) all to
-      → WroteHandedFront given more taken taken_now
-      → (last : List ℕ) × IsCertificate (settings_of c rate) soft all (text ++ last) × WroteFront taken taken_now last
-  front-to writes to taken taken_now closed part =
+  pub prefix-to : WritesClosedPrefix → (to : Place) (taken taken_now : Option (List ℕ)) → Closed rate invert c.keep c.ahead (first_place (settings_of c rate) soft) all to
+      → WroteHandedPrefix given more taken taken_now
+      → (last : List ℕ) × IsCertificate (settings_of c rate) soft all (text ++ last) × WrotePrefix taken taken_now last
+  prefix-to writes to taken taken_now closed part =
       let took = writes f.from c.keep c.ahead to f.rest taken taken_now accepted.keep accepted.ahead few-there (closed-left to closed) (f.broke taken taken_now part) in
       (took.0, whole-text took.0 took.1, took.2)
 
@@ -329,9 +329,9 @@ module _ (c : Configuration) (rate : Rate) (given : Certifying) (octets : List �
       let took = writes f.from now c.keep c.ahead end.count f.rest taken taken_now accepted.keep accepted.ahead few-there end.whole end.are (f.wrote now taken taken_now handed) in
       (took.0, whole-text took.0 took.1, took.2)
 
-  pub front-all : WritesLastFront → (left : ℕ) (taken taken_now : Option (List ℕ)) → AreBlocksOf (settings_of c rate) soft all left → WroteHandedFront given more taken taken_now
-      → (last : List ℕ) × IsCertificate (settings_of c rate) soft all (text ++ last) × WroteFront taken taken_now last
-  front-all writes left taken taken_now are part =
+  pub prefix-all : WritesLastPrefix → (left : ℕ) (taken taken_now : Option (List ℕ)) → AreBlocksOf (settings_of c rate) soft all left → WroteHandedPrefix given more taken taken_now
+      → (last : List ℕ) × IsCertificate (settings_of c rate) soft all (text ++ last) × WrotePrefix taken taken_now last
+  prefix-all writes left taken taken_now are part =
       let end = blocks-left left are in
       let took = writes f.from c.keep c.ahead end.count f.rest taken taken_now accepted.keep accepted.ahead few-there end.whole end.are (f.broke taken taken_now part) in
       (took.0, whole-text took.0 took.1, took.2)

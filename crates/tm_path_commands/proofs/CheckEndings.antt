@@ -3,7 +3,7 @@ use Rattle.std.proofs.Common.{◌≡◌, ◌⊎◌, inl, inr, ℕ, ◌+◌, ◌�
 use Rattle.std.proofs.Math.Seq.{take-append-add}
 use Rattle.std.proofs.lemmas.List.{append-nil, take_all}
 use Rattle.std.specs.Io.KnownBytes.{append_known}
-use Rattle.tm_base.specs.Written.{Wrote, WroteFront}
+use Rattle.tm_base.specs.Written.{Wrote, WrotePrefix}
 use Rattle.tm_config.specs.Accepted.{IsAccepted}
 use Rattle.tm_config.specs.Configuration.{Configuration}
 use Rattle.tm_conv.specs.declared.rates.Rate.{Rate}
@@ -24,7 +24,7 @@ use Rattle.tm_driver.specs.declared.ending.Outcome.{Outcome}
 use Rattle.tm_driver.specs.declared.ending.Outcome.TheVariants as outcome
 use Rattle.tm_driver.specs.declared.ending.Stop.{Stop}
 use Rattle.tm_driver.specs.declared.ending.Stop.TheVariants as stop
-use Rattle.tm_driver.proofs.SinkTexts.{front-of, part-front, wrote-front, wrote-nothing, wrote-then}
+use Rattle.tm_driver.proofs.SinkTexts.{prefix-of, part-prefix, wrote-prefix, wrote-nothing, wrote-then}
 use Rattle.tm_path_commands.specs.Check.{ReadAt, IsChecked, IsCheckedDue, AreInOrder, bits_kept, check_meaning, windows_text, end_text, rules_of}
 use Rattle.tm_path_commands.specs.Checking.{Passes, Breaks, EndsBy, Fails, PassesMore, StopsBy, StopsInPiece, TookAfter, TookPartAfter}
 use Rattle.tm_path_commands.specs.Lines.{cut_text, trace_end_text, window_text}
@@ -62,15 +62,15 @@ from-rate P rate c k is p = subst (λ (r : Option Rate). ReadAt P r c) is p
 -- ---- how it ends
 
 -- where two sinks stop, each has taken a front
-stops-front : (before noted_before next behind more rest : List ℕ) (taken taken_now noted noted_now : Option (List ℕ)) → StopsAt before noted_before next behind taken taken_now noted noted_now
-    → WroteFront taken taken_now (before ++ (next ++ more)) × WroteFront noted noted_now (noted_before ++ (behind ++ rest))
-stops-front before noted_before next behind more rest taken taken_now noted noted_now (inl p) = (
-  part-front taken taken_now before next more p.0,
-  front-of noted noted_now noted_before (behind ++ rest) (wrote-front noted noted_now noted_before p.1),
+stops-prefix : (before noted_before next after more rest : List ℕ) (taken taken_now noted noted_now : Option (List ℕ)) → StopsAt before noted_before next after taken taken_now noted noted_now
+    → WrotePrefix taken taken_now (before ++ (next ++ more)) × WrotePrefix noted noted_now (noted_before ++ (after ++ rest))
+stops-prefix before noted_before next after more rest taken taken_now noted noted_now (inl p) = (
+  part-prefix taken taken_now before next more p.0,
+  prefix-of noted noted_now noted_before (after ++ rest) (wrote-prefix noted noted_now noted_before p.1),
 )
-stops-front before noted_before next behind more rest taken taken_now noted noted_now (inr p) = (
-  subst (WroteFront taken taken_now) (append_assoc before next more) (front-of taken taken_now (before ++ next) more (wrote-front taken taken_now (before ++ next) p.0)),
-  part-front noted noted_now noted_before behind rest p.1,
+stops-prefix before noted_before next after more rest taken taken_now noted noted_now (inr p) = (
+  subst (WrotePrefix taken taken_now) (append_assoc before next more) (prefix-of taken taken_now (before ++ next) more (wrote-prefix taken taken_now (before ++ next) p.0)),
+  part-prefix noted noted_now noted_before after rest p.1,
 )
 
 -- what is written of octets that are read so
@@ -96,7 +96,7 @@ module _ (c : Configuration) (k : Rate) (is : c.inner ≡ Some k) where
         output-of (rules_of c k) octets windows seen read,
         output-is octets windows seen read,
         record {
-          out = wrote-front taken taken_now (all_kept (rules_of c k).rate 0 windows) out;
+          out = wrote-prefix taken taken_now (all_kept (rules_of c k).rate 0 windows) out;
           notes = (length lines + notes.0, notes.1 ∙ ap (append_known noted) (sym (take-append-add lines end notes.0)));
         },
         at-rate (λ r. (others : List Window) × (other : Seen) × (again : IsRead r octets others other)
@@ -137,12 +137,12 @@ module _ (c : Configuration) (k : Rate) (is : c.inner ≡ Some k) where
       ∙ ap (λ n. first ++ all_kept rate n (w ∷ more.0)) (from-none at) in
       let text : windows_text 0 windows ≡ lines ++ (line ++ later) = ap (windows_text 0) split ∙ windows_text-append 0 b.windows (w ∷ more.0)
       ∙ ap (λ n. lines ++ windows_text n (w ∷ more.0)) (from-none number) in
-      let fronts = stops-front first lines (kept_octets rate at w) line (all_kept rate (at + w.kept) more.0) later taken taken_now noted noted_now b.stops in (
+      let prefixes = stops-prefix first lines (kept_octets rate at w) line (all_kept rate (at + w.kept) more.0) later taken taken_now noted noted_now b.stops in (
         output-of (rules_of c k) octets windows seen read,
         output-is octets windows seen read,
         record {
-          out = subst (WroteFront taken taken_now) (sym all) fronts.0;
-          notes = front-of noted noted_now (windows_text 0 windows) end (subst (WroteFront noted noted_now) (sym text) fronts.1);
+          out = subst (WrotePrefix taken taken_now) (sym all) prefixes.0;
+          notes = prefix-of noted noted_now (windows_text 0 windows) end (subst (WrotePrefix noted noted_now) (sym text) prefixes.1);
         },
         at-rate (λ r. (others : List Window) × (other : Seen) × (again : IsRead r octets others other)
             × AreInOrder r others (end_text other (is_cut again.before.next again.rest) others) (taken_by taken taken_now noted noted_now)) c.inner c k is
@@ -158,17 +158,17 @@ module _ (c : Configuration) (k : Rate) (is : c.inner ≡ Some k) where
       let found = once.exists (rules_of c k) (octets ++ more) in
       let all = found.0 in
       let seen = found.1 in
-      let behind = once.longer (rules_of c k) octets more windows all More seen read found.2 in
-      let kept : all_kept rate 0 all ≡ all_kept rate 0 windows ++ all_kept rate (0 + bits_kept windows) behind.0 = ap (all_kept rate 0) behind.1 ∙ all_kept-append rate 0 windows behind.0 in
-      let text : windows_text 0 all ≡ windows_text 0 windows ++ windows_text (0 + length windows) behind.0 = ap (windows_text 0) behind.1 ∙ windows_text-append 0 windows behind.0 in (
+      let after = once.longer (rules_of c k) octets more windows all More seen read found.2 in
+      let kept : all_kept rate 0 all ≡ all_kept rate 0 windows ++ all_kept rate (0 + bits_kept windows) after.0 = ap (all_kept rate 0) after.1 ∙ all_kept-append rate 0 windows after.0 in
+      let text : windows_text 0 all ≡ windows_text 0 windows ++ windows_text (0 + length windows) after.0 = ap (windows_text 0) after.1 ∙ windows_text-append 0 windows after.0 in (
         output-of (rules_of c k) (octets ++ more) all seen found.2,
         output-is (octets ++ more) all seen found.2,
         record {
-          out = subst (WroteFront taken taken_now) (sym kept)
-              (front-of taken taken_now (all_kept rate 0 windows) (all_kept rate (0 + bits_kept windows) behind.0) (wrote-front taken taken_now (all_kept rate 0 windows) out));
-          notes = front-of noted noted_now (windows_text 0 all) (end_text seen (is_cut found.2.before.next found.2.rest) all)
-              (subst (WroteFront noted noted_now) (sym text)
-              (front-of noted noted_now (windows_text 0 windows) (windows_text (0 + length windows) behind.0) (wrote-front noted noted_now (windows_text 0 windows) notes)));
+          out = subst (WrotePrefix taken taken_now) (sym kept)
+              (prefix-of taken taken_now (all_kept rate 0 windows) (all_kept rate (0 + bits_kept windows) after.0) (wrote-prefix taken taken_now (all_kept rate 0 windows) out));
+          notes = prefix-of noted noted_now (windows_text 0 all) (end_text seen (is_cut found.2.before.next found.2.rest) all)
+              (subst (WrotePrefix noted noted_now) (sym text)
+              (prefix-of noted noted_now (windows_text 0 windows) (windows_text (0 + length windows) after.0) (wrote-prefix noted noted_now (windows_text 0 windows) notes)));
         },
       )
 
@@ -234,7 +234,7 @@ module _ (c : Configuration) (k : Rate) (is : c.inner ≡ Some k) where
   -- the notes failed at the end
   told-part : (r : Reading) (p : Progress) (octets : List ℕ) (taken taken_now noted noted_then noted_now : Option (List ℕ)) → IsOpen r
       → (h : Passes (rules_of c k) r p taken taken_now noted noted_then octets) → length octets ≤ c.limit
-      → WroteFront noted_then noted_now (end_text More (is_cut r.before.next r.octets) h.windows) → Ends SinkFault (check_meaning c) c.limit octets (taken_by taken taken_now noted noted_now)
+      → WrotePrefix noted_then noted_now (end_text More (is_cut r.before.next r.octets) h.windows) → Ends SinkFault (check_meaning c) c.limit octets (taken_by taken taken_now noted noted_now)
   told-part r p octets taken taken_now noted noted_then noted_now is_open h within wrote =
       let read = read-so_far (rules_of c k) r p taken taken_now noted noted_then octets More h is_open (λ no. cc no) in
       subst (λ (o : List ℕ). (output : Output) × (check_meaning c).is_output o output × WrotePrefixes output (taken_by taken taken_now noted noted_now)
@@ -296,14 +296,14 @@ module _ (c : Configuration) (r : Reading) (p : Progress) (octets : List ℕ) (t
   cut-checked noted_now = told-cut c k.0 k.1 r p octets taken taken_now noted noted_then noted_now is_open k.2
 
   pub part-checked : (noted_now : Option (List ℕ)) → length octets ≤ c.limit
-      → (is_cut r.before.next r.octets ≡ true) × WroteFront noted_then noted_now (cut_text p.count)
-      ⊎ (is_cut r.before.next r.octets ≡ false) × WroteFront noted_then noted_now (trace_end_text p.count p.bits 0) → Ends SinkFault (check_meaning c) c.limit octets (taken_by taken taken_now noted noted_now)
+      → (is_cut r.before.next r.octets ≡ true) × WrotePrefix noted_then noted_now (cut_text p.count)
+      ⊎ (is_cut r.before.next r.octets ≡ false) × WrotePrefix noted_then noted_now (trace_end_text p.count p.bits 0) → Ends SinkFault (check_meaning c) c.limit octets (taken_by taken taken_now noted noted_now)
   part-checked noted_now within (inl part) =
       told-part c k.0 k.1 r p octets taken taken_now noted noted_then noted_now is_open k.2 within
-      (subst (WroteFront noted_then noted_now) (ap cut_text k.2.count ∙ ap (λ b. end_text More b k.2.windows) (sym part.0)) part.1)
+      (subst (WrotePrefix noted_then noted_now) (ap cut_text k.2.count ∙ ap (λ b. end_text More b k.2.windows) (sym part.0)) part.1)
   part-checked noted_now within (inr part) =
       told-part c k.0 k.1 r p octets taken taken_now noted noted_then noted_now is_open k.2 within
-      (subst (WroteFront noted_then noted_now) ((λ i. trace_end_text (k.2.count i) (k.2.bits i) 0) ∙ ap (λ b. end_text More b k.2.windows) (sym part.0)) part.1)
+      (subst (WrotePrefix noted_then noted_now) ((λ i. trace_end_text (k.2.count i) (k.2.bits i) 0) ∙ ap (λ b. end_text More b k.2.windows) (sym part.0)) part.1)
 
 -- ---- how what was driven ends
 

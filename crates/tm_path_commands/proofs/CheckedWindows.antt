@@ -7,7 +7,7 @@ use Rattle.tm_cert_file.specs.declared.seen.Reason.{Reason}
 use Rattle.tm_cert_file.specs.declared.seen.Seen.{Seen}
 use Rattle.tm_cert_file.specs.declared.seen.Seen.TheVariants.{More, Passed, Failed}
 use Rattle.tm_cert_file.specs.Window.{Window, kept_in, steps_in, window_size}
-use Rattle.tm_cert_file.specs.Before.{Rules, Before, at_first, behind}
+use Rattle.tm_cert_file.specs.Before.{Rules, Before, at_first, after_window}
 use Rattle.tm_cert_file.specs.Seen.{IsSeen}
 use Rattle.tm_cert_file.specs.File.{ArePassed, IsRead, all_kept, kept_octets}
 use Rattle.tm_cert_file.specs.Reading.{Reading, HasPassed, IsOpen, StandsFor}
@@ -20,7 +20,7 @@ use Rattle.tm_driver.specs.declared.ending.Stop.{Stop}
 use Rattle.tm_driver.specs.declared.ending.Stop.TheVariants.{BadWindow, SinkFault}
 use Rattle.tm_driver.proofs.SinkTexts.{wrote-then}
 use Rattle.tm_path_commands.specs.Check.{bits_kept, windows_text}
-use Rattle.tm_path_commands.specs.Checking.{Passes, Breaks, Fails, NoneFails, StopsBy, WroteBy, TookAfter, TookPartAfter, WroteWindow, WroteWindowFront, window_of}
+use Rattle.tm_path_commands.specs.Checking.{Passes, Breaks, Fails, NoneFails, StopsBy, WroteBy, TookAfter, TookPartAfter, WroteWindow, WroteWindowPrefix, window_of}
 use Rattle.tm_path_commands.specs.Lines.{bad_text, window_text}
 use Rattle.tm_path_commands.specs.declared.checking.Progress.{Progress}
 
@@ -66,7 +66,7 @@ kept-more rate windows w =
 place-is : (rules : Rules) (from to : Before) (octets rest : List ℕ) (windows : List Window) → ArePassed rules from octets windows to rest → to.t ≡ from.t + bits_kept windows
 place-is rules from to octets rest [] are = let same : to.t ≡ from.t = ap (λ (b : Before). b.t) are.0 in omega arith
 place-is rules from to octets rest (w ∷ windows) are =
-    let later = place-is rules (behind rules from w) to (drop (window_size rules.rate from.t w.steps) octets) rest windows are.2 in omega arith
+    let later = place-is rules (after_window rules from w) to (drop (window_size rules.rate from.t w.steps) octets) rest windows are.2 in omega arith
 
 -- no more steps are kept than there are
 kept-within : (rules : Rules) (from : Before) (octets : List ℕ) → IsSeen rules from octets Passed → kept_in octets ≤ steps_in octets
@@ -86,7 +86,7 @@ few-are rules from to octets rest (w ∷ windows) are =
     let kept : w.kept ≡ kept_in octets = ap (λ (v : Window). v.kept) are.1 in
     let size : window_size rules.rate from.t w.steps ≤ length octets = subst (λ n. window_size rules.rate from.t n ≤ length octets) (sym steps) whole in
     let left = length-drop (window_size rules.rate from.t w.steps) octets in
-    let later = few-are rules (behind rules from w) to (drop (window_size rules.rate from.t w.steps) octets) rest windows are.2 in
+    let later = few-are rules (after_window rules from w) to (drop (window_size rules.rate from.t w.steps) octets) rest windows are.2 in
     (omega (arith, later.0), omega (arith, later.1))
 
 -- ---- a window that passes
@@ -131,16 +131,16 @@ module _ (rules : Rules) (r : Reading) (p : Progress) (start taken taken_now was
   -- all octets are read, and nothing is left of them
   read-now : IsRead rules given (h.windows ++ window_of r ∷ []) More
   read-now = subst (λ (k : Rules). IsRead k given (h.windows ++ window_of r ∷ []) More) h.same (record {
-    before = behind r.rules r.before (window_of r);
+    before = after_window r.rules r.before (window_of r);
     rest = drop (window_size r.rules.rate r.before.t (steps_in r.octets)) r.octets;
     passed = passed-push r.rules (at_first r.rules) r.before given r.octets h.windows h.stands passed.passed;
-    is_seen = seen_none r.rules (behind r.rules r.before (window_of r)) (drop (window_size r.rules.rate r.before.t (steps_in r.octets)) r.octets)
+    is_seen = seen_none r.rules (after_window r.rules r.before (window_of r)) (drop (window_size r.rules.rate r.before.t (steps_in r.octets)) r.octets)
         (drop_all (window_size r.rules.rate r.before.t (steps_in r.octets)) r.octets (omega (arith, passed.just)));
     stops = λ no. cc no;
   })
 
   -- a sink failed in what is written for it
-  pub breaks-now : WroteWindowFront r p.count taken taken_now noted noted_now → Breaks rules start taken_now was noted_now given
+  pub breaks-now : WroteWindowPrefix r p.count taken taken_now noted noted_now → Breaks rules start taken_now was noted_now given
   breaks-now part = record {
     prefix = given;
     rest = [];
@@ -223,8 +223,8 @@ pub none-fails : ReadStays → ReadOne → (rules : Rules) (r : Reading) (p : Pr
     → IsOpen r → Passes rules r p start taken was noted given → NoneFails rules (but_last_turn (given ++ piece))
 none-fails stays one rules r p start taken was noted given piece few is_open h = λ windows reason broken.
     let n = length (given ++ piece) - 4096 in
-    let front = take-append-le n given piece (omega (arith, length-append given piece)) in
-    let early = stays rules (take n given) (drop n given) windows reason (subst (λ o. IsRead rules o windows (Failed reason)) front broken) in
+    let prefix = take-append-le n given piece (omega (arith, length-append given piece)) in
+    let early = stays rules (take n given) (drop n given) windows reason (subst (λ o. IsRead rules o windows (Failed reason)) prefix broken) in
     let all = subst (λ o. IsRead rules o windows (Failed reason)) (take-append-drop n given) early in
     let same = one rules given windows h.windows (Failed reason) More all (read-so_far rules r p start taken was noted given More h is_open (λ no. cc no)) in
     cc same.1

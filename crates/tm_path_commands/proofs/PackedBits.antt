@@ -59,10 +59,10 @@ joined last octet pending count value few small is =
     let shifted : last * 2 ^ count % 2 ^ 32 ≡ last * 2 ^ count = omega (arith, fits) in
     let sum : value ≡ last * 2 ^ count + rest = is ∙ (λ i. bit_or (shifted i) (octet % unit i))
     ∙ or_shifted last count rest below in
-    let front : value / 2 ^ count ≡ last = ap (λ n. n / 2 ^ count) sum ∙ div-mul-add last (2 ^ count) rest below in
+    let prefix : value / 2 ^ count ≡ last = ap (λ n. n / 2 ^ count) sum ∙ div-mul-add last (2 ^ count) rest below in
     let back : value % 2 ^ count ≡ octet % 2 ^ count = ap (λ n. n % 2 ^ count) sum
     ∙ mod-mul-add last (2 ^ count) rest below in
-    low_bits-split pending count value ∙ (λ i. low_bits pending (front i) ++ low_bits-same count value octet back i)
+    low_bits-split pending count value ∙ (λ i. low_bits pending (prefix i) ++ low_bits-same count value octet back i)
 
 -- they begin no octet, or one is whole with them
 pub add-part : (whole : List Bool) (last octet pending count value now : ℕ) → count ≤ 8 → last < 256
@@ -97,8 +97,8 @@ add-whole octets after last octet pending count value now next few small is full
 
 -- ---- whole octets, and the bits after them
 
-pub front-octets : (count : ℕ) (octets : List ℕ) → AreOctets octets → AreOctets (take count octets)
-front-octets count octets are = All-take (λ octet. octet < 256) count octets are
+pub prefix-octets : (count : ℕ) (octets : List ℕ) → AreOctets octets → AreOctets (take count octets)
+prefix-octets count octets are = All-take (λ octet. octet < 256) count octets are
 
 pub length-view : (octets : List ℕ) (pending last : ℕ) → length (bits_of octets ++ low_bits pending last) ≡ 8 * length
     octets + pending
@@ -132,23 +132,23 @@ view-open octets pending last few =
 pub split-open : (bits : List Bool) → bits_of (octets_of bits) ++ open_bits bits ≡ bits
 split-open bits =
     let n : ℕ = 8 * (length bits / 8) in
-    let front : List Bool = take n bits in
+    let prefix : List Bool = take n bits in
     let back : List Bool = drop n bits in
-    let size : length front ≡ n = length-take-le n bits (omega arith) in
-    let whole : length front % 8 ≡ 0 = omega (arith, size) in
-    let octets : octets_of bits ≡ octets_of front =
-    ap octets_of (sym (take-append-drop n bits)) ∙ octets_of-append front back whole
-    ∙ ap (λ l. octets_of front ++ l) (octets-none back (omega (arith, length-drop n bits)))
-    ∙ append-nil (octets_of front) in
-    ap (λ l. bits_of l ++ back) octets ∙ ap (λ l. l ++ back) (bits_of-octets_of front whole) ∙ take-append-drop n bits
+    let size : length prefix ≡ n = length-take-le n bits (omega arith) in
+    let whole : length prefix % 8 ≡ 0 = omega (arith, size) in
+    let octets : octets_of bits ≡ octets_of prefix =
+    ap octets_of (sym (take-append-drop n bits)) ∙ octets_of-append prefix back whole
+    ∙ ap (λ l. octets_of prefix ++ l) (octets-none back (omega (arith, length-drop n bits)))
+    ∙ append-nil (octets_of prefix) in
+    ap (λ l. bits_of l ++ back) octets ∙ ap (λ l. l ++ back) (bits_of-octets_of prefix whole) ∙ take-append-drop n bits
 
 pub few-open : (bits : List Bool) → length (open_bits bits) < 8
 few-open bits = omega (arith, length-drop (8 * (length bits / 8)) bits)
 
 -- whole octets before bits stand first
-pub octets-behind : (written bits : List Bool) → length written % 8 ≡ 0
+pub octets-after : (written bits : List Bool) → length written % 8 ≡ 0
     → octets_of (written ++ bits) ≡ octets_of written ++ octets_of bits
-octets-behind written bits whole = octets_of-append written bits whole
+octets-after written bits whole = octets_of-append written bits whole
 
 -- octets of some bits, and the same of more
 pub octets-more : (bits more : List Bool) → (rest : List ℕ) × (octets_of (bits ++ more) ≡ octets_of bits ++ rest)
@@ -191,8 +191,8 @@ drop-twice (suc a) b (x ∷ xs) = (let same : suc (a + b) ≡ suc a + b = omega 
     ∙ ap (λ n. drop n (x ∷ xs)) same)
 
 -- an octet's lowest bits are those after the others
-lowest-behind : (odd octet : ℕ) → odd ≤ 8 → low_bits (8 - odd) octet ≡ drop odd (bits_of_octet octet)
-lowest-behind odd octet few =
+lowest-after : (odd octet : ℕ) → odd ≤ 8 → low_bits (8 - odd) octet ≡ drop odd (bits_of_octet octet)
+lowest-after odd octet few =
     let all : 8 ≡ odd + (8 - odd) = omega arith in
     let size = length-low_bits odd (octet / 2 ^ (8 - odd)) in
     sym (
@@ -202,22 +202,22 @@ lowest-behind odd octet few =
     )
 
 -- the first octet that is not skipped as a whole, and those after it
-pub behind-some : (skip skipped : ℕ) (octets : List ℕ) → skipped ≡ min (skip / 8) (length octets)
+pub after-some : (skip skipped : ℕ) (octets : List ℕ) → skipped ≡ min (skip / 8) (length octets)
     → skipped < length octets
     → low_bits (8 - skip % 8) (get_or octets skipped 0) ++ bits_of (drop (skipped + 1) octets) ≡ drop skip
     (bits_of octets)
-behind-some skip skipped octets is some =
+after-some skip skipped octets is some =
     let odd : ℕ = skip % 8 in
     let x : ℕ = get_or octets skipped 0 in
     let rest : List ℕ = drop (skipped + 1) octets in
     let same : 8 * skipped + odd ≡ skip = omega arith in
-    ap (λ l. l ++ bits_of rest) (lowest-behind odd x (omega arith))
+    ap (λ l. l ++ bits_of rest) (lowest-after odd x (omega arith))
     ∙ sym (drop-append-le odd (bits_of_octet x) (bits_of rest) (omega (arith, length-low_bits 8 x)))
     ∙ ap (λ l. drop odd (bits_of l)) (sym (drop_more octets skipped 0 some))
     ∙ ap (drop odd) (bits_of-drop skipped octets) ∙ drop-twice (8 * skipped) odd (bits_of octets)
     ∙ ap (λ n. drop n (bits_of octets)) same
 
-pub behind-none : (skip skipped : ℕ) (octets : List ℕ) → skipped ≡ min (skip / 8) (length octets)
+pub after-none : (skip skipped : ℕ) (octets : List ℕ) → skipped ≡ min (skip / 8) (length octets)
     → length octets ≤ skipped → [] ≡ drop skip (bits_of octets)
-behind-none skip skipped octets is all = sym
+after-none skip skipped octets is all = sym
     (drop_all skip (bits_of octets) (omega (arith, is, all, length-bits_of octets)))

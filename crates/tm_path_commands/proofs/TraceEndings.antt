@@ -2,7 +2,7 @@
 use Rattle.std.proofs.Common.{◌≡◌, inl, inr, ℕ, ◌+◌, ◌-◌, ◌<◌, ◌≤◌, ◌^◌, Bool, List, [], ◌∷◌, ◌++◌, length, drop, map, refl, sym, ap, ◌∙◌, subst, arith, Option, Some, None, length-append, length-drop}
 use Rattle.std.proofs.lemmas.List.{append-nil}
 use Rattle.tm_base.specs.Handed.{Handed, Item, items_of}
-use Rattle.tm_base.specs.Written.{WroteFront}
+use Rattle.tm_base.specs.Written.{WrotePrefix}
 use Rattle.tm_base.specs.Takers.{HandedOver, HandedPart}
 use Rattle.tm_base.proofs.HandedItems.{items_of-append}
 use Rattle.tm_config.specs.Configuration.{Configuration}
@@ -12,21 +12,21 @@ use Rattle.tm_conv.specs.Path.{steps_size}
 use Rattle.tm_conv.proofs.Sizes.{steps_size_ge}
 use Rattle.tm_viterbi.specs.WindowBlock.{WindowBlock}
 use Rattle.tm_viterbi.specs.Blocks.{AreBlocks}
-use Rattle.tm_viterbi.specs.Due.{Place, Closed, behind, first_place, AreFirst}
+use Rattle.tm_viterbi.specs.Due.{Place, Closed, after_block, first_place, AreFirst}
 use Rattle.tm_viterbi.specs.Starts.{first_start}
 use Rattle.tm_viterbi.proofs.CleanBlocks.{steps-mono}
 use Rattle.tm_viterbi.proofs.HasBlocks.{some_kept}
 use Rattle.tm_inner.specs.Inner.{settings_of, soft_value, soft_octets, BlocksAt, AreInnerBlocks, AreInnerDue, inner_bits}
-use Rattle.tm_inner.specs.Phase.{skip_of, in_turn, InTurnSettled}
-use Rattle.tm_inner.specs.Receiving.{InnerReceiving, StandsFor, FirstAt, AreInnerFirst, Hands, HandsFront}
-use Rattle.tm_inner.specs.Handing.{AreHanded, AreHandedDue, AreHandedFirst, AreHandedFront}
+use Rattle.tm_inner.specs.Phase.{skip_of, with_phase, WithPhaseSettled}
+use Rattle.tm_inner.specs.Receiving.{InnerReceiving, StandsFor, FirstAt, AreInnerFirst, Hands, HandsPrefix}
+use Rattle.tm_inner.specs.Handing.{AreHanded, AreHandedDue, AreHandedFirst, AreHandedPrefix}
 use Rattle.tm_inner.proofs.DueBits.{StayClosed, StandFirst, soft-more}
 use Rattle.tm_inner.proofs.InnerBits.{HasBlocks, has_blocks}
 use Rattle.tm_inner.proofs.ReceivedBits.{length-soft}
 use Rattle.tm_inner.proofs.FewBits.{first-of-due}
 use Rattle.tm_inner.proofs.HandedBits.{handed-due-none}
-use Rattle.tm_inner.proofs.PhasePieces.{PhaseStays, in_turn-more, items_of-in_turn}
-use Rattle.tm_inner.proofs.InTurn.{HasPhase, OnePhase, in_turn-exists, in_turn-front, in_turn-so_far}
+use Rattle.tm_inner.proofs.PhasePieces.{PhaseStays, with_phase-more, items_of-with_phase}
+use Rattle.tm_inner.proofs.WithPhase.{HasPhase, OnePhase, with_phase-exists, with_phase-prefix, with_phase-so_far}
 use Rattle.tm_driver.specs.Courses.{SinkState}
 use Rattle.tm_driver.specs.Driven.{DrivenTo}
 use Rattle.tm_driver.specs.Meaning.{Ends, Output, WroteBoth, WroteEarly, WrotePrefixes, taken_by}
@@ -35,12 +35,12 @@ use Rattle.tm_driver.specs.declared.ending.Ending.{Ending}
 use Rattle.tm_driver.specs.declared.ending.Outcome.TheVariants as outcome
 use Rattle.tm_driver.specs.declared.ending.Stop.TheVariants as stop
 use Rattle.tm_driver.proofs.Driven.{Shows, WroteInOrder, done-driven}
-use Rattle.tm_driver.proofs.SinkTexts.{broke-front, front-of, wrote-front, wrote-nothing}
+use Rattle.tm_driver.proofs.SinkTexts.{broke-prefix, prefix-of, wrote-prefix, wrote-nothing}
 use Rattle.tm_path_commands.specs.Lines.{trace_end_text}
 use Rattle.tm_path_commands.specs.Taken.{TracedAll}
 use Rattle.tm_path_commands.specs.Trace.{IsTrace, IsTraceDue, blocks_text, trace_meaning, trace_text}
-use Rattle.tm_path_commands.specs.Tracing.{CutsTrace, EndsTrace, StandsAt, Traces, TraceFails, TracedWhole, WroteTrace, WroteTraceFront}
-use Rattle.tm_path_commands.proofs.TraceLines.{TookOne, BrokeOne, traced-none, traced-more, traced-part, trace-front, trace_text-split}
+use Rattle.tm_path_commands.specs.Tracing.{CutsTrace, EndsTrace, StandsAt, Traces, TraceFails, TracedWhole, WroteTrace, WroteTracePrefix}
+use Rattle.tm_path_commands.proofs.TraceLines.{TookOne, BrokeOne, traced-none, traced-more, traced-part, trace-prefix, trace_text-split}
 
 -- ---- windows are at most as many as octets
 
@@ -50,7 +50,7 @@ closed-few rate invert keep ahead from to [] some closed = omega arith
 closed-few rate invert keep ahead from to (b ∷ blocks) some closed =
     let n : ℕ = keep + ahead + 1 in
     let kept = some_kept keep ahead n some (omega arith) in
-    let rest = closed-few rate invert keep ahead (behind rate from b) to blocks some closed.1 in
+    let rest = closed-few rate invert keep ahead (after_block rate from b) to blocks some closed.1 in
     let inside = steps-mono rate from.t b.kept n (omega (arith, kept, closed.0.is_block.kept)) in
     omega (arith, kept, closed.0.is_block.kept, closed.0.room, rest, inside, length-drop (steps_size rate from.t b.kept) from.octets, steps_size_ge rate from.t b.kept)
 
@@ -86,7 +86,7 @@ keeps-some : (c : Configuration) → IsAccepted c → 0 < c.keep
 keeps-some c accepted = let keep = accepted.some_keep in omega arith
 
 -- what is due once the phase is settled is first
-first-settled : (c : Configuration) (octets : List ℕ) (handed : List (Handed WindowBlock)) → InTurnSettled (λ phase. AreInnerDue c phase octets) c octets handed → AreHandedFirst c octets handed
+first-settled : (c : Configuration) (octets : List ℕ) (handed : List (Handed WindowBlock)) → WithPhaseSettled (λ phase. AreInnerDue c phase octets) c octets handed → AreHandedFirst c octets handed
 first-settled c octets handed h = (
   h.0,
   record {
@@ -101,7 +101,7 @@ first-settled c octets handed h = (
 few-first : (c : Configuration) (octets : List ℕ) (handed : List (Handed WindowBlock)) → IsAccepted c → AreHandedFirst c octets handed → length (items_of handed) ≤ length octets
 few-first c octets handed accepted h =
     let few = few-first-at c.inner c (skip_of h.1.chosen) octets h.1.items (keeps-some c accepted) h.1.are_items in
-    omega (arith, few, ap (λ l. length (items_of l)) h.1.are, ap length (items_of-in_turn h.1.chosen h.1.items))
+    omega (arith, few, ap (λ l. length (items_of l)) h.1.are, ap length (items_of-with_phase h.1.chosen h.1.items))
 
 pub few-due : (c : Configuration) (octets : List ℕ) (handed : List (Handed WindowBlock)) → IsAccepted c → AreHandedDue c octets handed → length (items_of handed) ≤ length octets
 few-due c octets handed accepted (inl none) = omega (arith, ap (λ l. length (items_of l)) none.1)
@@ -110,7 +110,7 @@ few-due c octets handed accepted (inr h) = few-first c octets handed accepted (f
 pub few-handed : (c : Configuration) (octets : List ℕ) (handed : List (Handed WindowBlock)) (left : ℕ) → IsAccepted c → AreHanded c octets handed left → length (items_of handed) ≤ length octets
 few-handed c octets handed left accepted h =
     let few = few-at c.inner c (skip_of h.chosen) octets h.items left (keeps-some c accepted) h.are_items in
-    omega (arith, few, ap (λ l. length (items_of l)) h.are, ap length (items_of-in_turn h.chosen h.items))
+    omega (arith, few, ap (λ l. length (items_of l)) h.are, ap length (items_of-with_phase h.chosen h.items))
 
 -- ---- first windows stand first
 
@@ -127,25 +127,25 @@ stay-first stay (Some rate) c phase octets more first are =
     subst (λ (l : List ℕ). AreFirst (settings_of c rate) l first) (sym (soft-more c phase octets more)) (stay (settings_of c rate) (soft_octets c phase octets) back first are)
 
 -- what is handed over up to a fault is a prefix of all
-front-of-all : HasBlocks → StandFirst → (c : Configuration) (octets : List ℕ) (front : List (Handed WindowBlock)) → IsAccepted c → AreHandedFront c octets front
-    → (handed : List (Handed WindowBlock)) × (left : ℕ) × AreHanded c octets handed left × ((rest : List (Handed WindowBlock)) × (handed ≡ front ++ rest))
-front-of-all exists stands c octets front accepted f =
+prefix-of-all : HasBlocks → StandFirst → (c : Configuration) (octets : List ℕ) (prefix : List (Handed WindowBlock)) → IsAccepted c → AreHandedPrefix c octets prefix
+    → (handed : List (Handed WindowBlock)) × (left : ℕ) × AreHanded c octets handed left × ((rest : List (Handed WindowBlock)) × (handed ≡ prefix ++ rest))
+prefix-of-all exists stands c octets prefix accepted f =
     let phase = skip_of f.chosen in
-    elim f.are_items as (λ _. (handed : List (Handed WindowBlock)) × (left : ℕ) × AreHanded c octets handed left × ((rest : List (Handed WindowBlock)) × (handed ≡ front ++ rest))) [
+    elim f.are_items as (λ _. (handed : List (Handed WindowBlock)) × (left : ℕ) × AreHanded c octets handed left × ((rest : List (Handed WindowBlock)) × (handed ≡ prefix ++ rest))) [
       | inl first ↦ (
           let all = has_blocks exists c phase octets accepted in
           let split = first-of-all stands c.inner c phase octets f.items all.0 all.1 first all.2 in (
-            in_turn f.chosen all.0,
+            with_phase f.chosen all.0,
             all.1,
             record { chosen = f.chosen; choice = f.choice; items = all.0; are_items = all.2; are = refl },
-            (map Item split.0, ap (in_turn f.chosen) split.1 ∙ in_turn-more f.chosen f.items split.0 ∙ ap (λ l. l ++ map Item split.0) (sym f.are)),
+            (map Item split.0, ap (with_phase f.chosen) split.1 ∙ with_phase-more f.chosen f.items split.0 ∙ ap (λ l. l ++ map Item split.0) (sym f.are)),
           )
           )
       | inr all ↦ (
-        front,
+        prefix,
         all.0,
         record { chosen = f.chosen; choice = f.choice; items = f.items; are_items = all.1; are = f.are },
-        ([], sym (append-nil front)),
+        ([], sym (append-nil prefix)),
       )
     ]
 
@@ -167,7 +167,7 @@ traces name lines count c a b taker now octets new accepted same few stood p =
 
 trace-fails : {T K : Type 0} (name : T → K) (lines : T → SinkState) (last : T → Type 0) (count : T → ℕ) (c : Configuration) (a : InnerReceiving) (taker now : T) (octets : List ℕ)
     → count taker ≡ 0 → IsAccepted c → length octets < 2 ^ 60 → StandsAt a [] []
-    → HandsFront (TookOne name lines count) (BrokeOne name lines last count) StandsAt (AreHandedFirst c) a taker now octets
+    → HandsPrefix (TookOne name lines count) (BrokeOne name lines last count) StandsAt (AreHandedFirst c) a taker now octets
     → TraceFails c (lines taker) (lines now) (last now) octets
 trace-fails name lines last count c a taker now octets new accepted few stood p =
     let small : 0 + length octets < 2 ^ 60 = omega arith in
@@ -213,7 +213,7 @@ wrote-end c count bits left start before now octets w whole = record {
 -- the sink failed in the last line
 pub cut-end : (c : Configuration) (count bits left : ℕ) (start before now : SinkState) (is_last : Type 0) (octets : List ℕ) → TracedWhole c count bits left start before octets
     → ((from : SinkState) (handed : List (Handed WindowBlock)) → TracedAll from before 0 count handed
-    → BrokeText from now is_last (blocks_text 0 handed) (trace_end_text (length (items_of handed)) bits left)) → WroteTraceFront c start now octets
+    → BrokeText from now is_last (blocks_text 0 handed) (trace_end_text (length (items_of handed)) bits left)) → WroteTracePrefix c start now octets
 cut-end c count bits left start before now is_last octets w broke =
     let handed = w.handed in
     let end = trace_end_text (length (items_of handed)) bits left in
@@ -221,37 +221,37 @@ cut-end c count bits left start before now is_last octets w broke =
       handed = handed;
       left = left;
       are_handed = w.are_handed;
-      written = subst (λ (n : ℕ). WroteFront start.taken now.taken (trace_text handed n left)) w.are_bits
-          (subst (λ l. WroteFront start.taken now.taken (blocks_text 0 handed ++ l)) (append-nil end)
-          (broke-front start now is_last (blocks_text 0 handed) end [] (broke start handed w.lines)));
+      written = subst (λ (n : ℕ). WrotePrefix start.taken now.taken (trace_text handed n left)) w.are_bits
+          (subst (λ l. WrotePrefix start.taken now.taken (blocks_text 0 handed ++ l)) (append-nil end)
+          (broke-prefix start now is_last (blocks_text 0 handed) end [] (broke start handed w.lines)));
     }
 
 -- a prefix of the lines of the first of all is a prefix of the trace
 trace-first : (before now : Option (List ℕ)) (handed first rest : List (Handed WindowBlock)) (bits left : ℕ) → handed ≡ first ++ rest
-    → WroteFront before now (blocks_text 0 first) → WroteFront before now (trace_text handed bits left)
+    → WrotePrefix before now (blocks_text 0 first) → WrotePrefix before now (trace_text handed bits left)
 trace-first before now handed first rest bits left split wrote =
     let text = trace_text-split handed first rest bits left split in
-    subst (WroteFront before now) (sym text.1) (front-of before now (blocks_text 0 first) text.0 wrote)
+    subst (WrotePrefix before now) (sym text.1) (prefix-of before now (blocks_text 0 first) text.0 wrote)
 
 -- or in one of the last lines before it
 pub cut-last : HasBlocks → StandFirst → {T K : Type 0} (name : T → K) (lines : T → SinkState) (last : T → Type 0) (count : T → ℕ) (c : Configuration) (r : InnerReceiving) (taker now : T)
     (start : SinkState) (octets : List ℕ) (tried : List (Handed WindowBlock)) → IsAccepted c → Traces c r (count taker) start (lines taker) octets
     → HandedPart (TookOne name lines count) (BrokeOne name lines last count) taker tried now
-    → ((given : List ℕ) (done : List (Handed WindowBlock)) → StandsFor r given done → AreHandedFront r.config given (done ++ tried))
-    → WroteTraceFront c start (lines now) octets
+    → ((given : List ℕ) (done : List (Handed WindowBlock)) → StandsFor r given done → AreHandedPrefix r.config given (done ++ tried))
+    → WroteTracePrefix c start (lines now) octets
 cut-last exists stands name lines last count c r taker now start octets tried accepted t part finish =
-    let front = t.handed ++ tried in
-    let all = front-of-all exists stands c octets front accepted (subst (λ (k : Configuration). AreHandedFront k octets front) t.config (finish octets t.handed t.stands.0)) in
-    let bound : length (items_of front) ≤ length octets =
-    omega (arith, few-handed c octets all.0 all.1 accepted all.2, ap (λ l. length (items_of l)) all.3.1, ap length (items_of-append front all.3.0), length-append (items_of front) (items_of all.3.0)) in
+    let prefix = t.handed ++ tried in
+    let all = prefix-of-all exists stands c octets prefix accepted (subst (λ (k : Configuration). AreHandedPrefix k octets prefix) t.config (finish octets t.handed t.stands.0)) in
+    let bound : length (items_of prefix) ≤ length octets =
+    omega (arith, few-handed c octets all.0 all.1 accepted all.2, ap (λ l. length (items_of l)) all.3.1, ap length (items_of-append prefix all.3.0), length-append (items_of prefix) (items_of all.3.0)) in
     let few = t.stands.0.few in
     let broke = traced-part name lines last count start t.handed tried taker now t.lines part (omega arith) in
     record {
       handed = all.0;
       left = all.1;
       are_handed = all.2;
-      written = trace-first start.taken (lines now).taken all.0 front all.3.0 (length (inner_bits c octets (items_of all.0))) all.1 all.3.1
-          (trace-front start (lines now) (last now) front broke);
+      written = trace-first start.taken (lines now).taken all.0 prefix all.3.0 (length (inner_bits c octets (items_of all.0))) all.1 all.3.1
+          (trace-prefix start (lines now) (last now) prefix broke);
     }
 
 -- ---- nothing was given yet
@@ -262,10 +262,10 @@ stands-new c r accepted same stands = (stands, subst (λ (k : Configuration). Ar
 -- ---- how tracing ends
 
 -- lines of the first of all are a prefix of the trace
-fronts-by : (c : Configuration) (octets : List ℕ) (first : List (Handed WindowBlock)) (taken taken_now noted : Option (List ℕ)) (output : Output) (is : IsTrace c octets output)
-    → (rest : List (Handed WindowBlock)) × (is.handed ≡ first ++ rest) → WroteFront taken taken_now (blocks_text 0 first) → WrotePrefixes output (taken_by taken taken_now noted noted)
-fronts-by c octets first taken taken_now noted output is split wrote = record {
-  out = subst (WroteFront taken taken_now) (sym is.out)
+prefixes-by : (c : Configuration) (octets : List ℕ) (first : List (Handed WindowBlock)) (taken taken_now noted : Option (List ℕ)) (output : Output) (is : IsTrace c octets output)
+    → (rest : List (Handed WindowBlock)) × (is.handed ≡ first ++ rest) → WrotePrefix taken taken_now (blocks_text 0 first) → WrotePrefixes output (taken_by taken taken_now noted noted)
+prefixes-by c octets first taken taken_now noted output is split wrote = record {
+  out = subst (WrotePrefix taken taken_now) (sym is.out)
       (trace-first taken taken_now is.handed first split.0 (length (inner_bits c octets (items_of is.handed))) is.left split.1 wrote);
   notes = (0, wrote-nothing noted);
 }
@@ -288,9 +288,9 @@ shows-all c octets before now noted w = (
   (λ none. none, λ none. none),
 )
 
-shows-front : (c : Configuration) (octets : List ℕ) (before now : SinkState) (noted : Option (List ℕ)) → WroteTraceFront c before now octets
+shows-prefix : (c : Configuration) (octets : List ℕ) (before now : SinkState) (noted : Option (List ℕ)) → WroteTracePrefix c before now octets
     → WroteInOrder (trace_meaning c) octets (taken_by before.taken now.taken noted noted)
-shows-front c octets before now noted w = (
+shows-prefix c octets before now noted w = (
   trace-of c octets w.handed w.left,
   is-trace c octets w.handed w.left w.are_handed,
   record { out = w.written; notes = (0, wrote-nothing noted) },
@@ -310,7 +310,7 @@ module _ (exists : HasBlocks) (stands : StandFirst) (phase : HasPhase) (one : On
   -- the trace of octets
   trace-output : (c : Configuration) (octets : List ℕ) → IsAccepted c → (output : Output) × IsTrace c octets output
   trace-output c octets accepted =
-      let all = in_turn-exists (λ n blocks. (left : ℕ) × AreInnerBlocks c n octets blocks left) phase c octets
+      let all = with_phase-exists (λ n blocks. (left : ℕ) × AreInnerBlocks c n octets blocks left) phase c octets
       (λ n. let b = has_blocks exists c n octets accepted in (b.0, (b.1, b.2))) in
       let left = all.1.are_items.0 in (
         trace-of c octets all.0 left,
@@ -324,13 +324,13 @@ module _ (exists : HasBlocks) (stands : StandFirst) (phase : HasPhase) (one : On
     λ more.
         let all = trace-output c (octets ++ more) accepted in
         let due = subst (λ (k : Configuration). AreHandedDue k octets t.handed) t.config t.stands.1 in
-        let split = in_turn-so_far (λ n. AreInnerDue c n octets) (λ n blocks. AreInnerBlocks c n (octets ++ more) blocks all.1.left) stays one c octets more t.handed all.1.handed
+        let split = with_phase-so_far (λ n. AreInnerDue c n octets) (λ n blocks. AreInnerBlocks c n (octets ++ more) blocks all.1.left) stays one c octets more t.handed all.1.handed
         (λ n first blocks p q. first-of-all stands c.inner c n (octets ++ more) first blocks all.1.left
         (stay-first stay c.inner c n octets more first (first-of-due c n octets first p)) q) due all.1.are_handed in (
           all.0,
           all.1,
-          fronts-by c (octets ++ more) t.handed before.taken now.taken noted all.0 all.1 split
-              (wrote-front before.taken now.taken (blocks_text 0 t.handed) t.lines.lines.written),
+          prefixes-by c (octets ++ more) t.handed before.taken now.taken noted all.0 all.1 split
+              (wrote-prefix before.taken now.taken (blocks_text 0 t.handed) t.lines.lines.written),
         ),
   )
 
@@ -338,11 +338,11 @@ module _ (exists : HasBlocks) (stands : StandFirst) (phase : HasPhase) (one : On
       → IsAccepted c → TraceFails c before now is_last octets → WroteInOrder (trace_meaning c) octets (taken_by before.taken now.taken noted noted)
   shows-fed c octets before now is_last noted accepted t =
       let all = trace-output c octets accepted in
-      let split = in_turn-front (λ n. AreInnerFirst c n octets) (λ n blocks. AreInnerBlocks c n octets blocks all.1.left) one c octets t.handed all.1.handed
+      let split = with_phase-prefix (λ n. AreInnerFirst c n octets) (λ n blocks. AreInnerBlocks c n octets blocks all.1.left) one c octets t.handed all.1.handed
       (λ n first blocks p q. first-of-all stands c.inner c n octets first blocks all.1.left p q) t.are_first.1 all.1.are_handed in (
         all.0,
         all.1,
-        fronts-by c octets t.handed before.taken now.taken noted all.0 all.1 split (trace-front before now is_last t.handed t.broke),
+        prefixes-by c octets t.handed before.taken now.taken noted all.0 all.1 split (trace-prefix before now is_last t.handed t.broke),
         wrote-nothing noted,
       )
 
@@ -358,7 +358,7 @@ module _ (exists : HasBlocks) (stands : StandFirst) (phase : HasPhase) (one : On
 
     abbrev pub Fails : F → F → List ℕ → Type 0
     Fails a b octets = (config : Configuration) → (receiver a).config ≡ config
-        → HandsFront (TookOne name lines count) (BrokeOne name lines last count) StandsAt (AreHandedFirst config)
+        → HandsPrefix (TookOne name lines count) (BrokeOne name lines last count) StandsAt (AreHandedFirst config)
         (receiver a) (taker a) (taker b) octets
 
     abbrev pub Finishes : F → F → Type 0
@@ -403,5 +403,5 @@ module _ (exists : HasBlocks) (stands : StandFirst) (phase : HasPhase) (one : On
           (λ o within p. shows-fed c o start end (last (taker now)) noted accepted (of-fails o within p))
           (λ middle o within p end_is. shows-all c o start end noted
           (end_is c start o accepted (of-fed middle o within p)))
-          (λ middle o within p end_is. shows-front c o start end noted
+          (λ middle o within p end_is. shows-prefix c o start end noted
           (end_is c start o accepted (of-fed middle o within p)))

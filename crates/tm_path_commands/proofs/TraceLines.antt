@@ -3,14 +3,14 @@ use Rattle.std.proofs.Common.{◌≡◌, ℕ, ◌+◌, ◌<◌, ◌≤◌, ◌^�
 use Rattle.tm_base.specs.Count.{raised_by}
 use Rattle.tm_base.specs.Handed.{Handed, Phase, Item, on_handed, items_of}
 use Rattle.tm_base.specs.Takers.{HandedOver, HandedPart}
-use Rattle.tm_base.specs.Written.{WroteFront}
+use Rattle.tm_base.specs.Written.{WrotePrefix}
 use Rattle.tm_base.proofs.HandedItems.{items_of-append}
 use Rattle.tm_viterbi.specs.WindowBlock.{WindowBlock}
 use Rattle.tm_driver.specs.Courses.{SinkState}
 use Rattle.tm_driver.specs.Lines.{phase_text}
 use Rattle.tm_driver.specs.Texts.{TookText, BrokeText}
 use Rattle.tm_driver.proofs.HandedAlong.{handed-along, part-along, handed-keeps, part-keeps}
-use Rattle.tm_driver.proofs.SinkTexts.{took-none, took-more, broke-after, broke-front}
+use Rattle.tm_driver.proofs.SinkTexts.{took-none, took-more, broke-after, broke-prefix}
 use Rattle.tm_path_commands.specs.Lines.{block_text, trace_end_text}
 use Rattle.tm_path_commands.specs.Trace.{blocks_text, trace_text}
 use Rattle.tm_path_commands.specs.Taken.{Traced, TracedHanded, TracedAll, TraceBroke, handed_block_text}
@@ -96,9 +96,9 @@ next-text n (Item block) rest = (blocks_text (n + 1) rest, refl)
 pub trace_text-split : (handed first rest : List (Handed WindowBlock)) (bits left : ℕ) → handed ≡ first ++ rest
     → (more : List ℕ) × (trace_text handed bits left ≡ blocks_text 0 first ++ more)
 trace_text-split handed first rest bits left split =
-    let behind = blocks_text (length (items_of first)) rest in
+    let after = blocks_text (length (items_of first)) rest in
     let end = trace_end_text (length (items_of handed)) bits left in
-    (behind ++ end, ap (λ l. l ++ end) (ap (blocks_text 0) split ∙ blocks_text-split first rest) ∙ append_assoc (blocks_text 0 first) behind end)
+    (after ++ end, ap (λ l. l ++ end) (ap (blocks_text 0) split ∙ blocks_text-split first rest) ∙ append_assoc (blocks_text 0 first) after end)
 
 -- ---- windows that are counted
 
@@ -156,29 +156,29 @@ pub traced-part : {T K : Type 0} (name : T → K) (lines : T → SinkState) (las
     → TracedAll start (lines a) 0 (count a) done → HandedPart (TookOne name lines count) (BrokeOne name lines last count) a tried b → length (items_of (done ++ tried)) < 2 ^ 64
     → TraceBroke start (lines b) (last b) (done ++ tried)
 traced-part name lines last count start done tried a b before part few =
-    let front = done ++ part.front in
-    let split : done ++ tried ≡ front ++ part.next ∷ part.rest =
-    ap (λ l. done ++ l) part.split ∙ sym (append_assoc done part.front (part.next ∷ part.rest)) in
-    let fewer : length (items_of front) ≤ length (items_of (done ++ tried)) =
-    let sum = count-append front (part.next ∷ part.rest) in let all = ap (λ l. length (items_of l)) split in omega arith in
-    let first = traced-more name lines count start done part.front a part.middle before part.handed (omega arith) in
-    let number : count part.middle ≡ length (items_of front) = let is = first.counted in omega arith in
+    let prefix = done ++ part.prefix in
+    let split : done ++ tried ≡ prefix ++ part.next ∷ part.rest =
+    ap (λ l. done ++ l) part.split ∙ sym (append_assoc done part.prefix (part.next ∷ part.rest)) in
+    let fewer : length (items_of prefix) ≤ length (items_of (done ++ tried)) =
+    let sum = count-append prefix (part.next ∷ part.rest) in let all = ap (λ l. length (items_of l)) split in omega arith in
+    let first = traced-more name lines count start done part.prefix a part.middle before part.handed (omega arith) in
+    let number : count part.middle ≡ length (items_of prefix) = let is = first.counted in omega arith in
     record {
-      prefix = front;
+      prefix = prefix;
       next = part.next;
       rest = part.rest;
       split = split;
-      lines = broke-after start (lines part.middle) (lines b) (last b) (blocks_text 0 front) (handed_block_text (length (items_of front)) part.next) first.lines
+      lines = broke-after start (lines part.middle) (lines b) (last b) (blocks_text 0 prefix) (handed_block_text (length (items_of prefix)) part.next) first.lines
           (subst (λ (n : ℕ). BrokeText (lines part.middle) (lines b) (last b) [] (handed_block_text n part.next)) number part.failed.1);
     }
 
 -- ---- fronts of a trace
 
 -- where the sink failed, it has taken a prefix of the lines
-pub trace-front : (before now : SinkState) (last : Type 0) (handed : List (Handed WindowBlock)) → TraceBroke before now last handed → WroteFront before.taken now.taken (blocks_text 0 handed)
-trace-front before now last handed broke =
+pub trace-prefix : (before now : SinkState) (last : Type 0) (handed : List (Handed WindowBlock)) → TraceBroke before now last handed → WrotePrefix before.taken now.taken (blocks_text 0 handed)
+trace-prefix before now last handed broke =
     let n = length (items_of broke.prefix) in
     let more = next-text n broke.next broke.rest in
     let text = ap (blocks_text 0) broke.split ∙ blocks_text-split broke.prefix (broke.next ∷ broke.rest) ∙ ap (λ l. blocks_text 0 broke.prefix ++ l) more.1 in
-    subst (WroteFront before.taken now.taken) (sym text)
-    (broke-front before now last (blocks_text 0 broke.prefix) (handed_block_text n broke.next) more.0 broke.lines)
+    subst (WrotePrefix before.taken now.taken) (sym text)
+    (broke-prefix before now last (blocks_text 0 broke.prefix) (handed_block_text n broke.next) more.0 broke.lines)

@@ -4,7 +4,7 @@ use Rattle.tm_base.specs.Bits.{octets_of}
 use Rattle.tm_base.specs.Count.{raised_by}
 use Rattle.tm_base.specs.Handed.{Handed, Phase, Item, items_of, on_handed}
 use Rattle.tm_base.specs.Takers.{HandedOver}
-use Rattle.tm_base.specs.Written.{Wrote, WroteFront}
+use Rattle.tm_base.specs.Written.{Wrote, WrotePrefix}
 use Rattle.tm_config.specs.Accepted.{IsAccepted}
 use Rattle.tm_config.specs.Configuration.{Configuration}
 use Rattle.tm_driver.specs.Lines.{phase_text}
@@ -63,7 +63,7 @@ pub record IsBitsDue (c : Configuration) (octets : List ℕ) (output : Output) :
 -- all.
 abbrev pub AreBitsInOrder : (line : List ℕ) → Output → Taken → Type 0
 AreBitsInOrder line output taken =
-    (Wrote taken.out taken.out_now [] × WroteFront taken.notes taken.notes_now line)
+    (Wrote taken.out taken.out_now [] × WrotePrefix taken.notes taken.notes_now line)
     ⊎ Wrote taken.notes taken.notes_now line
     ⊎ Wrote taken.out taken.out_now output.out
 
@@ -130,8 +130,8 @@ WroteWaiting packing taken taken_now noted noted_now =
 abbrev pub WrotePart : (line octets : List ℕ) → (taken taken_now noted noted_now : Option (List ℕ))
     → Type 0
 WrotePart line octets taken taken_now noted noted_now =
-    (Wrote taken taken_now [] × WroteFront noted noted_now line)
-    ⊎ (WroteFront taken taken_now octets × Wrote noted noted_now line)
+    (Wrote taken taken_now [] × WrotePrefix noted noted_now line)
+    ⊎ (WrotePrefix taken taken_now octets × Wrote noted noted_now line)
 
 -- The receiver was given these octets and no others. After the bits of them that were written the
 -- others of what is due wait, and the windows are counted.
@@ -232,7 +232,7 @@ pub record WritesAllPart (c : Configuration) (taken taken_now noted noted_now : 
   pub part : WrotePart (phase_line handed) (filled_octets (bits_of_handed c octets handed))
       taken taken_now noted noted_now
       ⊎ (Wrote taken taken_now (filled_octets (bits_of_handed c octets handed))
-      × WroteFront noted noted_now (phase_line handed ++ end_line c octets handed left))
+      × WrotePrefix noted noted_now (phase_line handed ++ end_line c octets handed left))
 
 -- Given these octets, a receiver, what waits, and two sinks go from what they were to what they are
 -- now, and more is written; or a sink fails in it.

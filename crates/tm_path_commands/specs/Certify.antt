@@ -8,7 +8,7 @@ use Rattle.tm_driver.specs.Meaning.{Meaning}
 use Rattle.tm_viterbi.specs.WindowBlock.{WindowBlock}
 use Rattle.tm_inner.specs.Inner.{AreInnerDue, settings_of, soft_octets}
 use Rattle.tm_inner.specs.Handing.{AreHanded}
-use Rattle.tm_inner.specs.Phase.{InTurn, IsSettled, skip_of}
+use Rattle.tm_inner.specs.Phase.{WithPhase, IsSettled, skip_of}
 use Rattle.tm_cert_file.specs.Certificate.{IsCertificate}
 
 -- the certificate of blocks of received octets after a phase; with no inner code there is none
@@ -28,7 +28,7 @@ pub record IsCertifiedAll (c : Configuration) (octets text : List ℕ) : Type 0 
 pub record IsCertifiedSettled (c : Configuration) (octets : List ℕ)
     (handed : List (Handed WindowBlock)) (text : List ℕ) : Type 0 where
   pub settled : IsSettled c octets
-  pub are_due : InTurn (λ phase. AreInnerDue c phase octets) c octets handed
+  pub are_due : WithPhase (λ phase. AreInnerDue c phase octets) c octets handed
   pub is_text : TextAt c.inner c (skip_of are_due.chosen) octets are_due.items text
 
 -- the same before the phase is settled too, where there are none

@@ -1,7 +1,7 @@
 -- How far a certificate is written.
 use Rattle.std.specs.Prelude.{◌≡◌, ◌⊎◌, ℕ, ◌+◌, ◌*◌, ◌-◌, ◌^◌, ◌<◌, ◌≤◌, List, [], ◌++◌, length, take, Option, Some, None}
 use Rattle.tm_base.specs.Handed.{Handed}
-use Rattle.tm_base.specs.Written.{Wrote, WroteFront}
+use Rattle.tm_base.specs.Written.{Wrote, WrotePrefix}
 use Rattle.tm_config.specs.Accepted.{IsAccepted}
 use Rattle.tm_config.specs.Configuration.{Configuration}
 use Rattle.tm_conv.specs.declared.rates.Rate.{Rate}
@@ -9,7 +9,7 @@ use Rattle.tm_viterbi.specs.Due.{Closed, first_place}
 use Rattle.tm_viterbi.specs.WindowBlock.{WindowBlock}
 use Rattle.tm_inner.specs.Handing.{AreHandedFirst}
 use Rattle.tm_inner.specs.Inner.{AreInnerDue, settings_of, soft_octets}
-use Rattle.tm_inner.specs.Phase.{InTurn, IsSettled, phase_octets, skip_of}
+use Rattle.tm_inner.specs.Phase.{WithPhase, IsSettled, phase_octets, skip_of}
 use Rattle.tm_inner.specs.Receiving.{InnerReceiving, StandsFor}
 use Rattle.tm_inner.specs.Symbols.{is_inverted}
 use Rattle.tm_cert_file.specs.Certificate.{IsCertificate}
@@ -29,7 +29,7 @@ pub record Waits (c : Configuration) (rate : Rate) (now : Certifying) (octets : 
 pub record Goes (c : Configuration) (rate : Rate) (now : Certifying) (octets : List ℕ)
     (handed : List (Handed WindowBlock)) (text : List ℕ) : Type 0 where
   pub settled : IsSettled c octets
-  pub are_due : InTurn (λ phase. AreInnerDue c phase octets) c octets handed
+  pub are_due : WithPhase (λ phase. AreInnerDue c phase octets) c octets handed
   pub closed : Closed rate (is_inverted rate c.invert) c.keep c.ahead
       (first_place (settings_of c rate) (soft_octets c (skip_of are_due.chosen) octets))
       are_due.items now.place
@@ -77,7 +77,7 @@ pub record CertifyFails (c : Configuration) (taken taken_now : Option (List ℕ)
   pub text : List ℕ
   pub is_text : TextAt c.inner c
       (skip_of are_first.1.chosen) octets are_first.1.items text
-  pub wrote : WroteFront taken taken_now text
+  pub wrote : WrotePrefix taken taken_now text
 
 -- the sink took the certificate of these octets
 abbrev pub WroteCertificate : Configuration → (taken taken_now : Option (List ℕ)) → List ℕ → Type 0
@@ -85,10 +85,10 @@ WroteCertificate c taken taken_now octets = (text : List ℕ) × IsCertifiedAll 
     × Wrote taken taken_now text
 
 -- the sink took a prefix of it
-abbrev pub WroteCertificateFront : Configuration → (taken taken_now : Option (List ℕ)) → List ℕ
+abbrev pub WroteCertificatePrefix : Configuration → (taken taken_now : Option (List ℕ)) → List ℕ
     → Type 0
-WroteCertificateFront c taken taken_now octets = (text : List ℕ) × IsCertifiedAll c octets text
-    × WroteFront taken taken_now text
+WroteCertificatePrefix c taken taken_now octets = (text : List ℕ) × IsCertifiedAll c octets text
+    × WrotePrefix taken taken_now text
 
 -- Given these octets, a receiver, what is kept to write, and a sink go from what they were to what
 -- they are now, and the certificate goes on; or the sink fails in it.
@@ -117,4 +117,4 @@ EndsCertificate receiver kept out out_now =
 abbrev pub CutsCertificate : InnerReceiving → Certifying → (out out_now : Option (List ℕ)) → Type 0
 CutsCertificate receiver kept out out_now =
     (c : Configuration) (start : Option (List ℕ)) (octets : List ℕ) → IsAccepted c
-    → Certifies c receiver kept start out octets → WroteCertificateFront c start out_now octets
+    → Certifies c receiver kept start out octets → WroteCertificatePrefix c start out_now octets

@@ -1,6 +1,6 @@
 -- How far a certificate is checked.
 use Rattle.std.specs.Prelude.{◌≡◌, ◌⊎◌, ℕ, ◌^◌, ◌<◌, ◌≤◌, List, [], ◌∷◌, ◌++◌, length, take, Option}
-use Rattle.tm_base.specs.Written.{Wrote, WroteFront}
+use Rattle.tm_base.specs.Written.{Wrote, WrotePrefix}
 use Rattle.tm_cert_file.specs.declared.seen.Reason.{Reason}
 use Rattle.tm_cert_file.specs.declared.seen.Seen.TheVariants.{More}
 use Rattle.tm_cert_file.specs.Window.{Window, window_in}
@@ -31,13 +31,13 @@ WroteWindow r number taken taken_now noted noted_now =
     (window_of r).metric)
 
 -- one of them failed in its part, and the line was not begun before the octets were taken
-abbrev pub WroteWindowFront : Reading → (number : ℕ)
+abbrev pub WroteWindowPrefix : Reading → (number : ℕ)
     → (taken taken_now noted noted_now : Option (List ℕ)) → Type 0
-WroteWindowFront r number taken taken_now noted noted_now =
-    (WroteFront taken taken_now (kept_octets r.rules.rate r.before.t (window_of r))
+WroteWindowPrefix r number taken taken_now noted noted_now =
+    (WrotePrefix taken taken_now (kept_octets r.rules.rate r.before.t (window_of r))
     × Wrote noted noted_now [])
     ⊎ (Wrote taken taken_now (kept_octets r.rules.rate r.before.t (window_of r))
-    × WroteFront noted noted_now (window_text number (window_of r).steps (window_of r).kept
+    × WrotePrefix noted noted_now (window_text number (window_of r).steps (window_of r).kept
     (window_of r).metric))
 
 -- the sinks took the soft octets and the lines of these windows
@@ -106,7 +106,7 @@ StopsBy SinkFault rules taken taken_now noted noted_now octets =
 -- the notes took the line of the window that fails, or a prefix of it
 abbrev pub WroteBy : Stop → (noted noted_now : Option (List ℕ)) → List ℕ → Type 0
 WroteBy BadWindow noted noted_now line = Wrote noted noted_now line
-WroteBy SinkFault noted noted_now line = WroteFront noted noted_now line
+WroteBy SinkFault noted noted_now line = WrotePrefix noted noted_now line
 
 -- Given these octets, a reader, the progress, and two sinks go from what they were to what they are
 -- now, and more windows pass; or checking stops.

@@ -1,7 +1,7 @@
 -- What tracing has written of the octets that were read.
 use Rattle.std.specs.Prelude.{◌≡◌, ℕ, List, length}
 use Rattle.tm_base.specs.Handed.{Handed, items_of}
-use Rattle.tm_base.specs.Written.{WroteFront}
+use Rattle.tm_base.specs.Written.{WrotePrefix}
 use Rattle.tm_config.specs.Accepted.{IsAccepted}
 use Rattle.tm_config.specs.Configuration.{Configuration}
 use Rattle.tm_driver.specs.Courses.{SinkState}
@@ -53,12 +53,12 @@ pub record WroteTrace (c : Configuration) (before now : SinkState) (octets : Lis
       (length (inner_bits c octets (items_of handed))) left)
 
 -- the sink took a prefix of it
-pub record WroteTraceFront (c : Configuration) (before now : SinkState)
+pub record WroteTracePrefix (c : Configuration) (before now : SinkState)
     (octets : List ℕ) : Type 0 where
   pub handed : List (Handed WindowBlock)
   pub left : ℕ
   pub are_handed : AreHanded c octets handed left
-  pub written : WroteFront before.taken now.taken
+  pub written : WrotePrefix before.taken now.taken
       (trace_text handed (length (inner_bits c octets (items_of handed))) left)
 
 -- what was begun is traced to its end, or the sink fails in it
@@ -70,4 +70,4 @@ EndsTrace receiver count lines lines_now =
 abbrev pub CutsTrace : InnerReceiving → (count : ℕ) → (lines lines_now : SinkState) → Type 0
 CutsTrace receiver count lines lines_now =
     (c : Configuration) (start : SinkState) (octets : List ℕ) → IsAccepted c
-    → Traces c receiver count start lines octets → WroteTraceFront c start lines_now octets
+    → Traces c receiver count start lines octets → WroteTracePrefix c start lines_now octets

@@ -2,7 +2,7 @@
 ghost use Rattle.std.specs.Prelude.{◌≡◌, ℕ, ◌≤◌, ◌==◌, Bool, false, true, List, [], length, map, take, drop, Option, None, OnOk, OnErr, IfOk};
 ghost use Rattle.tm_base.specs.Bits.{AreOctets, bits_of, low_bits, octets_of};
 ghost use Rattle.tm_base.specs.Outside.{HasCause};
-ghost use Rattle.tm_base.specs.Written.{Wrote, WroteFront};
+ghost use Rattle.tm_base.specs.Written.{Wrote, WrotePrefix};
 ghost use Rattle.tm_driver.specs.Answered.{Answered};
 ghost use Rattle.tm_driver.specs.Courses.{SinksWent, sink_call, source_call};
 ghost use Rattle.tm_driver.specs.Statuses.{failed_at_end};
@@ -110,7 +110,7 @@ impl Packer {
     }
 
     // Adds the bits of octets after the first `skip` ones.
-    fn add_behind(&mut self, skip: u64, octets: &[u8])
+    fn add_after(&mut self, skip: u64, octets: &[u8])
         ensures { Adds self.old (drop skip (bits_of octets.now)) self.new }
     {
         let skipped = (skip / 8).min(octets.len() as u64) as usize;
@@ -125,7 +125,7 @@ impl Packer {
     fn octets(&self) -> &[u8]
         ensures { result.now ≡ octets_of self.now.bits }
     {
-        front(self.room.as_slice(), self.count)
+        prefix(self.room.as_slice(), self.count)
     }
 
     // The phase that waits.
@@ -152,7 +152,7 @@ impl Packer {
 }
 
 // The first octets, so many.
-fn front(octets: &[u8], count: usize) -> &[u8]
+fn prefix(octets: &[u8], count: usize) -> &[u8]
     requires { count ≤ length octets.now }
     ensures first { result.now ≡ take count octets.now }
     ensures octets { AreOctets result.now }
@@ -211,17 +211,17 @@ fn gather(receiver: &mut InnerReceiver, packer: &mut Packer, piece: &[u8])
     let skip = receiver.bits_to_skip();
     decode(receiver, packer, piece);
     if !receiver.has_inner_code() {
-        add_behind(receiver, packer, skip, piece);
+        add_after(receiver, packer, skip, piece);
     }
 }
 
 // Packs the bits of octets after the first `skip` ones, where there is no inner code.
-fn add_behind(receiver: &InnerReceiver, packer: &mut Packer, skip: u64, octets: &[u8])
+fn add_after(receiver: &InnerReceiver, packer: &mut Packer, skip: u64, octets: &[u8])
     requires { length octets.now ≤ 4096 }
     ensures { Adds packer.old (drop skip (plain_bits receiver.now.config octets.now)) packer.new }
 {
     if receiver.is_packed() {
-        packer.add_behind(skip, octets);
+        packer.add_after(skip, octets);
     } else {
         add_nearest(receiver, packer, skip, octets);
     }
@@ -259,7 +259,7 @@ fn gather_last(receiver: &mut InnerReceiver, packer: &mut Packer) -> InnerEnd
 // Writes the line of the phase that waits, where there is one.
 fn write_phase<N: Sink>(packer: &Packer, notes: &mut N) -> Result<(), Failed>
     ensures ok { OnOk result (Wrote (N.taken notes.old) (N.taken notes.new) (line_of packer.now.phase)) }
-    ensures err { OnErr result (WroteFront (N.taken notes.old) (N.taken notes.new) (line_of packer.now.phase)) }
+    ensures err { OnErr result (WrotePrefix (N.taken notes.old) (N.taken notes.new) (line_of packer.now.phase)) }
     ensures cause { HasCause (N.faults notes.old) (N.faults notes.new) (N.is_last notes.new) result }
 {
     match packer.phase() {
@@ -323,7 +323,7 @@ fn write_end<O: Sink, N: Sink>(
     requires { receiver.old.has_stopped ≡ false }
     ensures whole { OnOk result (EndsWriting receiver.old packer.old (O.taken out.old) (N.taken notes.old)
         (O.taken out.new) (N.taken notes.new)) }
-    ensures front { OnErr result (CutsWriting receiver.old packer.old (O.taken out.old) (N.taken notes.old)
+    ensures prefix { OnErr result (CutsWriting receiver.old packer.old (O.taken out.old) (N.taken notes.old)
         (O.taken out.new) (N.taken notes.new)) }
     ensures sinks { SinksWent (failed_at_end result) (sink_call O.taken O.faults O.is_last out.old out.new)
         (sink_call N.taken N.faults N.is_last notes.old notes.new) }

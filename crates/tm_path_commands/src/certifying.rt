@@ -48,7 +48,7 @@ fn give_piece(receiver: &InnerReceiver, certifying: &mut Certifying, piece: &[u8
     let mut room = [0; PIECE];
     let soft = &mut room[..piece.len()];
     soft.copy_from_slice(piece);
-    let skipped = receiver.turn_soft(soft);
+    let skipped = receiver.to_soft(soft);
     certifying.give(&soft[skipped..]);
 }
 
@@ -122,7 +122,7 @@ fn certify_last<O: Sink>(
 ) -> Result<(), Failed>
     requires { receiver.old.has_stopped ≡ false }
     ensures whole { OnOk result (EndsCertificate receiver.old certifying.old (O.taken out.old) (O.taken out.new)) }
-    ensures front { OnErr result (CutsCertificate receiver.old certifying.old (O.taken out.old) (O.taken out.new)) }
+    ensures prefix { OnErr result (CutsCertificate receiver.old certifying.old (O.taken out.old) (O.taken out.new)) }
     ensures cause { HasCause (O.faults out.old) (O.faults out.new) (O.is_last out.new) result }
 {
     certified_law();

@@ -10,7 +10,7 @@ ghost use Rattle.tm_cert_file.specs.Before.{Rules};
 ghost use Rattle.tm_cert_file.specs.Passes.{starts_by};
 ghost use Rattle.tm_cert_file.specs.Reading.{HasPassed, IsOpen};
 ghost use Rattle.tm_path_commands.specs.Check.{check_meaning};
-ghost use Rattle.tm_path_commands.specs.Checking.{Passes, Breaks, EndsBy, StopsBy, WroteBy, WroteWindow, WroteWindowFront};
+ghost use Rattle.tm_path_commands.specs.Checking.{Passes, Breaks, EndsBy, StopsBy, WroteBy, WroteWindow, WroteWindowPrefix};
 ghost use Rattle.tm_path_commands.specs.Lines.{bad_text};
 
 use crate::lines::{bad_line, blocks_line, cut_line, window_line};
@@ -40,7 +40,7 @@ fn write_window<O: Sink, N: Sink>(
     requires { HasPassed reader.now }
     ensures ok { OnOk result (WroteWindow reader.now number (O.taken out.old) (O.taken out.new) (N.taken notes.old)
         (N.taken notes.new)) }
-    ensures err { OnErr result (WroteWindowFront reader.now number (O.taken out.old) (O.taken out.new)
+    ensures err { OnErr result (WroteWindowPrefix reader.now number (O.taken out.old) (O.taken out.new)
         (N.taken notes.old) (N.taken notes.new)) }
     ensures sinks { SinksWent (failed_at_end result) (sink_call O.taken O.faults O.is_last out.old out.new)
         (sink_call N.taken N.faults N.is_last notes.old notes.new) }
@@ -79,7 +79,7 @@ fn end_window<O: Sink, N: Sink>(
         Ok(()) => {
             progress.count = progress.count.saturating_add(1);
             progress.bits = progress.bits.saturating_add(u64::from(reader.kept()));
-            reader.turn();
+            reader.next_window();
             Ok(())
         }
         Err(Failed) => Err(Failed),

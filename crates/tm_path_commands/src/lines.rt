@@ -1,7 +1,7 @@
 // The lines of a trace and of a certificate that is checked.
 ghost use Rattle.std.specs.Prelude.{◌≡◌, ◌+◌, ◌≤◌, ◌++◌, length, OnOk, OnErr};
 ghost use Rattle.tm_base.specs.Outside.{HasCause};
-ghost use Rattle.tm_base.specs.Written.{Wrote, WroteFront};
+ghost use Rattle.tm_base.specs.Written.{Wrote, WrotePrefix};
 ghost use Rattle.tm_path_commands.specs.Lines.{window_text, block_text, trace_end_text, reason_text, bad_text, cut_text};
 
 use tm_base::{Failed, Sink};
@@ -19,7 +19,7 @@ pub fn window_line<O: Sink>(
     metric: u64,
 ) -> Result<(), Failed>
     ensures ok { OnOk result (Wrote (O.taken out.old) (O.taken out.new) (window_text number steps kept metric)) }
-    ensures err { OnErr result (WroteFront (O.taken out.old) (O.taken out.new) (window_text number steps kept metric)) }
+    ensures err { OnErr result (WrotePrefix (O.taken out.old) (O.taken out.new) (window_text number steps kept metric)) }
     ensures cause { HasCause (O.faults out.old) (O.faults out.new) (O.is_last out.new) result }
 {
     let mut line = Line::new();
@@ -39,7 +39,7 @@ pub fn window_line<O: Sink>(
 /// rose.
 pub fn block_line<O: Sink>(out: &mut O, number: u64, block: &Block<'_>) -> Result<(), Failed>
     ensures ok { OnOk result (Wrote (O.taken out.old) (O.taken out.new) (block_text number block.now)) }
-    ensures err { OnErr result (WroteFront (O.taken out.old) (O.taken out.new) (block_text number block.now)) }
+    ensures err { OnErr result (WrotePrefix (O.taken out.old) (O.taken out.new) (block_text number block.now)) }
     ensures cause { HasCause (O.faults out.old) (O.faults out.new) (O.is_last out.new) result }
 {
     window_line(out, number, block.steps, block.kept, block.metric)
@@ -49,7 +49,7 @@ pub fn block_line<O: Sink>(out: &mut O, number: u64, block: &Block<'_>) -> Resul
 /// the last step. `Failed` comes only where the sink's count of faults rose.
 pub fn blocks_line<O: Sink>(out: &mut O, blocks: u64, bits: u64, leftover: u8) -> Result<(), Failed>
     ensures ok { OnOk result (Wrote (O.taken out.old) (O.taken out.new) (trace_end_text blocks bits leftover)) }
-    ensures err { OnErr result (WroteFront (O.taken out.old) (O.taken out.new) (trace_end_text blocks bits leftover)) }
+    ensures err { OnErr result (WrotePrefix (O.taken out.old) (O.taken out.new) (trace_end_text blocks bits leftover)) }
     ensures cause { HasCause (O.faults out.old) (O.faults out.new) (O.is_last out.new) result }
 {
     let mut line = Line::new();
@@ -90,7 +90,7 @@ fn add_reason(line: &mut Line, reason: Reason)
 /// rose.
 pub fn bad_line<N: Sink>(notes: &mut N, number: u64, reason: Reason) -> Result<(), Failed>
     ensures ok { OnOk result (Wrote (N.taken notes.old) (N.taken notes.new) (bad_text number reason)) }
-    ensures err { OnErr result (WroteFront (N.taken notes.old) (N.taken notes.new) (bad_text number reason)) }
+    ensures err { OnErr result (WrotePrefix (N.taken notes.old) (N.taken notes.new) (bad_text number reason)) }
     ensures cause { HasCause (N.faults notes.old) (N.faults notes.new) (N.is_last notes.new) result }
 {
     let mut line = Line::new();
@@ -106,7 +106,7 @@ pub fn bad_line<N: Sink>(notes: &mut N, number: u64, reason: Reason) -> Result<(
 /// count of faults rose.
 pub fn cut_line<N: Sink>(notes: &mut N, number: u64) -> Result<(), Failed>
     ensures ok { OnOk result (Wrote (N.taken notes.old) (N.taken notes.new) (cut_text number)) }
-    ensures err { OnErr result (WroteFront (N.taken notes.old) (N.taken notes.new) (cut_text number)) }
+    ensures err { OnErr result (WrotePrefix (N.taken notes.old) (N.taken notes.new) (cut_text number)) }
     ensures cause { HasCause (N.faults notes.old) (N.faults notes.new) (N.is_last notes.new) result }
 {
     let mut line = Line::new();

@@ -31,8 +31,8 @@ impl<'a, 'b, O: Sink> Feed for Tracing<'a, 'b, O> {
     ghost use Rattle.tm_driver.specs.declared.ending.Stop.TheVariants.{SinkFault};
     ghost use Rattle.tm_driver.proofs.TwoSinks.{sink-after};
     ghost use Rattle.tm_inner.specs.Handing.{AreHandedFirst};
-    ghost use Rattle.tm_inner.specs.Receiving.{Hands, HandsFront};
-    ghost use Rattle.tm_inner.proofs.GivenPieces.{hands-none, hands-more, hands-front};
+    ghost use Rattle.tm_inner.specs.Receiving.{Hands, HandsPrefix};
+    ghost use Rattle.tm_inner.proofs.GivenPieces.{hands-none, hands-more, hands-prefix};
     ghost use Rattle.tm_path_commands.specs.Taken.{TracedHanded, handed_block_text};
     ghost use Rattle.tm_path_commands.specs.Tracing.{CutsTrace, EndsTrace, StandsAt};
 
@@ -43,7 +43,7 @@ impl<'a, 'b, O: Sink> Feed for Tracing<'a, 'b, O> {
         StandsAt a.receiver.now b.receiver.now a.trace b.trace octets };
 
     ghost stopped = { λ a b octets stop. (stop ≡ SinkFault) × ((config : Configuration) → a.receiver.now.config ≡ config
-        → HandsFront (λ x handed y. (y.lines.ghost_name ≡ x.lines.ghost_name)
+        → HandsPrefix (λ x handed y. (y.lines.ghost_name ≡ x.lines.ghost_name)
         × TracedHanded (sink_state (O.taken x.lines.now) (O.faults x.lines.now))
         (sink_state (O.taken y.lines.now) (O.faults y.lines.now)) x.count y.count handed)
         (λ x handed y. (y.lines.ghost_name ≡ x.lines.ghost_name)
@@ -81,7 +81,7 @@ impl<'a, 'b, O: Sink> Feed for Tracing<'a, 'b, O> {
 
     ghost stopped_more = { λ a b c first second stop p q. (
       q.0,
-      λ config is. hands-front _ _ StandsAt (AreHandedFirst config) a.receiver.now b.receiver.now a.trace b.trace
+      λ config is. hands-prefix _ _ StandsAt (AreHandedFirst config) a.receiver.now b.receiver.now a.trace b.trace
           c.trace first second p.1 (q.1 config (p.0 ∙ is)),
     ) };
 
@@ -111,7 +111,7 @@ fn trace_end<O: Sink>(receiver: &mut InnerReceiver, trace: &mut Trace<'_, O>) ->
     ensures whole { OnOk result (EndsTrace receiver.old trace.old.count
         (sink_state (O.taken trace.old.lines.now) (O.faults trace.old.lines.now))
         (sink_state (O.taken trace.new.lines.now) (O.faults trace.new.lines.now))) }
-    ensures front { OnErr result (CutsTrace receiver.old trace.old.count
+    ensures prefix { OnErr result (CutsTrace receiver.old trace.old.count
         (sink_state (O.taken trace.old.lines.now) (O.faults trace.old.lines.now))
         (sink_state (O.taken trace.new.lines.now) (O.faults trace.new.lines.now))) }
     ensures cause { HasCause (O.faults trace.old.lines.now) (O.faults trace.new.lines.now)

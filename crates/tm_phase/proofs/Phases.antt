@@ -155,19 +155,19 @@ compared-if_needed rate window octets many =
     let same : found.0 ≡ window = omega (arith, h.lesser, le) in
     subst (λ (n : ℕ). AreCompared rate window octets n) same h
 
-pub IsPhase-front : (rate : Rate) (invert : Bool) (window : ℕ) (octets more : List ℕ) (chosen : Chosen) → octets_needed rate window ≤ length octets
+pub IsPhase-prefix : (rate : Rate) (invert : Bool) (window : ℕ) (octets more : List ℕ) (chosen : Chosen) → octets_needed rate window ≤ length octets
     → IsPhase rate invert window octets chosen → IsPhase rate invert window (octets ++ more) chosen
-IsPhase-front rate invert window octets more chosen many h =
+IsPhase-prefix rate invert window octets more chosen many h =
     let there = compared-if_needed rate window octets many in
     let same : h.steps ≡ window = AreCompared-one rate window octets h.steps window h.compared there in
     let least = subst (λ (n : ℕ). IsFirstLeast (IsCostAt rate invert n octets) (period_size rate) chosen.skip chosen.cost) same h.least in
-    let front : (skip : ℕ) → skip < period_size rate → octets_at rate window (octets ++ more) skip ≡ octets_at rate window octets skip = λ skip lt.
+    let prefix : (skip : ℕ) → skip < period_size rate → octets_at rate window (octets ++ more) skip ≡ octets_at rate window octets skip = λ skip lt.
     (ap (take (steps_size rate 0 window)) (drop-append-le skip octets more (omega (arith, many, lt)))
     ∙ take-append-le (steps_size rate 0 window) (drop skip octets) more (omega (arith, many, lt, length-drop skip octets))) in
     let to : (skip amount : ℕ) → skip < period_size rate → IsCostAt rate invert window octets skip amount → IsCostAt rate invert window (octets ++ more) skip amount = λ skip amount lt.
-    IsCostAt-at rate invert window octets (octets ++ more) skip skip amount (sym (front skip lt)) in
+    IsCostAt-at rate invert window octets (octets ++ more) skip skip amount (sym (prefix skip lt)) in
     let from : (skip amount : ℕ) → skip < period_size rate → IsCostAt rate invert window (octets ++ more) skip amount → IsCostAt rate invert window octets skip amount = λ skip amount lt.
-    IsCostAt-at rate invert window (octets ++ more) octets skip skip amount (front skip lt) in
+    IsCostAt-at rate invert window (octets ++ more) octets skip skip amount (prefix skip lt) in
     record {
       steps = window;
       compared = compared-if_needed rate window (octets ++ more) (omega (arith, many, length-append octets more));

@@ -20,6 +20,6 @@ pub fn phase_law()
 /// the same. It does nothing.
 pub fn whole_window_law()
     ensures whole { (rate : Rate) (window : ℕ) (octets : List ℕ) → 1 ≤ window → AreCompared rate window octets window ↔ octets_needed rate window ≤ length octets }
-    ensures front { (rate : Rate) (invert : Bool) (window : ℕ) (octets more : List ℕ) (chosen : Chosen) → octets_needed rate window ≤ length octets
+    ensures prefix { (rate : Rate) (invert : Bool) (window : ℕ) (octets more : List ℕ) (chosen : Chosen) → octets_needed rate window ≤ length octets
         → IsPhase rate invert window octets chosen → IsPhase rate invert window (octets ++ more) chosen }
 {}

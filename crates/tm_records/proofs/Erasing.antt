@@ -8,7 +8,7 @@ use Rattle.std.proofs.lemmas.Grind.{flat_map-append}
 use Rattle.std.proofs.lemmas.List.{append-nil, drop_at, take_rest}
 use Rattle.std.proofs.lemmas.List.Folds.{list_any-append}
 use Rattle.std.proofs.lemmas.Nat.{div-add-mod', div-mul-add, mod-mul-add, mod_below, div_below, le-div}
-use Rattle.tm_base.specs.Written.{Wrote, WroteFront}
+use Rattle.tm_base.specs.Written.{Wrote, WrotePrefix}
 use Rattle.tm_config.specs.Configuration.{Configuration}
 use Rattle.tm_driver.specs.Lines.{left_over_text, outcome_by}
 use Rattle.tm_driver.specs.Meaning.{Ends, Output, WroteEarly, WroteOutput, WrotePrefixes, taken_by}
@@ -18,7 +18,7 @@ use Rattle.tm_driver.specs.declared.ending.Outcome.{Outcome}
 use Rattle.tm_driver.specs.declared.ending.Outcome.TheVariants.{Done, Bad, LeftOver}
 use Rattle.tm_driver.specs.declared.ending.Stop.{Stop}
 use Rattle.tm_driver.specs.declared.ending.Stop.TheVariants.{SinkFault, BadWindow}
-use Rattle.tm_driver.proofs.SinkTexts.{wrote-nothing, wrote-front, wrote-no_front, wrote-then, wrote-then_front, front-of}
+use Rattle.tm_driver.proofs.SinkTexts.{wrote-nothing, wrote-prefix, wrote-no_prefix, wrote-then, wrote-then_prefix, prefix-of}
 use Rattle.tm_dual.specs.declared.basis.Basis.{Basis}
 use Rattle.tm_dual.specs.Octet.{sent_octet}
 use Rattle.tm_rs_code.specs.Erasures.{NearestErased}
@@ -68,21 +68,21 @@ beyond-more nearest i x is =
     or-false false = refl
 
 -- the lines of first ones are a prefix of the lines of all
-pub lines-front : (basis : Basis) (nearest : List NearestErased) (i : ℕ)
+pub lines-prefix : (basis : Basis) (nearest : List NearestErased) (i : ℕ)
     → nearest_lines basis nearest ≡ nearest_lines basis (take i nearest) ++ nearest_lines basis (drop i nearest)
-lines-front basis nearest i = ap (nearest_lines basis) (sym (take-append-drop i nearest))
+lines-prefix basis nearest i = ap (nearest_lines basis) (sym (take-append-drop i nearest))
     ∙ flat_map-append (nearest_text basis) (take i nearest) (drop i nearest)
 
 -- a sink failed in one of the lines
 pub broke-in : (basis : Basis) (nearest : List NearestErased) (i : ℕ) (x : NearestErased)
     (start now after : Option (List ℕ)) → slice_get nearest i ≡ Some x
-    → Wrote start now (nearest_lines basis (take i nearest)) → WroteFront now after (nearest_text basis x)
-    → WroteFront start after (nearest_lines basis nearest)
-broke-in basis nearest i x start now after is wrote front =
-    subst (WroteFront start after) (sym (lines-front basis nearest (i + 1)))
-    (front-of start after (nearest_lines basis (take (i + 1) nearest)) (nearest_lines basis (drop (i + 1) nearest))
-    (subst (WroteFront start after) (sym (lines-more basis nearest i x is))
-    (wrote-then_front start now after (nearest_lines basis (take i nearest)) (nearest_text basis x) wrote front)))
+    → Wrote start now (nearest_lines basis (take i nearest)) → WrotePrefix now after (nearest_text basis x)
+    → WrotePrefix start after (nearest_lines basis nearest)
+broke-in basis nearest i x start now after is wrote prefix =
+    subst (WrotePrefix start after) (sym (lines-prefix basis nearest (i + 1)))
+    (prefix-of start after (nearest_lines basis (take (i + 1) nearest)) (nearest_lines basis (drop (i + 1) nearest))
+    (subst (WrotePrefix start after) (sym (lines-more basis nearest i x is))
+    (wrote-then_prefix start now after (nearest_lines basis (take i nearest)) (nearest_text basis x) wrote prefix)))
 
 -- ---- batches
 
@@ -132,13 +132,13 @@ held-wrote c batch beyond start now after octets h more wrote =
     subst (Wrote start after) (sym (lines-append c.basis h.nearest more))
     (wrote-then start now after (nearest_lines c.basis h.nearest) (nearest_lines c.basis more) h.wrote wrote)
 
-pub held-front : (c : Coding) (batch : Batch) (beyond : Bool) (start now after : Option (List ℕ)) (octets : List ℕ)
+pub held-prefix : (c : Coding) (batch : Batch) (beyond : Bool) (start now after : Option (List ℕ)) (octets : List ℕ)
     (h : Holds c batch beyond start now octets) (more : List NearestErased)
-    → WroteFront now after (nearest_lines c.basis more)
-    → WroteFront start after (nearest_lines c.basis (h.nearest ++ more))
-held-front c batch beyond start now after octets h more wrote =
-    subst (WroteFront start after) (sym (lines-append c.basis h.nearest more))
-    (wrote-then_front start now after (nearest_lines c.basis h.nearest) (nearest_lines c.basis more) h.wrote wrote)
+    → WrotePrefix now after (nearest_lines c.basis more)
+    → WrotePrefix start after (nearest_lines c.basis (h.nearest ++ more))
+held-prefix c batch beyond start now after octets h more wrote =
+    subst (WrotePrefix start after) (sym (lines-append c.basis h.nearest more))
+    (wrote-then_prefix start now after (nearest_lines c.basis h.nearest) (nearest_lines c.basis more) h.wrote wrote)
 
 pub held-beyond : (c : Coding) (batch : Batch) (beyond last : Bool) (start now : Option (List ℕ)) (octets : List ℕ)
     (h : Holds c batch beyond start now octets) (more : List NearestErased)
@@ -209,7 +209,7 @@ whole-fits a n s is = omega (arith, ap (λ k. k * s) is, div-add-mod' n s)
 pub held-broke : (c : Coding) (batch : Batch) (beyond : Bool) (start now later : Option (List ℕ)) (octets : List ℕ)
     (more : List NearestErased)
     → 0 < record_size batch.coding → AreNearest batch.coding batch.octets more
-    → WroteFront now later (nearest_lines batch.coding.basis more)
+    → WrotePrefix now later (nearest_lines batch.coding.basis more)
     → Holds c batch beyond start now octets → Broke c start later octets
 held-broke c batch beyond start now later octets more some are wrote h =
     let some' : 0 < record_size c = subst (λ (k : Coding). 0 < record_size k) h.coding some in
@@ -220,8 +220,8 @@ held-broke c batch beyond start now later octets more some are wrote h =
       nearest = h.nearest ++ more;
       each = all.each;
       few = whole-fits (length (h.nearest ++ more)) (length octets) (record_size c) all.all;
-      wrote = held-front c batch beyond start now later octets h more
-          (subst (λ (k : Coding). WroteFront now later (nearest_lines k.basis more)) h.coding wrote);
+      wrote = held-prefix c batch beyond start now later octets h more
+          (subst (λ (k : Coding). WrotePrefix now later (nearest_lines k.basis more)) h.coding wrote);
     }
 
 -- whatever octets follow
@@ -311,9 +311,9 @@ early-output c octets taken now noted b =
       },
       output-of c octets (b.nearest ++ rest.0) rest.1,
       record {
-        out = subst (WroteFront taken now) (sym lines) (front-of taken now (nearest_lines c.basis b.nearest)
+        out = subst (WrotePrefix taken now) (sym lines) (prefix-of taken now (nearest_lines c.basis b.nearest)
             (nearest_lines c.basis rest.0) b.wrote);
-        notes = wrote-no_front noted (left_over_text (record_rest c octets));
+        notes = wrote-no_prefix noted (left_over_text (record_rest c octets));
       },
     )
 
@@ -324,7 +324,7 @@ holds-broke c batch beyond start now octets space h = record {
   nearest = h.nearest;
   each = h.each;
   few = omega (arith, length-is c octets h.prefix batch.octets (length h.nearest) h.parts h.long);
-  wrote = wrote-front start now (nearest_lines c.basis h.nearest) h.wrote;
+  wrote = wrote-prefix start now (nearest_lines c.basis h.nearest) h.wrote;
 }
 
 early-lines : (c : Configuration) (batch : Batch) (beyond : Bool) (octets : List ℕ) (taken now noted : Option (List ℕ))
@@ -410,7 +410,7 @@ told-last batch after beyond last more rest now later noted noted_now space codi
 pub broke-lines : (batch : Batch) (beyond : Bool) (more : List NearestErased) (now later noted : Option (List ℕ))
     → HasSpace batch → AreNearest batch.coding batch.octets more
     → (c : Coding) (start : Option (List ℕ)) (octets : List ℕ) → Holds c batch beyond start now octets
-    → WroteFront now later (nearest_lines batch.coding.basis more) → BrokeLast c octets start later noted noted
+    → WrotePrefix now later (nearest_lines batch.coding.basis more) → BrokeLast c octets start later noted noted
 broke-lines batch beyond more now later noted space are c start octets h wrote =
     inl (held-broke c batch beyond start now later octets more (omega (arith, space)) are wrote h, refl)
 
@@ -421,14 +421,14 @@ pub broke-rest : (batch after : Batch) (beyond : Bool) (more : List NearestErase
     → AreNearest batch.coding batch.octets more
     → (c : Coding) (start : Option (List ℕ)) (octets : List ℕ) → Holds c batch beyond start now octets
     → Wrote now later (nearest_lines batch.coding.basis more) → rest ≡ left_over after.coding after.octets
-    → WroteFront noted noted_now (left_over_text rest)
+    → WrotePrefix noted noted_now (left_over_text rest)
     → BrokeLast c octets start later noted noted_now
 broke-rest batch after beyond more rest now later noted noted_now space coding same are c start octets h wrote is told
     = inr (record {
       nearest = h.nearest ++ more;
       are_nearest = all-nearest c batch beyond start now octets h more space are;
       lines = all-lines c batch beyond start now later octets h more wrote;
-      rest = subst (λ (n : ℕ). WroteFront noted noted_now (left_over_text n))
+      rest = subst (λ (n : ℕ). WrotePrefix noted noted_now (left_over_text n))
           (rest-held c batch after beyond start now octets rest space h coding same is) told;
     })
 
@@ -518,9 +518,9 @@ module _ (c : Configuration) (taken now noted noted_now : Option (List ℕ)) whe
     record { out = nearest_lines c.basis b.nearest; notes = left_over_text (record_rest c octets) },
     output-of c octets b.nearest b.are_nearest,
     record {
-      out = wrote-front taken now (nearest_lines c.basis b.nearest) b.lines;
+      out = wrote-prefix taken now (nearest_lines c.basis b.nearest) b.lines;
       notes = subst
-          (λ (k : Option (List ℕ)). WroteFront k noted_now (left_over_text (record_rest c octets))) same b.rest;
+          (λ (k : Option (List ℕ)). WrotePrefix k noted_now (left_over_text (record_rest c octets))) same b.rest;
     },
     inr b.lines,
   )

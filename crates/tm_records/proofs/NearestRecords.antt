@@ -79,11 +79,11 @@ first-longer c octets more (x ∷ nearest) fits are =
 
 -- what is nearest to first records and then to those after them
 pub first-append : (c : Coding) (octets : List ℕ) (a b : List NearestErased) → AreFirstNearest c octets a → AreFirstNearest c (drop (length a * record_size c) octets) b → AreFirstNearest c octets (a ++ b)
-first-append c octets [] b are behind = let none : 0 * record_size c ≡ 0 = omega arith in subst (λ (n : ℕ). AreFirstNearest c (drop n octets) b) none behind
-first-append c octets (x ∷ a) b are behind = (
+first-append c octets [] b are after = let none : 0 * record_size c ≡ 0 = omega arith in subst (λ (n : ℕ). AreFirstNearest c (drop n octets) b) none after
+first-append c octets (x ∷ a) b are after = (
   are.0,
   first-append c (drop (record_size c) octets) a b are.1
-      (subst (λ (l : List ℕ). AreFirstNearest c l b) (ap (λ n. drop n octets) (mul-suc (length a) (record_size c)) ∙ sym (drop-drop (length a * record_size c) (record_size c) octets)) behind),
+      (subst (λ (l : List ℕ). AreFirstNearest c l b) (ap (λ n. drop n octets) (mul-suc (length a) (record_size c)) ∙ sym (drop-drop (length a * record_size c) (record_size c) octets)) after),
 )
 
 -- there is something nearest to the records that are left

@@ -37,11 +37,11 @@ pub record-read : (c : Coding) (index size : ℕ) (octets : List ℕ) (w : Erase
     → IsRead c (drop (index * record_size c) octets) w
 record-read c index size octets w is symbols erased =
     let n = c.params.n in
-    let behind = drop (index * record_size c) octets in
+    let after = drop (index * record_size c) octets in
     let long : index * size + size - index * size ≡ n + n = omega (arith, is) in
-    let front : take (index * size + size - index * size) (drop (index * size) octets) ≡ take (n + n) behind = λ i. take (long i) (drop (index * is i) octets) in record {
-      symbols = symbols ∙ ap (λ l. map (element_of c.basis) (take n l)) front ∙ ap (map (element_of c.basis)) (take-take n (n + n) behind (omega arith));
-      erased = erased ∙ ap (λ l. map (λ flag. not (flag == 0)) (drop n l)) front ∙ ap (map (λ flag. not (flag == 0))) (drop-take n n behind);
+    let prefix : take (index * size + size - index * size) (drop (index * size) octets) ≡ take (n + n) after = λ i. take (long i) (drop (index * is i) octets) in record {
+      symbols = symbols ∙ ap (λ l. map (element_of c.basis) (take n l)) prefix ∙ ap (map (element_of c.basis)) (take-take n (n + n) after (omega arith));
+      erased = erased ∙ ap (λ l. map (λ flag. not (flag == 0)) (drop n l)) prefix ∙ ap (map (λ flag. not (flag == 0))) (drop-take n n after);
     }
 
 -- each word holds the record of its number
@@ -65,7 +65,7 @@ read-more c octets words index now within read one j w below = at (cases_lt j in
   where
     at : (j < index) ⊎ (index ≤ j) → IsRead c (drop (j * record_size c) octets) (get_or (set words index now) j w)
     at (inl before) = subst (IsRead c (drop (j * record_size c) octets)) (sym (get_or-set_other words index j now w (λ e. absurd (omega arith)))) (read j w before)
-    at (inr behind) =
+    at (inr after) =
         let here : index ≡ j = omega arith in
         subst (λ (n : ℕ). IsRead c (drop (n * record_size c) octets) (get_or (set words index now) n w)) here
         (subst (IsRead c (drop (index * record_size c) octets)) (sym (get_or-set_same words index now w within)) one)

@@ -1,7 +1,7 @@
 -- How far the lines of records are written.
 use Rattle.std.specs.Prelude.{◌≡◌, ◌⊎◌, ℕ, ◌*◌, ◌<◌, ◌≤◌, Bool, true, List, ◌++◌, length, Option}
 use Rattle.std.specs.List.{list_any}
-use Rattle.tm_base.specs.Written.{Wrote, WroteFront}
+use Rattle.tm_base.specs.Written.{Wrote, WrotePrefix}
 use Rattle.tm_config.specs.Bounds.{longest_word}
 use Rattle.tm_driver.specs.Lines.{left_over_text, outcome_by}
 use Rattle.tm_driver.specs.declared.ending.Outcome.{Outcome}
@@ -37,7 +37,7 @@ pub record Broke (c : Coding) (start now : Option (List ℕ)) (octets : List ℕ
   pub nearest : List NearestErased
   pub each : AreFirstNearest c octets nearest
   pub few : length nearest * record_size c ≤ length octets
-  pub wrote : WroteFront start now (nearest_lines c.basis nearest)
+  pub wrote : WrotePrefix start now (nearest_lines c.basis nearest)
 
 -- a batch, whether a word before those in it was uncorrectable, and what the output has taken
 pub record Stand : Type 0 where
@@ -84,7 +84,7 @@ pub record BrokeNotes (c : Coding) (octets : List ℕ) (start now noted noted_no
   pub nearest : List NearestErased
   pub are_nearest : AreNearest c octets nearest
   pub lines : Wrote start now (nearest_lines c.basis nearest)
-  pub rest : WroteFront noted noted_now (left_over_text (left_over c octets))
+  pub rest : WrotePrefix noted noted_now (left_over_text (left_over c octets))
 
 -- a sink failed at the end: the output in a line of a record, and then the notes took nothing, or
 -- these

@@ -2,7 +2,7 @@
 ghost use Rattle.std.specs.Prelude.{◌≡◌, ◌≢◌, ◌⊎◌, ℕ, ◌+◌, ◌*◌, ◌<◌, ◌≤◌, ◌||◌, Bool, List, [], ◌++◌, length, Option, true, false, OnOk, OnErr, IfOk};
 ghost use Rattle.std.specs.List.{list_any};
 ghost use Rattle.tm_base.specs.Outside.{HasCause};
-ghost use Rattle.tm_base.specs.Written.{Wrote, WroteFront};
+ghost use Rattle.tm_base.specs.Written.{Wrote, WrotePrefix};
 ghost use Rattle.tm_driver.specs.Answered.{Answered};
 ghost use Rattle.tm_driver.specs.Courses.{sink_call, source_call};
 ghost use Rattle.tm_rs_solve.specs.Answers.{found_erased};
@@ -28,7 +28,7 @@ use tm_workers::OpenGate;
 fn erased_line<O: Sink>(out: &mut O, answer: ErasedAnswer, octets: &[u8]) -> Result<(), Failed>
     requires { length octets.now ≤ LONGEST_WORD }
     ensures ok { OnOk result (Wrote (O.taken out.old) (O.taken out.new) (erased_text answer octets.now)) }
-    ensures err { OnErr result (WroteFront (O.taken out.old) (O.taken out.new) (erased_text answer octets.now)) }
+    ensures err { OnErr result (WrotePrefix (O.taken out.old) (O.taken out.new) (erased_text answer octets.now)) }
     ensures cause { HasCause (O.faults out.old) (O.faults out.new) (O.is_last out.new) result }
 {
     let mut line = Line::new();
@@ -63,7 +63,7 @@ fn tell_records<O: Sink>(records: &Records, out: &mut O) -> Result<bool, Failed>
     ensures ok { IfOk result (λ beyond. Wrote (O.taken out.old) (O.taken out.new)
         (nearest_lines records.now.coding.basis records.now.nearest)
         × (beyond ≡ list_any is_beyond records.now.nearest)) }
-    ensures err { OnErr result (WroteFront (O.taken out.old) (O.taken out.new)
+    ensures err { OnErr result (WrotePrefix (O.taken out.old) (O.taken out.new)
         (nearest_lines records.now.coding.basis records.now.nearest)) }
     ensures cause { HasCause (O.faults out.old) (O.faults out.new) (O.is_last out.new) result }
 {
@@ -91,7 +91,7 @@ fn tell_batch<R: Threads + Sync, O: Sink>(
     ensures ok { IfOk result (λ beyond. Wrote (O.taken out.old) (O.taken out.new)
         (nearest_lines records.old.coding.basis records.new.nearest)
         × (beyond ≡ list_any is_beyond records.new.nearest)) }
-    ensures err { OnErr result (WroteFront (O.taken out.old) (O.taken out.new)
+    ensures err { OnErr result (WrotePrefix (O.taken out.old) (O.taken out.new)
         (nearest_lines records.old.coding.basis records.new.nearest)) }
     ensures cause { HasCause (O.faults out.old) (O.faults out.new) (O.is_last out.new) result }
 {

@@ -3,7 +3,7 @@ ghost use Rattle.std.specs.Prelude.{◌≡◌, ◌≢◌, ◌⊎◌, ◌*◌, �
 ghost use Rattle.std.specs.List.{list_all};
 ghost use Rattle.hex.specs.Hex.{is_hex_digit};
 ghost use Rattle.tm_base.specs.Outside.{HasCause};
-ghost use Rattle.tm_base.specs.Written.{Wrote, WroteFront};
+ghost use Rattle.tm_base.specs.Written.{Wrote, WrotePrefix};
 ghost use Rattle.tm_config.specs.Configuration.{correctable};
 ghost use Rattle.tm_driver.specs.Courses.{SinkWent, sink_call};
 ghost use Rattle.tm_driver.specs.Meaning.{Ends, taken_by};
@@ -122,7 +122,7 @@ fn repair(config: &Config, octets: &mut [u8]) -> Answer
 fn word_line<O: Sink>(out: &mut O, answer: Answer, octets: &[u8]) -> Result<(), Failed>
     requires { length octets.now ≤ LONGEST_WORD }
     ensures ok { OnOk result (Wrote (O.taken out.old) (O.taken out.new) (word_text answer octets.now)) }
-    ensures err { OnErr result (WroteFront (O.taken out.old) (O.taken out.new) (word_text answer octets.now)) }
+    ensures err { OnErr result (WrotePrefix (O.taken out.old) (O.taken out.new) (word_text answer octets.now)) }
     ensures cause { HasCause (O.faults out.old) (O.faults out.new) (O.is_last out.new) result }
 {
     let mut line = Line::new();

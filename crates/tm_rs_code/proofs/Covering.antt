@@ -10,7 +10,7 @@ use Rattle.tm_rs_code.specs.Pattern.{locator_of}
 use Rattle.tm_rs_code.specs.Recurrence.{listing}
 use Rattle.tm_rs_code.specs.ErrorValues.{Covers, IsLocated, symbol_at}
 use Rattle.tm_rs_code.proofs.Vanish.{Term, power_sum, AreTerms, ApartFrom, AreApart}
-use Rattle.tm_rs_code.proofs.DistanceLaw.{add_term, terms_of, length-terms_of, place_apart, turned}
+use Rattle.tm_rs_code.proofs.DistanceLaw.{add_term, terms_of, length-terms_of, place_apart, exchanged}
 use Rattle.tm_rs_code.proofs.Factor.{product_of, length-product_of}
 use Rattle.tm_rs_code.proofs.Windows.{places_of, length-places_of}
 use Rattle.tm_rs_code.proofs.Locator.{locator-terms_of}
@@ -81,7 +81,7 @@ power_sum-covering j (u ∷ us) (w ∷ ws) e z =
       | inl t ↦ rw t.0 (power_sum-covering j us ws same z.1
           ∙ sym (ap (λ (y : ℕ). bit_xor (times y (power (power 2 (11 * j)) (length ws))) (value_at ws (power 2 (11 * j)))) (z.0 t.1)
           ∙ ap (λ (y : ℕ). bit_xor y (value_at ws (power 2 (11 * j)))) (zero-times (power (power 2 (11 * j)) (length ws)))))
-      | inr t ↦ rw t.0 (ap (λ (y : ℕ). bit_xor (times w y) (power_sum j (covering us ws))) (sym (turned (length us) j))
+      | inr t ↦ rw t.0 (ap (λ (y : ℕ). bit_xor (times w y) (power_sum j (covering us ws))) (sym (exchanged (length us) j))
           ∙ ap (bit_xor (times w (power (power 2 (11 * j)) (length us)))) (power_sum-covering j us ws same z.1)
           ∙ ap (λ (n : ℕ). bit_xor (times w (power (power 2 (11 * j)) n)) (value_at ws (power 2 (11 * j)))) (sym same))
     ]

@@ -68,8 +68,8 @@ AreApart-terms_of (c ∷ cs) h =
     ]
 
 -- a power of a power, in either order
-pub turned : (l j : ℕ) → power (power 2 (11 * j)) l ≡ power (power 2 (11 * l)) j
-turned l j = power-power 2 (11 * j) l ∙ ap (power 2) (omega arith) ∙ sym (power-power 2 (11 * l) j)
+pub exchanged : (l j : ℕ) → power (power 2 (11 * j)) l ≡ power (power 2 (11 * l)) j
+exchanged l j = power-power 2 (11 * j) l ∙ ap (power 2) (omega arith) ∙ sym (power-power 2 (11 * l) j)
 
 pub power_sum-terms_of : (j : ℕ) (w : List ℕ) → power_sum j (terms_of w) ≡ value_at w (power 2 (11 * j))
 unfolding place_of
@@ -79,7 +79,7 @@ power_sum-terms_of j (c ∷ cs) =
       | inl t ↦ rw t.0 (power_sum-terms_of j cs
           ∙ sym (ap (λ (y : ℕ). bit_xor (times y (power (power 2 (11 * j)) (length cs))) (value_at cs (power 2 (11 * j)))) t.1
           ∙ ap (λ (y : ℕ). bit_xor y (value_at cs (power 2 (11 * j)))) (zero-times (power (power 2 (11 * j)) (length cs)))))
-      | inr t ↦ rw t.0 (ap (λ (y : ℕ). bit_xor (times c y) (power_sum j (terms_of cs))) (sym (turned (length cs) j))
+      | inr t ↦ rw t.0 (ap (λ (y : ℕ). bit_xor (times c y) (power_sum j (terms_of cs))) (sym (exchanged (length cs) j))
           ∙ ap (bit_xor (times c (power (power 2 (11 * j)) (length cs)))) (power_sum-terms_of j cs))
     ]
 

@@ -11,7 +11,7 @@ use Rattle.tm_rs_code.specs.Erasures.{count_erased, marks}
 use Rattle.tm_rs_code.specs.Pattern.{carry, locator_of, times_linear}
 use Rattle.tm_rs_code.specs.ErrorValues.{symbol_at}
 use Rattle.tm_rs_code.proofs.Vanish.{power_sum, ApartFrom}
-use Rattle.tm_rs_code.proofs.DistanceLaw.{terms_of, AreTerms-terms_of, AreApart-terms_of, place_apart, turned, power_sum-terms_of}
+use Rattle.tm_rs_code.proofs.DistanceLaw.{terms_of, AreTerms-terms_of, AreApart-terms_of, place_apart, exchanged, power_sum-terms_of}
 use Rattle.tm_rs_code.proofs.Factor.{at_most_degree, product_of, length-product_of}
 use Rattle.tm_rs_code.proofs.Windows.{window, window-sums, sums_from, weighted, places_of, AreElements-places_of, AllOther-places_of, AllDifferent-places_of}
 use Rattle.tm_rs_code.proofs.Values.{window-same}
@@ -175,7 +175,7 @@ power_sum-scaled_word f j (c ∷ cs) =
           ∙ ap (λ (z : ℕ). bit_xor (times z (power (power 2 (11 * j)) (length (scaled_word f cs)))) (value_at (scaled_word f cs) (power 2 (11 * j)))) (zero-times (f (place_of (length cs))))
           ∙ ap (λ (z : ℕ). bit_xor z (value_at (scaled_word f cs) (power 2 (11 * j)))) (zero-times (power (power 2 (11 * j)) (length (scaled_word f cs))))))
       | inr t ↦ rw t.0 (ap (λ (z : ℕ). bit_xor (times (times c (f (place_of (length cs)))) (power z j)) (power_sum j (weighted f (terms_of cs)))) (place_is (length cs))
-          ∙ ap (λ (z : ℕ). bit_xor (times (times c (f (place_of (length cs)))) z) (power_sum j (weighted f (terms_of cs)))) (sym (turned (length cs) j))
+          ∙ ap (λ (z : ℕ). bit_xor (times (times c (f (place_of (length cs)))) z) (power_sum j (weighted f (terms_of cs)))) (sym (exchanged (length cs) j))
           ∙ ap (bit_xor (times (times c (f (place_of (length cs)))) (power (power 2 (11 * j)) (length cs)))) (power_sum-scaled_word f j cs)
           ∙ ap (λ (n : ℕ). bit_xor (times (times c (f (place_of (length cs)))) (power (power 2 (11 * j)) n)) (value_at (scaled_word f cs) (power 2 (11 * j)))) (sym (length-scaled_word f cs)))
     ]

@@ -29,9 +29,9 @@ AreElements-take zero xs h = tt
 AreElements-take (suc n) [] h = tt
 AreElements-take (suc n) (x ∷ xs) h = (h.0, AreElements-take n xs h.1)
 
-pub AreElements-behind : (xs ys : List ℕ) → AreElements (xs ++ ys) → AreElements ys
-AreElements-behind [] ys h = h
-AreElements-behind (x ∷ xs) ys h = AreElements-behind xs ys h.1
+pub AreElements-after : (xs ys : List ℕ) → AreElements (xs ++ ys) → AreElements ys
+AreElements-after [] ys h = h
+AreElements-after (x ∷ xs) ys h = AreElements-after xs ys h.1
 
 -- one more place
 distance_more : (xs ys : List Gf) (i : ℕ) → i < length xs → length xs ≡ length ys
@@ -42,25 +42,25 @@ distance_more (x ∷ xs) (y ∷ ys) zero lt same = omega arith
 distance_more (x ∷ xs) (y ∷ ys) (suc i) lt same = omega (arith, distance_more xs ys i (omega arith) (omega arith))
 
 -- the distance of the first n places
-front : (xs ys : List Gf) (n : ℕ) → ℕ
-front xs ys n = distance (numbers (take n xs)) (numbers (take n ys))
+prefix : (xs ys : List Gf) (n : ℕ) → ℕ
+prefix xs ys n = distance (numbers (take n xs)) (numbers (take n ys))
 
 pub distance_same : (xs ys : List Gf) (i x y : ℕ) → i < length xs → length xs ≡ length ys → x ≡ entry xs i → y ≡ entry ys i → x ≡ y
     → distance (numbers (take i xs)) (numbers (take i ys)) ≡ distance (numbers (take (i + 1) xs)) (numbers (take (i + 1) ys))
-unfolding front
+unfolding prefix
 distance_same xs ys i x y lt same ex ey e =
     let next : suc i ≡ i + 1 = omega arith in
     elim (eqb_tells (entry xs i) (entry ys i)) [
-      | inl t ↦ let more = rw t.0 at (distance_more xs ys i lt same) in sym (more ∙ (omega arith)) ∙ ap (front xs ys) next
+      | inl t ↦ let more = rw t.0 at (distance_more xs ys i lt same) in sym (more ∙ (omega arith)) ∙ ap (prefix xs ys) next
       | inr t ↦ absurd (t.1 (sym ex ∙ e ∙ ey))
     ]
 
 pub distance_differs : (xs ys : List Gf) (i x y : ℕ) → i < length xs → length xs ≡ length ys → x ≡ entry xs i → y ≡ entry ys i → x ≢ y
     → distance (numbers (take i xs)) (numbers (take i ys)) + 1 ≡ distance (numbers (take (i + 1) xs)) (numbers (take (i + 1) ys))
-unfolding front
+unfolding prefix
 distance_differs xs ys i x y lt same ex ey ne =
     let next : suc i ≡ i + 1 = omega arith in
     elim (eqb_tells (entry xs i) (entry ys i)) [
       | inl t ↦ absurd (ne (ex ∙ t.1 ∙ sym ey))
-      | inr t ↦ let more = rw t.0 at (distance_more xs ys i lt same) in sym more ∙ ap (front xs ys) next
+      | inr t ↦ let more = rw t.0 at (distance_more xs ys i lt same) in sym more ∙ ap (prefix xs ys) next
     ]

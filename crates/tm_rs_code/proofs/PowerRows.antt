@@ -114,14 +114,14 @@ sum_more x poly i m k lt there lm sum product d ls lp dis is h =
     let rest = numbers (drop (suc i) poly) in
     let next : i + 1 ≡ suc i = omega arith in
     let size : length rest ≡ k = length-numbers (drop (suc i) poly) ∙ length-drop (suc i) poly ∙ omega arith in
-    let front : numbers (drop i poly) ≡ d ∷ rest = ap numbers (drop-cons poly i (record { 0 = 0 }) lt) ∙ ap (λ (v : ℕ). v ∷ rest) (sym dis) in
+    let prefix : numbers (drop i poly) ≡ d ∷ rest = ap numbers (drop-cons poly i (record { 0 = 0 }) lt) ∙ ap (λ (v : ℕ). v ∷ rest) (sym dis) in
     let lane : get_or (zip2 bit_xor sum product) m 0 ≡ bit_xor (get_or sum m 0) (times d (power x k)) =
     get_or-zip2 bit_xor sum product m 0 0 0 (omega arith) (omega arith) ∙ ap (bit_xor (get_or sum m 0)) is in
     ap (λ (j : ℕ). bit_xor (get_or (zip2 bit_xor sum product) m 0) (value_at (numbers (drop j poly)) x)) next
     ∙ ap (λ (v : ℕ). bit_xor v (value_at rest x)) lane
     ∙ xor_assoc (get_or sum m 0) (times d (power x k)) (value_at rest x)
     ∙ ap (λ (n : ℕ). bit_xor (get_or sum m 0) (bit_xor (times d (power x n)) (value_at rest x))) (sym size)
-    ∙ ap (λ (l : List ℕ). bit_xor (get_or sum m 0) (value_at l x)) (sym front)
+    ∙ ap (λ (l : List ℕ). bit_xor (get_or sum m 0) (value_at l x)) (sym prefix)
     ∙ h
 
 abbrev pub sixteen_zeros : List ℕ

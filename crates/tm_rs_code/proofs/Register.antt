@@ -90,10 +90,10 @@ shift_keeps g x z u d r rs len h small =
     value_at-sums (rs ++ 0 ∷ []) (multiple (bit_xor d r) g) x same
     ∙ ap (λ (y : ℕ). bit_xor y (value_at (multiple (bit_xor d r) g) x)) (value_at-push_zero rs x)
     ∙ ap (bit_xor (times (value_at rs x) x)) (value_at-multiple (bit_xor d r) g x ∙ ap (times (bit_xor d r)) gx) in
-    let front : value_at (u ++ d ∷ []) x ≡ bit_xor (times (value_at u x) x) d = value_at-push u d x small in
+    let prefix : value_at (u ++ d ∷ []) x ≡ bit_xor (times (value_at u x) x) d = value_at-push u d x small in
     value_at-append (u ++ d ∷ []) (shift g d (r ∷ rs)) x
     ∙ ap (λ (n : ℕ). bit_xor (times (value_at (u ++ d ∷ []) x) (power x n)) (value_at (shift g d (r ∷ rs)) x)) (length-shift g d (r ∷ rs) len)
-    ∙ ap (λ (y : ℕ). bit_xor (times y (times (power x (length rs)) x)) (value_at (shift g d (r ∷ rs)) x)) front
+    ∙ ap (λ (y : ℕ). bit_xor (times y (times (power x (length rs)) x)) (value_at (shift g d (r ∷ rs)) x)) prefix
     ∙ ap (bit_xor (times (bit_xor (times (value_at u x) x) d) (times (power x (length rs)) x))) new
     ∙ register_step (value_at u x) x d (power x (length rs)) r (value_at rs x)
     ∙ ap (λ (y : ℕ). times y x) (sym (value_at-append u (r ∷ rs) x) ∙ h) ∙ zero-times x

@@ -9,7 +9,7 @@ use Rattle.tm_rs_code.specs.Code.{AreElements, place_of, weight}
 use Rattle.tm_rs_code.specs.Pattern.{Explains, roots_below, add_place}
 use Rattle.tm_rs_code.specs.Recurrence.{listing, Generates}
 use Rattle.tm_rs_code.proofs.Vanish.{Term, power_sum, AreTerms, AreZero, power_sum-zero}
-use Rattle.tm_rs_code.proofs.DistanceLaw.{terms_of, length-terms_of, AreTerms-terms_of, AreApart-terms_of, place_apart, turned}
+use Rattle.tm_rs_code.proofs.DistanceLaw.{terms_of, length-terms_of, AreTerms-terms_of, AreApart-terms_of, place_apart, exchanged}
 use Rattle.tm_rs_code.proofs.Factor.{AreRoots, AllOther, AllDifferent, at_most_degree}
 use Rattle.tm_rs_code.proofs.Windows.{window, sums_from, places_of, length-places_of, each_vanishes, AreRoots-places_of, weighted, window-sums}
 use Rattle.tm_rs_code.proofs.Values.{Solution, solution, NoZero, same_below, power_sum-lt}
@@ -157,7 +157,7 @@ put-value j n x f xs at len h false ts e =
 put-value j n x f xs at len h true [] e = no_cons _ x xs e
 put-value j n x f xs at len h true (t ∷ ts) e =
     ap (λ (y : ℕ). bit_xor (times t.value (power (power 2 (11 * j)) y)) (value_at (f ts) (power 2 (11 * j)))) (len ts)
-    ∙ ap (λ (y : ℕ). bit_xor (times t.value y) (value_at (f ts) (power 2 (11 * j)))) (turned n j)
+    ∙ ap (λ (y : ℕ). bit_xor (times t.value y) (value_at (f ts) (power 2 (11 * j)))) (exchanged n j)
     ∙ ap (λ (y : ℕ). bit_xor (times t.value (power y j)) (value_at (f ts) (power 2 (11 * j)))) (sym (head_is t.place x (places_of ts) xs e ∙ at))
     ∙ ap (bit_xor (times t.value (power t.place j))) (h ts (tail_is t.place x (places_of ts) xs e))
 

@@ -214,19 +214,19 @@ systematic_exists e info h =
     }
 
 -- two words that begin alike differ after that alone
-distance_behind : (n : ℕ) (xs ys : List ℕ) → length xs ≡ length ys → take n xs ≡ take n ys → distance xs ys ≤ length xs - n
-distance_behind n [] ys e same = omega arith
-distance_behind n (x ∷ xs) [] e same = absurd (omega arith)
-distance_behind zero (x ∷ xs) (y ∷ ys) e same = omega (arith, at_most_one (eqb x y), distance_behind 0 xs ys (omega arith) refl)
+distance_after : (n : ℕ) (xs ys : List ℕ) → length xs ≡ length ys → take n xs ≡ take n ys → distance xs ys ≤ length xs - n
+distance_after n [] ys e same = omega arith
+distance_after n (x ∷ xs) [] e same = absurd (omega arith)
+distance_after zero (x ∷ xs) (y ∷ ys) e same = omega (arith, at_most_one (eqb x y), distance_after 0 xs ys (omega arith) refl)
   where
     at_most_one : (b : Bool) → cond b 0 1 ≤ 1
     at_most_one true = omega arith
     at_most_one false = omega arith
-distance_behind (suc n) (x ∷ xs) (y ∷ ys) e same =
+distance_after (suc n) (x ∷ xs) (y ∷ ys) e same =
     let head : x ≡ y = cc in
     let tail : take n xs ≡ take n ys = cc in
     elim (eqb_tells x y) [
-      | inl t ↦ rw t.0 (omega (arith, distance_behind n xs ys (omega arith) tail))
+      | inl t ↦ rw t.0 (omega (arith, distance_after n xs ys (omega arith) tail))
       | inr t ↦ absurd (t.1 head)
     ]
 
@@ -238,7 +238,7 @@ systematic_unique e info c d small hc hd =
       | inr ne ↦ absurd (omega (
         arith,
         distance_law e c d hc.elements hd.elements long (omega (arith, hc.size)) hc.codeword hd.codeword (λ same. ne (ap (distance c) (sym same) ∙ distance-self c)),
-        distance_behind (length info) c d long (hc.begins ∙ sym hd.begins),
+        distance_after (length info) c d long (hc.begins ∙ sym hd.begins),
         hc.size,
       ))
     ]

@@ -11,7 +11,7 @@ use Rattle.tm_gf256.proofs.PolyLemmas.{numbers-append, length-numbers}
 use Rattle.tm_rs_code.specs.Code.{AreElements, IsSystematic, root, encode_word}
 use Rattle.tm_rs_code.specs.Register.{sums, multiple, shift}
 use Rattle.tm_rs_encode.specs.Generator.{IsGenerator}
-use Rattle.tm_rs_code.proofs.Numbers.{AreElements-append, AreElements-take, AreElements-behind, AreElements-replicate}
+use Rattle.tm_rs_code.proofs.Numbers.{AreElements-append, AreElements-take, AreElements-after, AreElements-replicate}
 use Rattle.tm_rs_code.proofs.Systematic.{systematic_only}
 use Rattle.tm_rs_code.proofs.Register.{register_keeps, length-shift, AreElements-shift, value_at-zeros}
 
@@ -30,7 +30,7 @@ pub takes : (e : ℕ) (g : List ℕ) → IsGenerator e g → (u register : List 
 takes e g is u register d small size h =
     let same : length g ≡ length register = is.degree ∙ sym size in
     let taken : AreElements u = subst AreElements (take-append_seam u register) (AreElements-take (length u) (u ++ register) h.elements) in
-    let held : AreElements register = AreElements-behind u register h.elements in
+    let held : AreElements register = AreElements-after u register h.elements in
     record {
       elements = AreElements-append (u ++ d ∷ []) (shift g d register) (AreElements-append u (d ∷ []) taken (small, tt)) (AreElements-shift g d register held);
       codeword = λ k lt. register_keeps g (root e k) (is.roots k lt) u d register same (omega arith) (h.codeword k lt) small;

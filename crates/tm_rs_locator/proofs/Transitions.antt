@@ -120,8 +120,8 @@ arrayed count s f b l m d k end xs ys at changed same zeros h =
     ] in
     subst (λ (g : ℕ → ℕ). IsState count s g b l m d k) (λ j i. all i j) h
 
-pub zeros_behind : (count : ℕ) (s c b : ℕ → ℕ) (l m d k end : ℕ) → end ≡ count / 2 + 1 → IsState count s c b l m d k → (i : ℕ) → end ≤ i → c i ≡ 0
-zeros_behind count s c b l m d k end at h i ge = h.generates.beyond i (omega (arith, h.few, at))
+pub zeros_after : (count : ℕ) (s c b : ℕ → ℕ) (l m d k end : ℕ) → end ≡ count / 2 + 1 → IsState count s c b l m d k → (i : ℕ) → end ≤ i → c i ≡ 0
+zeros_after count s c b l m d k end at h i ge = h.generates.beyond i (omega (arith, h.few, at))
 
 -- all terms are taken in
 pub ended : (count : ℕ) (s c b : ℕ → ℕ) (l m d k : ℕ) → k ≡ count → IsState count s c b l m d k → IsShortest count s c l

@@ -5,21 +5,21 @@ use Rattle.std.proofs.lemmas.Bool.{cases_lt}
 use Rattle.tm_sync.specs.declared.found.Found.{Found}
 use Rattle.tm_sync.specs.declared.found.Before.{Before}
 use Rattle.tm_sync.specs.Places.{Rules, match_of, before_next, place_at, places_from, places}
-use Rattle.tm_sync.specs.Searching.{end_of, before_behind}
+use Rattle.tm_sync.specs.Searching.{end_of, before_past}
 use Rattle.tm_sync.proofs.Steps.{places_from-nil, places_from-short, places_from-one, places_from-miss, places_from-inside, place_at-room}
 use Rattle.tm_sync.proofs.Longer.{Seen, none, some, seen, place_at-append, place_at-stands, EndBefore, places-end}
-use Rattle.tm_sync.proofs.FirstPlaces.{not-bridged-here, behind-matched}
+use Rattle.tm_sync.proofs.FirstPlaces.{not-bridged-here, after-matched}
 
 -- the end of the last of these codeblocks, or of what stands before them
-abbrev end_behind : Rules → ℕ → List Found → ℕ
-end_behind rules end [] = end
-end_behind rules end (f ∷ found) = end_behind rules (f.place + 32 + rules.block_bits) found
+abbrev end_after : Rules → ℕ → List Found → ℕ
+end_after rules end [] = end
+end_after rules end (f ∷ found) = end_after rules (f.place + 32 + rules.block_bits) found
 
-end_behind-is : (rules : Rules) (found : List Found) → end_behind rules 0 found ≡ end_of rules found
-end_behind-is rules [] = refl
-end_behind-is rules (f ∷ found) = go f found
+end_after-is : (rules : Rules) (found : List Found) → end_after rules 0 found ≡ end_of rules found
+end_after-is rules [] = refl
+end_after-is rules (f ∷ found) = go f found
   where
-    go : (f : Found) (found : List Found) → end_behind rules (f.place + 32 + rules.block_bits) found ≡ end_of rules (f ∷ found)
+    go : (f : Found) (found : List Found) → end_after rules (f.place + 32 + rules.block_bits) found ≡ end_of rules (f ∷ found)
     go f [] = refl
     go f (g ∷ found) = go g found
 
@@ -42,75 +42,75 @@ first-matched rules at (b ∷ bits) f found e = go (λ e. first-matched rules (a
 
 -- What follows places, of which the first is not bridged, is the same whatever stands before them. There is one, if they
 -- end after the bits before them.
-same-behind : (rules : Rules) (at end : ℕ) (before : Option Before) (bits : List Bool) (found : List Found) → places_from rules at 0 None bits ≡ found
-    → end_behind rules end found ≡ end + suc (length bits)
-    → (before_behind before found ≡ before_behind None found) × ((other : ℕ) → end_behind rules other found ≡ end_behind rules end found)
-same-behind rules at end before bits [] is e = absurd (omega arith)
-same-behind rules at end before bits (f ∷ found) is e =
-    (ap (λ (b : Before). before_behind (Some b) found) (sym (behind-matched before f (first-matched rules at bits f found is))), λ other. refl)
+same-after : (rules : Rules) (at end : ℕ) (before : Option Before) (bits : List Bool) (found : List Found) → places_from rules at 0 None bits ≡ found
+    → end_after rules end found ≡ end + suc (length bits)
+    → (before_past before found ≡ before_past None found) × ((other : ℕ) → end_after rules other found ≡ end_after rules end found)
+same-after rules at end before bits [] is e = absurd (omega arith)
+same-after rules at end before bits (f ∷ found) is e =
+    (ap (λ (b : Before). before_past (Some b) found) (sym (after-matched before f (first-matched rules at bits f found is))), λ other. refl)
 
 -- where the last codeblock of a front ends with it, the places of the whole are those of the front and then those after it
-places_from-behind : (rules : Rules) (at skip : ℕ) (before : Option Before) (bits more : List Bool)
-    → end_behind rules (at + skip) (places_from rules at skip before bits) ≡ at + length bits
+places_from-after : (rules : Rules) (at skip : ℕ) (before : Option Before) (bits more : List Bool)
+    → end_after rules (at + skip) (places_from rules at skip before bits) ≡ at + length bits
     → places_from rules at skip before (bits ++ more)
-    ≡ places_from rules at skip before bits ++ places_from rules (at + length bits) 0 (before_behind before (places_from rules at skip before bits)) more
-places_from-behind rules at skip before [] more e =
+    ≡ places_from rules at skip before bits ++ places_from rules (at + length bits) 0 (before_past before (places_from rules at skip before bits)) more
+places_from-after rules at skip before [] more e =
     let nil = places_from-nil rules at skip before in
-    let end : at + skip ≡ at + 0 = ap (end_behind rules (at + skip)) (sym nil) ∙ e in
+    let end : at + skip ≡ at + 0 = ap (end_after rules (at + skip)) (sym nil) ∙ e in
     let no_skip : skip ≡ 0 = omega arith in
     let here : at ≡ at + 0 = omega arith in
     (λ i. places_from rules (here i) (no_skip i) before more)
-    ∙ (λ i. sym nil i ++ places_from rules (at + 0) 0 (before_behind before (sym nil i)) more)
-places_from-behind rules at (suc skip) before (b ∷ bits) more e =
+    ∙ (λ i. sym nil i ++ places_from rules (at + 0) 0 (before_past before (sym nil i)) more)
+places_from-after rules at (suc skip) before (b ∷ bits) more e =
     let same = places_from-inside rules at skip before b bits in
     let far : at + suc skip ≡ at + 1 + skip = omega arith in
     let there : at + suc (length bits) ≡ at + 1 + length bits = omega arith in
-    let ends : end_behind rules (at + 1 + skip) (places_from rules (at + 1) skip before bits) ≡ at + 1 + length bits = (λ i. end_behind rules (sym far i) (sym same i)) ∙ e ∙ there in
+    let ends : end_after rules (at + 1 + skip) (places_from rules (at + 1) skip before bits) ≡ at + 1 + length bits = (λ i. end_after rules (sym far i) (sym same i)) ∙ e ∙ there in
     places_from-inside rules at skip before b (bits ++ more)
-    ∙ places_from-behind rules (at + 1) skip before bits more ends
-    ∙ (λ i. sym same i ++ places_from rules (sym there i) 0 (before_behind before (sym same i)) more)
-places_from-behind rules at zero before (b ∷ bits) more e =
-    roomy (λ skip next ends. places_from-behind rules (at + 1) skip next bits more ends) (cases_lt (length (b ∷ bits)) (32 + rules.block_bits))
+    ∙ places_from-after rules (at + 1) skip before bits more ends
+    ∙ (λ i. sym same i ++ places_from rules (sym there i) 0 (before_past before (sym same i)) more)
+places_from-after rules at zero before (b ∷ bits) more e =
+    roomy (λ skip next ends. places_from-after rules (at + 1) skip next bits more ends) (cases_lt (length (b ∷ bits)) (32 + rules.block_bits))
   where
     there : at + 1 + length bits ≡ at + suc (length bits)
     there = omega arith
 
-    here : ((skip : ℕ) (next : Option Before) → end_behind rules (at + 1 + skip) (places_from rules (at + 1) skip next bits) ≡ at + 1 + length bits
+    here : ((skip : ℕ) (next : Option Before) → end_after rules (at + 1 + skip) (places_from rules (at + 1) skip next bits) ≡ at + 1 + length bits
         → places_from rules (at + 1) skip next (bits ++ more)
-        ≡ places_from rules (at + 1) skip next bits ++ places_from rules (at + 1 + length bits) 0 (before_behind next (places_from rules (at + 1) skip next bits)) more)
+        ≡ places_from rules (at + 1) skip next bits ++ places_from rules (at + 1 + length bits) 0 (before_past next (places_from rules (at + 1) skip next bits)) more)
         → place_at rules at before (b ∷ (bits ++ more)) ≡ place_at rules at before (b ∷ bits) → Seen (place_at rules at before (b ∷ bits))
         → places_from rules at 0 before ((b ∷ bits) ++ more)
-        ≡ places_from rules at 0 before (b ∷ bits) ++ places_from rules (at + length (b ∷ bits)) 0 (before_behind before (places_from rules at 0 before (b ∷ bits))) more
+        ≡ places_from rules at 0 before (b ∷ bits) ++ places_from rules (at + length (b ∷ bits)) 0 (before_past before (places_from rules at 0 before (b ∷ bits))) more
     here next stays (none h) =
         let same = places_from-miss rules at before b bits h in
         let at0 : at + 0 ≡ at = omega arith in
-        let ends : end_behind rules at (places_from rules (at + 1) 0 None bits) ≡ at + suc (length bits) = (λ i. end_behind rules (sym at0 i) (sym same i)) ∙ e in
-        let behind = same-behind rules (at + 1) at before bits (places_from rules (at + 1) 0 None bits) refl ends in
+        let ends : end_after rules at (places_from rules (at + 1) 0 None bits) ≡ at + suc (length bits) = (λ i. end_after rules (sym at0 i) (sym same i)) ∙ e in
+        let since = same-after rules (at + 1) at before bits (places_from rules (at + 1) 0 None bits) refl ends in
         places_from-miss rules at before b (bits ++ more) (stays ∙ h)
-        ∙ next 0 None (behind.1 (at + 1 + 0) ∙ ends ∙ sym there)
-        ∙ (λ i. places_from rules (at + 1) 0 None bits ++ places_from rules (there i) 0 (sym behind.0 i) more)
-        ∙ (λ i. sym same i ++ places_from rules (at + suc (length bits)) 0 (before_behind before (sym same i)) more)
+        ∙ next 0 None (since.1 (at + 1 + 0) ∙ ends ∙ sym there)
+        ∙ (λ i. places_from rules (at + 1) 0 None bits ++ places_from rules (there i) 0 (sym since.0 i) more)
+        ∙ (λ i. sym same i ++ places_from rules (at + suc (length bits)) 0 (before_past before (sym same i)) more)
     here next stays (some f h) =
         let same = places_from-one rules at before b bits f h in
         let s = place_at-stands rules at before (b ∷ bits) f h in
         let size : at + 1 + (31 + rules.block_bits) ≡ f.place + 32 + rules.block_bits = omega (arith, s.place) in
-        let ends : end_behind rules (at + 1 + (31 + rules.block_bits)) (places_from rules (at + 1) (31 + rules.block_bits) (Some (before_next before f)) bits) ≡ at + 1 + length bits =
-        (λ i. end_behind rules (size i) (places_from rules (at + 1) (31 + rules.block_bits) (Some (before_next before f)) bits))
-        ∙ ap (end_behind rules (at + 0)) (sym same) ∙ e ∙ sym there in
+        let ends : end_after rules (at + 1 + (31 + rules.block_bits)) (places_from rules (at + 1) (31 + rules.block_bits) (Some (before_next before f)) bits) ≡ at + 1 + length bits =
+        (λ i. end_after rules (size i) (places_from rules (at + 1) (31 + rules.block_bits) (Some (before_next before f)) bits))
+        ∙ ap (end_after rules (at + 0)) (sym same) ∙ e ∙ sym there in
         places_from-one rules at before b (bits ++ more) f (stays ∙ h)
         ∙ ap (λ fs. f ∷ fs) (next (31 + rules.block_bits) (Some (before_next before f)) ends)
         ∙ (λ i. f ∷ (places_from rules (at + 1) (31 + rules.block_bits) (Some (before_next before f)) bits
-        ++ places_from rules (there i) 0 (before_behind (Some (before_next before f)) (places_from rules (at + 1) (31 + rules.block_bits) (Some (before_next before f)) bits)) more))
-        ∙ (λ i. sym same i ++ places_from rules (at + suc (length bits)) 0 (before_behind before (sym same i)) more)
+        ++ places_from rules (there i) 0 (before_past (Some (before_next before f)) (places_from rules (at + 1) (31 + rules.block_bits) (Some (before_next before f)) bits)) more))
+        ∙ (λ i. sym same i ++ places_from rules (at + suc (length bits)) 0 (before_past before (sym same i)) more)
 
-    roomy : ((skip : ℕ) (next : Option Before) → end_behind rules (at + 1 + skip) (places_from rules (at + 1) skip next bits) ≡ at + 1 + length bits
+    roomy : ((skip : ℕ) (next : Option Before) → end_after rules (at + 1 + skip) (places_from rules (at + 1) skip next bits) ≡ at + 1 + length bits
         → places_from rules (at + 1) skip next (bits ++ more)
-        ≡ places_from rules (at + 1) skip next bits ++ places_from rules (at + 1 + length bits) 0 (before_behind next (places_from rules (at + 1) skip next bits)) more)
+        ≡ places_from rules (at + 1) skip next bits ++ places_from rules (at + 1 + length bits) 0 (before_past next (places_from rules (at + 1) skip next bits)) more)
         → (length (b ∷ bits) < 32 + rules.block_bits) ⊎ (32 + rules.block_bits ≤ length (b ∷ bits))
         → places_from rules at 0 before ((b ∷ bits) ++ more)
-        ≡ places_from rules at 0 before (b ∷ bits) ++ places_from rules (at + length (b ∷ bits)) 0 (before_behind before (places_from rules at 0 before (b ∷ bits))) more
+        ≡ places_from rules at 0 before (b ∷ bits) ++ places_from rules (at + length (b ∷ bits)) 0 (before_past before (places_from rules at 0 before (b ∷ bits))) more
     roomy next (inl short) =
-        let no : at + 0 ≡ at + suc (length bits) = ap (end_behind rules (at + 0)) (sym (places_from-short rules at before (b ∷ bits) short)) ∙ e in absurd (omega arith)
+        let no : at + 0 ≡ at + suc (length bits) = ap (end_after rules (at + 0)) (sym (places_from-short rules at before (b ∷ bits) short)) ∙ e in absurd (omega arith)
     roomy next (inr room) = here next (place_at-append rules at before (b ∷ bits) more room) (seen (place_at rules at before (b ∷ bits)))
 
 -- no codeblock ends after the bits
@@ -129,10 +129,10 @@ end-there rules bits found is = go (cases_lt (length bits) (end_of rules found))
     go (inr there) = there
 
 -- where places are those of a front that their last codeblock ends, the places of the whole are these and then those after it
-pub places-behind : (rules : Rules) (front more : List Bool) (found : List Found) → places rules front ≡ found → end_of rules found ≡ length front
-    → places rules (front ++ more) ≡ found ++ places_from rules (length front) 0 (before_behind None found) more
-places-behind rules front more found is ends =
-    let here : 0 + length front ≡ length front = omega arith in
+pub places-after : (rules : Rules) (prefix more : List Bool) (found : List Found) → places rules prefix ≡ found → end_of rules found ≡ length prefix
+    → places rules (prefix ++ more) ≡ found ++ places_from rules (length prefix) 0 (before_past None found) more
+places-after rules prefix more found is ends =
+    let here : 0 + length prefix ≡ length prefix = omega arith in
     let none : 0 + 0 ≡ 0 = omega arith in
-    places_from-behind rules 0 0 None front more ((λ i. end_behind rules (none i) (is i)) ∙ end_behind-is rules found ∙ ends ∙ sym here)
-    ∙ (λ i. is i ++ places_from rules (here i) 0 (before_behind None (is i)) more)
+    places_from-after rules 0 0 None prefix more ((λ i. end_after rules (none i) (is i)) ∙ end_after-is rules found ∙ ends ∙ sym here)
+    ∙ (λ i. is i ++ places_from rules (here i) 0 (before_past None (is i)) more)

@@ -21,11 +21,11 @@ here-append rules at before bits more long =
 -- what stands before the bits after a front
 abbrev pub ready : List Bool → Option Before → Option Before
 ready [] before = before
-ready (b ∷ front) before = None
+ready (b ∷ prefix) before = None
 
-ready-none : (front : List Bool) → ready front None ≡ None
+ready-none : (prefix : List Bool) → ready prefix None ≡ None
 ready-none [] = refl
-ready-none (b ∷ front) = refl
+ready-none (b ∷ prefix) = refl
 
 -- ---- the equations
 pub first_place-nil : (rules : Rules) (at : ℕ) (before : Option Before) → first_place rules at before [] ≡ None
@@ -59,15 +59,15 @@ miss rules at before b bits long e = first_place-cons rules at before b bits Non
 
 -- what a first place says of the bits that it was found in
 data First (rules : Rules) (at : ℕ) (before : Option Before) (b : Bool) (bits : List Bool) (f : Found) : Type 0 where
-  at_front : 32 ≤ length (b ∷ bits) → here rules at before (b ∷ bits) ≡ Some f → First rules at before b bits f
-  behind_it : 32 ≤ length (b ∷ bits) → here rules at before (b ∷ bits) ≡ None → first_place rules (at + 1) None bits ≡ Some f → First rules at before b bits f
+  at_start : 32 ≤ length (b ∷ bits) → here rules at before (b ∷ bits) ≡ Some f → First rules at before b bits f
+  after_it : 32 ≤ length (b ∷ bits) → here rules at before (b ∷ bits) ≡ None → first_place rules (at + 1) None bits ≡ Some f → First rules at before b bits f
 
 first : (rules : Rules) (at : ℕ) (before : Option Before) (b : Bool) (bits : List Bool) (f : Found) → first_place rules at before (b ∷ bits) ≡ Some f → First rules at before b bits f
 first rules at before b bits f e = go (cases_lt (length (b ∷ bits)) 32)
   where
     roomy : 32 ≤ length (b ∷ bits) → Seen (here rules at before (b ∷ bits)) → First rules at before b bits f
-    roomy long (none h) = behind_it long h (sym (miss rules at before b bits long h) ∙ e)
-    roomy long (some g h) = let same : Some g ≡ Some f = sym (hit rules at before b bits g long h) ∙ e in at_front long (h ∙ same)
+    roomy long (none h) = after_it long h (sym (miss rules at before b bits long h) ∙ e)
+    roomy long (some g h) = let same : Some g ≡ Some f = sym (hit rules at before b bits g long h) ∙ e in at_start long (h ∙ same)
 
     go : (length (b ∷ bits) < 32) ⊎ (32 ≤ length (b ∷ bits)) → First rules at before b bits f
     go (inl few) = let no : None ≡ Some f = sym (first_place-few rules at before b bits few) ∙ e in absurd (cc)
@@ -88,12 +88,12 @@ first_place-stays rules at before [] more f e = let no : None ≡ Some f = sym (
 first_place-stays rules at before (b ∷ bits) more f e = go (λ e. first_place-stays rules (at + 1) None bits more f e) (first rules at before b bits f e)
   where
     go : (first_place rules (at + 1) None bits ≡ Some f → first_place rules (at + 1) None (bits ++ more) ≡ Some f) → First rules at before b bits f → first_place rules at before ((b ∷ bits) ++ more) ≡ Some f
-    go next (at_front long h) = hit rules at before b (bits ++ more) f (omega (arith, length-append bits more)) (here-append rules at before (b ∷ bits) more long ∙ h)
-    go next (behind_it long h rest) = miss rules at before b (bits ++ more) (omega (arith, length-append bits more)) (here-append rules at before (b ∷ bits) more long ∙ h) ∙ next rest
+    go next (at_start long h) = hit rules at before b (bits ++ more) f (omega (arith, length-append bits more)) (here-append rules at before (b ∷ bits) more long ∙ h)
+    go next (after_it long h rest) = miss rules at before b (bits ++ more) (omega (arith, length-append bits more)) (here-append rules at before (b ∷ bits) more long ∙ h) ∙ next rest
 
 -- where none was, the only new one is that of the last 32 bits
-pub first_place-push : (rules : Rules) (at : ℕ) (before : Option Before) (front init : List Bool) (b : Bool) → length init ≡ 31 → first_place rules at before (front ++ init) ≡ None
-    → first_place rules at before (front ++ (init ++ b ∷ [])) ≡ here rules (at + length front) (ready front before) (init ++ b ∷ [])
+pub first_place-push : (rules : Rules) (at : ℕ) (before : Option Before) (prefix init : List Bool) (b : Bool) → length init ≡ 31 → first_place rules at before (prefix ++ init) ≡ None
+    → first_place rules at before (prefix ++ (init ++ b ∷ [])) ≡ here rules (at + length prefix) (ready prefix before) (init ++ b ∷ [])
 first_place-push rules at before [] [] b e none_yet = absurd (omega arith)
 first_place-push rules at before [] (x ∷ init) b e none_yet = go (seen (here rules at before (x ∷ (init ++ b ∷ []))))
   where
@@ -108,15 +108,15 @@ first_place-push rules at before [] (x ∷ init) b e none_yet = go (seen (here r
         miss rules at before x (init ++ b ∷ []) long h ∙ first_place-short rules (at + 1) None (init ++ b ∷ []) (omega (arith, length-append init (b ∷ [])))
         ∙ sym h ∙ ap (λ n. here rules n before (x ∷ (init ++ b ∷ []))) at_is
     go (some f h) = hit rules at before x (init ++ b ∷ []) f long h ∙ sym h ∙ ap (λ n. here rules n before (x ∷ (init ++ b ∷ []))) at_is
-first_place-push rules at before (y ∷ front) init b e none_yet =
-    let long : 32 ≤ length ((y ∷ front) ++ init) = omega (arith, length-append front init) in
-    let ahead = none_ahead rules at before y (front ++ init) long none_yet in
-    let h : here rules at before (y ∷ (front ++ (init ++ b ∷ []))) ≡ None =
-    ap (λ l. here rules at before (y ∷ l)) (sym (append_assoc front init (b ∷ []))) ∙ here-append rules at before ((y ∷ front) ++ init) (b ∷ []) long ∙ ahead.0 in
-    let there : at + 1 + length front ≡ at + suc (length front) = omega arith in
-    miss rules at before y (front ++ (init ++ b ∷ [])) (omega (arith, length-append front (init ++ b ∷ []), length-append init (b ∷ []))) h
-    ∙ first_place-push rules (at + 1) None front init b e ahead.1
-    ∙ (λ i. here rules (there i) (ready-none front i) (init ++ b ∷ []))
+first_place-push rules at before (y ∷ prefix) init b e none_yet =
+    let long : 32 ≤ length ((y ∷ prefix) ++ init) = omega (arith, length-append prefix init) in
+    let ahead = none_ahead rules at before y (prefix ++ init) long none_yet in
+    let h : here rules at before (y ∷ (prefix ++ (init ++ b ∷ []))) ≡ None =
+    ap (λ l. here rules at before (y ∷ l)) (sym (append_assoc prefix init (b ∷ []))) ∙ here-append rules at before ((y ∷ prefix) ++ init) (b ∷ []) long ∙ ahead.0 in
+    let there : at + 1 + length prefix ≡ at + suc (length prefix) = omega arith in
+    miss rules at before y (prefix ++ (init ++ b ∷ [])) (omega (arith, length-append prefix (init ++ b ∷ []), length-append init (b ∷ []))) h
+    ∙ first_place-push rules (at + 1) None prefix init b e ahead.1
+    ∙ (λ i. here rules (there i) (ready-none prefix i) (init ++ b ∷ []))
 
 -- ---- places
 none-at : (rules : Rules) (at : ℕ) (before : Option Before) (bits : List Bool) → here rules at before bits ≡ None → place_at rules at before bits ≡ None
@@ -147,12 +147,12 @@ not-bridged rules at [] f e = let no : None ≡ Some f = sym (first_place-nil ru
 not-bridged rules at (b ∷ bits) f e = go (λ e. not-bridged rules (at + 1) bits f e) (first rules at None b bits f e)
   where
     go : (first_place rules (at + 1) None bits ≡ Some f → f.bridged ≡ false) → First rules at None b bits f → f.bridged ≡ false
-    go next (at_front long h) = not-bridged-here rules at (b ∷ bits) (match_of rules (b ∷ bits)) f h
-    go next (behind_it long h rest) = next rest
+    go next (at_start long h) = not-bridged-here rules at (b ∷ bits) (match_of rules (b ∷ bits)) f h
+    go next (after_it long h rest) = next rest
 
-pub behind-matched : (before : Option Before) (f : Found) → f.bridged ≡ false → before_next None f ≡ before_next before f
-behind-matched None f e = refl
-behind-matched (Some before) f e = λ i. record { inverted = f.inverted; bridged = (ap (λ (c : Bool). cond c 1 0) e ∙ sym (ap (λ (c : Bool). cond c (before.bridged + 1) 0) e)) i }
+pub after-matched : (before : Option Before) (f : Found) → f.bridged ≡ false → before_next None f ≡ before_next before f
+after-matched None f e = refl
+after-matched (Some before) f e = λ i. record { inverted = f.inverted; bridged = (ap (λ (c : Bool). cond c 1 0) e ∙ sym (ap (λ (c : Bool). cond c (before.bridged + 1) 0) e)) i }
 
 -- a first place whose codeblock ends with the bits is the place that is told, and the search goes on after it
 pub places_from-whole : (rules : Rules) (at : ℕ) (before : Option Before) (bits more : List Bool) (f : Found) → first_place rules at before bits ≡ Some f
@@ -163,18 +163,18 @@ places_from-whole rules at before (b ∷ bits) more f e ends = go (λ e ends. pl
     go : (first_place rules (at + 1) None bits ≡ Some f → f.place + 32 + rules.block_bits ≡ at + 1 + length bits
         → places_from rules (at + 1) 0 None (bits ++ more) ≡ f ∷ places_from rules (at + 1 + length bits) 0 (Some (before_next None f)) more)
         → First rules at before b bits f → places_from rules at 0 before ((b ∷ bits) ++ more) ≡ f ∷ places_from rules (at + length (b ∷ bits)) 0 (Some (before_next before f)) more
-    go next (at_front long h) =
+    go next (at_start long h) =
         let place : f.place ≡ at = place_by-place rules at before (b ∷ bits) (match_of rules (b ∷ bits)) f h in
         let size : length (b ∷ bits) ≡ 32 + rules.block_bits = omega arith in
         let there : at + 32 + rules.block_bits ≡ at + length (b ∷ bits) = omega arith in
         places_from-hit rules at before (b ∷ bits) more f size
         (place_at-room rules at before ((b ∷ bits) ++ more) (omega (arith, length-append bits more)) ∙ here-append rules at before (b ∷ bits) more long ∙ h)
         ∙ ap (λ n. f ∷ places_from rules n 0 (Some (before_next before f)) more) there
-    go next (behind_it long h rest) =
+    go next (after_it long h rest) =
         let there : at + 1 + length bits ≡ at + length (b ∷ bits) = omega arith in
         places_from-miss rules at before b (bits ++ more) (none-at rules at before (b ∷ (bits ++ more)) (here-append rules at before (b ∷ bits) more long ∙ h))
         ∙ next rest (omega arith)
-        ∙ (λ i. f ∷ places_from rules (there i) 0 (Some (behind-matched before f (not-bridged rules (at + 1) bits f rest) i)) more)
+        ∙ (λ i. f ∷ places_from rules (there i) 0 (Some (after-matched before f (not-bridged rules (at + 1) bits f rest) i)) more)
 
 -- a first place whose codeblock is not whole is no place yet, nor is another
 pub places_from-unfinished : (rules : Rules) (at : ℕ) (before : Option Before) (bits : List Bool) (f : Found) → first_place rules at before bits ≡ Some f
@@ -184,10 +184,10 @@ places_from-unfinished rules at before (b ∷ bits) f e few = go (λ e few. plac
   where
     go : (first_place rules (at + 1) None bits ≡ Some f → at + 1 + length bits < f.place + 32 + rules.block_bits → places_from rules (at + 1) 0 None bits ≡ [])
         → First rules at before b bits f → places_from rules at 0 before (b ∷ bits) ≡ []
-    go next (at_front long h) =
+    go next (at_start long h) =
         let place : f.place ≡ at = place_by-place rules at before (b ∷ bits) (match_of rules (b ∷ bits)) f h in
         places_from-short rules at before (b ∷ bits) (omega arith)
-    go next (behind_it long h rest) = places_from-miss rules at before b bits (none-at rules at before (b ∷ bits) h) ∙ next rest (omega arith)
+    go next (after_it long h rest) = places_from-miss rules at before b bits (none-at rules at before (b ∷ bits) h) ∙ next rest (omega arith)
 
 -- the 32 bits of a first place are there
 pub first_place-room : (rules : Rules) (at : ℕ) (before : Option Before) (bits : List Bool) (f : Found) → first_place rules at before bits ≡ Some f → f.place + 32 ≤ at + length bits
@@ -195,10 +195,10 @@ first_place-room rules at before [] f e = let no : None ≡ Some f = sym (first_
 first_place-room rules at before (b ∷ bits) f e = go (λ e. first_place-room rules (at + 1) None bits f e) (first rules at before b bits f e)
   where
     go : (first_place rules (at + 1) None bits ≡ Some f → f.place + 32 ≤ at + 1 + length bits) → First rules at before b bits f → f.place + 32 ≤ at + suc (length bits)
-    go next (at_front long h) =
+    go next (at_start long h) =
         let place : f.place ≡ at = place_by-place rules at before (b ∷ bits) (match_of rules (b ∷ bits)) f h in
         omega arith
-    go next (behind_it long h rest) = let more = next rest in omega arith
+    go next (after_it long h rest) = let more = next rest in omega arith
 
 -- ---- how many places further bits bring
 -- the first of them begins at the first place, whether or not its codeblock is whole
@@ -209,10 +209,10 @@ places_from-ahead rules at before (b ∷ bits) more f e = go (λ e. places_from-
   where
     go : (first_place rules (at + 1) None bits ≡ Some f → f.place + length (places_from rules (at + 1) 0 None (bits ++ more)) * (32 + rules.block_bits) ≤ at + 1 + length bits + length more)
         → First rules at before b bits f → f.place + length (places_from rules at 0 before ((b ∷ bits) ++ more)) * (32 + rules.block_bits) ≤ at + suc (length bits) + length more
-    go next (at_front long h) =
+    go next (at_start long h) =
         let place : f.place ≡ at = place_by-place rules at before (b ∷ bits) (match_of rules (b ∷ bits)) f h in
         omega (arith, place, places_from-room rules at 0 before ((b ∷ bits) ++ more), length-append (b ∷ bits) more)
-    go next (behind_it long h rest) =
+    go next (after_it long h rest) =
         let skipped = places_from-miss rules at before b (bits ++ more) (none-at rules at before (b ∷ (bits ++ more)) (here-append rules at before (b ∷ bits) more long ∙ h)) in
         omega (arith, ap (λ (fs : List Found). length fs * (32 + rules.block_bits)) skipped, next rest)
 

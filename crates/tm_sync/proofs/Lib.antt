@@ -5,7 +5,7 @@ pub mod Steps
 pub mod Longer
 pub mod FirstPlaces
 pub mod MarkedStreams
-pub mod Turned
+pub mod Complemented
 pub mod CleanStreams
 pub mod Ends
 pub mod Given

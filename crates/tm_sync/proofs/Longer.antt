@@ -71,7 +71,7 @@ places_from-start rules at skip before [] = subst (λ (fs : List Found). AllByRe
 places_from-start rules at (suc skip) before (b ∷ bits) =
     subst (λ (fs : List Found). AllByRecursion (λ f. at ≤ f.place) fs) (sym (places_from-inside rules at skip before b bits))
     (later at (places_from rules (at + 1) skip before bits) (places_from-start rules (at + 1) skip before bits))
-places_from-start rules at zero before (b ∷ bits) = here (λ skip behind. later at (places_from rules (at + 1) skip behind bits) (places_from-start rules (at + 1) skip behind bits)) (seen (place_at rules at before (b ∷ bits)))
+places_from-start rules at zero before (b ∷ bits) = here (λ skip since. later at (places_from rules (at + 1) skip since bits) (places_from-start rules (at + 1) skip since bits)) (seen (place_at rules at before (b ∷ bits)))
   where
     here : ((skip : ℕ) (before : Option Before) → AllByRecursion (λ f. at ≤ f.place) (places_from rules (at + 1) skip before bits))
         → Seen (place_at rules at before (b ∷ bits)) → AllByRecursion (λ f. at ≤ f.place) (places_from rules at 0 before (b ∷ bits))
@@ -87,7 +87,7 @@ places_from-room rules at skip before [] = subst (λ (fs : List Found). length f
 places_from-room rules at (suc skip) before (b ∷ bits) =
     let more = places_from-room rules (at + 1) skip before bits in
     subst (λ (fs : List Found). length fs * (32 + rules.block_bits) ≤ suc (length bits) - suc skip) (sym (places_from-inside rules at skip before b bits)) (omega (arith, more))
-places_from-room rules at zero before (b ∷ bits) = here (λ skip behind. places_from-room rules (at + 1) skip behind bits) (seen (place_at rules at before (b ∷ bits)))
+places_from-room rules at zero before (b ∷ bits) = here (λ skip since. places_from-room rules (at + 1) skip since bits) (seen (place_at rules at before (b ∷ bits)))
   where
     here : ((skip : ℕ) (before : Option Before) → length (places_from rules (at + 1) skip before bits) * (32 + rules.block_bits) ≤ length bits - skip)
         → Seen (place_at rules at before (b ∷ bits)) → length (places_from rules at 0 before (b ∷ bits)) * (32 + rules.block_bits) ≤ suc (length bits) - 0
@@ -131,7 +131,7 @@ places_from-append rules at (suc skip) before (b ∷ bits) more =
       few = go.few;
     }
 places_from-append rules at zero before (b ∷ bits) more =
-    roomy (λ skip behind. places_from-append rules (at + 1) skip behind bits more) (cases_lt (length (b ∷ bits)) (32 + rules.block_bits))
+    roomy (λ skip since. places_from-append rules (at + 1) skip since bits more) (cases_lt (length (b ∷ bits)) (32 + rules.block_bits))
   where
     here : ((skip : ℕ) (before : Option Before) → GoesOn rules (at + 1 + length bits) (length more) (places_from rules (at + 1) skip before (bits ++ more)) (places_from rules (at + 1) skip before bits))
         → place_at rules at before (b ∷ (bits ++ more)) ≡ place_at rules at before (b ∷ bits) → Seen (place_at rules at before (b ∷ bits))
@@ -178,7 +178,7 @@ places_from-end rules at (suc skip) before (b ∷ bits) =
     let there : at + 1 + length bits ≡ at + suc (length bits) = omega arith in
     subst (λ (fs : List Found). EndBefore rules (at + suc (length bits)) fs) (sym (places_from-inside rules at skip before b bits))
     (subst (λ (n : ℕ). EndBefore rules n (places_from rules (at + 1) skip before bits)) there (places_from-end rules (at + 1) skip before bits))
-places_from-end rules at zero before (b ∷ bits) = here (λ skip behind. places_from-end rules (at + 1) skip behind bits) (seen (place_at rules at before (b ∷ bits)))
+places_from-end rules at zero before (b ∷ bits) = here (λ skip since. places_from-end rules (at + 1) skip since bits) (seen (place_at rules at before (b ∷ bits)))
   where
     there : at + 1 + length bits ≡ at + suc (length bits)
     there = omega arith
@@ -212,18 +212,18 @@ places-few rules bits more count short =
     omega (arith, all, few)
 
 -- ---- what follows the places of a front
-drop-front : (front rest : List Found) → drop (length front) (front ++ rest) ≡ rest
-drop-front [] rest = refl
-drop-front (f ∷ front) rest = drop-front front rest
+drop-prefix : (prefix rest : List Found) → drop (length prefix) (prefix ++ rest) ≡ rest
+drop-prefix [] rest = refl
+drop-prefix (f ∷ prefix) rest = drop-prefix prefix rest
 
-behind-front : (rules : Rules) (bits more : List Bool) → drop (length (places rules bits)) (places rules (bits ++ more)) ≡ (places-append rules bits more).rest
-behind-front rules bits more =
+after-prefix : (rules : Rules) (bits more : List Bool) → drop (length (places rules bits)) (places rules (bits ++ more)) ≡ (places-append rules bits more).rest
+after-prefix rules bits more =
     let go = places-append rules bits more in
-    ap (drop (length (places rules bits))) go.is ∙ drop-front (places rules bits) go.rest
+    ap (drop (length (places rules bits))) go.is ∙ drop-prefix (places rules bits) go.rest
 
 pub places-goes_on : (rules : Rules) (bits more : List Bool) → places rules (bits ++ more) ≡ places rules bits ++ drop (length (places rules bits)) (places rules (bits ++ more))
-places-goes_on rules bits more = (places-append rules bits more).is ∙ ap (λ l. places rules bits ++ l) (sym (behind-front rules bits more))
+places-goes_on rules bits more = (places-append rules bits more).is ∙ ap (λ l. places rules bits ++ l) (sym (after-prefix rules bits more))
 
 pub places-past : (rules : Rules) (bits more : List Bool) → AllByRecursion (λ f. length bits < f.place + 32 + rules.block_bits) (drop (length (places rules bits)) (places rules (bits ++ more)))
 places-past rules bits more =
-    subst (λ (fs : List Found). AllByRecursion (λ f. length bits < f.place + 32 + rules.block_bits) fs) (sym (behind-front rules bits more)) (places-append rules bits more).past
+    subst (λ (fs : List Found). AllByRecursion (λ f. length bits < f.place + 32 + rules.block_bits) fs) (sym (after-prefix rules bits more)) (places-append rules bits more).past

@@ -84,9 +84,9 @@ pub place_of-place : (rules : Rules) (at : ℕ) (before : Option Before) (e : En
 place_of-place rules at before e = place_is (at + length e.gap) before e (match_of rules e.marker)
 
 -- the gap before a marker that matches says nothing of what follows the codeblock
-behind-ready : (rules : Rules) (at : ℕ) (before : Option Before) (e : Entry) → MayBridge rules before e (match_of rules e.marker)
+after-ready : (rules : Rules) (at : ℕ) (before : Option Before) (e : Entry) → MayBridge rules before e (match_of rules e.marker)
     → before_next (ready e.gap before) (place_of rules at before e) ≡ before_next before (place_of rules at before e)
-behind-ready rules at before e may = go before e.gap (match_of rules e.marker) may
+after-ready rules at before e may = go before e.gap (match_of rules e.marker) may
   where
     go : (before : Option Before) (gap : List Bool) (way : Option Bool) → MayBridge rules before (record e { gap = gap }) way
         → before_next (ready gap before) (place_by_marker (at + length e.gap) before e way) ≡ before_next before (place_by_marker (at + length e.gap) before e way)
@@ -114,7 +114,7 @@ places_of-are rules at before (e ∷ entries) last (one, more) =
     places_from-gap rules at before e.gap (e.marker ++ (e.block ++ rest)) one.gap one.waits
     ∙ ap (places_from rules (at + length e.gap) 0 (ready e.gap before)) split
     ∙ places_from-hit rules (at + length e.gap) (ready e.gap before) (e.marker ++ e.block) rest f (length-append e.marker e.block ∙ omega (arith, one.marker, one.block)) here
-    ∙ (λ i. f ∷ places_from rules (ends i) 0 (Some (behind-ready rules at before e one.bridged i)) rest)
+    ∙ (λ i. f ∷ places_from rules (ends i) 0 (Some (after-ready rules at before e one.bridged i)) rest)
     ∙ ap (λ fs. f ∷ fs) (places_of-are rules (f.place + 32 + rules.block_bits) (Some (before_next before f)) entries last more)
 
 -- the places in a marked stream are those of its entries

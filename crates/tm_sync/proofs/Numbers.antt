@@ -84,11 +84,11 @@ value-lt (x ∷ xs) =
     within (suc (suc d)) p v one small = absurd (omega arith)
 
 -- the last 32 bits are the number's lowest ones
-pub value-last : (front last : List Bool) → length last ≡ 32 → value_from 0 (front ++ last) % 2 ^ 32 ≡ value_from 0 last
-value-last front last e =
+pub value-last : (prefix last : List Bool) → length last ≡ 32 → value_from 0 (prefix ++ last) % 2 ^ 32 ≡ value_from 0 last
+value-last prefix last e =
     let v : ℕ = value_from 0 last in
-    let a : ℕ = value_from 0 front in
-    let all : value_from 0 (front ++ last) ≡ a * 2 ^ length last + v = value-append front last 0 ∙ value-high last a in
+    let a : ℕ = value_from 0 prefix in
+    let all : value_from 0 (prefix ++ last) ≡ a * 2 ^ length last + v = value-append prefix last 0 ∙ value-high last a in
     let p : 2 ^ length last ≡ 4294967296 = ap (λ n. 2 ^ n) e in
     let small : v < 2 ^ length last = value-lt last in
     rw (all, p) (omega arith)

@@ -67,13 +67,13 @@ bit_of left octet = octet / 2 ^ left % 2 == 1
 pub masked-bit : (left octet : ℕ) → (bit_and (octet / 2 ^ left) 1 == 1) ≡ bit_of left octet
 masked-bit left octet = ap (λ n. n == 1) (and_mask (octet / 2 ^ left) 1)
 
-pub bits-bit : (front : List Bool) (left octet : ℕ) → 0 < left → bits_of_octet octet ≡ front ++ low_bits left octet
-    → bits_of_octet octet ≡ (front ++ bit_of (left - 1) octet ∷ []) ++ low_bits (left - 1) octet
-bits-bit front zero octet some parts = absurd (omega arith)
-bits-bit front (suc left) octet some parts =
+pub bits-bit : (prefix : List Bool) (left octet : ℕ) → 0 < left → bits_of_octet octet ≡ prefix ++ low_bits left octet
+    → bits_of_octet octet ≡ (prefix ++ bit_of (left - 1) octet ∷ []) ++ low_bits (left - 1) octet
+bits-bit prefix zero octet some parts = absurd (omega arith)
+bits-bit prefix (suc left) octet some parts =
     let one : suc left - 1 ≡ left = omega arith in
-    parts ∙ ap (λ l. front ++ l) (low_bits-first left octet) ∙ sym (append_assoc front (bit_of left octet ∷ []) (low_bits left octet))
-    ∙ (λ i. (front ++ bit_of (sym one i) octet ∷ []) ++ low_bits (sym one i) octet)
+    parts ∙ ap (λ l. prefix ++ l) (low_bits-first left octet) ∙ sym (append_assoc prefix (bit_of left octet ∷ []) (low_bits left octet))
+    ∙ (λ i. (prefix ++ bit_of (sym one i) octet ∷ []) ++ low_bits (sym one i) octet)
 
-pub bits-all : (front : List Bool) (left octet : ℕ) → left ≡ 0 → bits_of_octet octet ≡ front ++ low_bits left octet → bits_of_octet octet ≡ front
-bits-all front left octet none parts = parts ∙ ap (λ n. front ++ low_bits n octet) none ∙ ap (λ l. front ++ l) (low_bits-zero octet) ∙ append-nil front
+pub bits-all : (prefix : List Bool) (left octet : ℕ) → left ≡ 0 → bits_of_octet octet ≡ prefix ++ low_bits left octet → bits_of_octet octet ≡ prefix
+bits-all prefix left octet none parts = parts ∙ ap (λ n. prefix ++ low_bits n octet) none ∙ ap (λ l. prefix ++ l) (low_bits-zero octet) ∙ append-nil prefix

@@ -13,12 +13,12 @@ unfolding places_from
 places_from-nil rules at skip before = refl
 
 -- the bits of a codeblock are skipped
-pub places_from-skip : (rules : Rules) (at : ℕ) (before : Option Before) (front rest : List Bool)
-    → places_from rules at (length front) before (front ++ rest) ≡ places_from rules (at + length front) 0 before rest
+pub places_from-skip : (rules : Rules) (at : ℕ) (before : Option Before) (prefix rest : List Bool)
+    → places_from rules at (length prefix) before (prefix ++ rest) ≡ places_from rules (at + length prefix) 0 before rest
 unfolding places_from
 places_from-skip rules at before [] rest = ap (λ n. places_from rules n 0 before rest) (omega arith)
-places_from-skip rules at before (b ∷ front) rest =
-    places_from-skip rules (at + 1) before front rest
+places_from-skip rules at before (b ∷ prefix) rest =
+    places_from-skip rules (at + 1) before prefix rest
     ∙ ap (λ n. places_from rules n 0 before rest) (omega arith)
 
 -- where a place stands, its codeblock is skipped
@@ -38,15 +38,15 @@ places_from-miss rules at before b bits e =
     (places_from rules (at + 1) 0 None bits)) e
 
 -- after a place's codeblock the search goes on
-pub places_from-hit : (rules : Rules) (at : ℕ) (before : Option Before) (front rest : List Bool) (f : Found)
-    → length front ≡ 32 + rules.block_bits → place_at rules at before (front ++ rest) ≡ Some f
-    → places_from rules at 0 before (front ++ rest) ≡ f ∷ places_from rules (at + 32 + rules.block_bits) 0 (Some (before_next before f)) rest
+pub places_from-hit : (rules : Rules) (at : ℕ) (before : Option Before) (prefix rest : List Bool) (f : Found)
+    → length prefix ≡ 32 + rules.block_bits → place_at rules at before (prefix ++ rest) ≡ Some f
+    → places_from rules at 0 before (prefix ++ rest) ≡ f ∷ places_from rules (at + 32 + rules.block_bits) 0 (Some (before_next before f)) rest
 places_from-hit rules at before [] rest f long e = absurd (omega arith)
-places_from-hit rules at before (b ∷ front) rest f long e =
-    let size : 31 + rules.block_bits ≡ length front = omega arith in
-    places_from-one rules at before b (front ++ rest) f e
-    ∙ ap (λ n. f ∷ places_from rules (at + 1) n (Some (before_next before f)) (front ++ rest)) size
-    ∙ ap (λ fs. f ∷ fs) (places_from-skip rules (at + 1) (Some (before_next before f)) front rest)
+places_from-hit rules at before (b ∷ prefix) rest f long e =
+    let size : 31 + rules.block_bits ≡ length prefix = omega arith in
+    places_from-one rules at before b (prefix ++ rest) f e
+    ∙ ap (λ n. f ∷ places_from rules (at + 1) n (Some (before_next before f)) (prefix ++ rest)) size
+    ∙ ap (λ fs. f ∷ fs) (places_from-skip rules (at + 1) (Some (before_next before f)) prefix rest)
     ∙ ap (λ n. f ∷ places_from rules n 0 (Some (before_next before f)) rest) (omega arith)
 
 -- the polarity is that of the first 32 bits

@@ -71,5 +71,5 @@ abbrev pub places : Rules → List Bool → List Found
 places rules bits = places_from rules 0 0 None bits
 
 -- the same place in the other polarity
-abbrev pub turned_place : Found → Found
-turned_place f = record f { inverted = flip f.inverted }
+abbrev pub complemented_place : Found → Found
+complemented_place f = record f { inverted = flip f.inverted }

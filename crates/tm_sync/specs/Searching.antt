@@ -43,9 +43,9 @@ end_of rules (f ∷ []) = f.place + 32 + rules.block_bits
 end_of rules (f ∷ g ∷ found) = end_of rules (g ∷ found)
 
 -- what follows that codeblock
-abbrev pub before_behind : Option Before → List Found → Option Before
-before_behind before [] = before
-before_behind before (f ∷ found) = before_behind (Some (before_next before f)) found
+abbrev pub before_past : Option Before → List Found → Option Before
+before_past before [] = before
+before_past before (f ∷ found) = before_past (Some (before_next before f)) found
 
 -- the first place in the bits after `at` others whose 32 bits are there, whether or not its
 -- codeblock is
@@ -57,7 +57,7 @@ first_place rules at before (b ∷ bits) =
 
 -- the first place after the codeblocks of the places found
 abbrev pub place_ahead : Rules → List Bool → List Found → Option Found
-place_ahead rules bits found = first_place rules (end_of rules found) (before_behind None found)
+place_ahead rules bits found = first_place rules (end_of rules found) (before_past None found)
     (drop (end_of rules found) bits)
 
 -- the bits after the marker of that place; None where there is no such place
@@ -76,8 +76,8 @@ search_of rules bits found = record {
   pushed = length bits;
   word = number_of bits % 2 ^ 32;
   start = end_of rules found;
-  before = before_behind None found;
-  awaited = option_map (awaited_at (before_behind None found)) (place_ahead rules bits found);
+  before = before_past None found;
+  awaited = option_map (awaited_at (before_past None found)) (place_ahead rules bits found);
   after = unwrap_or (inside_ahead rules bits found) 0;
 }
 
@@ -99,7 +99,7 @@ pub record Counts (s s' : Searching) (bit : Bool) : Type 0 where
 
 -- what ends right before the last 32 bits
 abbrev pub before_last : ℕ → Option Before → Option Before
-before_last behind before = if behind == 32 then before else None
+before_last since before = if since == 32 then before else None
 
 -- how many numbers, from one more than the tolerance on, show that 32 bits match in no way, where
 -- so many of them differ from the marker

@@ -2,7 +2,7 @@
 ghost use Rattle.std.specs.Prelude.{◌≡◌, ◌≢◌, ◌≤◌, ◌<◌, ◌+◌, ◌*◌, ℕ, Bool, true, false, List, [], ◌++◌, length, drop, map, Some, None};
 ghost use Rattle.std.specs.List.{AllByRecursion};
 ghost use Rattle.tm_sync.specs.Bits.{complement};
-ghost use Rattle.tm_sync.specs.Places.{Rules, wrong_bits, places, turned_place};
+ghost use Rattle.tm_sync.specs.Places.{Rules, wrong_bits, places, complemented_place};
 ghost use Rattle.tm_sync.specs.Marked.{Entry, IsMarked, joined, places_of, clean_entries, clean_places};
 
 /// With a tolerance of at most 8 no 32 bits match both upright and inverted.
@@ -15,7 +15,7 @@ pub fn one_polarity_law()
 /// polarity.
 pub fn polarity_law()
     ensures { (rules : Rules) (bits : List Bool) → rules.either ≡ true → rules.tolerance ≤ 8
-        → places rules (complement bits) ≡ map turned_place (places rules bits) }
+        → places rules (complement bits) ≡ map complemented_place (places rules bits) }
 {}
 
 /// The places in a marked stream are exactly those of its marker parts: with their distances, bridges and polarities.
@@ -38,12 +38,12 @@ pub fn clean_law()
 /// The places in a list that goes on are first those in its prefix, whose codeblocks end within the prefix, and then
 /// others, whose codeblocks end after it.
 pub fn longer_law()
-    ensures front { (rules : Rules) (bits more : List Bool)
+    ensures prefix { (rules : Rules) (bits more : List Bool)
         → places rules (bits ++ more) ≡ places rules bits
         ++ drop (length (places rules bits)) (places rules (bits ++ more)) }
     ensures within { (rules : Rules) (bits : List Bool)
         → AllByRecursion (λ f. f.place + 32 + rules.block_bits ≤ length bits) (places rules bits) }
-    ensures behind { (rules : Rules) (bits more : List Bool)
+    ensures since { (rules : Rules) (bits more : List Bool)
         → AllByRecursion (λ f. length bits < f.place + 32 + rules.block_bits)
         (drop (length (places rules bits)) (places rules (bits ++ more))) }
 {}

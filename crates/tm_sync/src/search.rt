@@ -223,10 +223,10 @@ impl Search {
             self.after += 1;
             return;
         }
-        let behind = self.pushed.wrapping_sub(self.start);
-        if behind >= 32 {
+        let since = self.pushed.wrapping_sub(self.start);
+        if since >= 32 {
             let place = self.pushed.wrapping_sub(32);
-            let before = right_before(behind, self.before);
+            let before = right_before(since, self.before);
             self.awaited = place_of(
                 self.word,
                 place,
@@ -348,11 +348,11 @@ fn is_far(word: u32, too_many: u8, far: u8) -> bool
     wrong_count(word).wrapping_sub(too_many) < far
 }
 
-// What ends right before the last 32 bits, where `behind` bits follow the last codeblock found.
-fn right_before(behind: u64, before: Option<Before>) -> Option<Before>
-    ensures { result ≡ before_last behind before }
+// What ends right before the last 32 bits, where `since` bits follow the last codeblock found.
+fn right_before(since: u64, before: Option<Before>) -> Option<Before>
+    ensures { result ≡ before_last since before }
 {
-    if behind == 32 { before } else { None }
+    if since == 32 { before } else { None }
 }
 
 // The number of the last 32 bits that differ from the marker.

@@ -28,7 +28,7 @@ fn certified(
 }
 
 // The first octets, so many, or all where there are fewer.
-fn front(octets: &[u8], count: usize) -> &[u8] {
+fn prefix(octets: &[u8], count: usize) -> &[u8] {
     &octets[..octets.len().min(count)]
 }
 
@@ -65,9 +65,9 @@ fn windows_are_certified_and_checked(rt: HostRuntime) -> Result<(), Fail> {
             &rt,
             alloc,
             "a window is missing",
-            &given(line, front(&octets, 17_626), cut),
+            &given(line, prefix(&octets, 17_626), cut),
             6,
-            &[front(&soft, 128)],
+            &[prefix(&soft, 128)],
             first,
         )?;
     }

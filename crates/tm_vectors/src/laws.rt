@@ -15,7 +15,7 @@ fn laws(_rt: HostRuntime) {
     tm_viterbi::due_law();
     tm_viterbi::closed_windows_law();
     tm_viterbi::clean_blocks_law();
-    tm_viterbi::turned_blocks_law();
+    tm_viterbi::complemented_blocks_law();
     tm_workers::schedule_law();
     tm_workers::one_outcome_law();
     tm_inner::inner_law();

@@ -90,7 +90,7 @@ fn a_sender_takes_any_pieces(rt: HostRuntime) -> Result<(), Fail> {
 }
 
 #[test]
-fn a_sender_stops_behind_a_fault(rt: HostRuntime) -> Result<(), Fail> {
+fn a_sender_stops_after_a_fault(rt: HostRuntime) -> Result<(), Fail> {
     let alloc = rt.alloc();
     let config = config_of(alloc, "tmchan encode --inner none --length 1")?;
     let mut sender = Sender::new(config);

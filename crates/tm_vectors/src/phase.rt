@@ -30,26 +30,34 @@ static FRAMES: [u8; 12] = [
     0x10, 0x32, 0x54, 0x76, 0x98, 0xBA, 0xDC, 0xFE, 0x0F, 0x1E, 0x2D, 0x3C,
 ];
 
-static TURNED: &str =
+static COMPLEMENTED: &str =
     "frame 0 at 0 marker 0 inverted uncoded\nframe 1 at 64 marker 0 inverted uncoded\nframe 2 at 128 marker 0 inverted uncoded\nframes 3 bad 0 fixed 0 bits 192\n";
 
 // At rate 1/2, symbols that were complemented give the frames, in the other polarity.
 #[test]
-fn turned_symbols_are_received(rt: HostRuntime) -> Result<(), Fail> {
+fn complemented_symbols_are_received(rt: HostRuntime) -> Result<(), Fail> {
     let alloc = rt.alloc();
     let line = "tmchan encode --code none --length 4";
     let sent = run_over(&rt, alloc, &Given::new(line, &FRAMES, 4096))?;
-    let mut turned = sent.out.octets().to_vec(alloc)?;
-    for k in 0..turned.len() {
-        turned[k] ^= 0xFF;
+    let mut complemented = sent.out.octets().to_vec(alloc)?;
+    for k in 0..complemented.len() {
+        complemented[k] ^= 0xFF;
     }
-    let report = format!(in alloc; "phase 0 cost 0\n{TURNED}")?;
+    let report = format!(in alloc; "phase 0 cost 0\n{COMPLEMENTED}")?;
     for cut in CUTS {
         let line = "tmchan decode --code none --length 4 --start any --polarity find";
-        let given = Given::new(line, turned.as_slice(), cut);
-        check_call(&rt, alloc, "turned", &given, 0, &[&FRAMES], TURNED)?;
+        let given = Given::new(line, complemented.as_slice(), cut);
+        check_call(
+            &rt,
+            alloc,
+            "complemented",
+            &given,
+            0,
+            &[&FRAMES],
+            COMPLEMENTED,
+        )?;
         let line = "tmchan decode --code none --length 4 --start any --polarity find --phase find";
-        let given = Given::new(line, turned.as_slice(), cut);
+        let given = Given::new(line, complemented.as_slice(), cut);
         let notes = report.as_str();
         check_call(&rt, alloc, "a phase too", &given, 0, &[&FRAMES], notes)?;
     }
@@ -58,7 +66,7 @@ fn turned_symbols_are_received(rt: HostRuntime) -> Result<(), Fail> {
 
 // After as many symbols of noise as any phase skips, all frames come out, the first too.
 #[test]
-fn frames_come_out_behind_noise(rt: HostRuntime) -> Result<(), Fail> {
+fn frames_come_out_after_noise(rt: HostRuntime) -> Result<(), Fail> {
     let alloc = rt.alloc();
     for (rate, period) in &RATES {
         let line = format!(in alloc; "tmchan encode --code none --length 4 --inner {rate}")?;

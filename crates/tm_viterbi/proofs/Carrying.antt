@@ -27,13 +27,13 @@ Carries-none rate invert t sums = record {
       subst (λ (v : List ℕ). P v (i + 0)) (sym (append-nil before)) (subst (λ (n : ℕ). P before n) same best);
 }
 
-pub Carries-more : (rate : Rate) (invert : Bool) (t column : ℕ) (octets piece sums middle next columns : List ℕ)
-    → Carries rate invert t octets sums middle columns → length piece ≡ step_size rate (t + length columns)
-    → StepsTo rate invert (t + length columns) piece middle next column
-    → Carries rate invert t (octets ++ piece) sums next (columns ++ column ∷ [])
-Carries-more rate invert t column octets piece sums middle next columns h len step =
-    let n = length columns in
-    let long : length (columns ++ column ∷ []) ≡ n + 1 = length-append columns (column ∷ []) ∙ omega arith in
+pub Carries-more : (rate : Rate) (invert : Bool) (t column : ℕ) (octets piece sums middle next survivors : List ℕ)
+    → Carries rate invert t octets sums middle survivors → length piece ≡ step_size rate (t + length survivors)
+    → StepsTo rate invert (t + length survivors) piece middle next column
+    → Carries rate invert t (octets ++ piece) sums next (survivors ++ column ∷ [])
+Carries-more rate invert t column octets piece sums middle next survivors h len step =
+    let n = length survivors in
+    let long : length (survivors ++ column ∷ []) ≡ n + 1 = length-append survivors (column ∷ []) ∙ omega arith in
     record {
       size = length-append octets piece ∙ omega (arith, h.size, len, steps_size-more rate t n)
           ∙ sym (ap (steps_size rate t) long);
@@ -46,29 +46,29 @@ Carries-more rate invert t column octets piece sums middle next columns h len st
           subst (λ (v : ℕ). AreCosts rate invert v piece step.costs) there step.are_costs in
           let grows = Grows-total_of rate invert first (i + n) firsts (before ++ octets) piece step.costs size costs in
           let so : AreBest (total_of rate invert first firsts ((before ++ octets) ++ piece)) (i + n + 1) next
-          (column ∷ (reverse columns ++ past))
+          (column ∷ (reverse survivors ++ past))
           = AreBest-more _ _ (i + n) column middle step.costs next
-          (reverse columns ++ past) grows step.are_sums step.are_survivors
+          (reverse survivors ++ past) grows step.are_sums step.are_survivors
           (h.carries first i firsts before past e l best) in
-          let count : i + n + 1 ≡ i + length (columns ++ column ∷ []) = omega (arith, long) in
-          let rows : column ∷ (reverse columns ++ past) ≡ reverse (columns ++ column ∷ []) ++ past =
-          sym (ap (λ (v : List ℕ). v ++ past) (reverse-append columns (column ∷ []))) in
+          let count : i + n + 1 ≡ i + length (survivors ++ column ∷ []) = omega (arith, long) in
+          let rows : column ∷ (reverse survivors ++ past) ≡ reverse (survivors ++ column ∷ []) ++ past =
+          sym (ap (λ (v : List ℕ). v ++ past) (reverse-append survivors (column ∷ []))) in
           let P : List ℕ → ℕ → List ℕ → Type 0 = λ v k w. AreBest (total_of rate invert first firsts v) k next w in
-          subst (λ (w : List ℕ). P (before ++ (octets ++ piece)) (i + length (columns ++ column ∷ [])) w) rows
-          (subst (λ (k : ℕ). P (before ++ (octets ++ piece)) k (column ∷ (reverse columns ++ past))) count
-          (subst (λ (v : List ℕ). P v (i + n + 1) (column ∷ (reverse columns ++ past)))
+          subst (λ (w : List ℕ). P (before ++ (octets ++ piece)) (i + length (survivors ++ column ∷ [])) w) rows
+          (subst (λ (k : ℕ). P (before ++ (octets ++ piece)) k (column ∷ (reverse survivors ++ past))) count
+          (subst (λ (v : List ℕ). P v (i + n + 1) (column ∷ (reverse survivors ++ past)))
           (append_assoc before octets piece) so));
     }
 
 -- steps after steps
-pub Carries-append : (rate : Rate) (invert : Bool) (t u : ℕ) (octets piece sums middle next columns more : List ℕ)
-    → Carries rate invert t octets sums middle columns → u ≡ t + length columns
+pub Carries-append : (rate : Rate) (invert : Bool) (t u : ℕ) (octets piece sums middle next survivors more : List ℕ)
+    → Carries rate invert t octets sums middle survivors → u ≡ t + length survivors
     → Carries rate invert u piece middle next more
-    → Carries rate invert t (octets ++ piece) sums next (columns ++ more)
-Carries-append rate invert t u octets piece sums middle next columns more h e k =
-    let n = length columns in
+    → Carries rate invert t (octets ++ piece) sums next (survivors ++ more)
+Carries-append rate invert t u octets piece sums middle next survivors more h e k =
+    let n = length survivors in
     let m = length more in
-    let long : length (columns ++ more) ≡ n + m = length-append columns more in
+    let long : length (survivors ++ more) ≡ n + m = length-append survivors more in
     record {
       size = length-append octets piece
           ∙ omega (arith, h.size, k.size, steps_size-add rate t n m, ap (λ (v : ℕ). steps_size rate v m) e)
@@ -78,16 +78,16 @@ Carries-append rate invert t u octets piece sums middle next columns more h e k 
           let size : length (before ++ octets) ≡ steps_size rate first (i + n) =
           length-append before octets
           ∙ omega (arith, l, h.size, steps_size-add rate first i n, ap (λ (v : ℕ). steps_size rate v n) f) in
-          let so = k.carries first (i + n) firsts (before ++ octets) (reverse columns ++ past) there size
+          let so = k.carries first (i + n) firsts (before ++ octets) (reverse survivors ++ past) there size
           (h.carries first i firsts before past f l best) in
-          let count : i + n + m ≡ i + length (columns ++ more) = omega (arith, long) in
-          let rows : reverse more ++ (reverse columns ++ past) ≡ reverse (columns ++ more) ++ past =
-          sym (append_assoc (reverse more) (reverse columns) past)
-          ∙ sym (ap (λ (v : List ℕ). v ++ past) (reverse-append columns more)) in
+          let count : i + n + m ≡ i + length (survivors ++ more) = omega (arith, long) in
+          let rows : reverse more ++ (reverse survivors ++ past) ≡ reverse (survivors ++ more) ++ past =
+          sym (append_assoc (reverse more) (reverse survivors) past)
+          ∙ sym (ap (λ (v : List ℕ). v ++ past) (reverse-append survivors more)) in
           let P : List ℕ → ℕ → List ℕ → Type 0 = λ v j w. AreBest (total_of rate invert first firsts v) j next w in
-          subst (λ (w : List ℕ). P (before ++ (octets ++ piece)) (i + length (columns ++ more)) w) rows
-          (subst (λ (j : ℕ). P (before ++ (octets ++ piece)) j (reverse more ++ (reverse columns ++ past))) count
-          (subst (λ (v : List ℕ). P v (i + n + m) (reverse more ++ (reverse columns ++ past)))
+          subst (λ (w : List ℕ). P (before ++ (octets ++ piece)) (i + length (survivors ++ more)) w) rows
+          (subst (λ (j : ℕ). P (before ++ (octets ++ piece)) j (reverse more ++ (reverse survivors ++ past))) count
+          (subst (λ (v : List ℕ). P v (i + n + m) (reverse more ++ (reverse survivors ++ past)))
           (append_assoc before octets piece) so));
     }
 
@@ -147,25 +147,25 @@ at_most_next sums costs next most h bound small s lt =
     )
 
 -- one step more of a loop over octets and columns
-pub carried_on : (rate : Rate) (invert : Bool) (t at len i column : ℕ) (soft piece first middle next columns : List ℕ)
-    → at + len ≤ length soft → len ≡ step_size rate (t + i) → piece ≡ take len (drop at soft) → i < length columns
+pub carried_on : (rate : Rate) (invert : Bool) (t at len i column : ℕ) (soft piece first middle next survivors : List ℕ)
+    → at + len ≤ length soft → len ≡ step_size rate (t + i) → piece ≡ take len (drop at soft) → i < length survivors
     → StepsTo rate invert (t + i) piece middle next column
-    → Carries rate invert t (take at soft) first middle (take i columns)
-    → Carries rate invert t (take (at + len) soft) first next (take (i + 1) (set columns i column))
-carried_on rate invert t at len i column soft piece first middle next columns room size is lt step h =
-    let count : length (take i columns) ≡ i = length-take-le i columns (omega arith) in
+    → Carries rate invert t (take at soft) first middle (take i survivors)
+    → Carries rate invert t (take (at + len) soft) first next (take (i + 1) (set survivors i column))
+carried_on rate invert t at len i column soft piece first middle next survivors room size is lt step h =
+    let count : length (take i survivors) ≡ i = length-take-le i survivors (omega arith) in
     let long : length piece ≡ len = ap length is
     ∙ length-take-le len (drop at soft) (omega (arith, length-drop at soft)) in
-    let fits : length piece ≡ step_size rate (t + length (take i columns)) = long ∙ size
+    let fits : length piece ≡ step_size rate (t + length (take i survivors)) = long ∙ size
     ∙ ap (λ (n : ℕ). step_size rate (t + n)) (sym count) in
-    let so : Carries rate invert t (take at soft ++ piece) first next (take i columns ++ column ∷ []) =
-    Carries-more rate invert t column (take at soft) piece first middle next (take i columns) h fits
+    let so : Carries rate invert t (take at soft ++ piece) first next (take i survivors ++ column ∷ []) =
+    Carries-more rate invert t column (take at soft) piece first middle next (take i survivors) h fits
     (subst (λ (n : ℕ). StepsTo rate invert (t + n) piece middle next column) (sym count) step) in
     let octets : take at soft ++ piece ≡ take (at + len) soft = ap (λ (v : List ℕ). take at soft ++ v) is
     ∙ sym (take-add at len soft) in
     subst (λ (w : List ℕ). Carries rate invert t (take (at + len) soft) first next w)
-    (sym (take_more_set columns i column lt))
-    (subst (λ (v : List ℕ). Carries rate invert t v first next (take i columns ++ column ∷ [])) octets so)
+    (sym (take_more_set survivors i column lt))
+    (subst (λ (v : List ℕ). Carries rate invert t v first next (take i survivors ++ column ∷ [])) octets so)
 
 pub lifted_is : (base : ℕ) (xs ys : List ℕ) → length xs ≡ 64 → length ys ≡ 64
     → ((s : ℕ) → s < 64 → base + get_or xs s 0 ≡ get_or ys s 0) → lifted base xs ≡ ys
@@ -182,13 +182,13 @@ one_step rate t =
     ∙ ap (λ (v : ℕ). v + step_size rate (t + 0)) (steps_size-zero rate t) ∙ ap (λ (v : ℕ). 0 + step_size rate v) f
     ∙ omega arith
 
-pub single_set : (columns : List ℕ) (column : ℕ) → length columns ≡ 1 → set columns 0 column ≡ column ∷ []
+pub single_set : (survivors : List ℕ) (column : ℕ) → length survivors ≡ 1 → set survivors 0 column ≡ column ∷ []
 single_set [] column e = absurd (omega arith)
 single_set (x ∷ []) column e = refl
 single_set (x ∷ y ∷ ys) column e = absurd (omega arith)
 
-pub four_set : (columns : List ℕ) (a b c d : ℕ) → length columns ≡ 4
-    → set (set (set (set columns 0 a) 1 b) 2 c) 3 d ≡ a ∷ b ∷ c ∷ d ∷ []
+pub four_set : (survivors : List ℕ) (a b c d : ℕ) → length survivors ≡ 4
+    → set (set (set (set survivors 0 a) 1 b) 2 c) 3 d ≡ a ∷ b ∷ c ∷ d ∷ []
 four_set [] a b c d long = absurd (omega arith)
 four_set (w ∷ []) a b c d long = absurd (omega arith)
 four_set (w ∷ x ∷ []) a b c d long = absurd (omega arith)
@@ -220,24 +220,24 @@ rest_fits rate t at done n k soft size place le =
     )
 
 -- a block after those before
-pub blocks_on : (rate : Rate) (invert : Bool) (t at r done n m : ℕ) (soft sums middle next columns piece : List ℕ)
-    → at ≡ steps_size rate t done → at ≤ length soft → r ≤ length soft - at → done + n ≤ length columns
+pub blocks_on : (rate : Rate) (invert : Bool) (t at r done n m : ℕ) (soft sums middle next survivors piece : List ℕ)
+    → at ≡ steps_size rate t done → at ≤ length soft → r ≤ length soft - at → done + n ≤ length survivors
     → length piece ≡ n → m ≡ done + n
-    → Carries rate invert t (take at soft) sums middle (take done columns)
+    → Carries rate invert t (take at soft) sums middle (take done survivors)
     → Carries rate invert (t + done) (take r (take (length soft - at) (drop at soft))) middle next piece
-    → Carries rate invert t (take (at + r) soft) sums next (take m (put_mid done (m - done) columns piece))
-blocks_on rate invert t at r done n m soft sums middle next columns piece place room few le len me before block =
+    → Carries rate invert t (take (at + r) soft) sums next (take m (put_mid done (m - done) survivors piece))
+blocks_on rate invert t at r done n m soft sums middle next survivors piece place room few le len me before block =
     let rest : take (length soft - at) (drop at soft) ≡ drop at soft =
     take_all (length soft - at) (drop at soft) (omega (arith, length-drop at soft)) in
     let octets : take at soft ++ take r (take (length soft - at) (drop at soft)) ≡ take (at + r) soft =
     ap (λ (v : List ℕ). take at soft ++ take r v) rest ∙ sym (take-add at r soft) in
-    let count : length (take done columns) ≡ done = length-take-le done columns (omega arith) in
-    let rows : take done columns ++ piece ≡ take m (put_mid done (m - done) columns piece) =
-    sym (take-put_mid done (m - done) columns piece m (omega arith) (omega arith)) in
+    let count : length (take done survivors) ≡ done = length-take-le done survivors (omega arith) in
+    let rows : take done survivors ++ piece ≡ take m (put_mid done (m - done) survivors piece) =
+    sym (take-put_mid done (m - done) survivors piece m (omega arith) (omega arith)) in
     subst (λ (w : List ℕ). Carries rate invert t (take (at + r) soft) sums next w) rows
-    (subst (λ (v : List ℕ). Carries rate invert t v sums next (take done columns ++ piece)) octets
+    (subst (λ (v : List ℕ). Carries rate invert t v sums next (take done survivors ++ piece)) octets
     (Carries-append rate invert t (t + done) (take at soft)
-    (take r (take (length soft - at) (drop at soft))) sums middle next (take done columns) piece before
+    (take r (take (length soft - at) (drop at soft))) sums middle next (take done survivors) piece before
     (ap (λ (v : ℕ). t + v) (sym count)) block))
 
 pub length-mid : (a k : ℕ) (xs ys : List ℕ) → a + k ≤ length xs → length ys ≡ k → length (put_mid a k xs ys) ≡ length xs
@@ -245,17 +245,17 @@ length-mid a k xs ys le e =
     same_len_mid a k xs ys (e ∙ sym (length-take-le k (drop a xs) (omega (arith, length-drop a xs))))
 
 -- from the first column
-pub carried-none : (rate : Rate) (invert : Bool) (t : ℕ) (firsts octets next columns : List ℕ)
-    → Carries rate invert t octets firsts next columns
-    → AreBest (total_of rate invert t firsts octets) (length columns) next (reverse columns)
-carried-none rate invert t firsts octets next columns h =
+pub carried-none : (rate : Rate) (invert : Bool) (t : ℕ) (firsts octets next survivors : List ℕ)
+    → Carries rate invert t octets firsts next survivors
+    → AreBest (total_of rate invert t firsts octets) (length survivors) next (reverse survivors)
+carried-none rate invert t firsts octets next survivors h =
     let e : t ≡ t + 0 = omega arith in
-    let count : 0 + length columns ≡ length columns = omega arith in
+    let count : 0 + length survivors ≡ length survivors = omega arith in
     let so = h.carries t 0 firsts [] [] e (sym (steps_size-zero rate t))
     (AreBest-none (total_of rate invert t firsts []) firsts (λ register below. omega arith)) in
-    subst (λ (w : List ℕ). AreBest (total_of rate invert t firsts octets) (length columns) next w)
-    (append-nil (reverse columns))
-    (subst (λ (n : ℕ). AreBest (total_of rate invert t firsts octets) n next (reverse columns ++ [])) count so)
+    subst (λ (w : List ℕ). AreBest (total_of rate invert t firsts octets) (length survivors) next w)
+    (append-nil (reverse survivors))
+    (subst (λ (n : ℕ). AreBest (total_of rate invert t firsts octets) n next (reverse survivors ++ [])) count so)
 
 -- ---- rate 1/2
 

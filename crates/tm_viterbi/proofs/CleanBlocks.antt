@@ -18,7 +18,7 @@ use Rattle.tm_viterbi.specs.Settings.{Settings}
 use Rattle.tm_viterbi.specs.Starts.{starts_from, first_start}
 use Rattle.tm_viterbi.specs.WindowBlock.{WindowBlock}
 use Rattle.tm_viterbi.specs.Blocks.{AreSteps, IsBlock, AreBlocks, AreBlocksOf, window_steps, kept_steps}
-use Rattle.tm_viterbi.specs.Clean.{kept_bits, CostNothing, sure_symbols, IsFixed, AreClean, turned_octets}
+use Rattle.tm_viterbi.specs.Clean.{kept_bits, CostNothing, sure_symbols, IsFixed, AreClean, complemented_octets}
 
 -- ---- bits
 
@@ -65,20 +65,20 @@ length-sent : (rate : Rate) (invert : Bool) (t r : ℕ) (bits : List ℕ) → le
 length-sent rate invert t r bits = length-sure (path rate invert t r bits) ∙ length-path rate invert t r bits
 
 -- the octets of the first steps, and of the rest
-front-octets : (rate : Rate) (invert : Bool) (t r w : ℕ) (bits : List ℕ) → w ≤ length bits
+prefix-octets : (rate : Rate) (invert : Bool) (t r w : ℕ) (bits : List ℕ) → w ≤ length bits
     → (take (steps_size rate t w) (sure (path rate invert t r bits)) ≡ sure (path rate invert t r (take w bits)))
     × (drop (steps_size rate t w) (sure (path rate invert t r bits)) ≡ sure (path rate invert (t + w) (register_after r (take w bits)) (drop w bits)))
-front-octets rate invert t r w bits le =
-    let front = take w bits in
+prefix-octets rate invert t r w bits le =
+    let prefix = take w bits in
     let long : length (take w bits) ≡ w = length-take-le w bits le in
-    let rest = sure (path rate invert (t + length front) (register_after r front) (drop w bits)) in
+    let rest = sure (path rate invert (t + length prefix) (register_after r prefix) (drop w bits)) in
     let whole : sure (path rate invert t r bits) ≡ sure (path rate invert t r (take w bits)) ++ rest =
-    ap (λ l. sure (path rate invert t r l)) (sym (take-append-drop w bits)) ∙ ap sure (path-append rate invert t r front (drop w bits))
-    ∙ sure-append (path rate invert t r front) (path rate invert (t + length front) (register_after r front) (drop w bits)) in
-    let size : length (sure (path rate invert t r (take w bits))) ≡ steps_size rate t w = length-sent rate invert t r front ∙ ap (steps_size rate t) long in (
-      ap (take (steps_size rate t w)) whole ∙ take_at (sure (path rate invert t r front)) rest (steps_size rate t w) size,
-      ap (drop (steps_size rate t w)) whole ∙ drop_at (sure (path rate invert t r front)) rest (steps_size rate t w) size
-          ∙ ap (λ n. sure (path rate invert (t + n) (register_after r front) (drop w bits))) long,
+    ap (λ l. sure (path rate invert t r l)) (sym (take-append-drop w bits)) ∙ ap sure (path-append rate invert t r prefix (drop w bits))
+    ∙ sure-append (path rate invert t r prefix) (path rate invert (t + length prefix) (register_after r prefix) (drop w bits)) in
+    let size : length (sure (path rate invert t r (take w bits))) ≡ steps_size rate t w = length-sent rate invert t r prefix ∙ ap (steps_size rate t) long in (
+      ap (take (steps_size rate t w)) whole ∙ take_at (sure (path rate invert t r prefix)) rest (steps_size rate t w) size,
+      ap (drop (steps_size rate t w)) whole ∙ drop_at (sure (path rate invert t r prefix)) rest (steps_size rate t w) size
+          ∙ ap (λ n. sure (path rate invert (t + n) (register_after r prefix) (drop w bits))) long,
     )
 
 -- ---- the best path of undisturbed symbols
@@ -138,7 +138,7 @@ window-octets : (rate : Rate) (invert : Bool) (keep ahead : ℕ) (starts : Optio
     → take (steps_size rate t b.steps) (sure (path rate invert t r bits)) ≡ sure (path rate invert t r (take (window_steps keep ahead (length bits)) bits))
 window-octets rate invert keep ahead starts t r bits b one =
     ap (λ m. take (steps_size rate t m) (sure (path rate invert t r bits))) one.steps
-    ∙ (front-octets rate invert t r (window_steps keep ahead (length bits)) bits (window-le keep ahead (length bits))).0
+    ∙ (prefix-octets rate invert t r (window_steps keep ahead (length bits)) bits (window-le keep ahead (length bits))).0
 
 window-best : (rate : Rate) (invert : Bool) (keep ahead : ℕ) (starts : Option ℕ) (t r : ℕ) (bits : List ℕ) (b : WindowBlock)
     → IsBlock rate invert keep ahead starts t (length bits) (sure (path rate invert t r bits)) b
@@ -167,7 +167,7 @@ follows rate invert keep ahead starts t r bits b more one rest_are sent =
     let kept : take b.kept b.bits ≡ take k bits = (λ i. take (one.kept i) (sent.1 i)) ∙ take-take k w bits less in
     let end : b.end_state ≡ register_after r (take k bits) = one.end_state ∙ (λ i. register_after (sent.0 i) (kept i)) in
     let octets : drop (steps_size rate t b.kept) (sure (path rate invert t r bits)) ≡ sure (path rate invert (t + k) (register_after r (take k bits)) (drop k bits)) =
-    ap (λ m. drop (steps_size rate t m) (sure (path rate invert t r bits))) one.kept ∙ (front-octets rate invert t r k bits (omega arith)).1 in
+    ap (λ m. drop (steps_size rate t m) (sure (path rate invert t r bits))) one.kept ∙ (prefix-octets rate invert t r k bits (omega arith)).1 in
     let rest : length bits - b.kept ≡ length (drop k bits) = ap (λ m. length bits - m) one.kept ∙ sym (length-drop k bits) in
     record {
       free = one.metric ∙ (λ i. cost (path rate invert t (sent.0 i) (sent.1 i)) (window-octets rate invert keep ahead starts t r bits b one i))
@@ -246,28 +246,28 @@ abbrev pub Complements : Type 0
 Complements = (rate : Rate) (invert : Bool) (t register : ℕ) (bits : List ℕ) → register < 64 → AreBits bits
     → path rate invert t (63 - register) (complement bits) ≡ complement (path rate invert t register bits)
 
-one-turned : (symbol : ℕ) → symbol < 2 → 255 - cond (symbol == 0) 0 255 ≡ cond (1 - symbol == 0) 0 255
-one-turned symbol small = grind (arith, nat_tests)
+one-complemented : (symbol : ℕ) → symbol < 2 → 255 - cond (symbol == 0) 0 255 ≡ cond (1 - symbol == 0) 0 255
+one-complemented symbol small = grind (arith, nat_tests)
 
-turned-sure : (symbols : List ℕ) → AreDigits symbols → turned_octets (sure symbols) ≡ sure (complement symbols)
-turned-sure [] are = refl
-turned-sure (symbol ∷ symbols) are = (λ i. one-turned symbol are.0 i ∷ turned-sure symbols are.1 i)
+complemented-sure : (symbols : List ℕ) → AreDigits symbols → complemented_octets (sure symbols) ≡ sure (complement symbols)
+complemented-sure [] are = refl
+complemented-sure (symbol ∷ symbols) are = (λ i. one-complemented symbol are.0 i ∷ complemented-sure symbols are.1 i)
 
 digits-complement : (bits : List ℕ) → AreDigits (complement bits)
 digits-complement [] = tt
 digits-complement (b ∷ bits) = (omega arith, digits-complement bits)
 
-some-turned : (bits : List ℕ) → (bits ≡ []) ⊎ (6 ≤ length bits) → (complement bits ≡ []) ⊎ (6 ≤ length (complement bits))
-some-turned bits (inl none) = inl (ap complement none)
-some-turned bits (inr many) = inr (let long = length-map bits (λ bit. 1 - bit) in omega arith)
+some-complemented : (bits : List ℕ) → (bits ≡ []) ⊎ (6 ≤ length bits) → (complement bits ≡ []) ⊎ (6 ≤ length (complement bits))
+some-complemented bits (inl none) = inl (ap complement none)
+some-complemented bits (inr many) = inr (let long = length-map bits (λ bit. 1 - bit) in omega arith)
 
 -- symbols complemented give back the bits complemented
-pub are_turned : SixPairs → Complements → (s : Settings) (r : ℕ) (bits : List ℕ) (blocks : List WindowBlock) (left : ℕ) → 64 ≤ s.keep → AreBits bits
+pub are_complemented : SixPairs → Complements → (s : Settings) (r : ℕ) (bits : List ℕ) (blocks : List WindowBlock) (left : ℕ) → 64 ≤ s.keep → AreBits bits
     → s.start ≡ Any → s.rate ≡ R12 → r < 64 → (bits ≡ []) ⊎ (6 ≤ length bits)
-    → AreBlocksOf s (turned_octets (sure_symbols s r bits)) blocks left → AreClean (complement bits) blocks left
-are_turned six complements s r bits blocks left wide are start half small many of =
-    let octets : turned_octets (sure_symbols s r bits) ≡ sure_symbols s (63 - r) (complement bits) =
-    turned-sure (path s.rate s.invert 0 r bits) (bits-path s.rate s.invert 0 r bits) ∙ ap sure (sym (complements s.rate s.invert 0 r bits small are)) in
+    → AreBlocksOf s (complemented_octets (sure_symbols s r bits)) blocks left → AreClean (complement bits) blocks left
+are_complemented six complements s r bits blocks left wide are start half small many of =
+    let octets : complemented_octets (sure_symbols s r bits) ≡ sure_symbols s (63 - r) (complement bits) =
+    complemented-sure (path s.rate s.invert 0 r bits) (bits-path s.rate s.invert 0 r bits) ∙ ap sure (sym (complements s.rate s.invert 0 r bits small are)) in
     are_clean six s (63 - r) (complement bits) blocks left wide (bits_of-digits (complement bits) (digits-complement bits))
-    (inr (start, half, omega arith, some-turned bits many))
+    (inr (start, half, omega arith, some-complemented bits many))
     (subst (λ (l : List ℕ). AreBlocksOf s l blocks left) octets of)

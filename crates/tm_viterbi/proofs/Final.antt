@@ -34,21 +34,21 @@ cost_le (x ∷ xs) (y ∷ ys) each =
 -- ---- the best of all
 
 -- no path to any register is better than the best path to the least register of least path metric
-best_of_all : (total : ℕ → List ℕ → ℕ) (n s : ℕ) (sums columns : List ℕ) → AreBest total n sums columns → IsFirstLeast sums s
+best_of_all : (total : ℕ → List ℕ → ℕ) (n s : ℕ) (sums survivors : List ℕ) → AreBest total n sums survivors → IsFirstLeast sums s
     → (q : ℕ) (other : List ℕ) → q < 64 → All (λ b. b < 2) other → length other ≡ n
-    → IsNoWorse (get_or sums s 0) (rank (start_of columns s) (past_of columns s)) (total q other) (rank q other)
-best_of_all total n s sums columns best least q other ql each long =
+    → IsNoWorse (get_or sums s 0) (rank (start_of survivors s) (past_of survivors s)) (total q other) (rank q other)
+best_of_all total n s sums survivors best least q other ql each long =
     let p = register_back q other in
     let pl : p < 64 = register_back_lt q other ql each in
     let to : IsPathTo n p q other = record { start = ql; each = each; long = long; ends = refl } in
-    let there : IsNoWorse (get_or sums p 0) (rank (start_of columns p) (past_of columns p)) (total q other) (rank q other) = (best p pl).best q other to in
+    let there : IsNoWorse (get_or sums p 0) (rank (start_of survivors p) (past_of survivors p)) (total q other) (rank q other) = (best p pl).best q other to in
     let at_least : get_or sums s 0 ≤ get_or sums p 0 = least.least p pl in
     let here = best s least.register in
-    elim (cases_order s p) as (λ _. IsNoWorse (get_or sums s 0) (rank (start_of columns s) (past_of columns s)) (total q other) (rank q other)) [
+    elim (cases_order s p) as (λ _. IsNoWorse (get_or sums s 0) (rank (start_of survivors s) (past_of survivors s)) (total q other) (rank q other)) [
       | inl e ↦ here.best q other (record { start = ql; each = each; long = long; ends = sym e })
       | inr (inl lt) ↦ record {
         least = omega (arith, there.least, at_least);
-        first = λ _. let k : rank (start_of columns s) (past_of columns s) < rank q other = rank_lt n s p (start_of columns s) q (past_of columns s) other lt here.is_path to in omega (arith, k);
+        first = λ _. let k : rank (start_of survivors s) (past_of survivors s) < rank q other = rank_lt n s p (start_of survivors s) q (past_of survivors s) other lt here.is_path to in omega (arith, k);
       }
       | inr (inr gt) ↦ (let less : get_or sums s 0 < get_or sums p 0 = least.first p gt in record {
         least = omega (arith, there.least, at_least);
@@ -67,21 +67,21 @@ is_started starts register sum is small = go (starts register) is
     go true is = refl
     go false is = absurd (omega arith)
 
-pub IsBest-from_columns : (starts : ℕ → Bool) (rate : Rate) (invert : Bool) (t n s : ℕ) (firsts octets sums columns : List ℕ)
+pub IsBest-from_columns : (starts : ℕ → Bool) (rate : Rate) (invert : Bool) (t n s : ℕ) (firsts octets sums survivors : List ℕ)
     → AreFirsts starts firsts → (some : ℕ) → some < 64 → IsTrue (starts some)
     → length octets ≡ steps_size rate t n → All (λ y. y < 256) octets → length octets < 2 ^ 20
-    → AreBest (total_of rate invert t firsts octets) n sums columns → IsFirstLeast sums s
-    → IsBest starts rate invert t octets (start_of columns s) (reverse (past_of columns s))
-    × (slice_index sums s ≡ cost (path rate invert t (start_of columns s) (reverse (past_of columns s))) octets)
-IsBest-from_columns starts rate invert t n s firsts octets sums columns is_firsts some small is_start long bytes few best least =
+    → AreBest (total_of rate invert t firsts octets) n sums survivors → IsFirstLeast sums s
+    → IsBest starts rate invert t octets (start_of survivors s) (reverse (past_of survivors s))
+    × (slice_index sums s ≡ cost (path rate invert t (start_of survivors s) (reverse (past_of survivors s))) octets)
+IsBest-from_columns starts rate invert t n s firsts octets sums survivors is_firsts some small is_start long bytes few best least =
     let total = total_of rate invert t firsts octets in
-    let r = start_of columns s in
-    let past = past_of columns s in
+    let r = start_of survivors s in
+    let past = past_of survivors s in
     let bits = reverse past in
     let here : IsBestTo total n s (get_or sums s 0) r past = best s least.register in
     let each : All (λ b. b < 2) past = here.is_path.each in
     let rl : r < 64 = here.is_path.start in
-    let over = best_of_all total n s sums columns best least in
+    let over = best_of_all total n s sums survivors best least in
     let zero_first : (q : ℕ) → q < 64 → IsTrue (starts q) → get_or firsts q 0 ≡ 0 = λ q ql is. is_firsts q ql ∙ first_cost-start starts q is in
     let cheap : (q : ℕ) (ks : List ℕ) → cost (path rate invert t q ks) octets < 2 ^ 29 = λ q ks. omega (arith, cost_le (path rate invert t q ks) octets bytes, few) in
     let rival : IsNoWorse (get_or sums s 0) (rank r past) (total some past) (rank some past) = over some past small each here.is_path.long in

@@ -13,7 +13,7 @@ use Rattle.tm_viterbi.specs.Settings.{Settings}
 use Rattle.tm_viterbi.specs.Streaming.{settings_of}
 use Rattle.tm_viterbi.specs.declared.block.Start.{Start}
 use Rattle.tm_viterbi.specs.declared.stream.Stream.{Stream}
-use Rattle.tm_viterbi.specs.Due.{Place, Closes, Closed, behind}
+use Rattle.tm_viterbi.specs.Due.{Place, Closes, Closed, after_block}
 use Rattle.tm_viterbi.proofs.Closing.{Closed-push}
 
 pub on_ok : {T E : Type 0} (r : Result T E) (P Q : Type 0) → (P → Q) → OnOk r P → OnOk r Q
@@ -47,13 +47,13 @@ pub closed_on : (rate rate' : Rate) (invert invert' : Bool) (keep keep' ahead ah
 closed_on rate rate' invert invert' keep keep' ahead ahead' t t' n starts starts' from done block whole rest er ei ek ea et es kept size full closed closes =
     let at : Place = record { starts = starts; t = t; octets = whole ++ rest } in
     let all = done ++ block ∷ [] in
-    let pushed : Closed rate invert keep ahead from all (behind rate at block) = Closed-push rate invert keep ahead from at done block closed closes in
+    let pushed : Closed rate invert keep ahead from all (after_block rate at block) = Closed-push rate invert keep ahead from at done block closed closes in
     let place : Option ℕ → ℕ → List ℕ → Place = λ s u o. record { starts = s; t = u; octets = o } in
     let fits : steps_size rate t keep ≤ length whole = omega (arith, size, steps_size-le rate t keep n (omega (arith, full))) in
     let octets : drop (steps_size rate t block.kept) (whole ++ rest) ≡ drop (steps_size rate t keep) whole ++ rest
     = ap (λ (v : ℕ). drop (steps_size rate t v) (whole ++ rest)) kept ∙ drop-append-le (steps_size rate t keep) whole rest fits in
     let step : t + block.kept ≡ t' = omega (arith, kept, et) in
-    let there : behind rate at block ≡ place starts' t' (drop (steps_size rate t keep) whole ++ rest)
+    let there : after_block rate at block ≡ place starts' t' (drop (steps_size rate t keep) whole ++ rest)
     = ap (λ (o : List ℕ). place (Some block.end_state) (t + block.kept) o) octets
     ∙ ap (λ (u : ℕ). place (Some block.end_state) u (drop (steps_size rate t keep) whole ++ rest)) step
     ∙ ap (λ (s : Option ℕ). place s t' (drop (steps_size rate t keep) whole ++ rest)) (sym es) in

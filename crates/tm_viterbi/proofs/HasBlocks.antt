@@ -16,7 +16,7 @@ use Rattle.tm_viterbi.specs.Starts.{starts_from, first_start}
 use Rattle.tm_viterbi.specs.Settings.{Settings}
 use Rattle.tm_viterbi.specs.WindowBlock.{WindowBlock}
 use Rattle.tm_viterbi.specs.Blocks.{IsBlock, AreBlocks, AreBlocksOf, AreSteps, window_steps, kept_steps}
-use Rattle.tm_viterbi.proofs.OneList.{steps_behind}
+use Rattle.tm_viterbi.proofs.OneList.{steps_after}
 use Rattle.tm_viterbi.proofs.CleanBlocks.{digits-take, register-small}
 
 -- octets of whole steps have a best path
@@ -103,7 +103,7 @@ blocks_within exists rate invert keep ahead starts t n octets (suc bound) wide f
       let le : b.kept ≤ n = omega (arith, h.is.kept, kept) in
       let more : (blocks : List WindowBlock) × AreBlocks rate invert keep ahead (Some b.end_state) (t + b.kept) (n - b.kept) (drop (steps_size rate t b.kept) octets) blocks =
       blocks_within exists rate invert keep ahead (Some b.end_state) (t + b.kept) (n - b.kept) (drop (steps_size rate t b.kept) octets) bound wide (omega (arith, h.is.kept, kept))
-      (start_at b.end_state h.small) (steps_behind rate t n b.kept octets le are) in
+      (start_at b.end_state h.small) (steps_after rate t n b.kept octets le are) in
       (b ∷ more.0, (some, h.is, more.1)))
 ]
 

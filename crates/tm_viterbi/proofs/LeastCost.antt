@@ -27,7 +27,7 @@ step_left rate done n at size is place less = elim (cases_lt done n) as (λ _. s
 ]
 
 -- a piece after the octets before it
-pub front_and_piece : (at size : ℕ) (octets : List ℕ) → take at octets ++ take ((at + size) - at) (drop at octets) ≡ take (at + size) octets
-front_and_piece at size octets =
+pub prefix_and_piece : (at size : ℕ) (octets : List ℕ) → take at octets ++ take ((at + size) - at) (drop at octets) ≡ take (at + size) octets
+prefix_and_piece at size octets =
     let same : (at + size) - at ≡ size = omega arith in
     ap (λ (n : ℕ). take at octets ++ take n (drop at octets)) same ∙ sym (take-add at size octets)

@@ -24,4 +24,4 @@ mod LeastCost
 mod OneList
 pub mod CleanBlocks
 pub mod HasBlocks
-mod ClosedFront
+mod ClosedPrefix

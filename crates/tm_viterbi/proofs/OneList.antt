@@ -12,7 +12,7 @@ use Rattle.tm_viterbi.specs.Starts.{starts_from, first_start}
 use Rattle.tm_viterbi.specs.Settings.{Settings}
 use Rattle.tm_viterbi.specs.WindowBlock.{WindowBlock}
 use Rattle.tm_viterbi.specs.Blocks.{IsBlock, AreBlocks, AreBlocksOf, AreSteps, kept_steps}
-use Rattle.tm_viterbi.specs.Due.{Place, Closed, behind, first_place, AreDue, AreFirst}
+use Rattle.tm_viterbi.specs.Due.{Place, Closed, after_block, first_place, AreDue, AreFirst}
 use Rattle.tm_viterbi.proofs.Closing.{kept_is, Closed-append, more_octets}
 use Rattle.tm_viterbi.proofs.WholeBlocks.{closed_block}
 
@@ -33,13 +33,13 @@ one_block : OneBest → (rate : Rate) (invert : Bool) (keep ahead : ℕ) (starts
 one_block one rate invert keep ahead starts t n octets b d h k =
     let steps : b.steps ≡ d.steps = h.steps ∙ sym k.steps in
     let kept : b.kept ≡ d.kept = h.kept ∙ sym k.kept in
-    let front : take (steps_size rate t d.steps) octets ≡ take (steps_size rate t b.steps) octets = ap (λ (v : ℕ). take (steps_size rate t v) octets) (sym steps) in
+    let prefix : take (steps_size rate t d.steps) octets ≡ take (steps_size rate t b.steps) octets = ap (λ (v : ℕ). take (steps_size rate t v) octets) (sym steps) in
     let u = one (starts_from starts) rate invert t (take (steps_size rate t b.steps) octets) b.start d.start b.bits d.bits h.best
-    (subst (λ (v : List ℕ). IsBest (starts_from starts) rate invert t v d.start d.bits) front k.best) in
+    (subst (λ (v : List ℕ). IsBest (starts_from starts) rate invert t v d.start d.bits) prefix k.best) in
     let metric : b.metric ≡ d.metric = h.metric
     ∙ ap (λ (v : ℕ). cost (path rate invert t v b.bits) (take (steps_size rate t b.steps) octets)) u.0
     ∙ ap (λ (v : List ℕ). cost (path rate invert t d.start v) (take (steps_size rate t b.steps) octets)) u.1
-    ∙ ap (λ (v : List ℕ). cost (path rate invert t d.start d.bits) v) (sym front) ∙ sym k.metric in
+    ∙ ap (λ (v : List ℕ). cost (path rate invert t d.start d.bits) v) (sym prefix) ∙ sym k.metric in
     let end_state : b.end_state ≡ d.end_state = h.end_state
     ∙ ap (λ (v : ℕ). register_after v (take b.kept b.bits)) u.0 ∙ ap (λ (v : ℕ). register_after d.start (take v b.bits)) kept
     ∙ ap (λ (v : List ℕ). register_after d.start (take d.kept v)) u.1 ∙ sym k.end_state in
@@ -52,9 +52,9 @@ many rate t n m size most le = elim (cases_lt n m) as (λ _. m ≤ n) [
   | inl lt ↦ absurd (omega (arith, most, le, steps_size-le rate t (n + 1) m (omega arith)))
 ]
 
-pub steps_behind : (rate : Rate) (t n kept : ℕ) (octets : List ℕ) → kept ≤ n → AreSteps rate t octets n
+pub steps_after : (rate : Rate) (t n kept : ℕ) (octets : List ℕ) → kept ≤ n → AreSteps rate t octets n
     → AreSteps rate (t + kept) (drop (steps_size rate t kept) octets) (n - kept)
-steps_behind rate t n kept octets le h =
+steps_after rate t n kept octets le h =
     let sum : kept + (n - kept) ≡ n = omega arith in
     let next : kept + (n - kept + 1) ≡ n + 1 = omega arith in
     let long = length-drop (steps_size rate t kept) octets in
@@ -65,44 +65,44 @@ steps_behind rate t n kept octets le h =
     }
 
 -- what is left of all blocks after those of closed windows
-pub record Behind (rate : Rate) (invert : Bool) (keep ahead : ℕ) (to : Place) (blocks first : List WindowBlock) : Type 0 where
+pub record After (rate : Rate) (invert : Bool) (keep ahead : ℕ) (to : Place) (blocks first : List WindowBlock) : Type 0 where
   pub rest : List WindowBlock
   pub is : blocks ≡ first ++ rest
   pub count : ℕ
   pub steps : AreSteps rate to.t to.octets count
   pub are : AreBlocks rate invert keep ahead to.starts to.t count to.octets rest
 
-front_of : OneBest → (rate : Rate) (invert : Bool) (keep ahead : ℕ) (from to : Place) (blocks first : List WindowBlock) (n : ℕ)
+prefix_of : OneBest → (rate : Rate) (invert : Bool) (keep ahead : ℕ) (from to : Place) (blocks first : List WindowBlock) (n : ℕ)
     → Closed rate invert keep ahead from first to → AreSteps rate from.t from.octets n
-    → AreBlocks rate invert keep ahead from.starts from.t n from.octets blocks → Behind rate invert keep ahead to blocks first
-front_of one rate invert keep ahead from to blocks [] n closed steps are =
-    subst (λ (v : Place). Behind rate invert keep ahead v blocks []) closed (record { rest = blocks; is = refl; count = n; steps = steps; are = are })
-front_of one rate invert keep ahead from to [] (b ∷ first) n closed steps are =
+    → AreBlocks rate invert keep ahead from.starts from.t n from.octets blocks → After rate invert keep ahead to blocks first
+prefix_of one rate invert keep ahead from to blocks [] n closed steps are =
+    subst (λ (v : Place). After rate invert keep ahead v blocks []) closed (record { rest = blocks; is = refl; count = n; steps = steps; are = are })
+prefix_of one rate invert keep ahead from to [] (b ∷ first) n closed steps are =
     absurd (omega (arith, are, many rate from.t n (keep + ahead + 1) (length from.octets) steps.most closed.0.room))
-front_of one rate invert keep ahead from to (d ∷ blocks) (b ∷ first) n closed steps are =
+prefix_of one rate invert keep ahead from to (d ∷ blocks) (b ∷ first) n closed steps are =
     let big : keep + ahead + 1 ≤ n = many rate from.t n (keep + ahead + 1) (length from.octets) steps.most closed.0.room in
     let same : d ≡ b = one_block one rate invert keep ahead from.starts from.t n from.octets d b are.1 (closed_block rate invert keep ahead from b n closed.0 big) in
     let kept : b.kept ≡ keep = closed.0.is_block.kept ∙ kept_is keep ahead in
     let next = subst (λ (v : WindowBlock). AreBlocks rate invert keep ahead (Some v.end_state) (from.t + v.kept) (n - v.kept) (drop (steps_size rate from.t v.kept) from.octets) blocks) same are.2 in
-    let h = front_of one rate invert keep ahead (behind rate from b) to blocks first (n - b.kept) closed.1 (steps_behind rate from.t n b.kept from.octets (omega (arith, kept, big)) steps) next in
+    let h = prefix_of one rate invert keep ahead (after_block rate from b) to blocks first (n - b.kept) closed.1 (steps_after rate from.t n b.kept from.octets (omega (arith, kept, big)) steps) next in
     record { rest = h.rest; is = ap (λ (v : WindowBlock). v ∷ blocks) same ∙ ap (λ (v : List WindowBlock). b ∷ v) h.is; count = h.count; steps = h.steps; are = h.are }
 
 pub first_blocks : OneBest → (s : Settings) (octets : List ℕ) (first blocks : List WindowBlock) (left : ℕ)
     → AreFirst s octets first → AreBlocksOf s octets blocks left → (rest : List WindowBlock) × (blocks ≡ first ++ rest)
 first_blocks one s octets first blocks left closed all =
-    let h = front_of one s.rate s.invert s.keep s.ahead (first_place s octets) closed.0 blocks first all.count closed.1 all.steps all.are in
+    let h = prefix_of one s.rate s.invert s.keep s.ahead (first_place s octets) closed.0 blocks first all.count closed.1 all.steps all.are in
     (h.rest, h.is)
 
 -- after closed windows a step is left
-left_behind : (rate : Rate) (invert : Bool) (keep ahead : ℕ) (from to : Place) (b : WindowBlock) (first : List WindowBlock)
+left_after : (rate : Rate) (invert : Bool) (keep ahead : ℕ) (from to : Place) (b : WindowBlock) (first : List WindowBlock)
     → Closed rate invert keep ahead from (b ∷ first) to → steps_size rate to.t 1 ≤ length to.octets
-left_behind rate invert keep ahead from to b [] closed =
+left_after rate invert keep ahead from to b [] closed =
     let kept : b.kept ≡ keep = closed.0.is_block.kept ∙ kept_is keep ahead in
     let long = length-drop (steps_size rate from.t b.kept) from.octets in
     let sum : b.kept + (ahead + 1) ≡ keep + ahead + 1 = omega arith in
     subst (λ (v : Place). steps_size rate v.t 1 ≤ length v.octets) closed.1
     (omega (arith, long, closed.0.room, steps_size-add rate from.t b.kept (ahead + 1), ap (steps_size rate from.t) sum, steps_size-le rate (from.t + b.kept) 1 (ahead + 1) (omega arith)))
-left_behind rate invert keep ahead from to b (d ∷ first) closed = left_behind rate invert keep ahead (behind rate from b) to d first closed.1
+left_after rate invert keep ahead from to b (d ∷ first) closed = left_after rate invert keep ahead (after_block rate from b) to d first closed.1
 
 -- at most keep+ahead steps are one window, or none
 last_alone : (rate : Rate) (invert : Bool) (keep ahead : ℕ) (starts : Option ℕ) (t n : ℕ) (octets : List ℕ) (blocks first rest : List WindowBlock) → n ≤ keep + ahead
@@ -118,12 +118,12 @@ last_alone rate invert keep ahead starts t n octets blocks first (b ∷ d ∷ re
 pub all_but_last : OneBest → (s : Settings) (octets : List ℕ) (due blocks : List WindowBlock) (left : ℕ)
     → AreDue s octets due → AreBlocksOf s octets blocks left → ((blocks ≡ []) × (due ≡ [])) ⊎ ((last : WindowBlock) × (blocks ≡ due ++ last ∷ []))
 all_but_last one s octets due blocks left h all =
-    let k = front_of one s.rate s.invert s.keep s.ahead (first_place s octets) h.to blocks due all.count h.closed all.steps all.are in
+    let k = prefix_of one s.rate s.invert s.keep s.ahead (first_place s octets) h.to blocks due all.count h.closed all.steps all.are in
     let less : length h.to.octets < steps_size s.rate h.to.t (s.keep + s.ahead + 1) = h.few in
     last_alone s.rate s.invert s.keep s.ahead h.to.starts h.to.t k.count h.to.octets blocks due k.rest
     (many s.rate h.to.t (s.keep + s.ahead) k.count (length h.to.octets) less k.steps.whole)
     (λ (b : WindowBlock) (bs : List WindowBlock) (e : due ≡ b ∷ bs). many s.rate h.to.t k.count 1 (length h.to.octets) k.steps.most
-    (left_behind s.rate s.invert s.keep s.ahead (first_place s octets) h.to b bs (subst (λ (v : List WindowBlock). Closed s.rate s.invert s.keep s.ahead (first_place s octets) v h.to) e h.closed)))
+    (left_after s.rate s.invert s.keep s.ahead (first_place s octets) h.to b bs (subst (λ (v : List WindowBlock). Closed s.rate s.invert s.keep s.ahead (first_place s octets) v h.to) e h.closed)))
     k.is k.are
 
 -- ---- the only list
@@ -161,8 +161,8 @@ longer_closed one rate invert keep ahead from to till (b ∷ first) [] h k few =
     absurd (omega (arith, h.0.room, less))
 longer_closed one rate invert keep ahead from to till (b ∷ first) (d ∷ all) h k few =
     let same : d ≡ b = one_block one rate invert keep ahead from.starts from.t (keep + ahead + 1) from.octets d b k.0.is_block h.0.is_block in
-    let next = subst (λ (v : WindowBlock). Closed rate invert keep ahead (behind rate from v) all till) same k.1 in
-    let r = longer_closed one rate invert keep ahead (behind rate from b) to till first all h.1 next few in
+    let next = subst (λ (v : WindowBlock). Closed rate invert keep ahead (after_block rate from v) all till) same k.1 in
+    let r = longer_closed one rate invert keep ahead (after_block rate from b) to till first all h.1 next few in
     (r.0, ap (λ (v : WindowBlock). v ∷ all) same ∙ ap (λ (v : List WindowBlock). b ∷ v) r.1)
 
 longer_place : (s : Settings) (octets more : List ℕ) → more_octets (first_place s octets) more ≡ first_place s (octets ++ more)

@@ -38,14 +38,14 @@ at_pair f g a b x y ea eb ex ey (suc (suc c)) d cl dl = absurd (omega arith)
 kept_each : agree_below (λ x. eqb (bit_xor x 0) x) (λ x. true) 256 ≡ true
 kept_each = refl
 
-turned_each : agree_below (λ x. eqb (bit_xor x 255) (255 - x)) (λ x. true) 256 ≡ true
-turned_each = refl
+complemented_each : agree_below (λ x. eqb (bit_xor x 255) (255 - x)) (λ x. true) 256 ≡ true
+complemented_each = refl
 
 xor_none : (x : ℕ) → x < 256 → bit_xor x 0 ≡ x
 xor_none x lt = eqb-true _ _ (agree_below_at (λ x. eqb (bit_xor x 0) x) (λ x. true) 256 x kept_each lt)
 
 xor_all : (x : ℕ) → x < 256 → bit_xor x 255 ≡ 255 - x
-xor_all x lt = eqb-true _ _ (agree_below_at (λ x. eqb (bit_xor x 255) (255 - x)) (λ x. true) 256 x turned_each lt)
+xor_all x lt = eqb-true _ _ (agree_below_at (λ x. eqb (bit_xor x 255) (255 - x)) (λ x. true) 256 x complemented_each lt)
 
 near_second : (invert : Bool) (y : ℕ) → y < 256 → bit_xor y (cond invert 255 0) ≡ distance (sent_c2 invert 0) y
 near_second true y lt = xor_all y lt

@@ -50,9 +50,9 @@ step_is c h =
     let small : d < 2 = bit_small (c / 2 ^ (h % 64)) in
     let goal : 2 * (h % 64 % 32) + d ≡ (2 * h + d) % 64 = omega (arith, small) in goal
 
-pub start_is : (columns : List ℕ) (h : ℕ) → start_of columns (h % 64) ≡ history columns h % 64
+pub start_is : (survivors : List ℕ) (h : ℕ) → start_of survivors (h % 64) ≡ history survivors h % 64
 start_is [] h = refl
-start_is (c ∷ columns) h = ap (start_of columns) (step_is c h) ∙ start_is columns (2 * h + c / 2 ^ (h % 64) % 2)
+start_is (c ∷ survivors) h = ap (start_of survivors) (step_is c h) ∙ start_is survivors (2 * h + c / 2 ^ (h % 64) % 2)
 
 -- each register's bits stand in the number
 pub record IsIn (number h size : ℕ) : Type 0 where
@@ -77,15 +77,15 @@ is_in_more number h d size small e = record {
 
 unfoldable pub doubled : List ℕ → ℕ
 doubled [] = 1
-doubled (c ∷ columns) = 2 * doubled columns
+doubled (c ∷ survivors) = 2 * doubled survivors
 
-pub is_in : (columns : List ℕ) (h : ℕ) → IsIn (history columns h) h (doubled columns)
+pub is_in : (survivors : List ℕ) (h : ℕ) → IsIn (history survivors h) h (doubled survivors)
 unfolding doubled
 is_in [] h = record { low = 0; is = omega arith; small = omega arith }
-is_in (c ∷ columns) h =
+is_in (c ∷ survivors) h =
     let d = c / 2 ^ (h % 64) % 2 in
-    is_in_more (history columns (2 * h + d)) h d (doubled columns) (bit_small (c / 2 ^ (h % 64)))
-    (is_in columns (2 * h + d))
+    is_in_more (history survivors (2 * h + d)) h d (doubled survivors) (bit_small (c / 2 ^ (h % 64)))
+    (is_in survivors (2 * h + d))
 
 -- the bits of eight columns
 at_size_2 : (number h : ℕ) → IsIn number h 2 → h % 64 / 32 ≡ number / 64 % 2
@@ -126,11 +126,11 @@ same_eight n a b c d e f g h ea eb ec ed ee ef eg eh =
     let ih : h ≡ n / 64 % 256 % 2 = omega arith in
     (λ i. ia i ∷ ib i ∷ ic i ∷ id i ∷ ie i ∷ i_f i ∷ ig i ∷ ih i ∷ [])
 
-past_cons : (c h next : ℕ) (columns : List ℕ) → next ≡ 2 * h + c / 2 ^ (h % 64) % 2
-    → past_of (c ∷ columns) (h % 64) ≡ (h % 64 / 32) ∷ past_of columns (next % 64)
-past_cons c h next columns is =
-    subst (λ n. past_of (c ∷ columns) (h % 64) ≡ (h % 64 / 32) ∷ past_of columns (n % 64)) (sym is)
-    (ap (λ v. (h % 64 / 32) ∷ past_of columns v) (step_is c h))
+past_cons : (c h next : ℕ) (survivors : List ℕ) → next ≡ 2 * h + c / 2 ^ (h % 64) % 2
+    → past_of (c ∷ survivors) (h % 64) ≡ (h % 64 / 32) ∷ past_of survivors (next % 64)
+past_cons c h next survivors is =
+    subst (λ n. past_of (c ∷ survivors) (h % 64) ≡ (h % 64 / 32) ∷ past_of survivors (n % 64)) (sym is)
+    (ap (λ v. (h % 64 / 32) ∷ past_of survivors v) (step_is c h))
 
 -- the bits that eight steps back find, by the numbers of the registers on the way
 past_eight : (a b c d e f g i h h1 h2 h3 h4 h5 h6 h7 n : ℕ) → h1 ≡ 2 * h + a / 2 ^ (h % 64) % 2 → h2 ≡ 2 * h1 + b / 2 ^ (h1 % 64) % 2
@@ -184,8 +184,8 @@ eight_past a b c d e f g i h =
     let e7 = at_size_2 n h7 (is_in (i ∷ []) h7) in
     found_eight (past_of (a ∷ b ∷ c ∷ d ∷ e ∷ f ∷ g ∷ i ∷ []) (h % 64)) n h h1 h2 h3 h4 h5 h6 h7 whole e0 e1 e2 e3 e4 e5 e6 e7
 
-eight : (P : List ℕ → Type 0) (columns : List ℕ) → length columns ≡ 8
-    → ((a b c d e f g h : ℕ) → P (a ∷ b ∷ c ∷ d ∷ e ∷ f ∷ g ∷ h ∷ [])) → P columns
+eight : (P : List ℕ → Type 0) (survivors : List ℕ) → length survivors ≡ 8
+    → ((a b c d e f g h : ℕ) → P (a ∷ b ∷ c ∷ d ∷ e ∷ f ∷ g ∷ h ∷ [])) → P survivors
 eight P [] l k = absurd (let e : 0 ≡ 8 = l in omega arith)
 eight P (a ∷ []) l k = absurd (let e : 1 ≡ 8 = l in omega arith)
 eight P (a ∷ b ∷ []) l k = absurd (let e : 2 ≡ 8 = l in omega arith)
@@ -198,33 +198,33 @@ eight P (a ∷ b ∷ c ∷ d ∷ e ∷ f ∷ g ∷ h ∷ []) l k = k a b c d e f
 eight P (a ∷ b ∷ c ∷ d ∷ e ∷ f ∷ g ∷ h ∷ x ∷ xs) l k =
     absurd (let z : suc (suc (suc (suc (suc (suc (suc (suc (suc (length xs))))))))) ≡ 8 = l in omega arith)
 
-pub eight_reversed : (columns : List ℕ) → length columns ≡ 8
-    → reverse columns ≡ get_or columns 7 0 ∷ get_or columns 6 0 ∷ get_or columns 5 0 ∷ get_or columns 4 0 ∷ get_or
-    columns 3 0 ∷ get_or columns 2 0 ∷ get_or columns 1 0 ∷ get_or columns 0 0 ∷ []
-eight_reversed columns l =
+pub eight_reversed : (survivors : List ℕ) → length survivors ≡ 8
+    → reverse survivors ≡ get_or survivors 7 0 ∷ get_or survivors 6 0 ∷ get_or survivors 5 0 ∷ get_or survivors 4 0 ∷ get_or
+    survivors 3 0 ∷ get_or survivors 2 0 ∷ get_or survivors 1 0 ∷ get_or survivors 0 0 ∷ []
+eight_reversed survivors l =
     eight (λ v. reverse v
     ≡ get_or v 7 0 ∷ get_or v 6 0 ∷ get_or v 5 0 ∷ get_or v 4 0 ∷ get_or v 3 0 ∷ get_or v 2 0 ∷ get_or v 1 0 ∷ get_or v
-    0 0 ∷ []) columns l (λ a b c d e f g h. refl)
+    0 0 ∷ []) survivors l (λ a b c d e f g h. refl)
 
-of_register : (columns : List ℕ) (register : ℕ) → length columns ≡ 8
-    → past_of (reverse columns) (register % 64) ≡ reverse (eight_bits (history (reverse columns) register / 64 % 256))
-of_register columns register l =
+of_register : (survivors : List ℕ) (register : ℕ) → length survivors ≡ 8
+    → past_of (reverse survivors) (register % 64) ≡ reverse (eight_bits (history (reverse survivors) register / 64 % 256))
+of_register survivors register l =
     eight (λ v. past_of (reverse v) (register % 64) ≡ reverse (eight_bits (history (reverse v) register / 64 % 256)))
-    columns l (λ a b c d e f g h. eight_past h g f e d c b a register)
+    survivors l (λ a b c d e f g h. eight_past h g f e d c b a register)
 
-pub eight_walked : (columns : List ℕ) (register : ℕ) → length columns ≡ 8 → register < 64
-    → eight_bits (history (reverse columns) register / 64 % 256) ≡ reverse (past_of (reverse columns) register)
-eight_walked columns register l lt =
+pub eight_walked : (survivors : List ℕ) (register : ℕ) → length survivors ≡ 8 → register < 64
+    → eight_bits (history (reverse survivors) register / 64 % 256) ≡ reverse (past_of (reverse survivors) register)
+eight_walked survivors register l lt =
     let e : register % 64 ≡ register = omega arith in
-    sym (reverse-reverse (eight_bits (history (reverse columns) register / 64 % 256)))
-    ∙ ap (λ (v : List ℕ). reverse v) (sym (of_register columns register l))
-    ∙ ap (λ v. reverse (past_of (reverse columns) v)) e
+    sym (reverse-reverse (eight_bits (history (reverse survivors) register / 64 % 256)))
+    ∙ ap (λ (v : List ℕ). reverse v) (sym (of_register survivors register l))
+    ∙ ap (λ v. reverse (past_of (reverse survivors) v)) e
 
-pub eight_start : (columns : List ℕ) (register : ℕ) → register < 64
-    → history (reverse columns) register % 64 ≡ start_of (reverse columns) register
-eight_start columns register lt =
+pub eight_start : (survivors : List ℕ) (register : ℕ) → register < 64
+    → history (reverse survivors) register % 64 ≡ start_of (reverse survivors) register
+eight_start survivors register lt =
     let e : register % 64 ≡ register = omega arith in
-    sym (start_is (reverse columns) register) ∙ ap (start_of (reverse columns)) e
+    sym (start_is (reverse survivors) register) ∙ ap (start_of (reverse survivors)) e
 
 -- ---- one walk after another
 
@@ -236,33 +236,33 @@ pub start_append : (xs ys : List ℕ) (s : ℕ) → start_of (xs ++ ys) s ≡ st
 start_append [] ys s = refl
 start_append (c ∷ xs) ys s = start_append xs ys (before c s)
 
-parts_of : (columns : List ℕ) (i j : ℕ) → i ≡ j + 8
-    → reverse (take i columns) ≡ reverse (take 8 (drop j columns)) ++ reverse (take j columns)
-parts_of columns i j e =
-    ap (λ (v : ℕ). reverse (take v columns)) e ∙ ap (λ (v : List ℕ). reverse v) (take-add j 8 columns)
-    ∙ reverse-append (take j columns) (take 8 (drop j columns))
+parts_of : (survivors : List ℕ) (i j : ℕ) → i ≡ j + 8
+    → reverse (take i survivors) ≡ reverse (take 8 (drop j survivors)) ++ reverse (take j survivors)
+parts_of survivors i j e =
+    ap (λ (v : ℕ). reverse (take v survivors)) e ∙ ap (λ (v : List ℕ). reverse v) (take-add j 8 survivors)
+    ∙ reverse-append (take j survivors) (take 8 (drop j survivors))
 
-pub start_more : (columns : List ℕ) (i j s : ℕ) → i ≡ j + 8
-    → start_of (reverse (take i columns)) s ≡ start_of (reverse (take j columns))
-    (start_of (reverse (take 8 (drop j columns))) s)
-start_more columns i j s e = ap (λ (v : List ℕ). start_of v s) (parts_of columns i j e)
-    ∙ start_append (reverse (take 8 (drop j columns))) (reverse (take j columns)) s
+pub start_more : (survivors : List ℕ) (i j s : ℕ) → i ≡ j + 8
+    → start_of (reverse (take i survivors)) s ≡ start_of (reverse (take j survivors))
+    (start_of (reverse (take 8 (drop j survivors))) s)
+start_more survivors i j s e = ap (λ (v : List ℕ). start_of v s) (parts_of survivors i j e)
+    ∙ start_append (reverse (take 8 (drop j survivors))) (reverse (take j survivors)) s
 
-pub past_more : (columns bits after piece : List ℕ) (i j s : ℕ) → i ≡ j + 8 → after ≡ piece ++ drop i bits
-    → piece ≡ reverse (past_of (reverse (take 8 (drop j columns))) s)
-    → reverse (drop i bits) ++ past_of (reverse (take i columns)) s ≡ reverse after ++ past_of
-    (reverse (take j columns)) (start_of (reverse (take 8 (drop j columns))) s)
-past_more columns bits after piece i j s e a p =
-    let chunk = reverse (take 8 (drop j columns)) in
-    let rest = past_of (reverse (take j columns)) (start_of chunk s) in
+pub past_more : (survivors bits after piece : List ℕ) (i j s : ℕ) → i ≡ j + 8 → after ≡ piece ++ drop i bits
+    → piece ≡ reverse (past_of (reverse (take 8 (drop j survivors))) s)
+    → reverse (drop i bits) ++ past_of (reverse (take i survivors)) s ≡ reverse after ++ past_of
+    (reverse (take j survivors)) (start_of (reverse (take 8 (drop j survivors))) s)
+past_more survivors bits after piece i j s e a p =
+    let chunk = reverse (take 8 (drop j survivors)) in
+    let rest = past_of (reverse (take j survivors)) (start_of chunk s) in
     let back : reverse piece ≡ past_of chunk s = ap (λ (v : List ℕ). reverse v) p ∙ reverse-reverse (past_of chunk s) in
-    let turned : reverse after ≡ reverse (drop i bits) ++ past_of chunk s =
+    let complemented : reverse after ≡ reverse (drop i bits) ++ past_of chunk s =
     ap (λ (v : List ℕ). reverse v) a ∙ reverse-append piece (drop i bits)
     ∙ ap (λ (v : List ℕ). reverse (drop i bits) ++ v) back in
-    ap (λ (v : List ℕ). reverse (drop i bits) ++ past_of v s) (parts_of columns i j e)
-    ∙ ap (λ (v : List ℕ). reverse (drop i bits) ++ v) (past_append chunk (reverse (take j columns)) s)
+    ap (λ (v : List ℕ). reverse (drop i bits) ++ past_of v s) (parts_of survivors i j e)
+    ∙ ap (λ (v : List ℕ). reverse (drop i bits) ++ v) (past_append chunk (reverse (take j survivors)) s)
     ∙ sym (append_assoc (reverse (drop i bits)) (past_of chunk s) rest)
-    ∙ ap (λ (v : List ℕ). v ++ rest) (sym turned)
+    ∙ ap (λ (v : List ℕ). v ++ rest) (sym complemented)
 
 -- ---- six bits determine a register
 

@@ -77,8 +77,8 @@ extends s p b pl bl e = record {
 pub record Grows (total more : ℕ → List ℕ → ℕ) (n : ℕ) (edge : ℕ → ℕ → ℕ) : Type 0 where
   pub is : (q : ℕ) (past : List ℕ) (b : ℕ) → length past ≡ n → more q (b ∷ past) ≡ total q past + edge (register_back q past) b
 
-pub path_front : (n s q b : ℕ) (other : List ℕ) → IsPathTo (n + 1) s q (b ∷ other) → IsPathTo n (register_back q other) q other
-path_front n s q b other h = record {
+pub path_prefix : (n s q b : ℕ) (other : List ℕ) → IsPathTo (n + 1) s q (b ∷ other) → IsPathTo n (register_back q other) q other
+path_prefix n s q b other h = record {
   start = h.start;
   each = All-tail (λ b. b < 2) b other h.each;
   long = let l : suc (length other) ≡ n + 1 = h.long in omega arith;
@@ -100,14 +100,14 @@ rival : (total more : ℕ → List ℕ → ℕ) (n s : ℕ) (edge : ℕ → ℕ 
     → (q : ℕ) (other : List ℕ) → IsPathTo (n + 1) s q other → IsNoWorse sum (rank r ((s / 32) ∷ past)) (more q other) (rank q other)
 rival total more n s edge lt grows sum r past long best q [] path = absurd (let h : 0 ≡ n + 1 = path.long in omega arith)
 rival total more n s edge lt grows sum r past long best q (b ∷ other) path =
-    let front = path_front n s q b other path in
+    let prefix = path_prefix n s q b other path in
     let p = register_back q other in
-    let pl : p < 64 = register_back_lt q other path.start front.each in
+    let pl : p < 64 = register_back_lt q other path.start prefix.each in
     let bl : b < 2 = All-head (λ b. b < 2) b other path.each in
     let ex : Extends s p b = extends s p b pl bl path.ends in
-    let h : IsNoWorse sum (rank r past) (total q other + edge p (s / 32)) (rank q other) = best p q other ex.register front in
-    let g : more q (b ∷ other) ≡ total q other + edge p (s / 32) = grows.is q other b front.long ∙ ap (λ v. total q other + edge p v) ex.bit in
-    let size : b * 2 ^ (length other + 6) ≡ s / 32 * 2 ^ (length past + 6) = ap (λ v. v * 2 ^ (length other + 6)) ex.bit ∙ ap (λ v. s / 32 * 2 ^ (v + 6)) (front.long ∙ sym long) in
+    let h : IsNoWorse sum (rank r past) (total q other + edge p (s / 32)) (rank q other) = best p q other ex.register prefix in
+    let g : more q (b ∷ other) ≡ total q other + edge p (s / 32) = grows.is q other b prefix.long ∙ ap (λ v. total q other + edge p v) ex.bit in
+    let size : b * 2 ^ (length other + 6) ≡ s / 32 * 2 ^ (length past + 6) = ap (λ v. v * 2 ^ (length other + 6)) ex.bit ∙ ap (λ v. s / 32 * 2 ^ (v + 6)) (prefix.long ∙ sym long) in
     record {
       least = omega (arith, h.least, g);
       first = λ le. let k : rank r past ≤ rank q other = h.first (omega (arith, g, le)) in omega (arith, k, size);
@@ -170,18 +170,18 @@ second_best total more n s edge lt grows x y r q past other a b less =
 abbrev pub edge_cost : List ℕ → ℕ → ℕ → ℕ
 edge_cost costs p b = get_or costs (2 * c1 p b + c2 p b) 0
 
-pub AreBest-more : (total more : ℕ → List ℕ → ℕ) (n column : ℕ) (sums costs next columns : List ℕ)
+pub AreBest-more : (total more : ℕ → List ℕ → ℕ) (n column : ℕ) (sums costs next survivors : List ℕ)
     → Grows total more n (edge_cost costs)
     → IsNextSums sums costs next → AreSurvivors sums costs column
-    → AreBest total n sums columns → AreBest more (n + 1) next (column ∷ columns)
-AreBest-more total more n column sums costs next columns grows is_next survive best s lt =
+    → AreBest total n sums survivors → AreBest more (n + 1) next (column ∷ survivors)
+AreBest-more total more n column sums costs next survivors grows is_next survive best s lt =
     let p0 = 2 * (s % 32) in
     let p1 = 2 * (s % 32) + 1 in
     let first : ℕ = first_way sums costs s in
     let second : ℕ = second_way sums costs s in
-    let a : IsBestTo total n p0 (get_or sums p0 0) (start_of columns p0) (past_of columns p0) = best p0 (omega arith) in
-    let b : IsBestTo total n p1 (get_or sums p1 0) (start_of columns p1) (past_of columns p1) = best p1 (omega arith) in
-    let P : ℕ → ℕ → Type 0 = λ v w. IsBestTo more (n + 1) s v (start_of columns w) ((s / 32) ∷ past_of columns w) in
+    let a : IsBestTo total n p0 (get_or sums p0 0) (start_of survivors p0) (past_of survivors p0) = best p0 (omega arith) in
+    let b : IsBestTo total n p1 (get_or sums p1 0) (start_of survivors p1) (past_of survivors p1) = best p1 (omega arith) in
+    let P : ℕ → ℕ → Type 0 = λ v w. IsBestTo more (n + 1) s v (start_of survivors w) ((s / 32) ∷ past_of survivors w) in
     let goes : (v w : ℕ) → get_or next s 0 ≡ v → before column s ≡ w → P v w → P (get_or next s 0) (before column s)
     = λ v w e f h. subst (λ (z : ℕ). P z (before column s)) (sym e) (subst (λ (z : ℕ). P v z) (sym f) h) in
     let chosen : column / 2 ^ s % 2 ≡ cond (ltb second first) 1 0 = survive s lt in
@@ -214,12 +214,12 @@ AreBest-none total sums same s lt = record {
 before_lt : (c s : ℕ) → s < 64 → before c s < 64
 before_lt c s lt = omega arith
 
-pub start_of_lt : (columns : List ℕ) (s : ℕ) → s < 64 → start_of columns s < 64
+pub start_of_lt : (survivors : List ℕ) (s : ℕ) → s < 64 → start_of survivors s < 64
 start_of_lt [] s lt = lt
-start_of_lt (c ∷ columns) s lt = start_of_lt columns (before c s) (before_lt c s lt)
+start_of_lt (c ∷ survivors) s lt = start_of_lt survivors (before c s) (before_lt c s lt)
 
-pub past_of_small : (columns : List ℕ) (s : ℕ) → s < 64 → All (λ b. b < 2) (past_of columns s)
+pub past_of_small : (survivors : List ℕ) (s : ℕ) → s < 64 → All (λ b. b < 2) (past_of survivors s)
 past_of_small [] s lt = All-nil (λ b. b < 2)
-past_of_small (c ∷ columns) s lt =
+past_of_small (c ∷ survivors) s lt =
     let small : s / 32 < 2 = omega arith in
-    All-cons (λ b. b < 2) (s / 32) (past_of columns (before c s)) small (past_of_small columns (before c s) (before_lt c s lt))
+    All-cons (λ b. b < 2) (s / 32) (past_of survivors (before c s)) small (past_of_small survivors (before c s) (before_lt c s lt))

@@ -10,7 +10,7 @@ use Rattle.tm_conv.proofs.Paths.{steps_size-zero, steps_size-more}
 use Rattle.tm_viterbi.specs.Settings.{Settings}
 use Rattle.tm_viterbi.specs.WindowBlock.{WindowBlock}
 use Rattle.tm_viterbi.specs.Blocks.{IsBlock, AreBlocks, AreBlocksOf, window_steps, kept_steps}
-use Rattle.tm_viterbi.specs.Due.{Place, Closes, Closed, behind, first_place}
+use Rattle.tm_viterbi.specs.Due.{Place, Closes, Closed, after_block, first_place}
 use Rattle.tm_viterbi.specs.Streaming.{waiting_octets}
 use Rattle.tm_viterbi.proofs.Closing.{kept_is, kept_at}
 use Rattle.tm_conv.proofs.Sizes.{steps_size-add, steps_size-le}
@@ -24,7 +24,7 @@ Between-none : (rate : Rate) (from : Place) → Between rate from from 0
 Between-none rate from = record { place = omega arith; octets = omega (arith, steps_size-zero rate from.t) }
 
 Between-more : (rate : Rate) (invert : Bool) (keep ahead : ℕ) (from to : Place) (b : WindowBlock) (count : ℕ)
-    → Closes rate invert keep ahead from b → Between rate (behind rate from b) to count → Between rate from to (b.kept + count)
+    → Closes rate invert keep ahead from b → Between rate (after_block rate from b) to count → Between rate from to (b.kept + count)
 Between-more rate invert keep ahead from to b count closes h =
     let kept : b.kept ≡ keep = closes.is_block.kept ∙ kept_is keep ahead in
     let inside : steps_size rate from.t b.kept ≤ length from.octets = omega (arith, closes.room, steps_size-le rate from.t b.kept (keep + ahead + 1) (omega arith)) in
@@ -37,7 +37,7 @@ pub between : (rate : Rate) (invert : Bool) (keep ahead : ℕ) (from to : Place)
     → Closed rate invert keep ahead from blocks to → (count : ℕ) × Between rate from to count
 between rate invert keep ahead from to [] h = (0, subst (λ (v : Place). Between rate from v 0) h (Between-none rate from))
 between rate invert keep ahead from to (b ∷ blocks) h =
-    let rest = between rate invert keep ahead (behind rate from b) to blocks h.1 in
+    let rest = between rate invert keep ahead (after_block rate from b) to blocks h.1 in
     (b.kept + rest.0, Between-more rate invert keep ahead from to b rest.0 h.0 rest.1)
 
 -- the octets of a place at which windows are closed have more than keep+ahead steps
@@ -85,7 +85,7 @@ AreBlocks-closed rate invert keep ahead from to (b ∷ blocks) last n m h place 
     let big : keep + ahead + 1 ≤ m = room_for rate invert keep ahead from to b c.0 n m h.0 c.1 place most in
     let kept : b.kept ≡ keep = h.0.is_block.kept ∙ kept_is keep ahead in
     let next : from.t + b.kept + (m - b.kept) ≡ to.t + n = omega (arith, kept, big, place) in
-    (omega (arith, big), closed_block rate invert keep ahead from b m h.0 big, AreBlocks-closed rate invert keep ahead (behind rate from b) to blocks last n (m - b.kept) h.1 next most are)
+    (omega (arith, big), closed_block rate invert keep ahead from b m h.0 big, AreBlocks-closed rate invert keep ahead (after_block rate from b) to blocks last n (m - b.kept) h.1 next most are)
 
 pub from_zero : (rate : Rate) (a b : ℕ) → steps_size rate 0 (a + b) ≡ steps_size rate 0 a + steps_size rate a b
 from_zero rate a b =

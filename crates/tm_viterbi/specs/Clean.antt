@@ -35,5 +35,5 @@ pub record AreClean (bits : List ℕ) (blocks : List WindowBlock) (left : ℕ) :
   pub whole : left ≡ 0
 
 -- each soft octet for the other symbol, as sure as before
-abbrev pub turned_octets : List ℕ → List ℕ
-turned_octets octets = map (λ octet. 255 - octet) octets
+abbrev pub complemented_octets : List ℕ → List ℕ
+complemented_octets octets = map (λ octet. 255 - octet) octets

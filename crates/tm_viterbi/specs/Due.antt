@@ -19,14 +19,14 @@ pub record Closes (rate : Rate) (invert : Bool) (keep ahead : ℕ) (at : Place) 
   pub is_block : IsBlock rate invert keep ahead at.starts at.t (keep + ahead + 1) at.octets block
 
 -- where the next window begins
-abbrev pub behind : Rate → Place → WindowBlock → Place
-behind rate at block = record { starts = Some block.end_state; t = at.t + block.kept; octets = drop (steps_size rate at.t block.kept) at.octets }
+abbrev pub after_block : Rate → Place → WindowBlock → Place
+after_block rate at block = record { starts = Some block.end_state; t = at.t + block.kept; octets = drop (steps_size rate at.t block.kept) at.octets }
 
 -- from one place to another by closed windows
 abbrev pub Closed : Rate → Bool → ℕ → ℕ → Place → List WindowBlock → Place → Type 0
 Closed rate invert keep ahead from [] to = from ≡ to
 Closed rate invert keep ahead from (block ∷ blocks) to =
-    Closes rate invert keep ahead from block × Closed rate invert keep ahead (behind rate from block) blocks to
+    Closes rate invert keep ahead from block × Closed rate invert keep ahead (after_block rate from block) blocks to
 
 -- where the first window begins
 abbrev pub first_place : Settings → List ℕ → Place

@@ -38,18 +38,18 @@ before column s = 2 * (s % 32) + column / 2 ^ s % 2
 -- the path that columns keep for register s, the newest column first
 abbrev pub past_of : List ℕ → ℕ → List ℕ
 past_of [] s = []
-past_of (c ∷ columns) s = (s / 32) ∷ past_of columns (before c s)
+past_of (c ∷ survivors) s = (s / 32) ∷ past_of survivors (before c s)
 
 abbrev pub start_of : List ℕ → ℕ → ℕ
 start_of [] s = s
-start_of (c ∷ columns) s = start_of columns (before c s)
+start_of (c ∷ survivors) s = start_of survivors (before c s)
 
 -- the number whose low six bits are a register, after steps back through columns, the newest first: each puts the
 -- survivor bit after it
 abbrev pub history : List ℕ → ℕ → ℕ
 history [] h = h
-history (c ∷ columns) h = history columns (2 * h + c / 2 ^ (h % 64) % 2)
+history (c ∷ survivors) h = history survivors (2 * h + c / 2 ^ (h % 64) % 2)
 
 -- the path metrics and the survivors have the best path to each register
 abbrev pub AreBest : (ℕ → List ℕ → ℕ) → ℕ → List ℕ → List ℕ → Type 0
-AreBest total n sums columns = (s : ℕ) → s < 64 → IsBestTo total n s (slice_index sums s) (start_of columns s) (past_of columns s)
+AreBest total n sums survivors = (s : ℕ) → s < 64 → IsBestTo total n s (slice_index sums s) (start_of survivors s) (past_of survivors s)

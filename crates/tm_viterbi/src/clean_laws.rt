@@ -7,7 +7,7 @@ ghost use Rattle.tm_viterbi.specs.Settings.{Settings};
 ghost use Rattle.tm_viterbi.specs.WindowBlock.{WindowBlock};
 ghost use Rattle.tm_viterbi.specs.Blocks.{AreBlocksOf};
 ghost use Rattle.tm_viterbi.specs.Due.{AreFirst};
-ghost use Rattle.tm_viterbi.specs.Clean.{AreClean, IsFixed, sure_symbols, turned_octets};
+ghost use Rattle.tm_viterbi.specs.Clean.{AreClean, IsFixed, sure_symbols, complemented_octets};
 
 use tm_conv::{complement_law, six_pairs_law};
 
@@ -23,10 +23,10 @@ pub fn clean_blocks_law()
 
 /// At rate 1/2, where paths start from any register, the blocks of the symbols of no step or of six or more, each
 /// complemented and not else disturbed, keep exactly the bits that were sent, each complemented. It does nothing.
-pub fn turned_blocks_law()
+pub fn complemented_blocks_law()
     ensures { (s : Settings) (register : ℕ) (bits : List ℕ) (blocks : List WindowBlock) (left : ℕ) → 64 ≤ s.keep → AreBits bits
         → s.start ≡ Any → s.rate ≡ R12 → register < 64 → (bits ≡ []) ⊎ (6 ≤ length bits)
-        → AreBlocksOf s (turned_octets (sure_symbols s register bits)) blocks left → AreClean (complement bits) blocks left }
+        → AreBlocksOf s (complemented_octets (sure_symbols s register bits)) blocks left → AreClean (complement bits) blocks left }
 {
     six_pairs_law();
     complement_law();

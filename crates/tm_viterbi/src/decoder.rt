@@ -92,7 +92,7 @@ impl Decoder {
         ensures handed { OnOk result ((more : List WindowBlock) × HandedOver B.took blocks.old more blocks.new
             × ((given : List ℕ) (done : List WindowBlock) → length given + length piece.now < 2 ^ 60 → StandsFor self.old given done
             → StandsFor self.new (given ++ piece.now) (done ++ more) × AreDue self.old.settings (given ++ piece.now) (done ++ more))) }
-        ensures front { IsErrOf result FeedError.Taker → (tried : List WindowBlock) × HandedPart B.took B.broke blocks.old tried blocks.new
+        ensures prefix { IsErrOf result FeedError.Taker → (tried : List WindowBlock) × HandedPart B.took B.broke blocks.old tried blocks.new
             × ((given : List ℕ) (done : List WindowBlock) → StandsFor self.old given done → AreFirst self.old.settings (given ++ piece.now) (done ++ tried)) }
     {
         if self.has_stopped {
@@ -123,7 +123,7 @@ impl Decoder {
         ensures settings { self.new.settings ≡ self.old.settings }
         ensures handed { IfOk result (λ left. (last : List WindowBlock) × HandedOver B.took blocks.old last blocks.new
             × ((given : List ℕ) (done : List WindowBlock) → StandsFor self.old given done → AreBlocksOf self.old.settings given (done ++ last) left)) }
-        ensures front { IsErrOf result FeedError.Taker → (last : WindowBlock) × B.broke blocks.old last blocks.new
+        ensures prefix { IsErrOf result FeedError.Taker → (last : WindowBlock) × B.broke blocks.old last blocks.new
             × ((given : List ℕ) (done : List WindowBlock) → StandsFor self.old given done → (left : ℕ) × AreBlocksOf self.old.settings given (done ++ last ∷ []) left) }
         ensures left { IfOk result (λ left. left ≤ 1) }
     {

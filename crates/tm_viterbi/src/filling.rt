@@ -5,7 +5,7 @@ ghost use Rattle.tm_viterbi.specs.Starts.{starts_from};
 ghost use Rattle.tm_viterbi.specs.Totals.{AreAtMost};
 
 use crate::passes::run;
-use crate::traceback::{register_behind, trace_back};
+use crate::traceback::{end_register, trace_back};
 use crate::window::{first_sums, least_register};
 use std::alloc::{AllocError, Global};
 use tm_conv::Rate;
@@ -33,9 +33,9 @@ pub(crate) struct Window {
     pub(crate) t: u64,
     pub(crate) filled: usize,
     sums: [u32; 64],
-    columns: Vec<u64>,
+    survivors: Vec<u64>,
     ghost few: { keep + ahead ≤ 69632 },
-    ghost room: { vec_len columns ≡ keep + ahead },
+    ghost room: { vec_len survivors ≡ keep + ahead },
     ghost within: { filled ≤ keep + ahead },
     ghost bounded: { AreAtMost (2 ^ 30 + 510 * filled) sums },
 }
@@ -65,7 +65,7 @@ impl Window {
         ensures holds { IfOk result (λ w. Holds w []) }
         ensures began { IfOk result (λ w. (w.rate ≡ rate) × (w.invert ≡ invert) × (w.keep ≡ keep) × (w.ahead ≡ ahead) × (w.starts ≡ starts) × (w.t ≡ 0) × (w.filled ≡ 0)) }
     {
-        let columns = zeros(alloc, keep + ahead)?;
+        let survivors = zeros(alloc, keep + ahead)?;
         let sums = first_sums(starts);
         Ok(Window {
             rate,
@@ -76,7 +76,7 @@ impl Window {
             t: 0,
             filled: 0,
             sums,
-            columns,
+            survivors,
         })
     }
 
@@ -106,14 +106,14 @@ impl Window {
         let most = (1 << 30) + 510 * self.filled as u32;
         let now = self.t + self.filled as u64;
         let end = self.filled + count;
-        let columns = &mut self.columns[self.filled..end];
+        let survivors = &mut self.survivors[self.filled..end];
         run(
             self.rate,
             self.invert,
             now,
             octets,
             &mut self.sums,
-            columns,
+            survivors,
             most,
         );
         self.filled = end;
@@ -131,10 +131,10 @@ impl Window {
         ensures register { result.end_state < 64 }
     {
         let last = least_register(&self.sums);
-        let start = trace_back(&self.columns[..self.filled], last, bits);
+        let start = trace_back(&self.survivors[..self.filled], last, bits);
         let metric = u64::from(self.sums[last]);
         let start = start as u8;
-        let end_state = register_behind(start, &bits[..kept]);
+        let end_state = end_register(start, &bits[..kept]);
         BestPath {
             start,
             metric,

@@ -52,15 +52,15 @@ impl Flow {
         ensures same { (self.new.window.rate ≡ self.old.window.rate) × (self.new.window.invert ≡ self.old.window.invert) × (self.new.window.keep ≡ self.old.window.keep)
             × (self.new.window.ahead ≡ self.old.window.ahead) × (self.new.window.starts ≡ self.old.window.starts) × (self.new.window.t ≡ self.old.window.t) }
     {
-        let is_behind = self.window.filled >= self.window.keep;
+        let is_after = self.window.filled >= self.window.keep;
         self.window.take_steps(count, octets);
-        if is_behind {
+        if is_after {
             self.tail.append(octets);
         }
     }
 
     /// Begins the next window, after the kept steps, from this register.
-    pub(crate) fn turn(&mut self, end_state: u8)
+    pub(crate) fn next_window(&mut self, end_state: u8)
         requires full { self.old.window.filled ≡ self.old.window.keep + self.old.window.ahead }
         requires few { self.old.window.t < 2 ^ 60 }
         ensures keeps { (given : List ℕ) → Keeps self.old given → Keeps self.new (drop (steps_size self.old.window.rate self.old.window.t self.old.window.keep) given) }
@@ -94,7 +94,7 @@ impl Flow {
         ensures register { result.end_state < 64 }
     {
         let found = self.window.find(self.window.keep, bits);
-        self.turn(found.end_state);
+        self.next_window(found.end_state);
         found
     }
 

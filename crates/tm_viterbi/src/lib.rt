@@ -24,7 +24,7 @@ mod window;
 mod window_decoder;
 
 pub use block::{Block, BlockTaker, Start, first_start};
-pub use clean_laws::{clean_blocks_law, closed_windows_law, turned_blocks_law};
+pub use clean_laws::{clean_blocks_law, closed_windows_law, complemented_blocks_law};
 pub use columns::plain_column;
 pub use decoder::{Decoder, FeedError};
 pub use filling::BestPath;

@@ -41,24 +41,24 @@ fn narrow_run(
     soft: &[u8],
     first_low: Simd<u16, 32>,
     first_high: Simd<u16, 32>,
-    columns: &mut [u64],
+    survivors: &mut [u64],
 ) -> (Simd<u16, 32>, Simd<u16, 32>, usize)
-    requires size { steps_size rate t (length columns.old) ≤ length soft.now }
-    requires few { length columns.old ≤ 120 }
-    requires first { t + length columns.old < 2 ^ 63 }
-    requires room { AreAtMost (2 ^ 16 - 1 - 510 * length columns.old) (first_low ++ first_high) }
-    ensures taken { result.2 ≡ steps_size rate t (length columns.new) }
+    requires size { steps_size rate t (length survivors.old) ≤ length soft.now }
+    requires few { length survivors.old ≤ 120 }
+    requires first { t + length survivors.old < 2 ^ 63 }
+    requires room { AreAtMost (2 ^ 16 - 1 - 510 * length survivors.old) (first_low ++ first_high) }
+    ensures taken { result.2 ≡ steps_size rate t (length survivors.new) }
     ensures carries { (base : ℕ) → Carries rate invert t (take result.2 soft.now)
-        (lifted base (first_low ++ first_high)) (lifted base (result.0 ++ result.1)) columns.new }
+        (lifted base (first_low ++ first_high)) (lifted base (result.0 ++ result.1)) survivors.new }
     ensures bounded { (m : ℕ) → AreAtMost m (first_low ++ first_high)
-        → AreAtMost (m + 510 * length columns.new) (result.0 ++ result.1) }
+        → AreAtMost (m + 510 * length survivors.new) (result.0 ++ result.1) }
     ensures long { (length result.0 ≡ 32) × (length result.1 ≡ 32) }
 {
     let mut low = first_low;
     let mut high = first_high;
     let mut at = 0usize;
     let places = sorted_places((t >> 63) as u16);
-    for i in 0..columns.len() {
+    for i in 0..survivors.len() {
         let now = t + i as u64;
         let end = at + step_len(rate, now);
         let (next_low, next_high, column) = narrow_step(
@@ -70,7 +70,7 @@ fn narrow_run(
             high,
             places,
         );
-        columns[i] = column;
+        survivors[i] = column;
         low = next_low;
         high = next_high;
         at = end;
@@ -113,15 +113,15 @@ fn four_steps(
     low: Simd<u16, 32>,
     high: Simd<u16, 32>,
     places: Simd<u16, 32>,
-    columns: &mut [u64],
+    survivors: &mut [u64],
 ) -> (Simd<u16, 32>, Simd<u16, 32>)
     requires size { length octets.now ≡ 8 }
-    requires columns { length columns.old ≡ 4 }
+    requires survivors { length survivors.old ≡ 4 }
     requires places { AreSortedPlaces places }
     requires room { AreAtMost (2 ^ 16 - 2041) (low ++ high) }
     ensures carries { (invert : Bool) (t base : ℕ) → masks ≡ two_step_masks invert
         → Carries Rate.R12 invert t octets.now (lifted base (low ++ high)) (lifted base (result.0 ++ result.1))
-        columns.new }
+        survivors.new }
     ensures bounded { (m : ℕ) → AreAtMost m (low ++ high) → AreAtMost (m + 2040) (result.0 ++ result.1) }
     ensures long { (length result.0 ≡ 32) × (length result.1 ≡ 32) }
 {
@@ -139,10 +139,10 @@ fn four_steps(
         high_between,
         places,
     );
-    columns[0] = first;
-    columns[1] = second;
-    columns[2] = third;
-    columns[3] = fourth;
+    survivors[0] = first;
+    survivors[1] = second;
+    survivors[2] = third;
+    survivors[3] = fourth;
     (next_low, next_high)
 }
 
@@ -154,17 +154,17 @@ fn narrow_half_rate(
     soft: &[u8],
     first_low: Simd<u16, 32>,
     first_high: Simd<u16, 32>,
-    columns: &mut [u64],
+    survivors: &mut [u64],
 ) -> (Simd<u16, 32>, Simd<u16, 32>, usize)
-    requires size { steps_size Rate.R12 t (length columns.old) ≤ length soft.now }
-    requires few { length columns.old ≤ 120 }
-    requires first { t + length columns.old < 2 ^ 63 }
-    requires room { AreAtMost (2 ^ 16 - 1 - 510 * length columns.old) (first_low ++ first_high) }
-    ensures taken { result.2 ≡ steps_size Rate.R12 t (length columns.new) }
+    requires size { steps_size Rate.R12 t (length survivors.old) ≤ length soft.now }
+    requires few { length survivors.old ≤ 120 }
+    requires first { t + length survivors.old < 2 ^ 63 }
+    requires room { AreAtMost (2 ^ 16 - 1 - 510 * length survivors.old) (first_low ++ first_high) }
+    ensures taken { result.2 ≡ steps_size Rate.R12 t (length survivors.new) }
     ensures carries { (base : ℕ) → Carries Rate.R12 invert t (take result.2 soft.now)
-        (lifted base (first_low ++ first_high)) (lifted base (result.0 ++ result.1)) columns.new }
+        (lifted base (first_low ++ first_high)) (lifted base (result.0 ++ result.1)) survivors.new }
     ensures bounded { (m : ℕ) → AreAtMost m (first_low ++ first_high)
-        → AreAtMost (m + 510 * length columns.new) (result.0 ++ result.1) }
+        → AreAtMost (m + 510 * length survivors.new) (result.0 ++ result.1) }
     ensures long { (length result.0 ≡ 32) × (length result.1 ≡ 32) }
 {
     let masks = two_step_masks(invert);
@@ -172,7 +172,7 @@ fn narrow_half_rate(
     let mut low = first_low;
     let mut high = first_high;
     let mut i = 0usize;
-    while i + 4 <= columns.len() {
+    while i + 4 <= survivors.len() {
         let octets = &soft[2 * i..2 * i + 8];
         let (next_low, next_high) = four_steps(
             masks,
@@ -180,7 +180,7 @@ fn narrow_half_rate(
             low,
             high,
             places,
-            &mut columns[i..i + 4],
+            &mut survivors[i..i + 4],
         );
         low = next_low;
         high = next_high;
@@ -194,7 +194,7 @@ fn narrow_half_rate(
         &soft[2 * i..],
         low,
         high,
-        &mut columns[i..],
+        &mut survivors[i..],
     );
     (last_low, last_high, 2 * i + taken)
 }
@@ -207,24 +207,24 @@ pub(crate) fn narrow_at(
     soft: &[u8],
     low: Simd<u16, 32>,
     high: Simd<u16, 32>,
-    columns: &mut [u64],
+    survivors: &mut [u64],
 ) -> (Simd<u16, 32>, Simd<u16, 32>, usize)
-    requires size { steps_size rate t (length columns.old) ≤ length soft.now }
-    requires few { length columns.old ≤ 120 }
-    requires first { t + length columns.old < 2 ^ 63 }
+    requires size { steps_size rate t (length survivors.old) ≤ length soft.now }
+    requires few { length survivors.old ≤ 120 }
+    requires first { t + length survivors.old < 2 ^ 63 }
     requires bounded { AreAtMost 4096 (low ++ high) }
-    ensures taken { result.2 ≡ steps_size rate t (length columns.new) }
+    ensures taken { result.2 ≡ steps_size rate t (length survivors.new) }
     ensures carries { (base : ℕ) → Carries rate invert t (take result.2 soft.now)
-        (lifted base (low ++ high)) (lifted base (result.0 ++ result.1)) columns.new }
+        (lifted base (low ++ high)) (lifted base (result.0 ++ result.1)) survivors.new }
     ensures bounded { (m : ℕ) → AreAtMost m (low ++ high)
-        → AreAtMost (m + 510 * length columns.new) (result.0 ++ result.1) }
+        → AreAtMost (m + 510 * length survivors.new) (result.0 ++ result.1) }
     ensures long { (length result.0 ≡ 32) × (length result.1 ≡ 32) }
 {
     match rate {
-        Rate::R12 => narrow_half_rate(invert, t, soft, low, high, columns),
-        Rate::R23 => narrow_run(Rate::R23, invert, t, soft, low, high, columns),
-        Rate::R34 => narrow_run(Rate::R34, invert, t, soft, low, high, columns),
-        Rate::R56 => narrow_run(Rate::R56, invert, t, soft, low, high, columns),
-        Rate::R78 => narrow_run(Rate::R78, invert, t, soft, low, high, columns),
+        Rate::R12 => narrow_half_rate(invert, t, soft, low, high, survivors),
+        Rate::R23 => narrow_run(Rate::R23, invert, t, soft, low, high, survivors),
+        Rate::R34 => narrow_run(Rate::R34, invert, t, soft, low, high, survivors),
+        Rate::R56 => narrow_run(Rate::R56, invert, t, soft, low, high, survivors),
+        Rate::R78 => narrow_run(Rate::R78, invert, t, soft, low, high, survivors),
     }
 }

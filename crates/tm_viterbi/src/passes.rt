@@ -40,21 +40,21 @@ fn narrow_block(
     soft: &[u8],
     sums: &mut [u32; 64],
     least: u32,
-    columns: &mut [u64],
+    survivors: &mut [u64],
 ) -> usize
-    requires size { steps_size rate t (length columns.old) ≤ length soft.now }
-    requires few { length columns.old ≤ 120 }
-    requires first { t + length columns.old < 2 ^ 63 }
+    requires size { steps_size rate t (length survivors.old) ≤ length soft.now }
+    requires few { length survivors.old ≤ 120 }
+    requires first { t + length survivors.old < 2 ^ 63 }
     requires room { least + 65536 < 2 ^ 32 }
     requires least { (s : ℕ) → s < 64 → least ≤ slice_index sums.old s }
     requires close { (s : ℕ) → s < 64 → slice_index sums.old s ≤ least + 4096 }
-    ensures taken { result ≡ steps_size rate t (length columns.new) }
-    ensures carries { Carries rate invert t (take result soft.now) sums.old sums.new columns.new }
-    ensures bounded { (m : ℕ) → AreAtMost m sums.old → AreAtMost (m + 510 * length columns.new) sums.new }
+    ensures taken { result ≡ steps_size rate t (length survivors.new) }
+    ensures carries { Carries rate invert t (take result soft.now) sums.old sums.new survivors.new }
+    ensures bounded { (m : ℕ) → AreAtMost m sums.old → AreAtMost (m + 510 * length survivors.new) sums.new }
 {
     let narrow = less_least(sums, least);
     let (first_low, first_high) = halves_of(&narrow);
-    let (low, high, taken) = narrow_at(rate, invert, t, soft, first_low, first_high, columns);
+    let (low, high, taken) = narrow_at(rate, invert, t, soft, first_low, first_high, survivors);
     *sums = with_least(low, high, least);
     taken
 }
@@ -66,19 +66,19 @@ fn wide_step(
     t: u64,
     soft: &[u8],
     sums: &mut [u32; 64],
-    columns: &mut [u64],
+    survivors: &mut [u64],
     most: u32,
 ) -> usize
-    requires one { length columns.old ≡ 1 }
+    requires one { length survivors.old ≡ 1 }
     requires size { steps_size rate t 1 ≤ length soft.now }
     requires most { most + 510 < 2 ^ 32 }
     requires bounded { AreAtMost most sums.old }
-    ensures taken { result ≡ steps_size rate t (length columns.new) }
-    ensures carries { Carries rate invert t (take result soft.now) sums.old sums.new columns.new }
+    ensures taken { result ≡ steps_size rate t (length survivors.new) }
+    ensures carries { Carries rate invert t (take result soft.now) sums.old sums.new survivors.new }
     ensures bounded { AreAtMost (most + 510) sums.new }
 {
     let end = step_len(rate, t);
-    columns[0] = step(rate, invert, t, &soft[..end], sums, most);
+    survivors[0] = step(rate, invert, t, &soft[..end], sums, most);
     end
 }
 
@@ -90,23 +90,23 @@ pub(crate) fn run(
     t: u64,
     soft: &[u8],
     sums: &mut [u32; 64],
-    columns: &mut [u64],
+    survivors: &mut [u64],
     most: u32,
 )
-    requires size { length soft.now ≡ steps_size rate t (length columns.old) }
+    requires size { length soft.now ≡ steps_size rate t (length survivors.old) }
     requires first { t < 2 ^ 62 }
-    requires room { most + 510 * length columns.old + 65536 < 2 ^ 32 }
+    requires room { most + 510 * length survivors.old + 65536 < 2 ^ 32 }
     requires bounded { AreAtMost most sums.old }
-    ensures bounded { AreAtMost (most + 510 * length columns.new) sums.new }
-    ensures carries { Carries rate invert t soft.now sums.old sums.new columns.new }
+    ensures bounded { AreAtMost (most + 510 * length survivors.new) sums.new }
+    ensures carries { Carries rate invert t soft.now sums.old sums.new survivors.new }
 {
     let mut done = 0usize;
     let mut at = 0usize;
-    while done < columns.len() {
+    while done < survivors.len() {
         let now = t + done as u64;
         let least = least_sum(sums);
         if are_close(sums, least) {
-            let end = (columns.len() - done).min(120) + done;
+            let end = (survivors.len() - done).min(120) + done;
             at += narrow_block(
                 rate,
                 invert,
@@ -114,7 +114,7 @@ pub(crate) fn run(
                 &soft[at..],
                 sums,
                 least,
-                &mut columns[done..end],
+                &mut survivors[done..end],
             );
             done = end;
         } else {
@@ -125,7 +125,7 @@ pub(crate) fn run(
                 now,
                 &soft[at..],
                 sums,
-                &mut columns[done..done + 1],
+                &mut survivors[done..done + 1],
                 now_most,
             );
             done += 1;

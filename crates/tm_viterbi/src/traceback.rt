@@ -18,75 +18,75 @@ fn step_back(history: u64, column: u64) -> u64
 
 // Eight steps back: in the low six bits the register before them, and above it their bits, that of the last step on
 // top.
-fn eight_steps_back(columns: &[u64], register: usize) -> u64
-    requires size { length columns.now ≡ 8 }
+fn eight_steps_back(survivors: &[u64], register: usize) -> u64
+    requires size { length survivors.now ≡ 8 }
     requires register { register < 64 }
-    ensures value { result ≡ history (reverse columns.now) register }
+    ensures value { result ≡ history (reverse survivors.now) register }
     ensures small { result < 2 ^ 14 }
 {
-    let seventh = step_back(register as u64, columns[7]);
-    let sixth = step_back(seventh, columns[6]);
-    let fifth = step_back(sixth, columns[5]);
-    let fourth = step_back(fifth, columns[4]);
-    let third = step_back(fourth, columns[3]);
-    let second = step_back(third, columns[2]);
-    let first = step_back(second, columns[1]);
-    step_back(first, columns[0])
+    let seventh = step_back(register as u64, survivors[7]);
+    let sixth = step_back(seventh, survivors[6]);
+    let fifth = step_back(sixth, survivors[5]);
+    let fourth = step_back(fifth, survivors[4]);
+    let third = step_back(fourth, survivors[3]);
+    let second = step_back(third, survivors[2]);
+    let first = step_back(second, survivors[1]);
+    step_back(first, survivors[0])
 }
 
 // The traceback through eight columns.
-fn trace_eight(columns: &[u64], register: usize, bits: &mut [u8]) -> usize
-    requires size { length columns.now ≡ 8 }
+fn trace_eight(survivors: &[u64], register: usize, bits: &mut [u8]) -> usize
+    requires size { length survivors.now ≡ 8 }
     requires room { length bits.old ≡ 8 }
     requires register { register < 64 }
-    ensures bits { bits.new ≡ reverse (past_of (reverse columns.now) register) }
-    ensures start { result ≡ start_of (reverse columns.now) register }
+    ensures bits { bits.new ≡ reverse (past_of (reverse survivors.now) register) }
+    ensures start { result ≡ start_of (reverse survivors.now) register }
     ensures small { result < 64 }
 {
-    let walked = eight_steps_back(columns, register);
+    let walked = eight_steps_back(survivors, register);
     let row = EIGHT_BITS[(walked / 64 % 256) as usize];
     bits.copy_from_slice(&row);
     (walked % 64) as usize
 }
 
 // The traceback column by column.
-fn trace_each(columns: &[u64], register: usize, bits: &mut [u8]) -> usize
-    requires size { length bits.old ≡ length columns.now }
+fn trace_each(survivors: &[u64], register: usize, bits: &mut [u8]) -> usize
+    requires size { length bits.old ≡ length survivors.now }
     requires register { register < 64 }
-    ensures bits { bits.new ≡ reverse (past_of (reverse columns.now) register) }
-    ensures start { result ≡ start_of (reverse columns.now) register }
+    ensures bits { bits.new ≡ reverse (past_of (reverse survivors.now) register) }
+    ensures start { result ≡ start_of (reverse survivors.now) register }
     ensures small { result < 64 }
 {
     let mut s = register;
-    let mut i = columns.len();
+    let mut i = survivors.len();
     while i > 0 {
         i -= 1;
         bits[i] = (s / 32) as u8;
-        s = 2 * (s % 32) + ((columns[i] >> s) % 2) as usize;
+        s = 2 * (s % 32) + ((survivors[i] >> s) % 2) as usize;
     }
     s
 }
 
 // The traceback: writes the bits of the path that columns of survivors keep for `register`, at which it ends, and
 // answers the register from which it starts.
-pub(crate) fn trace_back(columns: &[u64], register: usize, bits: &mut [u8]) -> usize
-    requires size { length bits.old ≡ length columns.now }
+pub(crate) fn trace_back(survivors: &[u64], register: usize, bits: &mut [u8]) -> usize
+    requires size { length bits.old ≡ length survivors.now }
     requires register { register < 64 }
-    ensures bits { bits.new ≡ reverse (past_of (reverse columns.now) register) }
-    ensures start { result ≡ start_of (reverse columns.now) register }
+    ensures bits { bits.new ≡ reverse (past_of (reverse survivors.now) register) }
+    ensures start { result ≡ start_of (reverse survivors.now) register }
     ensures small { result < 64 }
 {
     let mut s = register;
-    let mut i = columns.len();
+    let mut i = survivors.len();
     while i >= 8 {
         i -= 8;
-        s = trace_eight(&columns[i..i + 8], s, &mut bits[i..i + 8]);
+        s = trace_eight(&survivors[i..i + 8], s, &mut bits[i..i + 8]);
     }
-    trace_each(&columns[..i], s, &mut bits[..i])
+    trace_each(&survivors[..i], s, &mut bits[..i])
 }
 
 // The register after these bits. The last six of them determine it.
-pub(crate) fn register_behind(first: u8, bits: &[u8]) -> u8
+pub(crate) fn end_register(first: u8, bits: &[u8]) -> u8
     requires register { first < 64 }
     requires bits { (k : ℕ) → k < length bits.now → slice_index bits.now k < 2 }
     ensures value { result ≡ register_after first bits.now }

@@ -50,7 +50,7 @@ pub fn decode_all<B: BlockTaker>(
     requires ahead { ahead ≤ 4096 }
     ensures handed { IfOk result (λ left. (all : List WindowBlock) × HandedOver B.took blocks.old all blocks.new
         × (length soft.now < 2 ^ 60 → AreBlocksOf (record { rate = rate; invert = invert; start = start; keep = keep; ahead = ahead }) soft.now all left)) }
-    ensures front { IsErrOf result AllError.Taker → (tried : List WindowBlock) × HandedPart B.took B.broke blocks.old tried blocks.new
+    ensures prefix { IsErrOf result AllError.Taker → (tried : List WindowBlock) × HandedPart B.took B.broke blocks.old tried blocks.new
         × (length soft.now < 2 ^ 60 → AreFirst (record { rate = rate; invert = invert; start = start; keep = keep; ahead = ahead }) soft.now tried
         ⊎ ((left : ℕ) × AreBlocksOf (record { rate = rate; invert = invert; start = start; keep = keep; ahead = ahead }) soft.now tried left)) }
     ensures left { IfOk result (λ left. left ≤ 1) }
@@ -78,18 +78,18 @@ pub fn least_cost(rate: Rate, invert: bool, start: Start, soft: &[u8]) -> u64
         × (result ≡ cost (path rate invert 0 initial bits) soft.now) }
 {
     let mut sums = first_sums(first_start(start));
-    let mut columns = [0u64; 120];
+    let mut survivors = [0u64; 120];
     let mut done = 0usize;
     let mut at = 0usize;
     while at < soft.len() {
-        let (count, size) = whole_steps(rate, done as u64, columns.len(), soft.len() - at);
+        let (count, size) = whole_steps(rate, done as u64, survivors.len(), soft.len() - at);
         run(
             rate,
             invert,
             done as u64,
             &soft[at..at + size],
             &mut sums,
-            &mut columns[..count],
+            &mut survivors[..count],
             (1 << 30) + 510 * done as u32,
         );
         done += count;

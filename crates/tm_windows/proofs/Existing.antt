@@ -12,7 +12,7 @@ use Rattle.tm_conv.proofs.Sizes.{steps_size-le, steps_size-add}
 use Rattle.tm_viterbi.specs.Starts.{starts_from}
 use Rattle.tm_viterbi.specs.WindowBlock.{WindowBlock}
 use Rattle.tm_viterbi.specs.Blocks.{IsBlock}
-use Rattle.tm_viterbi.specs.Due.{Place, behind}
+use Rattle.tm_viterbi.specs.Due.{Place, after_block}
 use Rattle.tm_viterbi.specs.declared.window_decoder.WindowShape.{WindowShape}
 use Rattle.tm_viterbi.proofs.CleanBlocks.{digits-take, register-small}
 use Rattle.tm_viterbi.proofs.Closing.{full_window, full_kept}
@@ -108,20 +108,20 @@ has_windows exists s zero at some room =
     }
 has_windows exists s (suc n) at some room =
     let all : ℕ = suc n * s.keep in
-    let behind_it : ℕ = n * s.keep + s.ahead + 1 in
+    let after_it : ℕ = n * s.keep + s.ahead + 1 in
     let number : suc n ≡ n + 1 = omega arith in
     let sum : all ≡ s.keep + n * s.keep = omega (arith, ap (λ (m : ℕ). m * s.keep) number, more_times n s.keep) in
-    let whole : all + s.ahead + 1 ≡ s.keep + behind_it = omega (arith, sum) in
-    let fits : steps_size s.rate at.t s.keep + steps_size s.rate (at.t + s.keep) behind_it ≤ length at.octets
+    let whole : all + s.ahead + 1 ≡ s.keep + after_it = omega (arith, sum) in
+    let fits : steps_size s.rate at.t s.keep + steps_size s.rate (at.t + s.keep) after_it ≤ length at.octets
     = omega (
       arith,
       room (omega arith),
       ap (steps_size s.rate at.t) whole,
-      steps_size-add s.rate at.t s.keep behind_it,
+      steps_size-add s.rate at.t s.keep after_it,
     ) in
     let one = steps_size-le s.rate at.t (s.keep + s.ahead + 1) (all + s.ahead + 1) (omega (arith, sum)) in
     let b = has_block exists s at some (omega (arith, room (omega arith), one)) in
-    let next : Place = behind s.rate at b.block in
+    let next : Place = after_block s.rate at b.block in
     let step : next.t ≡ at.t + s.keep = ap (λ (m : ℕ). at.t + m) b.kept in
     let size : steps_size s.rate at.t b.block.kept ≡ steps_size s.rate at.t s.keep = ap
     (steps_size s.rate at.t) b.kept in
@@ -129,7 +129,7 @@ has_windows exists s (suc n) at some room =
     let there : (m : ℕ) → steps_size s.rate next.t m ≡ steps_size s.rate (at.t + s.keep) m = λ m. ap
     (λ (u : ℕ). steps_size s.rate u m) step in
     let rest = has_windows exists s n next (small_some b.block.end_state b.small)
-    (λ _. omega (arith, long, size, there behind_it, fits)) in
+    (λ _. omega (arith, long, size, there after_it, fits)) in
     record {
       blocks = b.block ∷ rest.blocks;
       long = omega (arith, rest.long);

@@ -10,11 +10,11 @@ use Rattle.tm_conv.proofs.Sizes.{step_size_pos, steps_size-le, steps_size-add, s
 use Rattle.tm_viterbi.specs.Settings.{Settings}
 use Rattle.tm_viterbi.specs.WindowBlock.{WindowBlock}
 use Rattle.tm_viterbi.specs.Blocks.{IsBlock, AreBlocks, AreBlocksOf}
-use Rattle.tm_viterbi.specs.Due.{Place, AreDue, AreFirst, behind, first_place}
+use Rattle.tm_viterbi.specs.Due.{Place, AreDue, AreFirst, after_block, first_place}
 use Rattle.tm_viterbi.specs.declared.window_decoder.WindowShape.{WindowShape}
 use Rattle.tm_viterbi.proofs.Closing.{Closed-append, more_octets}
 use Rattle.tm_viterbi.proofs.HasBlocks.{HasBest}
-use Rattle.tm_windows.specs.Candidates.{ClosedWith, place_behind}
+use Rattle.tm_windows.specs.Candidates.{ClosedWith, after_windows}
 use Rattle.tm_windows.specs.Gathered.{settings_of, room_of, HasRoom, IsOpen, Reaches}
 use Rattle.tm_windows.specs.declared.gathering.Gathering.{Gathering}
 use Rattle.tm_viterbi.proofs.WholeBlocks.{all_blocks}
@@ -69,7 +69,7 @@ closed_both : (s : WindowShape) (from middle to : Place) (xs ys : List WindowBlo
     → ClosedWith s middle ys to
     → ClosedWith s from (xs ++ ys) to
 closed_both s from middle to [] ys h k = subst (λ (p : Place). ClosedWith s p ys to) (sym h) k
-closed_both s from middle to (x ∷ xs) ys h k = (h.0, closed_both s (behind s.rate from x) middle to xs ys h.1 k)
+closed_both s from middle to (x ∷ xs) ys h k = (h.0, closed_both s (after_block s.rate from x) middle to xs ys h.1 k)
 
 -- windows that the octets held close, whatever comes after them
 closed_further : (s : WindowShape) (from to : Place) (done more : List WindowBlock) (starts : Option ℕ) (t : ℕ)
@@ -87,17 +87,17 @@ pub closed_now : (s s' : WindowShape) (from : Place) (done more : List WindowBlo
     (t size count : ℕ) (held slice left rest : List ℕ)
     → s' ≡ s → slice ≡ held → size ≡ steps_size s.rate t (count * s.keep) → left ≡ drop size held
     → ClosedWith s from done (record { starts = starts; t = t; octets = held ++ rest })
-    → ClosedWith s' (record { starts = starts; t = t; octets = slice }) more (place_behind s' t slice count next)
+    → ClosedWith s' (record { starts = starts; t = t; octets = slice }) more (after_windows s' t slice count next)
     → ClosedWith s from (done ++ more) (record { starts = next; t = t + count * s.keep; octets = left ++ rest })
 closed_now s s' from done more starts next t size count held slice left rest es eo size_is left_is h k =
     let P : WindowShape → List ℕ → Type 0 = λ w o. ClosedWith w (record { starts = starts; t = t; octets = o }) more
-    (place_behind w t o count next) in
+    (after_windows w t o count next) in
     let here = subst (λ (o : List ℕ). P s o) eo (subst (λ (w : WindowShape). P w slice) es k) in
     let same : drop (steps_size s.rate t (count * s.keep)) held ≡ left = ap (λ (m : ℕ). drop m held) (sym size_is)
     ∙ sym left_is in
     subst (λ (o : List ℕ). ClosedWith s from (done ++ more) (record
     { starts = next; t = t + count * s.keep; octets = o ++ rest })) same
-    (closed_further s from (place_behind s t held count next) done more starts t held rest h here)
+    (closed_further s from (after_windows s t held count next) done more starts t held rest h here)
 
 pub tried_now : (s s' : WindowShape) (from to : Place) (done tried : List WindowBlock) (starts : Option ℕ) (t : ℕ)
     (held slice rest : List ℕ)
@@ -204,13 +204,13 @@ AreDue-reached g all done r less =
     }
 
 -- the windows that the octets held close are due
-pub due_behind : HasBest → (g : Gathering) (all : List ℕ) (done : List WindowBlock) (count : ℕ)
+pub due_after : HasBest → (g : Gathering) (all : List ℕ) (done : List WindowBlock) (count : ℕ)
     → ForSome g.starts (λ register. register < 64)
     → (0 < count → steps_size g.shape.rate g.t (count * g.shape.keep + g.shape.ahead + 1) ≤ length g.held.octets)
     → length g.held.octets < steps_size g.shape.rate g.t ((count + 1) * g.shape.keep + g.shape.ahead + 1)
     → Reaches g all [] done
     → (more : List WindowBlock) × (length more ≡ count) × AreDue (settings_of g) all (done ++ more)
-due_behind exists g all done count some room most r =
+due_after exists g all done count some room most r =
     let s = g.shape in
     let at : Place = record { starts = g.starts; t = g.t; octets = g.held.octets ++ [] } in
     let same : length at.octets ≡ length g.held.octets = ap length (append-nil g.held.octets) in

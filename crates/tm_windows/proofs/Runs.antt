@@ -6,7 +6,7 @@ use Rattle.std.proofs.lemmas.List.{get_or-set_same, get_or-set_other, get_or_app
 use Rattle.tm_conv.specs.Path.{steps_size}
 use Rattle.tm_conv.proofs.Sizes.{steps_size-le, steps_size-add, steps_size-most}
 use Rattle.tm_viterbi.specs.WindowBlock.{WindowBlock}
-use Rattle.tm_viterbi.specs.Due.{Place, behind}
+use Rattle.tm_viterbi.specs.Due.{Place, after_block}
 use Rattle.tm_viterbi.specs.declared.window_decoder.WindowShape.{WindowShape}
 use Rattle.tm_viterbi.proofs.Closing.{Closed-push}
 use Rattle.tm_windows.specs.Candidates.{IsCandidate, AreCandidates, ClosesWith, ClosedWith}
@@ -96,7 +96,7 @@ push_closed s from more starts now at size next octets block ee ek es closed clo
     let place : Option ℕ → ℕ → List ℕ → Place = λ r u o. record { starts = r; t = u; octets = o } in
     let kept : steps_size s.rate now block.kept ≡ size = ap (λ (m : ℕ). steps_size s.rate now m) ek ∙ sym es in
     let rest : drop (steps_size s.rate now block.kept) (drop at octets) ≡ drop (at + size) octets = ap (λ (m : ℕ). drop m (drop at octets)) kept ∙ drop-drop size at octets in
-    let there : behind s.rate here block ≡ place (Some next) (now + s.keep) (drop (at + size) octets)
+    let there : after_block s.rate here block ≡ place (Some next) (now + s.keep) (drop (at + size) octets)
     = ap (λ (o : List ℕ). place (Some block.end_state) (now + block.kept) o) rest
     ∙ ap (λ (k : ℕ). place (Some block.end_state) (now + k) (drop (at + size) octets)) ek
     ∙ ap (λ (e : ℕ). place (Some e) (now + s.keep) (drop (at + size) octets)) ee in

@@ -46,8 +46,8 @@ abbrev pub HaveRoom : ℕ → List Candidate → Type 0
 HaveRoom steps candidates = All (λ c. vec_len c.bits ≡ steps) candidates
 
 -- where a window begins, `count` windows after the one from step t on with the octets
-abbrev pub place_behind : WindowShape → ℕ → List ℕ → ℕ → Option ℕ → Place
-place_behind shape t octets count starts =
+abbrev pub after_windows : WindowShape → ℕ → List ℕ → ℕ → Option ℕ → Place
+after_windows shape t octets count starts =
     record {
       starts = starts;
       t = t + count * shape.keep;

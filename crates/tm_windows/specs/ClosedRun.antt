@@ -7,7 +7,7 @@ use Rattle.tm_conv.specs.Path.{steps_size}
 use Rattle.tm_viterbi.specs.WindowBlock.{WindowBlock}
 use Rattle.tm_viterbi.specs.Due.{Place}
 use Rattle.tm_viterbi.specs.declared.window_decoder.WindowShape.{WindowShape}
-use Rattle.tm_windows.specs.Candidates.{ClosedWith, place_behind}
+use Rattle.tm_windows.specs.Candidates.{ClosedWith, after_windows}
 use Rattle.tm_windows.specs.Sharing.{Sharing}
 
 -- `count` windows from step t on, which start so, may be closed with the octets: there is room for
@@ -28,7 +28,7 @@ pub record ClosedRun {E : Type 0} (shape : WindowShape) (starts : Option ℕ) (t
     (result : Result (Option ℕ) E) : Type 0 where
   pub ok : IfOk result (λ next. (more : List WindowBlock) × taker.took more
       × ClosedWith shape (record { starts = starts; t = t; octets = octets }) more
-      (place_behind shape t octets count next))
+      (after_windows shape t octets count next))
   pub small : IfOk result (λ next. ForSome next (λ register. register < 64))
   pub err : OnErr result ((tried : List WindowBlock) × taker.broke tried × (to : Place)
       × ClosedWith shape (record { starts = starts; t = t; octets = octets }) tried to)

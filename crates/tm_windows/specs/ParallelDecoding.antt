@@ -50,7 +50,7 @@ pub record Feeds {R : Type 0} (before now : ParallelDecoding) (octets : List ℕ
       → StandsFor now (given ++ octets) (done ++ more)
       × AreDue before.settings (given ++ octets) (done ++ more)))
   pub is_open : OnOk result (IsOpen now.gathering)
-  pub front : IsErrOf result Taker → (tried : List WindowBlock) × taker.broke tried
+  pub prefix : IsErrOf result Taker → (tried : List WindowBlock) × taker.broke tried
       × ((given : List ℕ) (done : List WindowBlock) → StandsFor before given done
       → AreFirst before.settings (given ++ octets) (done ++ tried))
 
@@ -64,7 +64,7 @@ pub record Finishes (before now : ParallelDecoding) (taker : TakerCall WindowBlo
   pub handed : IfOk result (λ left. (last : List WindowBlock) × taker.took last
       × ((given : List ℕ) (done : List WindowBlock) → StandsFor before given done
       → AreBlocksOf before.settings given (done ++ last) left))
-  pub front : IsErrOf result Taker → (tried : List WindowBlock) × taker.broke tried
+  pub prefix : IsErrOf result Taker → (tried : List WindowBlock) × taker.broke tried
       × ((given : List ℕ) (done : List WindowBlock) → StandsFor before given done
       → AreFirst before.settings given (done ++ tried)
       ⊎ ((left : ℕ) × AreBlocksOf before.settings given (done ++ tried) left))

@@ -28,13 +28,13 @@ fn guess(
     ensures same { decoder.new ≡ shape }
 {
     let before = STEPS_SEEN.min(shape.keep);
-    let behind = STEPS_SEEN.min(shape.keep + shape.ahead - before);
+    let after = STEPS_SEEN.min(shape.keep + shape.ahead - before);
     if t < before as u64 || octets.len() < at {
         return 0;
     }
     let first = t - before as u64;
     let size = steps_len(shape.rate, first, before);
-    let more = steps_len(shape.rate, t, behind);
+    let more = steps_len(shape.rate, t, after);
     if at < size || octets.len() - at < more {
         return 0;
     }
@@ -44,7 +44,7 @@ fn guess(
         first,
         before,
         &octets[at - size..],
-        &mut bits[..before + behind],
+        &mut bits[..before + after],
     );
     path.end_state
 }

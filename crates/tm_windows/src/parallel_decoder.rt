@@ -86,7 +86,7 @@ fn counted(count: u64, piece: &[u8]) -> &[u8]
     requires { count < 2 ^ 60 }
     ensures fits { count + length result.now < 2 ^ 60 }
     ensures all { count + length piece.now < 2 ^ 60 → result.now ≡ piece.now }
-    ensures front { (more : List ℕ) × (result.now ++ more ≡ piece.now) }
+    ensures prefix { (more : List ℕ) × (result.now ++ more ≡ piece.now) }
 {
     if piece.len() as u64 >= (1 << 60) - count {
         &piece[..0]
@@ -185,7 +185,7 @@ impl ParallelDecoder {
             → StandsFor self.new (given ++ piece.now) (done ++ more)
             × AreDue self.old.settings (given ++ piece.now) (done ++ more))) }
         ensures is_open { OnOk result (IsOpen self.new.gathering) }
-        ensures front { IsErrOf result FeedError.Taker → (tried : List WindowBlock)
+        ensures prefix { IsErrOf result FeedError.Taker → (tried : List WindowBlock)
             × HandedPart B.took B.broke blocks.old tried blocks.new
             × ((given : List ℕ) (done : List WindowBlock) → StandsFor self.old given done
             → AreFirst self.old.settings (given ++ piece.now) (done ++ tried)) }
@@ -274,7 +274,7 @@ impl ParallelDecoder {
         ensures handed { IfOk result (λ left. (last : List WindowBlock) × HandedOver B.took blocks.old last blocks.new
             × ((given : List ℕ) (done : List WindowBlock) → StandsFor self.old given done
             → AreBlocksOf self.old.settings given (done ++ last) left)) }
-        ensures front { IsErrOf result FeedError.Taker → (tried : List WindowBlock)
+        ensures prefix { IsErrOf result FeedError.Taker → (tried : List WindowBlock)
             × HandedPart B.took B.broke blocks.old tried blocks.new
             × ((given : List ℕ) (done : List WindowBlock) → StandsFor self.old given done
             → AreFirst self.old.settings given (done ++ tried) ⊎ ((left : ℕ)

@@ -7,7 +7,7 @@ ghost use Rattle.tm_base.specs.Outside.{HasCause};
 ghost use Rattle.tm_viterbi.specs.WindowBlock.{WindowBlock};
 ghost use Rattle.tm_viterbi.specs.Blocks.{IsBlock};
 ghost use Rattle.tm_viterbi.specs.Due.{Place};
-ghost use Rattle.tm_windows.specs.Candidates.{IsCandidate, AreCandidates, HaveRoom, ClosesWith, ClosedWith, block_of, place_behind};
+ghost use Rattle.tm_windows.specs.Candidates.{IsCandidate, AreCandidates, HaveRoom, ClosesWith, ClosedWith, block_of, after_windows};
 
 use crate::candidate::Candidate;
 use crate::decoding::decode_window;
@@ -105,7 +105,7 @@ pub(crate) fn settle_run<B: BlockTaker>(
     requires few { t + length candidates.old * shape.keep < 2 ^ 61 }
     ensures ok { IfOk result (λ next. (more : List WindowBlock) × HandedOver B.took blocks.old more blocks.new
         × ClosedWith shape (record { starts = starts; t = t; octets = octets.now }) more
-        (place_behind shape t octets.now (length candidates.old) next)) }
+        (after_windows shape t octets.now (length candidates.old) next)) }
     ensures small { IfOk result (λ next. ForSome next (λ register. register < 64)) }
     ensures err { OnErr result ((tried : List WindowBlock) × HandedPart B.took B.broke blocks.old tried blocks.new
         × (to : Place) × ClosedWith shape (record { starts = starts; t = t; octets = octets.now }) tried to) }

@@ -90,12 +90,12 @@ pub(crate) fn decode_evenly<R: Threads + Sync, G: Gate + Sync>(
     // is to wait for one that another makes.
     let middle = candidates.len() / parts;
     let steps = middle * shape.keep;
-    let behind = t + steps as u64;
+    let after = t + steps as u64;
     let place = at + steps_len(shape.rate, t, steps);
     let (first, others) = decoders.split_at_mut(1);
     let (front, back) = candidates.split_at_mut(middle);
     decode_both(
-        rt, gate, shape, known, octets, first, t, at, front, others, behind, place, back,
+        rt, gate, shape, known, octets, first, t, at, front, others, after, place, back,
     );
 }
 
@@ -112,7 +112,7 @@ fn decode_both<R: Threads + Sync, G: Gate + Sync>(
     at: usize,
     front: &mut [Candidate],
     others: &mut [WindowDecoder],
-    behind: u64,
+    after: u64,
     place: usize,
     back: &mut [Candidate],
 )
@@ -126,11 +126,11 @@ fn decode_both<R: Threads + Sync, G: Gate + Sync>(
     requires others { ((0 < length others.old) × (length others.old ≤ 64)) × All (λ d. d ≡ shape) others.old }
     requires back { HaveRoom (shape.keep + shape.ahead) back.old × (length back.old ≤ 2 ^ 32)
         × (place ≤ length octets.now)
-        × (place + steps_size shape.rate behind (length back.old * shape.keep + shape.ahead + 1) ≤ length octets.now)
-        × (behind + length back.old * shape.keep < 2 ^ 61) }
+        × (place + steps_size shape.rate after (length back.old * shape.keep + shape.ahead + 1) ≤ length octets.now)
+        × (after + length back.old * shape.keep < 2 ^ 61) }
     ensures front { AreCandidates shape t (drop at octets.now) 0 (length front.old) front.new
         × HaveRoom (shape.keep + shape.ahead) front.new × All (λ d. d ≡ shape) first.new }
-    ensures back { AreCandidates shape behind (drop place octets.now) 0 (length back.old) back.new
+    ensures back { AreCandidates shape after (drop place octets.now) 0 (length back.old) back.new
         × HaveRoom (shape.keep + shape.ahead) back.new × All (λ d. d ≡ shape) others.new }
 {
     let mut decode_front = ||
@@ -147,11 +147,11 @@ fn decode_both<R: Threads + Sync, G: Gate + Sync>(
         requires { IsSync R.row × IsSync G.row × (length octets.now ≤ 2 ^ 62)
             × ((0 < length others.now) × (length others.now ≤ 64)) × All (λ d. d ≡ shape) others.now
             × HaveRoom (shape.keep + shape.ahead) back.now × (length back.now ≤ 2 ^ 32) × (place ≤ length octets.now)
-            × (place + steps_size shape.rate behind
+            × (place + steps_size shape.rate after
             (length back.now * shape.keep + shape.ahead + 1) ≤ length octets.now)
-            × (behind + length back.now * shape.keep < 2 ^ 61) }
-        ensures { AreCandidates shape behind (drop place octets.entry.now) 0 (length back.entry.now) back.exit.now
+            × (after + length back.now * shape.keep < 2 ^ 61) }
+        ensures { AreCandidates shape after (drop place octets.entry.now) 0 (length back.entry.now) back.exit.now
             × HaveRoom (shape.keep + shape.ahead) back.exit.now × All (λ d. d ≡ shape) others.exit.now }
-    { decode_evenly(rt, gate, shape, others, None, behind, octets, place, back) };
+    { decode_evenly(rt, gate, shape, others, None, after, octets, place, back) };
     join_mut(rt, &mut decode_front, &mut decode_back);
 }

@@ -34,10 +34,10 @@ length-numbers (x ∷ xs) = ap suc (length-numbers xs)
 
 -- lists whose fronts and rests are the same
 same_parts : (n : ℕ) (s a b : List Gf) → take n a ≡ take n b → drop n a ≡ drop n s → drop n b ≡ drop n s → a ≡ b
-same_parts n s a b front h k = sym (take-append-drop n a) ∙ (λ i. front i ++ (h ∙ sym k) i) ∙ take-append-drop n b
+same_parts n s a b prefix h k = sym (take-append-drop n a) ∙ (λ i. prefix i ++ (h ∙ sym k) i) ∙ take-append-drop n b
 
-short_front : (n : ℕ) (s : List Gf) → n ≤ 255 → length (numbers (take n s)) ≤ 255
-short_front n s short = omega (arith, length-numbers (take n s), length-take n s)
+short_prefix : (n : ℕ) (s : List Gf) → n ≤ 255 → length (numbers (take n s)) ≤ 255
+short_prefix n s short = omega (arith, length-numbers (take n s), length-take n s)
 
 abbrev word_of : Nearest → List ℕ
 word_of (FixedWord c d) = c
@@ -61,9 +61,9 @@ same_found s a b Beyond Beyond e h k = (refl, h refl ∙ sym (k refl))
 one_word : (code : Code) (repair : ℕ) (w a b : Word) → repair ≤ code.e → code.n ≤ 255 → Decodes code repair w a → Decodes code repair w b → a ≡ b
 one_word code repair w a b bound short h k =
     let n = code.n in
-    let only = nearest_only code.e repair (numbers (take n w.symbols)) (found h.answer (numbers (take n a.symbols))) (found k.answer (numbers (take n b.symbols))) bound (short_front n w.symbols short) h.nearest k.nearest in
+    let only = nearest_only code.e repair (numbers (take n w.symbols)) (found h.answer (numbers (take n a.symbols))) (found k.answer (numbers (take n b.symbols))) bound (short_prefix n w.symbols short) h.nearest k.nearest in
     let same = same_found (take n w.symbols) (take n a.symbols) (take n b.symbols) h.answer k.answer only h.unchanged k.unchanged in
-    let symbols = same_parts n w.symbols a.symbols b.symbols same.1 h.behind k.behind in
+    let symbols = same_parts n w.symbols a.symbols b.symbols same.1 h.after k.after in
     let answer = h.told ∙ ap Some same.0 ∙ sym k.told in
     (λ i. record { symbols = symbols i; answer = answer i })
 
@@ -106,9 +106,9 @@ one_erased_word : (code : Code) (repair : ℕ) (w a b : ErasedWord) → code.n �
 one_erased_word code repair w a b short flags h k =
     let n = code.n in
     let long : length (take n w.erased) ≡ length (numbers (take n w.symbols)) = omega (arith, length-take n w.erased, length-take n w.symbols, length-numbers (take n w.symbols), flags) in
-    let only = nearest_erased_only code.e repair (take n w.erased) (numbers (take n w.symbols)) (found_erased h.answer (numbers (take n a.symbols))) (found_erased k.answer (numbers (take n b.symbols))) long (short_front n w.symbols short) h.nearest k.nearest in
+    let only = nearest_erased_only code.e repair (take n w.erased) (numbers (take n w.symbols)) (found_erased h.answer (numbers (take n a.symbols))) (found_erased k.answer (numbers (take n b.symbols))) long (short_prefix n w.symbols short) h.nearest k.nearest in
     let same = same_found_erased (take n w.symbols) (take n a.symbols) (take n b.symbols) h.answer k.answer only h.unchanged k.unchanged in
-    let symbols = same_parts n w.symbols a.symbols b.symbols same.1 h.behind k.behind in
+    let symbols = same_parts n w.symbols a.symbols b.symbols same.1 h.after k.after in
     let erased = h.erased ∙ sym k.erased in
     let answer = h.told ∙ ap Some same.0 ∙ sym k.told in
     (λ i. record { symbols = symbols i; erased = erased i; answer = answer i })

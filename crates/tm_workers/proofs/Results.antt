@@ -47,9 +47,9 @@ module _ {X : Type 0} where
   all_drawn-append [] b = refl
   all_drawn-append (x ∷ a) b = ap (λ l. x.items ++ l) (all_drawn-append a b) ∙ sym (append_assoc x.items (all_drawn a) (all_drawn b))
 
-  pub all_numbers-join : (all one other : List ℕ) (front back : List (Vec (Drawn X) Global)) → all ≡ one ++ other → one ≡ all_numbers front
-      → other ≡ all_numbers back → all ≡ all_numbers (front ++ back)
-  all_numbers-join all one other front back is f b = is ∙ (λ i. f i ++ b i) ∙ sym (all_numbers-append front back)
+  pub all_numbers-join : (all one other : List ℕ) (prefix back : List (Vec (Drawn X) Global)) → all ≡ one ++ other → one ≡ all_numbers prefix
+      → other ≡ all_numbers back → all ≡ all_numbers (prefix ++ back)
+  all_numbers-join all one other prefix back is f b = is ∙ (λ i. f i ++ b i) ∙ sym (all_numbers-append prefix back)
 
   pub AreRooms-append : (n : ℕ) (a b : List (Vec (Drawn X) Global)) → AreRooms n a → AreRooms n b → AreRooms n (a ++ b)
   AreRooms-append n [] b h k = k

@@ -10,8 +10,8 @@ values-from first [] = refl
 values-from first (w ∷ ws) = ap (λ l. first ∷ l) (values-from (first + 1) ws)
 
 -- the numbers given are 0, 1, 2 and so on, in order
-pub in_turn : (schedule : List ℕ) → values schedule ≡ range_with_len 0 (length schedule)
-in_turn schedule = values-from 0 schedule
+pub in_order : (schedule : List ℕ) → values schedule ≡ range_with_len 0 (length schedule)
+in_order schedule = values-from 0 schedule
 
 range-once : (x first n : ℕ) → times x (range_with_len first n) + once_below x first ≡ once_below x (first + n)
 range-once x first zero = grind (arith, nat_tests)
@@ -28,7 +28,7 @@ each_once x schedule =
     let r = range-once x 0 (length schedule) in
     let none : once_below x 0 ≡ 0 = grind (arith, nat_tests) in
     let n : 0 + length schedule ≡ length schedule = omega arith in
-    ap (times x) (in_turn schedule) ∙ omega (arith, r ∙ ap (once_below x) n)
+    ap (times x) (in_order schedule) ∙ omega (arith, r ∙ ap (once_below x) n)
 
 pub at_most_once : (x : ℕ) (schedule : List ℕ) → times x (values schedule) ≤ 1
 at_most_once x schedule =

@@ -20,7 +20,7 @@ pub record Decodes (code : Code) (repair : ℕ) (w w' : Word) : Type 0 where
   pub nearest : IsNearest code.e repair (numbers (take code.n w.symbols))
       (found answer (numbers (take code.n w'.symbols)))
   pub unchanged : answer ≡ Beyond → take code.n w'.symbols ≡ take code.n w.symbols
-  pub behind : drop code.n w'.symbols ≡ drop code.n w.symbols
+  pub after : drop code.n w'.symbols ≡ drop code.n w.symbols
 
 -- the same with erased places, which stay as they were given
 pub record DecodesErased (code : Code) (repair : ℕ) (w w' : ErasedWord) : Type 0 where
@@ -29,5 +29,5 @@ pub record DecodesErased (code : Code) (repair : ℕ) (w w' : ErasedWord) : Type
   pub nearest : IsNearestErased code.e repair (take code.n w.erased)
       (numbers (take code.n w.symbols)) (found_erased answer (numbers (take code.n w'.symbols)))
   pub unchanged : answer ≡ BeyondBoth → take code.n w'.symbols ≡ take code.n w.symbols
-  pub behind : drop code.n w'.symbols ≡ drop code.n w.symbols
+  pub after : drop code.n w'.symbols ≡ drop code.n w.symbols
   pub erased : w'.erased ≡ w.erased

@@ -69,8 +69,8 @@ fn fill_all<R: Threads + Sync, X: Copy + Send, F: Fn(u32) -> X + Sync>(
         [room] => fill(f, tickets, seat, room),
         rooms => {
             let middle = rooms.len() / 2;
-            let behind = rooms.len() - middle;
-            let mut other = tickets.split(seat, behind as u32);
+            let after = rooms.len() - middle;
+            let mut other = tickets.split(seat, after as u32);
             let (front, back) = rooms.split_at_mut(middle);
             fill_both(rt, f, tickets, seat, front, &mut other, back);
             tickets.join(seat, other);

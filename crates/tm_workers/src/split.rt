@@ -73,7 +73,7 @@ fn split_both<R: Threads + Sync, G: Gate + Sync, W: InPlace + Send>(
 {
     let some = workers / 2;
     let others = workers - some;
-    let behind = first + front.len() as u32;
+    let after = first + front.len() as u32;
     let mut decode_front = ||
         requires { IsSync R.row × IsSync G.row × IsSend W.row × (repair ≤ params.now.e)
             × (first + length front.now < 2 ^ 32) }
@@ -81,8 +81,8 @@ fn split_both<R: Threads + Sync, G: Gate + Sync, W: InPlace + Send>(
     { split_evenly(rt, gate, params, repair, first, some, front) };
     let mut decode_back = ||
         requires { IsSync R.row × IsSync G.row × IsSend W.row × (repair ≤ params.now.e)
-            × (behind + length back.now < 2 ^ 32) }
+            × (after + length back.now < 2 ^ 32) }
         ensures { EachBecomes (W.becomes params.entry.now repair) back.entry.now back.exit.now }
-    { split_evenly(rt, gate, params, repair, behind, others, back) };
+    { split_evenly(rt, gate, params, repair, after, others, back) };
     join_mut(rt, &mut decode_front, &mut decode_back);
 }

@@ -1,7 +1,7 @@
 // The sender: frames in, symbols out.
 ghost use Rattle.std.specs.Prelude.{◌≡◌, ℕ, List, [], None, length, pos, true};
 ghost use Rattle.std.specs.Option.{is_some};
-ghost use Rattle.tm_codeblock.specs.Frames.{behind_frames};
+ghost use Rattle.tm_codeblock.specs.Frames.{after_frames};
 ghost use Rattle.tm_config.specs.Configuration.{Configuration};
 ghost use Rattle.tm_buffers.specs.Buffer.{has_room};
 ghost use Rattle.tm_buffers.specs.Sending.{symbols_room};
@@ -75,7 +75,7 @@ pub extern "C" fn tmchan_sender_finish(alloc: Global, handle: &mut Handle) -> i6
     ensures refused { Refuses (closed_refusal (sender_in handle.old.kept.value)) result
         (handle.new.kept.value ≡ handle.old.kept.value) }
     ensures finished { (c : Configuration) (given : List ℕ) → IsSender handle.old.kept.value c given
-        → (result ≡ pos (length (behind_frames c.frame_length given))) × (handle.new.kept.value ≡ None) }
+        → (result ≡ pos (length (after_frames c.frame_length given))) × (handle.new.kept.value ≡ None) }
 {
     let Some(stream) = take(alloc, handle) else {
         return Refusal::Closed.long_answer();

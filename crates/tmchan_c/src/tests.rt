@@ -68,7 +68,7 @@ fn units_are_written_and_taken_apart(rt: HostRuntime) {
 }
 
 #[test]
-fn frames_are_sent_and_received_behind_handles(rt: HostRuntime) {
+fn frames_are_sent_and_received_after_handles(rt: HostRuntime) {
     let alloc = rt.alloc();
     let mut options = Options {
         code: 0,

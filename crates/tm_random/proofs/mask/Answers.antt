@@ -10,11 +10,11 @@ use Rattle.tm_random.proofs.Masks.{masked-append, length-masked}
 use Rattle.tm_random.proofs.mask.Goals as goal
 
 -- what was masked, and a part that is masked after it
-behind : (start count : ℕ) (before block part : List ℕ) → AreOctets before → start + count ≤ length before → start % 255 ≡ 0
+after : (start count : ℕ) (before block part : List ℕ) → AreOctets before → start + count ≤ length before → start % 255 ≡ 0
     → take start block ≡ masked (take start before) → drop start block ≡ drop start before → part ≡ masked (take count (drop start block))
     → take start block ++ part ≡ masked (take (start + count) before)
-behind start count before block part are within whole front rest is =
-    (λ t. front t ++ (is ∙ ap (λ l. masked (take count l)) rest) t)
+after start count before block part are within whole prefix rest is =
+    (λ t. prefix t ++ (is ∙ ap (λ l. masked (take count l)) rest) t)
     ∙ sym (masked-append (take start before) (take count (drop start before)) (All-take (λ octet. octet < 256) start before are) (All-take (λ octet. octet < 256) count (drop start before) (All-drop (λ octet. octet < 256) start before are))
     (ap (λ n. n % 255) (length-take-le start before (omega arith)) ∙ whole))
     ∙ ap masked (sym (take-add start count before))
@@ -41,8 +41,8 @@ loop-block-preserved c =
       octets = inv.octets;
       within = omega (arith, room, same_len_mid start (start + 255 - start) block part (omega (arith, long, length-take-le (start + 255 - start) (drop start block) (omega (arith, length-drop start block)))));
       whole = omega (arith, inv.whole);
-      front = take-put_mid start (start + 255 - start) block part (start + 255) (omega (arith, long)) inv.within
-          ∙ behind start 255 c.args.block.now block part inv.octets (omega (arith, c.loop-block.auto.block)) inv.whole inv.front inv.rest is;
+      prefix = take-put_mid start (start + 255 - start) block part (start + 255) (omega (arith, long)) inv.within
+          ∙ after start 255 c.args.block.now block part inv.octets (omega (arith, c.loop-block.auto.block)) inv.whole inv.prefix inv.rest is;
       rest = drop-put_mid start (start + 255 - start) block part (start + 255) (omega arith) inv.within (long ∙ sym size) ∙ later start 255 block c.args.block.now inv.rest;
     }
 
@@ -60,5 +60,5 @@ returns c =
     let all : start + count ≡ length block = omega (arith, inv.within) in
     sym (take_all (start + count) (put_mid start count block part) (omega (arith, size, all)))
     ∙ take-put_mid start count block part (start + count) (omega (arith, long)) inv.within
-    ∙ behind start count c.args.block.now block part inv.octets (omega (arith, c.loop-block.auto.block, all)) inv.whole inv.front inv.rest is
+    ∙ after start count c.args.block.now block part inv.octets (omega (arith, c.loop-block.auto.block, all)) inv.whole inv.prefix inv.rest is
     ∙ ap masked (take_all (start + count) c.args.block.now (omega (arith, c.loop-block.auto.block, all)))

@@ -8,7 +8,7 @@ invariant-loop-block l = record {
   octets : AreOctets l.initial.block;
   within : l.start ≤ length l.block;
   whole : l.start % 255 ≡ 0;
-  front : take l.start l.block ≡ masked (take l.start l.initial.block);
+  prefix : take l.start l.block ≡ masked (take l.start l.initial.block);
   rest : drop l.start l.block ≡ drop l.start l.initial.block;
 }
 

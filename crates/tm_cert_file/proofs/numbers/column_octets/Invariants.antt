@@ -5,5 +5,5 @@ use Rattle.tm_cert_file.proofs.numbers.column_octets.Given as goal
 abbrev pub invariant-loop-s : goal.invariant-loop-s
 invariant-loop-s l = record {
   long : length l.octets ≡ 256;
-  front : take (4 * l.s) l.octets ≡ column_octets (take l.s l.column);
+  prefix : take (4 * l.s) l.octets ≡ column_octets (take l.s l.column);
 }

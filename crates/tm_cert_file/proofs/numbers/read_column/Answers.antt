@@ -5,11 +5,11 @@ use Rattle.tm_cert_file.proofs.numbers.read_column.Goals as goal
 
 pub loop-s-init : goal.loop-s-init
 unfolding numbers_in
-loop-s-init c = record { long = refl; front = refl }
+loop-s-init c = record { long = refl; prefix = refl }
 
 pub loop-s-preserved : goal.loop-s-preserved
 loop-s-preserved c = record {
   long = length-set c.loop-s.column c.loop-s.s c.read_u32.result ∙ c.loop-s.invariant.long;
-  front = column_more c.loop-s.s (4 * c.loop-s.s + 4 - 4 * c.loop-s.s) c.read_u32.result c.loop-s.column c.args.octets.now c.loop-s.invariant.long (omega arith) (omega arith)
-      c.read_u32.ensures c.loop-s.invariant.front;
+  prefix = column_more c.loop-s.s (4 * c.loop-s.s + 4 - 4 * c.loop-s.s) c.read_u32.result c.loop-s.column c.args.octets.now c.loop-s.invariant.long (omega arith) (omega arith)
+      c.read_u32.ensures c.loop-s.invariant.prefix;
 }

@@ -7,7 +7,7 @@ use Rattle.tm_conv.proofs.Paths.{steps_size-zero, steps_size-more}
 use Rattle.tm_viterbi.specs.Starts.{starts_from}
 use Rattle.tm_viterbi.specs.Summing.{SumsFor}
 use Rattle.tm_cert_file.proofs.Spans.{steps_below, step_fits}
-use Rattle.tm_cert_file.proofs.WrittenFronts.{on_err-all}
+use Rattle.tm_cert_file.proofs.WrittenPrefixes.{on_err-all}
 use Rattle.tm_cert_file.proofs.ColumnLists.{TookColumns, column-of, octets-next, took-first, took-push, cut-first, cut-push}
 use Rattle.tm_cert_file.proofs.writing.write_columns.Goals as goal
 

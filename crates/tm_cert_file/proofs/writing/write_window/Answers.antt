@@ -2,7 +2,7 @@ use Rattle.std.proofs.Common.{◌≡◌, ap, subst, arith}
 use Rattle.std.proofs.lemmas.Result.{on_ok_weaker, on_err_weaker}
 use Rattle.tm_viterbi.specs.WindowBlock.{WindowBlock}
 use Rattle.tm_cert_file.specs.Window.{header_octets}
-use Rattle.tm_cert_file.proofs.WrittenFronts.{on_err-all}
+use Rattle.tm_cert_file.proofs.WrittenPrefixes.{on_err-all}
 use Rattle.tm_cert_file.proofs.WindowTexts.{cut-head, cut-bits, cut-octets, cut-columns, whole-parts}
 use Rattle.tm_cert_file.proofs.writing.write_window.Goals as goal
 
@@ -45,6 +45,6 @@ pub returns-clause-err : goal.returns-clause-err
 returns-clause-err g c =
     let head = subst (λ (b : WindowBlock). c.header.result ≡ header_octets b.steps b.kept b.start b.metric) c.block.view_is c.header.ensures in
     let bits = ap (λ (b : WindowBlock). b.bits) c.block.view_is in
-    on_err_weaker c.write_columns.result (λ front.
+    on_err_weaker c.write_columns.result (λ prefix.
     cut-columns c.args.rate c.args.invert c.args.start c.args.first c.args.octets.now c.args.block.now c.header.result _ _ _ _ _ _ head bits
-    c.in_ok-put_all.ensures.ok c.in_ok-put_all-2.ensures.ok c.in_ok-put_all-3.ensures.ok (front c.args.block.now.steps c.requires.steps)) c.write_columns.ensures.err
+    c.in_ok-put_all.ensures.ok c.in_ok-put_all-2.ensures.ok c.in_ok-put_all-3.ensures.ok (prefix c.args.block.now.steps c.requires.steps)) c.write_columns.ensures.err

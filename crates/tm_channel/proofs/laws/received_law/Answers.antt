@@ -1,4 +1,4 @@
-use Rattle.tm_channel.proofs.HandedItems.{received-bits, received-due, received-exists, received-first, received-front, received-one}
+use Rattle.tm_channel.proofs.HandedItems.{received-bits, received-due, received-exists, received-first, received-prefix, received-one}
 use Rattle.tm_channel.proofs.laws.received_law.Goals as goal
 
 pub returns-clause-exists : goal.returns-clause-exists
@@ -13,13 +13,13 @@ returns-clause-bits c = received-bits c.phase_law.ensures.one c.inner_law.ensure
 
 pub returns-clause-due : goal.returns-clause-due
 returns-clause-due c k octets more due all bits accepted =
-    received-due c.whole_window_law.ensures.front c.phase_law.ensures.one k octets more due all bits (λ phase first items. c.due_items_law.ensures k phase octets more first items accepted)
+    received-due c.whole_window_law.ensures.prefix c.phase_law.ensures.one k octets more due all bits (λ phase first items. c.due_items_law.ensures k phase octets more first items accepted)
 
 pub returns-clause-first : goal.returns-clause-first
 returns-clause-first c k octets more first all bits accepted =
-    received-first c.whole_window_law.ensures.front c.phase_law.ensures.one k octets more first all bits
+    received-first c.whole_window_law.ensures.prefix c.phase_law.ensures.one k octets more first all bits
     (λ phase first items. c.first_items_law.ensures.feed k phase octets more first items accepted)
 
-pub returns-clause-front : goal.returns-clause-front
-returns-clause-front c k octets front all bits accepted =
-    received-front c.phase_law.ensures.one k octets front all bits (λ phase first items. c.first_items_law.ensures.finish k phase octets first items accepted)
+pub returns-clause-prefix : goal.returns-clause-prefix
+returns-clause-prefix c k octets prefix all bits accepted =
+    received-prefix c.phase_law.ensures.one k octets prefix all bits (λ phase first items. c.first_items_law.ensures.finish k phase octets first items accepted)

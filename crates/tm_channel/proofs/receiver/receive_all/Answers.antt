@@ -2,7 +2,7 @@ use Rattle.std.proofs.Common.{◌++◌, ◌∙◌, ℕ, inl, inr, [], subst, ref
 use Rattle.tm_base.specs.Outside.{Rose}
 use Rattle.tm_base.proofs.Handing.{HandedOver-append, HandedPart-after}
 use Rattle.tm_config.specs.Configuration.{Configuration}
-use Rattle.tm_channel.specs.Handing.{AreReceived, AreReceivedFirst, AreReceivedFront}
+use Rattle.tm_channel.specs.Handing.{AreReceived, AreReceivedFirst, AreReceivedPrefix}
 use Rattle.tm_channel.specs.declared.receiver.RecvError.{RecvError}
 use Rattle.tm_channel.specs.declared.receiver.RecvError.TheVariants.{Taker, Stopped}
 use Rattle.tm_channel.proofs.receiver.receive_all.Goals as goal
@@ -24,27 +24,27 @@ taker_alone : {T : Type 0} (e : RecvError) → (IsErrOf {T = T} (Err e) Stopped 
 taker_alone Taker h = refl
 taker_alone Stopped h = absurd (h refl)
 
-pub returns-in_default-feed-clause-front : goal.returns-in_default-feed-clause-front
-returns-in_default-feed-clause-front g c = λ _.
+pub returns-in_default-feed-clause-prefix : goal.returns-in_default-feed-clause-prefix
+returns-in_default-feed-clause-prefix g c = λ _.
     let fresh = c.in-Ok.ensures.fresh in
-    let fed = c.in_default-feed.ensures.front (taker_alone c.in_default-feed.field-0 (λ is. (let stopped = c.in_default-feed.ensures.call.stopped.0 is in absurd cc))) in
+    let fed = c.in_default-feed.ensures.prefix (taker_alone c.in_default-feed.field-0 (λ is. (let stopped = c.in_default-feed.ensures.call.stopped.0 is in absurd cc))) in
     let octets = c.args.octets.now in (
       fed.0,
       fed.1,
       λ few. inl (subst (λ (k : Configuration). AreReceivedFirst k octets fed.0) c.in-Ok.ensures.config (fed.2 [] [] (omega (arith, few)) c.in-Ok.ensures.stands)),
     )
 
-pub returns-clause-front : goal.returns-clause-front
-returns-clause-front g c = λ _.
+pub returns-clause-prefix : goal.returns-clause-prefix
+returns-clause-prefix g c = λ _.
     let fed = c.in-Ok-feed.ensures.handed in
     let none : IsTrue c.feed.new.self.has_stopped → ⊥ = λ stopped. c.in-Ok-feed.ensures.stops.0 stopped in
     let octets = c.args.octets.now in
-    let last = c.in-Err.ensures.front (taker_alone c.in-Err.field-0 (λ is. none (c.in-Err.ensures.call.stopped.0 is))) in (
+    let last = c.in-Err.ensures.prefix (taker_alone c.in-Err.field-0 (λ is. none (c.in-Err.ensures.call.stopped.0 is))) in (
       fed.0 ++ last.0,
       HandedPart-after _ _ c.args.taker.now c.feed.new.taker c.finish.new.taker fed.0 last.0 fed.1 last.1,
       λ few.
           let stands = (fed.2 [] [] (omega (arith, few)) c.in-Ok.ensures.stands).0 in
-          inr (subst (λ (k : Configuration). AreReceivedFront k octets (fed.0 ++ last.0)) (c.feed.ensures.config ∙ c.in-Ok.ensures.config) (last.2 octets fed.0 stands)),
+          inr (subst (λ (k : Configuration). AreReceivedPrefix k octets (fed.0 ++ last.0)) (c.feed.ensures.config ∙ c.in-Ok.ensures.config) (last.2 octets fed.0 stands)),
     )
 
 pub returns-clause-rose : goal.returns-clause-rose

@@ -8,11 +8,11 @@ use Rattle.tm_channel.proofs.repair.repair.Goals as goal
 
 pub returns-clause-kept : goal.returns-clause-kept
 returns-clause-kept g c =
-    let front = take_at c.write_items.new.slots (drop c.args.count c.args.slots.now) c.args.count (c.write_items.ensures.length ∙ length-take-le c.args.count c.args.slots.now c.requires.count) in
-    ap (map (kept_in (codeblock_length c.args.config.now))) front ∙ c.write_items.ensures.kept
+    let prefix = take_at c.write_items.new.slots (drop c.args.count c.args.slots.now) c.args.count (c.write_items.ensures.length ∙ length-take-le c.args.count c.args.slots.now c.requires.count) in
+    ap (map (kept_in (codeblock_length c.args.config.now))) prefix ∙ c.write_items.ensures.kept
 
 pub returns-clause-items : goal.returns-clause-items
 returns-clause-items g c =
-    let front = take_at c.write_items.new.slots (drop c.args.count c.args.slots.now) c.args.count (c.write_items.ensures.length ∙ length-take-le c.args.count c.args.slots.now c.requires.count) in
+    let prefix = take_at c.write_items.new.slots (drop c.args.count c.args.slots.now) c.args.count (c.write_items.ensures.length ∙ length-take-le c.args.count c.args.slots.now c.requires.count) in
     subst (λ (slots : List Slot). AreItemsFor c.args.config.now (map (kept_in (codeblock_length c.args.config.now)) (take c.args.count c.args.slots.now)) (map (item_in c.args.config.now) slots))
-    (sym front) c.write_items.ensures.items
+    (sym prefix) c.write_items.ensures.items

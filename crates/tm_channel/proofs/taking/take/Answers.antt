@@ -2,8 +2,8 @@ use Rattle.std.proofs.Common.{rules, ◌≡◌, ◌++◌, ◌+◌, ◌-◌, ◌�
 use Rattle.std.proofs.lemmas.List.{take_all}
 use Rattle.tm_base.specs.Handed.{on_handed}
 use Rattle.tm_config.specs.Configuration.{Configuration}
-use Rattle.tm_inner.specs.Receiving.{HandsFront}
-use Rattle.tm_inner.proofs.GivenPieces.{hands-front, hands-longer}
+use Rattle.tm_inner.specs.Receiving.{HandsPrefix}
+use Rattle.tm_inner.proofs.GivenPieces.{hands-prefix, hands-longer}
 use Rattle.tm_channel.specs.OctetReceiving.{FirstWith, Stages, StagesFor, StagesHand}
 use Rattle.tm_channel.proofs.GivenOctets.{first_with-stays, piece-joined, stages-hand, stages-more, stages-none}
 use Rattle.tm_channel.proofs.taking.take.Goals as goal
@@ -53,7 +53,7 @@ returns-in-Err g c =
     let broke = on_handed g.T.ItemTaker.broke_phase g.T.ItemTaker.broke in
     let chosen = c.take_piece.new.inner.phased.chosen in
     let first = FirstWith c.args.inner.now.config chosen in
-    let part = subst (λ (k : Configuration). HandsFront took broke StagesFor (FirstWith k chosen) before c.loop-done.taker c.take_piece.new.taker next) i.inner c.in-Err.ensures.front in
+    let part = subst (λ (k : Configuration). HandsPrefix took broke StagesFor (FirstWith k chosen) before c.loop-done.taker c.take_piece.new.taker next) i.inner c.in-Err.ensures.prefix in
     let whole : (take at octets ++ next) ++ rest ≡ octets = ap (λ l. l ++ rest) (piece-joined at c.min.result octets) ∙ take-append-drop (at + c.min.result) octets in
     record {
       inner = c.take_piece.ensures.inner ∙ i.inner;
@@ -61,10 +61,10 @@ returns-in-Err g c =
       room = c.take_piece.ensures.room ∙ i.room;
       stream = c.take_piece.ensures.stream ∙ i.stream;
       handed = search rules;
-      front = subst (HandsFront took broke StagesFor first start c.args.taker.now c.take_piece.new.taker) whole
+      prefix = subst (HandsPrefix took broke StagesFor first start c.args.taker.now c.take_piece.new.taker) whole
           (hands-longer took broke StagesFor first start c.args.taker.now c.take_piece.new.taker (take at octets ++ next) rest
-          (first_with-stays c.whole_window_law.ensures.front c.closed_windows_law.ensures c.args.inner.now.config chosen)
-          (hands-front took broke StagesFor first start before c.args.taker.now c.loop-done.taker c.take_piece.new.taker (take at octets) next
+          (first_with-stays c.whole_window_law.ensures.prefix c.closed_windows_law.ensures c.args.inner.now.config chosen)
+          (hands-prefix took broke StagesFor first start before c.args.taker.now c.loop-done.taker c.take_piece.new.taker (take at octets) next
           (stages-hand took start before c.args.taker.now c.loop-done.taker (take at octets) i.handed) part));
       cause = search rules;
     }
@@ -81,6 +81,6 @@ returns g c =
       stream = i.stream;
       handed = subst (StagesHand (on_handed g.T.ItemTaker.took_phase g.T.ItemTaker.took) start now c.args.taker.now c.loop-done.taker) (take_all c.loop-done.done c.args.octets.now c.loop-done-test.false)
           c.loop-done.invariant.handed;
-      front = search rules;
+      prefix = search rules;
       cause = search rules;
     }

@@ -1,5 +1,5 @@
 use Rattle.std.proofs.Common.{rules, subst, OnOk, OnErr}
-use Rattle.tm_inner.proofs.PlainBits.{nearest-behind}
+use Rattle.tm_inner.proofs.PlainBits.{nearest-after}
 use Rattle.tm_channel.specs.OctetReceiving.{Received, ReceivedPart}
 use Rattle.tm_channel.proofs.taking.take_nearest.Goals as goal
 
@@ -7,7 +7,7 @@ pub returns : goal.returns
 returns g c =
     let t = g.T.ItemTaker in
     let now = c.take_bits.new in
-    let same = nearest-behind c.args.inner.now.config c.args.skip c.min-from.result c.args.octets.now c.nearest_bits.new.bits c.min-from.ensures c.nearest_bits.ensures.bits in
+    let same = nearest-after c.args.inner.now.config c.args.skip c.min-from.result c.args.octets.now c.nearest_bits.new.bits c.min-from.ensures c.nearest_bits.ensures.bits in
     record {
       config = c.take_bits.ensures.config;
       handed = subst (λ l. OnOk c.take_bits.result (Received t.took c.args.stream.now now.stream c.args.taker.now now.taker l)) same c.take_bits.ensures.handed;

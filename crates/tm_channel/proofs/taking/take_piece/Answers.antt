@@ -5,13 +5,13 @@ use Rattle.tm_config.specs.Configuration.{Configuration}
 use Rattle.tm_inner.specs.Inner.{plain_bits, plain_count}
 use Rattle.tm_inner.specs.Receiving.{InnerReceiving}
 use Rattle.tm_channel.specs.OctetReceiving.{Grows, Stages, received_bits}
-use Rattle.tm_channel.proofs.GivenOctets.{first-chosen, found-none, found-some, front-due, front-phase, hands-due, hands-wait}
+use Rattle.tm_channel.proofs.GivenOctets.{first-chosen, found-none, found-some, prefix-due, prefix-phase, hands-due, hands-wait}
 use Rattle.tm_channel.proofs.taking.take_piece.Goals as goal
 
 -- with no inner code the bits are those of the octets after the skipped ones
-found-behind : (inner now : InnerReceiving) (skip : ℕ) (kept octets : List ℕ) → now.config ≡ inner.config → is_some inner.config.inner ≡ false
+found-after : (inner now : InnerReceiving) (skip : ℕ) (kept octets : List ℕ) → now.config ≡ inner.config → is_some inner.config.inner ≡ false
     → skip ≡ inner.config.skip - plain_count inner.config inner.count → received_bits inner kept octets ≡ drop skip (plain_bits now.config octets)
-found-behind inner now skip kept octets same none is =
+found-after inner now skip kept octets same none is =
     found-none inner.config inner.config.inner (inner.config.skip - plain_count inner.config inner.count) kept octets none
     ∙ ap (λ n. drop n (plain_bits inner.config octets)) (sym is) ∙ ap (λ (k : Configuration). drop skip (plain_bits k octets)) (sym same)
 
@@ -25,8 +25,8 @@ returns-then-waits-clause-handed g c =
     c.requires.of d.ensures.inner held.0 c.spare.ensures.value c.spare.ensures.most held.1
 
 -- the taker failed at the phase
-pub returns-in-Err-clause-front : goal.returns-in-Err-clause-front
-returns-in-Err-clause-front g c =
+pub returns-in-Err-clause-prefix : goal.returns-in-Err-clause-prefix
+returns-in-Err-clause-prefix g c =
     let before : Stages = record { inner = c.args.inner.now; bits = c.args.stream.now } in
     let d = c.hold_or_decode-waits in
     let kept = d.new.kept in
@@ -36,11 +36,11 @@ returns-in-Err-clause-front g c =
     let grows = d.ensures.grows c.if-waits.false in
     first-chosen (on_handed g.T.ItemTaker.took_phase g.T.ItemTaker.took) (on_handed g.T.ItemTaker.broke_phase g.T.ItemTaker.broke) before d.new.inner
     c.args.taker.now c.hand_phase.new.taker room octets kept.phase bits c.requires.room d.ensures.inner grows
-    (front-phase g.T.ItemTaker.took_phase g.T.ItemTaker.broke_phase g.T.ItemTaker.took g.T.ItemTaker.broke before d.new.inner c.args.taker.now c.hand_phase.new.taker room octets
-    kept.phase bits c.requires.of c.requires.room grows c.in-Err.ensures.front)
+    (prefix-phase g.T.ItemTaker.took_phase g.T.ItemTaker.broke_phase g.T.ItemTaker.took g.T.ItemTaker.broke before d.new.inner c.args.taker.now c.hand_phase.new.taker room octets
+    kept.phase bits c.requires.of c.requires.room grows c.in-Err.ensures.prefix)
 
-pub returns-in-Err-take_bits-clause-front : goal.returns-in-Err-take_bits-clause-front
-returns-in-Err-take_bits-clause-front g c =
+pub returns-in-Err-take_bits-clause-prefix : goal.returns-in-Err-take_bits-clause-prefix
+returns-in-Err-take_bits-clause-prefix g c =
     let inner = c.args.inner.now in
     let before : Stages = record { inner = inner; bits = c.args.stream.now } in
     let d = c.hold_or_decode-waits in
@@ -55,13 +55,13 @@ returns-in-Err-take_bits-clause-front g c =
     let grows = subst (Grows inner d.new.inner room octets kept.phase) same (d.ensures.grows c.if-waits.false) in
     first-chosen (on_handed g.T.ItemTaker.took_phase g.T.ItemTaker.took) (on_handed g.T.ItemTaker.broke_phase g.T.ItemTaker.broke) before d.new.inner
     c.args.taker.now c.take_bits.new.taker room octets kept.phase (map (λ bit. bit == 1) c.bits.result.now) c.requires.room d.ensures.inner grows
-    (front-due g.T.ItemTaker.took_phase g.T.ItemTaker.broke_phase g.T.ItemTaker.took g.T.ItemTaker.broke before
+    (prefix-due g.T.ItemTaker.took_phase g.T.ItemTaker.broke_phase g.T.ItemTaker.took g.T.ItemTaker.broke before
     d.new.inner c.take_bits.new.stream
     c.args.taker.now c.hand_phase.new.taker c.take_bits.new.taker room octets kept.phase (map (λ bit. bit == 1) c.bits.result.now) c.requires.of c.requires.room
     grows c.in-Ok.ensures.handed c.in-Err-take_bits.ensures.part)
 
-pub returns-in-Err-take_behind-clause-front : goal.returns-in-Err-take_behind-clause-front
-returns-in-Err-take_behind-clause-front g c =
+pub returns-in-Err-take_after-clause-prefix : goal.returns-in-Err-take_after-clause-prefix
+returns-in-Err-take_after-clause-prefix g c =
     let inner = c.args.inner.now in
     let before : Stages = record { inner = inner; bits = c.args.stream.now } in
     let d = c.hold_or_decode-waits in
@@ -71,14 +71,14 @@ returns-in-Err-take_behind-clause-front g c =
     let is : is_some inner.config.inner ≡ false =
     ap (λ (k : Configuration). is_some k.inner) (sym d.ensures.inner) ∙ sym c.has_inner_code.ensures
     ∙ c.if-has_inner_code.false in
-    let same = found-behind inner d.new.inner c.bits_to_skip-skip.result kept.bits octets d.ensures.inner is c.bits_to_skip-skip.ensures.value in
+    let same = found-after inner d.new.inner c.bits_to_skip-skip.result kept.bits octets d.ensures.inner is c.bits_to_skip-skip.ensures.value in
     let grows = subst (Grows inner d.new.inner room octets kept.phase) same (d.ensures.grows c.if-waits.false) in
     let piece = drop c.bits_to_skip-skip.result (plain_bits d.new.inner.config octets) in
     first-chosen (on_handed g.T.ItemTaker.took_phase g.T.ItemTaker.took) (on_handed g.T.ItemTaker.broke_phase g.T.ItemTaker.broke) before d.new.inner
-    c.args.taker.now c.take_behind.new.taker room octets kept.phase piece c.requires.room d.ensures.inner grows
-    (front-due g.T.ItemTaker.took_phase g.T.ItemTaker.broke_phase g.T.ItemTaker.took g.T.ItemTaker.broke before d.new.inner c.take_behind.new.stream
-    c.args.taker.now c.hand_phase.new.taker c.take_behind.new.taker room octets kept.phase piece c.requires.of c.requires.room
-    grows c.in-Ok.ensures.handed c.in-Err-take_behind.ensures.part)
+    c.args.taker.now c.take_after.new.taker room octets kept.phase piece c.requires.room d.ensures.inner grows
+    (prefix-due g.T.ItemTaker.took_phase g.T.ItemTaker.broke_phase g.T.ItemTaker.took g.T.ItemTaker.broke before d.new.inner c.take_after.new.stream
+    c.args.taker.now c.hand_phase.new.taker c.take_after.new.taker room octets kept.phase piece c.requires.of c.requires.room
+    grows c.in-Ok.ensures.handed c.in-Err-take_after.ensures.part)
 
 pub returns-in-Ok-take_bits-clause-handed : goal.returns-in-Ok-take_bits-clause-handed
 returns-in-Ok-take_bits-clause-handed g c =
@@ -97,19 +97,19 @@ returns-in-Ok-take_bits-clause-handed g c =
     hands-due g.T.ItemTaker.took_phase g.T.ItemTaker.took before now c.args.taker.now c.hand_phase.new.taker c.take_bits.new.taker room octets kept.phase (map (λ bit. bit == 1) c.bits.result.now)
     c.requires.of c.requires.room d.ensures.inner (subst (Grows inner d.new.inner room octets kept.phase) same (d.ensures.grows c.if-waits.false)) c.in-Ok.ensures.handed c.in-Ok-take_bits.ensures.handed
 
-pub returns-in-Ok-take_behind-clause-handed : goal.returns-in-Ok-take_behind-clause-handed
-returns-in-Ok-take_behind-clause-handed g c =
+pub returns-in-Ok-take_after-clause-handed : goal.returns-in-Ok-take_after-clause-handed
+returns-in-Ok-take_after-clause-handed g c =
     let inner = c.args.inner.now in
     let d = c.hold_or_decode-waits in
     let before : Stages = record { inner = inner; bits = c.args.stream.now } in
-    let now : Stages = record { inner = d.new.inner; bits = c.take_behind.new.stream } in
+    let now : Stages = record { inner = d.new.inner; bits = c.take_after.new.stream } in
     let kept = d.new.kept in
     let octets = c.args.octets.now in
     let room = c.args.kept.now.size in
     let is : is_some inner.config.inner ≡ false =
     ap (λ (k : Configuration). is_some k.inner) (sym d.ensures.inner) ∙ sym c.has_inner_code.ensures
     ∙ c.if-has_inner_code.false in
-    let same = found-behind inner d.new.inner c.bits_to_skip-skip.result kept.bits octets d.ensures.inner is c.bits_to_skip-skip.ensures.value in
-    hands-due g.T.ItemTaker.took_phase g.T.ItemTaker.took before now c.args.taker.now c.hand_phase.new.taker c.take_behind.new.taker room octets kept.phase
+    let same = found-after inner d.new.inner c.bits_to_skip-skip.result kept.bits octets d.ensures.inner is c.bits_to_skip-skip.ensures.value in
+    hands-due g.T.ItemTaker.took_phase g.T.ItemTaker.took before now c.args.taker.now c.hand_phase.new.taker c.take_after.new.taker room octets kept.phase
     (drop c.bits_to_skip-skip.result (plain_bits d.new.inner.config octets)) c.requires.of c.requires.room d.ensures.inner
-    (subst (Grows inner d.new.inner room octets kept.phase) same (d.ensures.grows c.if-waits.false)) c.in-Ok.ensures.handed c.in-Ok-take_behind.ensures.handed
+    (subst (Grows inner d.new.inner room octets kept.phase) same (d.ensures.grows c.if-waits.false)) c.in-Ok.ensures.handed c.in-Ok-take_after.ensures.handed

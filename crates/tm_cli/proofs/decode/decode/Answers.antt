@@ -16,7 +16,7 @@ returns-clause-answered g c = IfOk-both c.receive-ended.result _ _ _ (λ ending 
     (λ (t : Decoding g.row.O.Denot g.row.N.Denot). t.out.now) (λ (o : g.row.O.Denot). sink_state (g.O.Sink.taken o) (g.O.Sink.faults o)) (λ (t : Decoding g.row.O.Denot g.row.N.Denot). t.report.lines.now)
     (λ (n : g.row.N.Denot). sink_state (g.N.Sink.taken n) (g.N.Sink.faults n)) (λ (t : Decoding g.row.O.Denot g.row.N.Denot). g.O.Sink.is_last t.out.now)
     (λ (t : Decoding g.row.O.Denot g.row.N.Denot). g.N.Sink.is_last t.report.lines.now) (λ (t : Decoding g.row.O.Denot g.row.N.Denot). t.report.counts)
-    c.args.config.now ending r.0 _ now law.exists law.one law.due law.first law.front (search rules) c.receive-ended.ensures.accepted r.3 in
+    c.args.config.now ending r.0 _ now law.exists law.one law.due law.first law.prefix (search rules) c.receive-ended.ensures.accepted r.3 in
     let out_same : now.out.ghost_name ≡ _ = done.out_same in
     let notes_same : now.report.lines.ghost_name ≡ _ = done.notes_same in
     let ends : Ends ending (decode_meaning c.args.config.now) c.args.config.now.limit r.0

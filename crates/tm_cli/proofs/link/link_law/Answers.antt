@@ -1,4 +1,4 @@
-use Rattle.tm_cli.proofs.Links.{keeps-clean, keeps-disturbed, keeps-turned_input, keeps-turned_symbols}
+use Rattle.tm_cli.proofs.Links.{keeps-clean, keeps-disturbed, keeps-complemented_input, keeps-complemented_symbols}
 use Rattle.tm_cli.proofs.link.link_law.Goals as goal
 
 pub returns-clause-clean : goal.returns-clause-clean
@@ -9,10 +9,10 @@ pub returns-clause-disturbed : goal.returns-clause-disturbed
 returns-clause-disturbed c =
     keeps-disturbed c.phase_law.ensures.one c.received_law.ensures.one c.inner_law.ensures.one c.disturbed_law.ensures.items c.disturbed_law.ensures.frames
 
-pub returns-clause-turned_input : goal.returns-clause-turned_input
-returns-clause-turned_input c = keeps-turned_input c.phase_law.ensures.one c.received_law.ensures.one c.items_law.ensures.one c.polarity_law.ensures.uncoded
+pub returns-clause-complemented_input : goal.returns-clause-complemented_input
+returns-clause-complemented_input c = keeps-complemented_input c.phase_law.ensures.one c.received_law.ensures.one c.items_law.ensures.one c.polarity_law.ensures.uncoded
 
-pub returns-clause-turned_symbols : goal.returns-clause-turned_symbols
-returns-clause-turned_symbols c =
-    keeps-turned_symbols c.polarity_law.ensures.phase c.phase_law.ensures.one c.received_law.ensures.one c.inner_law.ensures.exists
+pub returns-clause-complemented_symbols : goal.returns-clause-complemented_symbols
+returns-clause-complemented_symbols c =
+    keeps-complemented_symbols c.polarity_law.ensures.phase c.phase_law.ensures.one c.received_law.ensures.one c.inner_law.ensures.exists
     c.clean_inner_law.ensures c.clean_law.ensures.frames c.polarity_law.ensures.half_rate

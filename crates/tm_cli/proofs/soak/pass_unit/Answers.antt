@@ -6,7 +6,7 @@ pub unwrap-requires : goal.unwrap-requires
 unwrap-requires g c =
     let push = c.push-sent in
     unit-sent c.args.sender.now c.requires.stands.0 c.args.unit.now push.result c.new-symbols.result push.new.out c.new-symbols.ensures c.requires.unit c.requires.stands.1 c.requires.fresh
-    push.ensures.stopped.0 push.ensures.front push.ensures.rose c.octets-octets.ensures.full
+    push.ensures.stopped.0 push.ensures.prefix push.ensures.rose c.octets-octets.ensures.full
 
 pub returns-clause-handed : goal.returns-clause-handed
 returns-clause-handed g c = λ config start given stands was.

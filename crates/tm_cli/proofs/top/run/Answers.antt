@@ -72,8 +72,8 @@ returns-in-Ok-clause-answered g c = λ job asked _.
           (no_source none) (no_sink none));
       clean = λ asks. c.link_law.ensures.clean ending c.status.result config h.0 taken now noted noted_now read.2 is (decodes asks);
       disturbed = λ asks. c.link_law.ensures.disturbed ending c.status.result config h.0 taken now noted noted_now read.2 is (decodes asks);
-      turned_input = λ asks. c.link_law.ensures.turned_input ending c.status.result config h.0 taken now noted noted_now read.2 is (decodes asks);
-      turned_symbols = λ asks. c.link_law.ensures.turned_symbols ending c.status.result config h.0 taken now noted noted_now read.2 is (decodes asks);
+      complemented_input = λ asks. c.link_law.ensures.complemented_input ending c.status.result config h.0 taken now noted noted_now read.2 is (decodes asks);
+      complemented_symbols = λ asks. c.link_law.ensures.complemented_symbols ending c.status.result config h.0 taken now noted noted_now read.2 is (decodes asks);
       shown = λ asks. c.certificate_law.ensures.shown ending c.status.result config h.0 taken now noted noted_now is (checks asks);
       passes = λ asks. c.certificate_law.ensures.passes ending c.status.result config h.0 taken now noted noted_now read.2 is (checks asks);
     } in

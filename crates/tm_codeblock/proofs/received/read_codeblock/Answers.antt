@@ -2,7 +2,7 @@ use Rattle.std.proofs.Common.{◌≡◌, ◌∙◌, sym, ap, arith}
 use Rattle.tm_base.specs.Bits.{bits_of, octets_of}
 use Rattle.tm_base.proofs.Octets.{are_octets}
 use Rattle.tm_sync.specs.Bits.{complement, in_polarity}
-use Rattle.tm_codeblock.proofs.TurnedOver.{upright-turned, upright-same, codeblock-masked, codeblock-plain}
+use Rattle.tm_codeblock.proofs.Complemented.{upright-complemented, upright-same, codeblock-masked, codeblock-plain}
 use Rattle.tm_codeblock.proofs.received.read_codeblock.Goals as goal
 use Rattle.tm_codeblock.proofs.received.read_codeblock.Goals.{then-inverted, else-inverted}
 
@@ -10,7 +10,7 @@ pub returns-then-is_randomized : goal.returns-then-is_randomized
 returns-then-is_randomized c =
     let before = c.args.received.now in
     let upright : c.if-inverted.codeblock ≡ octets_of (in_polarity c.args.inverted (bits_of before)) = elim c.if-inverted.branch [
-      | then-inverted w ↦ upright-turned c.args.inverted before _ w.if-inverted.true (w.codeblock-is ∙ w.turn_over.ensures ∙ ap (λ l. octets_of (complement (bits_of l))) c.copy_from_slice.ensures.after)
+      | then-inverted w ↦ upright-complemented c.args.inverted before _ w.if-inverted.true (w.codeblock-is ∙ w.complement_octets.ensures ∙ ap (λ l. octets_of (complement (bits_of l))) c.copy_from_slice.ensures.after)
       | else-inverted w ↦ upright-same c.args.inverted before _ (are_octets before (λ i. omega (arith, c.type_inv.received i))) w.if-inverted.false (w.codeblock-is ∙ c.copy_from_slice.ensures.after)
     ] in
     codeblock-masked c.args.config.now c.args.inverted (bits_of before) c.if-inverted.codeblock _
@@ -20,7 +20,7 @@ pub returns-else-is_randomized : goal.returns-else-is_randomized
 returns-else-is_randomized c =
     let before = c.args.received.now in
     let upright : c.if-inverted.codeblock ≡ octets_of (in_polarity c.args.inverted (bits_of before)) = elim c.if-inverted.branch [
-      | then-inverted w ↦ upright-turned c.args.inverted before _ w.if-inverted.true (w.codeblock-is ∙ w.turn_over.ensures ∙ ap (λ l. octets_of (complement (bits_of l))) c.copy_from_slice.ensures.after)
+      | then-inverted w ↦ upright-complemented c.args.inverted before _ w.if-inverted.true (w.codeblock-is ∙ w.complement_octets.ensures ∙ ap (λ l. octets_of (complement (bits_of l))) c.copy_from_slice.ensures.after)
       | else-inverted w ↦ upright-same c.args.inverted before _ (are_octets before (λ i. omega (arith, c.type_inv.received i))) w.if-inverted.false (w.codeblock-is ∙ c.copy_from_slice.ensures.after)
     ] in
     codeblock-plain c.args.config.now c.args.inverted (bits_of before) c.if-inverted.codeblock

@@ -13,11 +13,11 @@ loop-octet-preserved c =
     let place = place-more c.args.rate c.args.first_phase c.loop-octet.phase i now.phase in
     let room : c.loop-octet.count + 16 - c.loop-octet.count ≡ 16 = omega arith in
     record {
-      register = c.register_behind-register.ensures.behind c.loop-octet.register now.low
+      register = c.register_of-register.ensures.after c.loop-octet.register now.low
           ∙ register-more c.args.first_register c.loop-octet.register octets i c.loop-octet-test.true now.register;
-      low = c.register_behind-register.ensures.small;
-      phase = c.phase_behind-phase.ensures ∙ place;
-      within = subst (λ t. t < period c.args.rate) (sym c.phase_behind-phase.ensures)
+      low = c.register_of-register.ensures.small;
+      phase = c.phase_after-phase.ensures ∙ place;
+      within = subst (λ t. t < period c.args.rate) (sym c.phase_after-phase.ensures)
           (phase-within c.args.rate (c.loop-octet.phase + 8));
       count = omega (arith, c.from-count.ensures, c.octet_symbols-kept.ensures.at_most, now.count);
       done =

@@ -3,7 +3,7 @@ use Rattle.std.proofs.lemmas.List.{take_all}
 use Rattle.tm_base.specs.Bits.{bits_of}
 use Rattle.tm_base.proofs.Packing.{length-bits_of}
 use Rattle.tm_conv.specs.Encoding.{StandsFor, sent_for, levels}
-use Rattle.tm_conv.proofs.BitsInTurn.{bits-push, given-more, levels-more}
+use Rattle.tm_conv.proofs.BitsInOrder.{bits-push, given-more, levels-more}
 use Rattle.tm_conv.proofs.plain.plain_encode.Goals as goal
 
 pub loop-k-preserved : goal.loop-k-preserved

@@ -13,10 +13,10 @@ loop-room-preserved g c =
     let was = c.loop-room.invariant.read in
     let kept : ((c.if-room-eq0.kept ≡ c.in-Ok.count) × (0 < c.loop-room.room - c.in-Ok.count)) ⊎ ((c.if-room-eq0.kept ≡ c.in-Ok.count - 1) × (c.loop-room.room - c.in-Ok.count ≡ 0)) =
     elim c.if-room-eq0.branch [ then-room-eq0 w ↦ inr (omega arith, omega arith) | else-room-eq0 w ↦ inl (omega arith, omega arith) ] in
-    let front : c.in-Ok.count ≤ length c.read.new.buf = c.in-Ok.ensures.bound.0 in
+    let prefix : c.in-Ok.count ≤ length c.read.new.buf = c.in-Ok.ensures.bound.0 in
     let within : c.in-Ok.count ≤ c.loop-room.room = grind (arith, common_steps, c.in-Ok.ensures.bound, c.read.auto.buf) in
-    let one = turn-is c.args.limit c.loop-room.room c.in-Ok.count c.if-room-eq0.kept was.0 c.read.new.buf (drop c.min-most.result c.loop-room.buffer) was.2 (omega arith) within front kept in
-    let long = length-take-le c.in-Ok.count c.read.new.buf front in
+    let one = turn-is c.args.limit c.loop-room.room c.in-Ok.count c.if-room-eq0.kept was.0 c.read.new.buf (drop c.min-most.result c.loop-room.buffer) was.2 (omega arith) within prefix kept in
+    let long = length-take-le c.in-Ok.count c.read.new.buf prefix in
     let more = length-append was.0 (take c.in-Ok.count c.read.new.buf) in
     record {
       same = g.met.F.Feed.same_more _ _ _ c.loop-room.invariant.same c.feed.ensures.same;
@@ -37,10 +37,10 @@ returns-in-Err-feed-clause-driven g c =
     let was = c.loop-room.invariant.read in
     let kept : ((c.if-room-eq0.kept ≡ c.in-Ok.count) × (0 < c.loop-room.room - c.in-Ok.count)) ⊎ ((c.if-room-eq0.kept ≡ c.in-Ok.count - 1) × (c.loop-room.room - c.in-Ok.count ≡ 0)) =
     elim c.if-room-eq0.branch [ then-room-eq0 w ↦ inr (omega arith, omega arith) | else-room-eq0 w ↦ inl (omega arith, omega arith) ] in
-    let front : c.in-Ok.count ≤ length c.read.new.buf = c.in-Ok.ensures.bound.0 in
+    let prefix : c.in-Ok.count ≤ length c.read.new.buf = c.in-Ok.ensures.bound.0 in
     let within : c.in-Ok.count ≤ c.loop-room.room = grind (arith, common_steps, c.in-Ok.ensures.bound, c.read.auto.buf) in
-    let one = turn-is c.args.limit c.loop-room.room c.in-Ok.count c.if-room-eq0.kept was.0 c.read.new.buf (drop c.min-most.result c.loop-room.buffer) was.2 (omega arith) within front kept in
-    let long = length-take-le c.in-Ok.count c.read.new.buf front in
+    let one = turn-is c.args.limit c.loop-room.room c.in-Ok.count c.if-room-eq0.kept was.0 c.read.new.buf (drop c.min-most.result c.loop-room.buffer) was.2 (omega arith) within prefix kept in
+    let long = length-take-le c.in-Ok.count c.read.new.buf prefix in
     let more = length-append was.0 (take c.in-Ok.count c.read.new.buf) in
     let octets : List ℕ = was.0 ++ take c.in-Ok.count c.read.new.buf in
     let unended = going-on _ _ c.in-Ok.count (length c.read.new.buf) (omega arith) c.in-Ok.ensures.ended ∙ c.loop-room.invariant.ended in (

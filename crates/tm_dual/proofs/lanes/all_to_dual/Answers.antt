@@ -2,7 +2,7 @@ use Rattle.std.proofs.Common.{◌≡◌, ◌≤◌, ◌+◌, ◌-◌, ◌*◌, �
 use Rattle.tm_gf256.specs.Poly.{numbers}
 use Rattle.tm_gf256.proofs.PolyLemmas.{length-numbers}
 use Rattle.tm_dual.specs.Dual.{dual_octet}
-use Rattle.tm_dual.proofs.Sixteens.{numbers-take, turned_all, turned_fewer}
+use Rattle.tm_dual.proofs.Sixteens.{numbers-take, mapped_all, mapped_fewer}
 use Rattle.tm_dual.proofs.lanes.all_to_dual.Goals as goal
 
 pub returns : goal.returns
@@ -10,10 +10,10 @@ returns c =
     let xs = numbers c.args.elements.now in
     let n : ℕ = length c.args.elements.now in
     let last : n - 16 ≤ 16 * c.loop-group.group = omega arith in
-    let front : take (n - 16) c.loop-group.octets ≡ map dual_octet (take (n - 16) xs) =
-    turned_fewer dual_octet xs c.loop-group.octets (n - 16) (16 * c.loop-group.group) last
+    let prefix : take (n - 16) c.loop-group.octets ≡ map dual_octet (take (n - 16) xs) =
+    mapped_fewer dual_octet xs c.loop-group.octets (n - 16) (16 * c.loop-group.group) last
     (c.loop-group.invariant ∙ ap (map dual_octet) (numbers-take (16 * c.loop-group.group) c.args.elements.now)) in
-    turned_all dual_octet xs c.put_octets-2.new.octets (n - 16 + 16) (omega (arith, length-numbers c.args.elements.now))
+    mapped_all dual_octet xs c.put_octets-2.new.octets (n - 16 + 16) (omega (arith, length-numbers c.args.elements.now))
     (omega (arith, c.put_octets-2.auto.octets, c.loop-group.auto.octets))
-    (c.put_octets-2.ensures (front ∙ ap (map dual_octet) (sym (numbers-take (n - 16) c.args.elements.now)))
+    (c.put_octets-2.ensures (prefix ∙ ap (map dual_octet) (sym (numbers-take (n - 16) c.args.elements.now)))
     ∙ ap (map dual_octet) (numbers-take (n - 16 + 16) c.args.elements.now))

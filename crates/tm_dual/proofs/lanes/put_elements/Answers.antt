@@ -4,7 +4,7 @@ use Rattle.tm_gf256.specs.Poly.{numbers}
 use Rattle.tm_gf256.proofs.PolyLemmas.{numbers-append}
 use Rattle.tm_dual.specs.Dual.{dual_element}
 use Rattle.tm_dual.proofs.Halves.{element_halves}
-use Rattle.tm_dual.proofs.Sixteens.{turned_more}
+use Rattle.tm_dual.proofs.Sixteens.{mapped_more}
 use Rattle.tm_dual.proofs.lanes.put_elements.Goals as goal
 
 pub returns : goal.returns
@@ -13,5 +13,5 @@ returns c done =
     let ys = c.all_from_numbers.new.elements in
     ap numbers (take-put_mid at (at + 16 - at) c.args.elements.now ys (at + 16) (omega (arith, c.all_from_numbers.auto.elements)) (omega arith))
     ∙ numbers-append (take at c.args.elements.now) ys
-    ∙ turned_more dual_element c.args.octets.now (numbers (take at c.args.elements.now)) (numbers ys) at 16 done
-    (c.all_from_numbers.ensures ∙ c.turned-found.ensures dual_element element_halves)
+    ∙ mapped_more dual_element c.args.octets.now (numbers (take at c.args.elements.now)) (numbers ys) at 16 done
+    (c.all_from_numbers.ensures ∙ c.mapped-found.ensures dual_element element_halves)

@@ -4,7 +4,7 @@ use Rattle.std.proofs.lemmas.Simd.{take_more_put_chunk}
 use Rattle.tm_gf256.specs.Poly.{numbers}
 use Rattle.tm_dual.specs.Dual.{dual_octet}
 use Rattle.tm_dual.proofs.Halves.{octet_halves}
-use Rattle.tm_dual.proofs.Sixteens.{numbers-drop, numbers-take, turned_more}
+use Rattle.tm_dual.proofs.Sixteens.{numbers-drop, numbers-take, mapped_more}
 use Rattle.tm_dual.proofs.lanes.put_octets.Goals as goal
 
 pub returns : goal.returns
@@ -14,8 +14,8 @@ returns c done =
     let size : at + 16 - at ≡ 16 = omega arith in
     let sixteen : c.all_to_numbers.new.octets ≡ take 16 (drop at (numbers xs)) =
     c.all_to_numbers.ensures ∙ ap (λ (n : ℕ). numbers (take n (drop at xs))) size ∙ numbers-take 16 (drop at xs) ∙ ap (take 16) (numbers-drop at xs) in
-    let is : c.turned.result ≡ map dual_octet c.all_to_numbers.new.octets = c.turned.ensures dual_octet octet_halves in
-    let long : length c.turned.result ≡ 16 = ap length is ∙ length-map c.all_to_numbers.new.octets dual_octet ∙ c.all_to_numbers.auto.octets in
-    take_more_put_chunk at c.args.octets.now c.turned.result (at + 16) (omega (arith, long)) (omega arith)
-    ∙ turned_more dual_octet (numbers xs) (take at c.args.octets.now) c.turned.result at 16 (done ∙ ap (map dual_octet) (numbers-take at xs)) (is ∙ ap (map dual_octet) sixteen)
+    let is : c.mapped.result ≡ map dual_octet c.all_to_numbers.new.octets = c.mapped.ensures dual_octet octet_halves in
+    let long : length c.mapped.result ≡ 16 = ap length is ∙ length-map c.all_to_numbers.new.octets dual_octet ∙ c.all_to_numbers.auto.octets in
+    take_more_put_chunk at c.args.octets.now c.mapped.result (at + 16) (omega (arith, long)) (omega arith)
+    ∙ mapped_more dual_octet (numbers xs) (take at c.args.octets.now) c.mapped.result at 16 (done ∙ ap (map dual_octet) (numbers-take at xs)) (is ∙ ap (map dual_octet) sixteen)
     ∙ ap (map dual_octet) (sym (numbers-take (at + 16) xs))

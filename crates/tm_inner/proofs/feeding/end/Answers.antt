@@ -3,18 +3,18 @@ use Rattle.tm_inner.specs.declared.inner_decoder.InnerDecoder.{InnerDecoder}
 use Rattle.tm_inner.specs.Inner.{soft_octets}
 use Rattle.tm_inner.specs.InnerDecoding.{has_stopped_in}
 use Rattle.tm_inner.specs.Receiving.{IsDecoderOf, HasStopped, DecodesFor}
-use Rattle.tm_inner.proofs.GivenPieces.{taker_alone, front-of}
+use Rattle.tm_inner.proofs.GivenPieces.{taker_alone, prefix-of}
 use Rattle.tm_inner.proofs.feeding.end.Goals as goal
 
-pub returns-in-Err-clause-front : goal.returns-in-Err-clause-front
-returns-in-Err-clause-front g c =
+pub returns-in-Err-clause-prefix : goal.returns-in-Err-clause-prefix
+returns-in-Err-clause-prefix g c =
     let d = c.in-Some.decoder in
     let still : has_stopped_in d ≡ false = subst (HasStopped false) c.in-Some.is c.requires.fresh in
     let none : IsTrue (has_stopped_in d) → ⊥ = λ stopped. let both : true ≡ false = sym stopped ∙ still in absurd cc in
-    let last = c.in-Err.ensures.front (taker_alone c.in-Err.field-0 (λ is. none (c.in-Err.ensures.stopped.0 is))) in (
+    let last = c.in-Err.ensures.prefix (taker_alone c.in-Err.field-0 (λ is. none (c.in-Err.ensures.stopped.0 is))) in (
       last.0,
       last.1,
       λ config phase given done of stood.
           let decodes = subst (λ (o : Option InnerDecoder). DecodesFor o (soft_octets config phase given) done) c.in-Some.is stood in
-          front-of config d phase given (done ++ last.0) (subst (IsDecoderOf config) c.in-Some.is of) (last.2 (soft_octets config phase given) done decodes),
+          prefix-of config d phase given (done ++ last.0) (subst (IsDecoderOf config) c.in-Some.is of) (last.2 (soft_octets config phase given) done decodes),
     )

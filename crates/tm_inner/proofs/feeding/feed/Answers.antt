@@ -9,6 +9,6 @@ returns-in-Ok-clause-gives g c =
       fresh = search rules;
       stopped = search rules;
       handed = record { more = ok.0; handed = ok.1; stands = ok.2 };
-      front = search rules;
+      prefix = search rules;
       cause = search rules;
     }

@@ -6,8 +6,8 @@ use Rattle.tm_viterbi.specs.Settings.{Settings}
 use Rattle.tm_viterbi.specs.WindowBlock.{WindowBlock}
 use Rattle.tm_viterbi.specs.Due.{AreFirst}
 use Rattle.tm_inner.specs.InnerDecoding.{StandsIn, settings_in}
-use Rattle.tm_inner.specs.Receiving.{Hands, HandsFront, from_form}
-use Rattle.tm_inner.proofs.GivenPieces.{hands-none, hands-more, hands-front, hands-longer, form-joined, form-split}
+use Rattle.tm_inner.specs.Receiving.{Hands, HandsPrefix, from_form}
+use Rattle.tm_inner.proofs.GivenPieces.{hands-none, hands-more, hands-prefix, hands-longer, form-joined, form-split}
 use Rattle.tm_inner.proofs.feeding.feed_signed.Goals as goal
 
 pub loop-done-init : goal.loop-done-init
@@ -27,14 +27,14 @@ loop-done-preserved g c =
     let octets = c.args.octets.now in
     let size = (at + c.min.result) - at in
     let took = g.B.BlockTaker.took in
-    let soft : c.turn.new.octets ≡ from_form true (take size (drop at octets)) = c.turn.ensures ∙ ap (from_form true) c.copy_from_slice.ensures.after in
-    let long : length c.turn.new.octets ≡ size =
+    let soft : c.to_unsigned.new.octets ≡ from_form true (take size (drop at octets)) = c.to_unsigned.ensures ∙ ap (from_form true) c.copy_from_slice.ensures.after in
+    let long : length c.to_unsigned.new.octets ≡ size =
     ap length soft ∙ length-map (take size (drop at octets)) (λ (octet : ℕ). (octet + 128) % 256)
     ∙ omega (arith, length-take size (drop at octets), length-drop at octets, c.min.ensures, c.loop-done-test.true) in
     let one = subst (Hands took StandsIn c.loop-done.decoder c.give.new.decoder c.loop-done.blocks c.give.new.blocks) soft c.in-Ok.ensures.handed in
     record {
       within = omega (arith, c.min.ensures, c.loop-done-test.true);
-      room = omega (arith, i.room, long, c.min.ensures, length-append c.turn.new.octets (drop size c.loop-done.room), length-drop size c.loop-done.room);
+      room = omega (arith, i.room, long, c.min.ensures, length-append c.to_unsigned.new.octets (drop size c.loop-done.room), length-drop size c.loop-done.room);
       settings = c.give.ensures.settings ∙ i.settings;
       fresh = c.in-Ok.ensures.fresh;
       faults = c.in-Ok.ensures.cause.same ∙ i.faults;
@@ -53,20 +53,20 @@ returns-in-Err-clause-gives g c =
     let t = g.B.BlockTaker in
     let before = c.args.decoder.now in
     let First : List ℕ → List WindowBlock → Type 0 = AreFirst (settings_in before) in
-    let soft : c.turn.new.octets ≡ from_form true piece = c.turn.ensures ∙ ap (from_form true) c.copy_from_slice.ensures.after in
+    let soft : c.to_unsigned.new.octets ≡ from_form true piece = c.to_unsigned.ensures ∙ ap (from_form true) c.copy_from_slice.ensures.after in
     let one =
-    subst (λ (s : Settings). HandsFront t.took t.broke StandsIn (AreFirst s) c.loop-done.decoder c.loop-done.blocks c.give.new.blocks (from_form true piece)) i.settings
-    (subst (HandsFront t.took t.broke StandsIn (AreFirst (settings_in c.loop-done.decoder)) c.loop-done.decoder c.loop-done.blocks c.give.new.blocks) soft c.in-Err.ensures.front) in
-    let whole = HandsFront t.took t.broke StandsIn First before c.args.blocks.now c.give.new.blocks in
+    subst (λ (s : Settings). HandsPrefix t.took t.broke StandsIn (AreFirst s) c.loop-done.decoder c.loop-done.blocks c.give.new.blocks (from_form true piece)) i.settings
+    (subst (HandsPrefix t.took t.broke StandsIn (AreFirst (settings_in c.loop-done.decoder)) c.loop-done.decoder c.loop-done.blocks c.give.new.blocks) soft c.in-Err.ensures.prefix) in
+    let whole = HandsPrefix t.took t.broke StandsIn First before c.args.blocks.now c.give.new.blocks in
     record {
       settings = c.give.ensures.settings ∙ i.settings;
       fresh = search rules;
       stopped = c.in-Err.ensures.stopped;
       handed = search rules;
-      front = subst whole (form-split true end octets)
+      prefix = subst whole (form-split true end octets)
           (hands-longer t.took t.broke StandsIn First before c.args.blocks.now c.give.new.blocks (from_form true (take end octets)) (from_form true (drop end octets)) (c.closed_windows_law.ensures (settings_in before))
           (subst whole (form-joined true at c.min.result octets)
-          (hands-front t.took t.broke StandsIn First before c.loop-done.decoder c.args.blocks.now c.loop-done.blocks c.give.new.blocks (from_form true (take at octets)) (from_form true piece) i.handed one)));
+          (hands-prefix t.took t.broke StandsIn First before c.loop-done.decoder c.args.blocks.now c.loop-done.blocks c.give.new.blocks (from_form true (take at octets)) (from_form true piece) i.handed one)));
       cause = record {
         later = subst (λ (n : ℕ). n ≤ t.faults c.give.new.blocks) i.faults c.in-Err.ensures.cause.later;
         failed = subst (λ (n : ℕ). Rose n (t.faults c.give.new.blocks) (t.is_last c.give.new.blocks)) i.faults c.in-Err.ensures.cause.failed;
@@ -98,10 +98,10 @@ returns-clause-gives g c =
           (λ p. subst (Hands t.took StandsIn before c.feed.new.decoder start now) all
           (hands-more t.took StandsIn before l.decoder c.feed.new.decoder start l.blocks now (from_form true (take l.done octets)) [] i.handed p))
           fed.handed;
-      front = on_err_weaker c.feed.result
-          (λ p. subst (HandsFront t.took t.broke StandsIn First before start now) all
-          (hands-front t.took t.broke StandsIn First before l.decoder start l.blocks now (from_form true (take l.done octets)) [] i.handed
-          (subst (λ (s : Settings). HandsFront t.took t.broke StandsIn (AreFirst s) l.decoder l.blocks now []) i.settings p)))
-          fed.front;
+      prefix = on_err_weaker c.feed.result
+          (λ p. subst (HandsPrefix t.took t.broke StandsIn First before start now) all
+          (hands-prefix t.took t.broke StandsIn First before l.decoder start l.blocks now (from_form true (take l.done octets)) [] i.handed
+          (subst (λ (s : Settings). HandsPrefix t.took t.broke StandsIn (AreFirst s) l.decoder l.blocks now []) i.settings p)))
+          fed.prefix;
       cause = subst (λ (n : ℕ). HasCause n (t.faults now) (t.is_last now) c.feed.result) i.faults fed.cause;
     }

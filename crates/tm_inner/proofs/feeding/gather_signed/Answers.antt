@@ -12,8 +12,8 @@ loop-done-preserved c =
     let at = l.done in
     let octets = c.args.octets.now in
     let size = (at + c.min.result) - at in
-    let turned = c.turn.new.octets in
-    let soft : turned ≡ from_form true (take size (drop at octets)) = c.turn.ensures ∙ ap (from_form true) c.copy_from_slice.ensures.after in
+    let turned = c.to_unsigned.new.octets in
+    let soft : turned ≡ from_form true (take size (drop at octets)) = c.to_unsigned.ensures ∙ ap (from_form true) c.copy_from_slice.ensures.after in
     let long : length turned ≡ size = ap length soft ∙ length-map (take size (drop at octets)) (λ (octet : ℕ). (octet + 128) % 256)
     ∙ omega (arith, length-take size (drop at octets), length-drop at octets, c.min.ensures, c.loop-done-test.true) in
     let first = from_form true (take at octets) in

@@ -16,6 +16,6 @@ returns-then-gather g c = record {
         subst (λ (l : List WindowBlock). StandsIn c.gather.new.decoder (given ++ c.args.soft.now) l) (sym (append-nil done))
         (c.gather.ensures.gathered c.if-gather.true given done stands);
   };
-  front = search rules;
+  prefix = search rules;
   cause = search rules;
 }

@@ -2,12 +2,12 @@ use Rattle.std.proofs.Common.{◌+◌, ◌-◌, ◌≤◌, ◌++◌, ◌∙◌, 
 use Rattle.std.proofs.lemmas.Grind.{common_steps}
 use Rattle.tm_base.specs.Written.{Wrote}
 use Rattle.tm_inner.proofs.Coding.{joined}
-use Rattle.tm_inner.proofs.Sending.{spread-front, spread-more}
+use Rattle.tm_inner.proofs.Sending.{spread-prefix, spread-more}
 use Rattle.tm_viterbi.proofs.Handing.{on_err_of}
 use Rattle.tm_inner.proofs.sender.send_bits.Goals as goal
 
-pub returns-in_err-put_all-clause-front : goal.returns-in_err-put_all-clause-front
-returns-in_err-put_all-clause-front g c =
+pub returns-in_err-put_all-clause-prefix : goal.returns-in_err-put_all-clause-prefix
+returns-in_err-put_all-clause-prefix g c =
     let low = c.args.low in
     let octets = c.args.octets.now in
     let done = c.loop-done.done in
@@ -16,7 +16,7 @@ returns-in_err-put_all-clause-front g c =
     let part = c.in_err-put_all.ensures.err in
     let are = c.spread.ensures.bits in
     on_err_of c.from_residual.result _ c.from_residual.ensures.0 (
-    spread-front low (g.O.Sink.taken c.args.out.now) (g.O.Sink.taken c.loop-done.out) (g.O.Sink.taken c.put_all.new.out)
+    spread-prefix low (g.O.Sink.taken c.args.out.now) (g.O.Sink.taken c.loop-done.out) (g.O.Sink.taken c.put_all.new.out)
     (take done octets) piece (drop end octets) octets part.0
     (sym (append_assoc (take done octets) piece (drop end octets)) ∙ ap (λ l. l ++ drop end octets) (joined done c.min.result octets) ∙ take-append-drop end octets)
     c.loop-done.invariant.wrote

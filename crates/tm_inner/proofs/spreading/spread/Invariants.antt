@@ -5,5 +5,5 @@ use Rattle.tm_inner.proofs.spreading.spread.Given as goal
 abbrev pub invariant-loop-k : goal.invariant-loop-k
 invariant-loop-k l = record {
   long : length l.room ≡ length l.fn.room;
-  front : take (8 * l.k) l.room ≡ spread l.low (take l.k l.octets);
+  prefix : take (8 * l.k) l.room ≡ spread l.low (take l.k l.octets);
 }

@@ -26,7 +26,7 @@ returns-clause-answered g c =
     (g.N.Sink.taken now.notes.now)) =
     driven-ends c.one_list_law.ensures.exists c.due_law.ensures.first c.phase_law.ensures.exists
     c.phase_law.ensures.one c.closed_windows_law.ensures
-    c.whole_window_law.ensures.front (λ (t : BitWriting g.row.O.Denot g.row.N.Denot). t.receiver.now)
+    c.whole_window_law.ensures.prefix (λ (t : BitWriting g.row.O.Denot g.row.N.Denot). t.receiver.now)
     (λ t. t.packer.now)
     (λ t. g.O.Sink.taken t.out.now) (λ t. g.N.Sink.taken t.notes.now) config _ now c.limit.ensures.accepted fresh
     c.limit.result c.limit.ensures.value _ _ c.drive-ending.result h.0 h.3 in

@@ -14,10 +14,10 @@ returns-then-not-has_inner_code-clause-gathers c =
     ap (λ (k : Configuration). is_some k.inner) (sym h.config) ∙ sym c.has_inner_code.ensures
     ∙ search rules in
     gathers-plain receiver c.decode.new.receiver c.args.packer.now c.decode.new.packer c.args.piece.now c.requires.few
-    h c.add_behind.new.packer
+    h c.add_after.new.packer
     c.bits_to_skip-skip.result plain
     (subst (λ (k : Configuration). Adds c.decode.new.packer (drop c.bits_to_skip-skip.result
-    (plain_bits k c.args.piece.now)) c.add_behind.new.packer) h.config c.add_behind.ensures)
+    (plain_bits k c.args.piece.now)) c.add_after.new.packer) h.config c.add_after.ensures)
     c.bits_to_skip-skip.ensures.bits
 
 pub returns-else-not-has_inner_code-clause-gathers : goal.returns-else-not-has_inner_code-clause-gathers

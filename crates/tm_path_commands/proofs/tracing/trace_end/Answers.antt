@@ -23,8 +23,8 @@ returns-in-Ok-clause-whole g c =
     (traced-whole name lines count config c.args.receiver.now was now start octets h.0 c.in-Ok.end.bits
     c.in-Ok.end.leftover accepted t took h.2) whole) c.end_trace.ensures.whole
 
-pub returns-in-Ok-clause-front : goal.returns-in-Ok-clause-front
-returns-in-Ok-clause-front g c =
+pub returns-in-Ok-clause-prefix : goal.returns-in-Ok-clause-prefix
+returns-in-Ok-clause-prefix g c =
     let h = c.in-Ok.ensures.handed in
     let was = c.args.trace.now in
     let now = c.finish.new.blocks in
@@ -47,9 +47,9 @@ returns-in-Ok-clause-same g c =
     (λ t. sink_state (g.O.Sink.taken t.lines.now) (g.O.Sink.faults t.lines.now)) (λ t. t.count)
     h.0 c.args.trace.now c.finish.new.blocks h.1
 
-pub returns-in-Err-clause-front : goal.returns-in-Err-clause-front
-returns-in-Err-clause-front g c = λ config start octets accepted t.
-    let h = c.in-Err.ensures.front (taker_alone c.in-Err.field-0 (λ stopped. absurd (search rules))) in
+pub returns-in-Err-clause-prefix : goal.returns-in-Err-clause-prefix
+returns-in-Err-clause-prefix g c = λ config start octets accepted t.
+    let h = c.in-Err.ensures.prefix (taker_alone c.in-Err.field-0 (λ stopped. absurd (search rules))) in
     let was = c.args.trace.now in
     let now = c.finish.new.blocks in
     let name = λ (t : Trace g.row.O.Denot). t.lines.ghost_name in
@@ -63,7 +63,7 @@ returns-in-Err-clause-front g c = λ config start octets accepted t.
 
 pub returns-in-Err-clause-same : goal.returns-in-Err-clause-same
 returns-in-Err-clause-same g c =
-    let h = c.in-Err.ensures.front (taker_alone c.in-Err.field-0 (λ stopped. absurd (search rules))) in
+    let h = c.in-Err.ensures.prefix (taker_alone c.in-Err.field-0 (λ stopped. absurd (search rules))) in
     same-part (λ (t : Trace g.row.O.Denot). t.lines.ghost_name)
     (λ t. sink_state (g.O.Sink.taken t.lines.now) (g.O.Sink.faults t.lines.now))
     (λ t. g.O.Sink.is_last t.lines.now) (λ t. t.count) h.0 c.args.trace.now c.finish.new.blocks h.1

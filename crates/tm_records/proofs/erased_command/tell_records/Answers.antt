@@ -1,5 +1,5 @@
 use Rattle.std.proofs.Common.{◌∙◌, ◌||◌, sym, subst}
-use Rattle.tm_base.specs.Written.{Wrote, WroteFront}
+use Rattle.tm_base.specs.Written.{Wrote, WrotePrefix}
 use Rattle.tm_rs_solve.specs.Answers.{found_erased}
 use Rattle.tm_driver.proofs.SinkTexts.{wrote-then}
 use Rattle.tm_driver.proofs.Results.{on_err-all}
@@ -34,5 +34,5 @@ returns-in_err-erased_line-clause-err g c =
     on_err-all c.from_residual.result (broke-in basis c.args.records.now.nearest c.loop-index.index
     (found_erased c.answer-told.result told.0) (g.O.Sink.taken c.args.out.now) was now told.1
     c.loop-index.invariant.wrote
-    (subst (WroteFront was now) (line-is c.answer-told.result basis told.0 c.answer-told.new.octets told.2)
+    (subst (WrotePrefix was now) (line-is c.answer-told.result basis told.0 c.answer-told.new.octets told.2)
     c.in_err-erased_line.ensures.err))

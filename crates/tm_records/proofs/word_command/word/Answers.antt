@@ -1,5 +1,5 @@
 use Rattle.std.proofs.Common.{[], refl, arith}
-use Rattle.tm_driver.proofs.SinkTexts.{wrote-nothing, wrote-no_front}
+use Rattle.tm_driver.proofs.SinkTexts.{wrote-nothing, wrote-no_prefix}
 use Rattle.tm_records.specs.Word.{word_text}
 use Rattle.tm_records.proofs.NearestWord.{line-written, nearest-line, is_beyond, not_beyond}
 use Rattle.tm_records.proofs.word_command.word.Goals as goal
@@ -35,6 +35,6 @@ returns-in-Err-clause-ends g c = λ noted.
     c.repair-answer.ensures.nearest in (
       record { out = word_text answer octets; notes = [] },
       (is, refl),
-      record { out = c.in-Err.ensures.err; notes = wrote-no_front noted [] },
+      record { out = c.in-Err.ensures.err; notes = wrote-no_prefix noted [] },
       wrote-nothing noted,
     )

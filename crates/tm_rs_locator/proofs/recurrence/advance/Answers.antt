@@ -2,7 +2,7 @@ use Rattle.std.proofs.Common.{◌≡◌, ◌<◌, ◌+◌, ◌-◌, ◌/◌, ℕ
 use Rattle.tm_gf256.specs.Poly.{entry}
 use Rattle.tm_rs_code.specs.Recurrence.{discrepancy, patched}
 use Rattle.tm_rs_code.proofs.Recurrence.{discrepancy-lt}
-use Rattle.tm_rs_locator.proofs.Transitions.{stays, grows, too_many, arrayed, zeros_behind, quotient_is}
+use Rattle.tm_rs_locator.proofs.Transitions.{stays, grows, too_many, arrayed, zeros_after, quotient_is}
 use Rattle.tm_rs_locator.proofs.recurrence.advance.Goals as goal
 
 below_256 : (c s : ℕ → ℕ) (k j f : ℕ) → f ≡ discrepancy c s k j → f < 256
@@ -14,7 +14,7 @@ returns-then-k-state-clause-held g c =
     arrayed c.args.count (entry c.args.terms.now) (patched (entry c.args.state.now.current) c.product-q.result.0 c.args.state.now.gap (entry c.args.state.now.previous)) (entry c.args.state.now.previous)
     c.args.state.now.len (c.args.state.now.gap + 1) c.args.state.now.scale.0 (c.args.k + 1) (c.args.count / 2 + 1) c.args.state.now.current c.patch.new.coefs (omega arith)
     c.patch.ensures.patched c.patch.ensures.rest
-    (zeros_behind c.args.count (entry c.args.terms.now) (entry c.args.state.now.current) (entry c.args.state.now.previous) c.args.state.now.len c.args.state.now.gap c.args.state.now.scale.0 c.args.k
+    (zeros_after c.args.count (entry c.args.terms.now) (entry c.args.state.now.current) (entry c.args.state.now.previous) c.args.state.now.len c.args.state.now.gap c.args.state.now.scale.0 c.args.k
     (c.args.count / 2 + 1) (omega arith) c.requires.held)
     (stays c.args.count (entry c.args.terms.now) (entry c.args.state.now.current) (entry c.args.state.now.previous) c.args.state.now.len c.args.state.now.gap c.args.state.now.scale.0 c.args.k
     c.mismatch-failure.result.0 c.product-q.result.0 c.requires.held (sym c.mismatch-failure.ensures.value)
@@ -32,7 +32,7 @@ returns-clause-held g c =
     arrayed c.args.count (entry c.args.terms.now) (patched (entry c.args.state.now.current) c.product-q.result.0 c.args.state.now.gap (entry c.args.state.now.previous)) (entry c.args.state.now.current)
     (c.args.k + 1 - c.args.state.now.len) 1 c.mismatch-failure.result.0 (c.args.k + 1) (c.args.count / 2 + 1) c.args.state.now.current c.patch-2.new.coefs (omega arith)
     c.patch-2.ensures.patched c.patch-2.ensures.rest
-    (zeros_behind c.args.count (entry c.args.terms.now) (entry c.args.state.now.current) (entry c.args.state.now.previous) c.args.state.now.len c.args.state.now.gap c.args.state.now.scale.0 c.args.k
+    (zeros_after c.args.count (entry c.args.terms.now) (entry c.args.state.now.current) (entry c.args.state.now.previous) c.args.state.now.len c.args.state.now.gap c.args.state.now.scale.0 c.args.k
     (c.args.count / 2 + 1) (omega arith) c.requires.held)
     (grows c.args.count (entry c.args.terms.now) (entry c.args.state.now.current) (entry c.args.state.now.previous) c.args.state.now.len c.args.state.now.gap c.args.state.now.scale.0 c.args.k
     c.mismatch-failure.result.0 c.product-q.result.0 c.requires.held c.requires.given (sym c.mismatch-failure.ensures.value) c.if-failure-eq0.false

@@ -12,7 +12,7 @@ loop-i-init g c = record {
   done = λ j below inside. sym (patched_low (entry c.args.coefs.now) (entry c.args.other.now) c.args.q.0 c.args.m j below);
   room = refl;
   left = λ j above. refl;
-  behind = λ j above. refl;
+  after = λ j above. refl;
   counted = omega arith;
   most = omega arith;
 }
@@ -33,7 +33,7 @@ loop-i-preserved g c = record {
       ];
   room = length-set c.loop-i.coefs c.loop-i.i c.add.result ∙ c.loop-i.invariant.room;
   left = λ j above. entry-set_other c.loop-i.coefs c.loop-i.i j c.add.result (omega arith) ∙ c.loop-i.invariant.left j (omega arith);
-  behind = λ j above. entry-set_other c.loop-i.coefs c.loop-i.i j c.add.result (omega arith) ∙ c.loop-i.invariant.behind j above;
+  after = λ j above. entry-set_other c.loop-i.coefs c.loop-i.i j c.add.result (omega arith) ∙ c.loop-i.invariant.after j above;
   counted = omega (arith, c.loop-i.invariant.counted, c.product.ensures.counted);
   most = omega (arith, c.loop-i.invariant.counted, c.product.ensures.counted);
 }

@@ -8,7 +8,7 @@ invariant-loop-i g l = record {
   done : (j : ℕ) → j < l.i → j < l.end → entry l.coefs j ≡ patched (entry l.initial.coefs) l.q.0 l.m (entry l.other) j;
   room : length l.coefs ≡ length l.initial.coefs;
   left : (j : ℕ) → l.i ≤ j → entry l.coefs j ≡ entry l.initial.coefs j;
-  behind : (j : ℕ) → l.end ≤ j → entry l.coefs j ≡ entry l.initial.coefs j;
+  after : (j : ℕ) → l.end ≤ j → entry l.coefs j ≡ entry l.initial.coefs j;
   counted : l.steps + l.m ≡ l.initial.steps + l.i;
   most : l.steps ≤ l.initial.steps + l.end;
 }

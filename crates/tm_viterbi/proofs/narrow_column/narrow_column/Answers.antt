@@ -96,7 +96,7 @@ returns-clause-survivors c s lt =
     let b = c.lesser-kept_low_back.result.1 in
     let d = c.lesser-kept_high_front.result.1 in
     let e = c.lesser-kept_high_back.result.1 in
-    let turned : 2 ^ 64 - 1 - (a + b * 2 ^ 16 % 2 ^ 64 + d * 2 ^ 32 % 2 ^ 64 + e * 2 ^ 48 % 2 ^ 64)
+    let complemented : 2 ^ 64 - 1 - (a + b * 2 ^ 16 % 2 ^ 64 + d * 2 ^ 32 % 2 ^ 64 + e * 2 ^ 48 % 2 ^ 64)
     ≡ (((65535 - e) * 2 ^ 16 + (65535 - d)) * 2 ^ 32) + ((65535 - b) * 2 ^ 16 + (65535 - a)) =
     omega (
       arith,
@@ -106,7 +106,7 @@ returns-clause-survivors c s lt =
       c.lesser-kept_high_back.ensures.small,
     ) in
     let bit : ℕ → ℕ = λ k. cond (ltb (second_way sums c.args.costs k) (first_way sums c.args.costs k)) 1 0 in
-    ap (λ v. v / 2 ^ s % 2) turned
+    ap (λ v. v / 2 ^ s % 2) complemented
     ∙ four_bits (65535 - a) (65535 - b) (65535 - d) (65535 - e) bit (omega arith) (omega arith) (omega arith)
     (omega arith)
     (low_bits sums c.args.costs _ _ _ _ 0 (65535 - a) front (omega arith) c.lesser-kept_low_front.ensures.bits)

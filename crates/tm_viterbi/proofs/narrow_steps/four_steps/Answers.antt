@@ -21,13 +21,13 @@ returns-clause-carries c invert t base e =
     (lifted base (c.two_steps-third.result.0 ++ c.two_steps-third.result.1)) _ _
     (c.two_steps-first.ensures.carries invert t base e) refl
     (c.two_steps-third.ensures.carries invert (t + 2) base e) in
-    let columns : List ℕ =
+    let survivors : List ℕ =
     c.two_steps-first.result.2 ∷ c.two_steps-first.result.3
     ∷ c.two_steps-third.result.2 ∷ c.two_steps-third.result.3 ∷ [] in
     let P : List ℕ → List ℕ → Type 0 = λ v w. Carries R12 invert t v (lifted base (c.args.low ++ c.args.high))
     (lifted base (c.two_steps-third.result.0 ++ c.two_steps-third.result.1)) w in
-    subst (λ (w : List ℕ). P octets w) (sym (four_set c.args.columns.now _ _ _ _ c.requires.columns))
-    (subst (λ (v : List ℕ). P v columns) whole carries)
+    subst (λ (w : List ℕ). P octets w) (sym (four_set c.args.survivors.now _ _ _ _ c.requires.survivors))
+    (subst (λ (v : List ℕ). P v survivors) whole carries)
 
 pub returns-clause-bounded : goal.returns-clause-bounded
 returns-clause-bounded c m h s lt =

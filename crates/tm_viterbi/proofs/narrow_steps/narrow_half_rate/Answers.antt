@@ -19,12 +19,12 @@ loop-i-init c = record {
 pub slice_bounds-octets-end : goal.slice_bounds-octets-end
 slice_bounds-octets-end c =
     let fits : 2 * c.loop-i.i + 8 ≤ length c.args.soft.now =
-    omega (arith, c.requires.size, half_steps c.args.t (length c.args.columns.now)) in
+    omega (arith, c.requires.size, half_steps c.args.t (length c.args.survivors.now)) in
     search rules
 
 pub four_steps-requires-clause-room : goal.four_steps-requires-clause-room
 four_steps-requires-clause-room c s lt =
-    omega (arith, c.loop-i.invariant.bounded (2 ^ 16 - 1 - 510 * length c.args.columns.now) c.requires.room s lt)
+    omega (arith, c.loop-i.invariant.bounded (2 ^ 16 - 1 - 510 * length c.args.survivors.now) c.requires.room s lt)
 
 -- the octets of four steps, out of all that are left
 four_of : (i : ℕ) (soft : List ℕ) → 2 * i + 8 ≤ length soft
@@ -38,18 +38,18 @@ pub loop-i-preserved : goal.loop-i-preserved
 loop-i-preserved c =
     let i = c.loop-i.i in
     let soft = c.args.soft.now in
-    let columns = c.loop-i.columns in
-    let piece = c.four_steps.new.columns in
+    let survivors = c.loop-i.survivors in
+    let piece = c.four_steps.new.survivors in
     let fits : 2 * i + 8 ≤ length soft =
-    omega (arith, c.requires.size, half_steps c.args.t (length c.args.columns.now)) in
-    let le : i + 4 ≤ length columns = omega arith in
-    let long : length piece ≡ 4 = c.four_steps.auto.columns
-    ∙ length-take-le (i + 4 - i) (drop i columns) (omega (arith, length-drop i columns)) ∙ omega arith in
+    omega (arith, c.requires.size, half_steps c.args.t (length c.args.survivors.now)) in
+    let le : i + 4 ≤ length survivors = omega arith in
+    let long : length piece ≡ 4 = c.four_steps.auto.survivors
+    ∙ length-take-le (i + 4 - i) (drop i survivors) (omega (arith, length-drop i survivors)) ∙ omega arith in
     let next_low = c.four_steps.result.0 in
     let next_high = c.four_steps.result.1 in
     let place : 2 * i + 8 ≡ 2 * (i + 4) = omega arith in
     record {
-      within = omega (arith, length-mid i (i + 4 - i) columns piece (omega arith) (omega arith));
+      within = omega (arith, length-mid i (i + 4 - i) survivors piece (omega arith) (omega arith));
       bounded = λ m h s lt. omega
           (arith, c.four_steps.ensures.bounded (m + 510 * i) (c.loop-i.invariant.bounded m h) s lt);
       long_low = c.four_steps.ensures.long.0;
@@ -64,8 +64,8 @@ loop-i-preserved c =
           subst (λ (v : List ℕ). Carries R12 c.args.invert (c.args.t + i) v before next piece)
           (four_of i soft fits) four in
           subst (λ (n : ℕ). Carries R12 c.args.invert c.args.t (take n soft) first next
-          (take (i + 4) (put_mid i (i + 4 - i) columns piece))) place
-          (blocks_on R12 c.args.invert c.args.t (2 * i) 8 i 4 (i + 4) soft first before next columns piece
+          (take (i + 4) (put_mid i (i + 4 - i) survivors piece))) place
+          (blocks_on R12 c.args.invert c.args.t (2 * i) 8 i 4 (i + 4) soft first before next survivors piece
           (sym (half_steps c.args.t i)) (omega arith) (omega arith) le long refl
           (c.loop-i.invariant.carries base) block);
     }
@@ -74,13 +74,13 @@ loop-i-preserved c =
 pub slice_bounds-narrow_run-count : goal.slice_bounds-narrow_run-count
 slice_bounds-narrow_run-count c =
     let fits : 2 * c.loop-i.i ≤ length c.args.soft.now =
-    omega (arith, c.requires.size, half_steps c.args.t (length c.args.columns.now)) in
+    omega (arith, c.requires.size, half_steps c.args.t (length c.args.survivors.now)) in
     search rules
 
 pub slice_bounds-narrow_run-start : goal.slice_bounds-narrow_run-start
 slice_bounds-narrow_run-start c =
     let fits : 2 * c.loop-i.i ≤ length c.args.soft.now =
-    omega (arith, c.requires.size, half_steps c.args.t (length c.args.columns.now)) in
+    omega (arith, c.requires.size, half_steps c.args.t (length c.args.survivors.now)) in
     search rules
 
 length-rest : (n : ℕ) (xs : List ℕ) → length (take (length xs - n) (drop n xs)) ≡ length xs - n
@@ -89,13 +89,13 @@ length-rest n xs = length-take-le (length xs - n) (drop n xs) (omega (arith, len
 pub narrow_run-taken-requires-clause-size : goal.narrow_run-taken-requires-clause-size
 narrow_run-taken-requires-clause-size c =
     let i = c.loop-i.i in
-    let columns = c.loop-i.columns in
+    let survivors = c.loop-i.survivors in
     omega (
       arith,
       c.requires.size,
-      half_steps c.args.t (length c.args.columns.now),
-      half_steps (c.args.t + i) (length (take (length columns - i) (drop i columns))),
-      length-rest i columns,
+      half_steps c.args.t (length c.args.survivors.now),
+      half_steps (c.args.t + i) (length (take (length survivors - i) (drop i survivors))),
+      length-rest i survivors,
       length-rest (2 * i) c.args.soft.now,
     )
 
@@ -103,8 +103,8 @@ pub narrow_run-taken-requires-clause-room : goal.narrow_run-taken-requires-claus
 narrow_run-taken-requires-clause-room c s lt =
     omega (
       arith,
-      c.loop-i.invariant.bounded (2 ^ 16 - 1 - 510 * length c.args.columns.now) c.requires.room s lt,
-      length-rest c.loop-i.i c.loop-i.columns,
+      c.loop-i.invariant.bounded (2 ^ 16 - 1 - 510 * length c.args.survivors.now) c.requires.room s lt,
+      length-rest c.loop-i.i c.loop-i.survivors,
     )
 
 -- how many they are
@@ -114,46 +114,46 @@ taken_is t i n taken e = e ∙ half_steps (t + i) n
 pub overflow_add-result : goal.overflow_add-result
 overflow_add-result c =
     let i = c.loop-i.i in
-    let piece = c.narrow_run-taken.new.columns in
-    let long : length piece ≡ length c.loop-i.columns - i = c.narrow_run-taken.auto.columns
-    ∙ length-rest i c.loop-i.columns in
+    let piece = c.narrow_run-taken.new.survivors in
+    let long : length piece ≡ length c.loop-i.survivors - i = c.narrow_run-taken.auto.survivors
+    ∙ length-rest i c.loop-i.survivors in
     let taken = taken_is c.args.t i (length piece) c.narrow_run-taken.result.2 c.narrow_run-taken.ensures.taken in
     let fits : 2 * i + c.narrow_run-taken.result.2 ≤ length c.args.soft.now =
-    omega (arith, c.requires.size, half_steps c.args.t (length c.args.columns.now)) in
+    omega (arith, c.requires.size, half_steps c.args.t (length c.args.survivors.now)) in
     search rules
 
 pub returns-clause-taken : goal.returns-clause-taken
 returns-clause-taken c =
     let i = c.loop-i.i in
-    let columns = c.loop-i.columns in
-    let piece = c.narrow_run-taken.new.columns in
-    let long : length piece ≡ length columns - i = c.narrow_run-taken.auto.columns ∙ length-rest i columns in
-    let after = length-mid i (length columns - i) columns piece (omega arith) long in
+    let survivors = c.loop-i.survivors in
+    let piece = c.narrow_run-taken.new.survivors in
+    let long : length piece ≡ length survivors - i = c.narrow_run-taken.auto.survivors ∙ length-rest i survivors in
+    let after = length-mid i (length survivors - i) survivors piece (omega arith) long in
     omega (
       arith,
       taken_is c.args.t i (length piece) c.narrow_run-taken.result.2 c.narrow_run-taken.ensures.taken,
-      half_steps c.args.t (length (put_mid i (length columns - i) columns piece)),
+      half_steps c.args.t (length (put_mid i (length survivors - i) survivors piece)),
     )
 
 pub returns-clause-carries : goal.returns-clause-carries
 returns-clause-carries c base =
     let i = c.loop-i.i in
     let soft = c.args.soft.now in
-    let columns = c.loop-i.columns in
-    let piece = c.narrow_run-taken.new.columns in
+    let survivors = c.loop-i.survivors in
+    let piece = c.narrow_run-taken.new.survivors in
     let taken = c.narrow_run-taken.result.2 in
     let first = lifted base (c.args.first_low ++ c.args.first_high) in
     let before = lifted base (c.loop-i.low ++ c.loop-i.high) in
     let last = lifted base (c.narrow_run-taken.result.0 ++ c.narrow_run-taken.result.1) in
-    let long : length piece ≡ length columns - i = c.narrow_run-taken.auto.columns ∙ length-rest i columns in
-    let after : length (put_mid i (length columns - i) columns piece) ≡ length columns =
-    length-mid i (length columns - i) columns piece (omega arith) long in
+    let long : length piece ≡ length survivors - i = c.narrow_run-taken.auto.survivors ∙ length-rest i survivors in
+    let after : length (put_mid i (length survivors - i) survivors piece) ≡ length survivors =
+    length-mid i (length survivors - i) survivors piece (omega arith) long in
     let count = taken_is c.args.t i (length piece) taken c.narrow_run-taken.ensures.taken in
-    let whole = half_steps c.args.t (length c.args.columns.now) in
+    let whole = half_steps c.args.t (length c.args.survivors.now) in
     subst (λ (w : List ℕ). Carries R12 c.args.invert c.args.t (take (2 * i + taken) soft) first last w)
-    (take_all (length columns) (put_mid i (length columns - i) columns piece) (omega arith))
-    (blocks_on R12 c.args.invert c.args.t (2 * i) taken i (length columns - i)
-    (length columns) soft first before last columns piece
+    (take_all (length survivors) (put_mid i (length survivors - i) survivors piece) (omega arith))
+    (blocks_on R12 c.args.invert c.args.t (2 * i) taken i (length survivors - i)
+    (length survivors) soft first before last survivors piece
     (sym (half_steps c.args.t i)) (omega (arith, c.requires.size)) (omega (arith, c.requires.size)) (omega arith) long
     (omega arith)
     (c.loop-i.invariant.carries base) (c.narrow_run-taken.ensures.carries base))
@@ -161,8 +161,8 @@ returns-clause-carries c base =
 pub returns-clause-bounded : goal.returns-clause-bounded
 returns-clause-bounded c m h s lt =
     let i = c.loop-i.i in
-    let columns = c.loop-i.columns in
-    let piece = c.narrow_run-taken.new.columns in
-    let long : length piece ≡ length columns - i = c.narrow_run-taken.auto.columns ∙ length-rest i columns in
-    let after = length-mid i (length columns - i) columns piece (omega arith) long in
+    let survivors = c.loop-i.survivors in
+    let piece = c.narrow_run-taken.new.survivors in
+    let long : length piece ≡ length survivors - i = c.narrow_run-taken.auto.survivors ∙ length-rest i survivors in
+    let after = length-mid i (length survivors - i) survivors piece (omega arith) long in
     omega (arith, c.narrow_run-taken.ensures.bounded (m + 510 * i) (c.loop-i.invariant.bounded m h) s lt)

@@ -26,20 +26,20 @@ loop-i-init c = record {
 pub overflow_add-end : goal.overflow_add-end
 overflow_add-end c =
     let fits : c.loop-i.at + c.step_len.result ≤ length c.args.soft.now
-    = room c.args.rate c.args.t c.loop-i.i (length c.args.columns.now) c.loop-i.at c.step_len.result _
+    = room c.args.rate c.args.t c.loop-i.i (length c.args.survivors.now) c.loop-i.at c.step_len.result _
     (omega arith) c.loop-i.invariant.place c.step_len.ensures c.requires.size in
     search rules
 
 pub slice_bounds-narrow_step-end : goal.slice_bounds-narrow_step-end
 slice_bounds-narrow_step-end c =
     let fits : c.loop-i.at + c.step_len.result ≤ length c.args.soft.now
-    = room c.args.rate c.args.t c.loop-i.i (length c.args.columns.now) c.loop-i.at c.step_len.result _
+    = room c.args.rate c.args.t c.loop-i.i (length c.args.survivors.now) c.loop-i.at c.step_len.result _
     (omega arith) c.loop-i.invariant.place c.step_len.ensures c.requires.size in
     search rules
 
 pub narrow_step-column-requires-clause-room : goal.narrow_step-column-requires-clause-room
 narrow_step-column-requires-clause-room c s lt =
-    omega (arith, c.loop-i.invariant.bounded (2 ^ 16 - 1 - 510 * length c.args.columns.now) c.requires.room s lt)
+    omega (arith, c.loop-i.invariant.bounded (2 ^ 16 - 1 - 510 * length c.args.survivors.now) c.requires.room s lt)
 
 pub loop-i-preserved : goal.loop-i-preserved
 loop-i-preserved c =
@@ -47,7 +47,7 @@ loop-i-preserved c =
     let len = c.step_len.result in
     let soft = c.args.soft.now in
     let fits : at + len ≤ length soft
-    = room c.args.rate c.args.t c.loop-i.i (length c.args.columns.now) at len _
+    = room c.args.rate c.args.t c.loop-i.i (length c.args.survivors.now) at len _
     (omega arith) c.loop-i.invariant.place c.step_len.ensures c.requires.size in
     let same : at + len - at ≡ len = omega arith in
     let low = c.narrow_step-column.result.0 in
@@ -81,7 +81,7 @@ loop-i-preserved c =
           carried_on c.args.rate c.args.invert c.args.t at len c.loop-i.i c.narrow_step-column.result.2 soft _
           (lifted base (c.args.first_low ++ c.args.first_high))
           (lifted base (c.loop-i.low ++ c.loop-i.high))
-          (lifted base (low ++ high)) c.loop-i.columns fits c.step_len.ensures
+          (lifted base (low ++ high)) c.loop-i.survivors fits c.step_len.ensures
           (ap (λ (v : ℕ). take v (drop at soft)) same) (omega arith)
           (StepsTo-lifted c.args.rate c.args.invert (c.args.t + c.loop-i.i) base c.narrow_step-column.result.2 _
           (c.loop-i.low ++ c.loop-i.high) (low ++ high) ls ln c.narrow_step-column.ensures.steps)
@@ -92,7 +92,7 @@ pub returns-clause-carries : goal.returns-clause-carries
 returns-clause-carries c base =
     subst (λ (w : List ℕ). Carries c.args.rate c.args.invert c.args.t (take c.loop-i.at c.args.soft.now)
     (lifted base (c.args.first_low ++ c.args.first_high)) (lifted base (c.loop-i.low ++ c.loop-i.high)) w)
-    (take_all c.loop-i.i c.loop-i.columns (omega arith)) (c.loop-i.invariant.carries base)
+    (take_all c.loop-i.i c.loop-i.survivors (omega arith)) (c.loop-i.invariant.carries base)
 
 pub returns-clause-bounded : goal.returns-clause-bounded
 returns-clause-bounded c m h s lt = omega (arith, c.loop-i.invariant.bounded m h s lt)

@@ -11,5 +11,5 @@ invariant-loop-i l = record {
   long_low : length l.low ≡ 32;
   long_high : length l.high ≡ 32;
   carries : (base : ℕ) → Carries l.rate l.invert l.t (take l.at l.soft)
-      (lifted base (l.fn.first_low ++ l.fn.first_high)) (lifted base (l.low ++ l.high)) (take l.i l.columns);
+      (lifted base (l.fn.first_low ++ l.fn.first_high)) (lifted base (l.low ++ l.high)) (take l.i l.survivors);
 }

@@ -19,7 +19,7 @@ returns-clause-carries c =
     let new : lifted c.args.least last ≡ c.with_least.result =
     lifted_is c.args.least last c.with_least.result (omega (arith, length-append c.narrow_at-taken.result.0 c.narrow_at-taken.result.1, c.narrow_at-taken.ensures.long)) c.with_least.ensures.long
     (λ s lt. sym (c.with_least.ensures.each s lt)) in
-    let P : List ℕ → List ℕ → Type 0 = λ v w. Carries c.args.rate c.args.invert c.args.t (take c.narrow_at-taken.result.2 c.args.soft.now) v w c.narrow_at-taken.new.columns in
+    let P : List ℕ → List ℕ → Type 0 = λ v w. Carries c.args.rate c.args.invert c.args.t (take c.narrow_at-taken.result.2 c.args.soft.now) v w c.narrow_at-taken.new.survivors in
     subst (λ (w : List ℕ). P c.args.sums.now w) new (subst (λ (v : List ℕ). P v (lifted c.args.least last)) old (c.narrow_at-taken.ensures.carries c.args.least))
 
 pub returns-clause-bounded : goal.returns-clause-bounded

@@ -22,12 +22,12 @@ taker_alone : (e : FeedError) → (IsErrOf {T = ℕ} (Err e) Stopped → ⊥) �
 taker_alone Taker h = refl
 taker_alone Stopped h = absurd (h refl)
 
-pub returns-clause-front : goal.returns-clause-front
-returns-clause-front g c = λ _.
+pub returns-clause-prefix : goal.returns-clause-prefix
+returns-clause-prefix g c = λ _.
     let fed = c.in-Ok-feed.ensures.handed in
     let none : IsTrue c.feed.new.self.has_stopped → ⊥ = λ stopped. c.in-Ok-feed.ensures.stops.0 stopped in
     let soft = c.args.soft.now in
-    let last = c.in-Err.ensures.front (taker_alone c.in-Err.field-0 (λ is. none (c.in-Err.ensures.call.stopped.0 is))) in (
+    let last = c.in-Err.ensures.prefix (taker_alone c.in-Err.field-0 (λ is. none (c.in-Err.ensures.call.stopped.0 is))) in (
       fed.0 ++ last.0 ∷ [],
       HandedPart-after _ _ c.args.blocks.now c.feed.new.blocks c.finish.new.blocks fed.0 (last.0 ∷ []) fed.1 (HandedPart-first _ _ c.feed.new.blocks c.finish.new.blocks last.0 [] last.1),
       λ few.

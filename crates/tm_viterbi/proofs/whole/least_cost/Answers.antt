@@ -14,7 +14,7 @@ use Rattle.tm_viterbi.specs.declared.block.Start.TheVariants.{Zero, Any}
 use Rattle.tm_viterbi.proofs.Walk.{AreBest-none}
 use Rattle.tm_viterbi.proofs.WholeBlocks.{from_zero}
 use Rattle.tm_viterbi.proofs.Handing.{some_start}
-use Rattle.tm_viterbi.proofs.LeastCost.{steps_le, step_left, front_and_piece}
+use Rattle.tm_viterbi.proofs.LeastCost.{steps_le, step_left, prefix_and_piece}
 use Rattle.tm_viterbi.proofs.Final.{IsBest-from_columns}
 use Rattle.tm_viterbi.proofs.whole.least_cost.Goals as goal
 use Rattle.tm_conv.proofs.Sizes.{steps_size-least, steps_size-most}
@@ -56,25 +56,25 @@ loop-at-preserved c =
     let count = c.whole_steps-count.result.0 in
     let size = c.whole_steps-count.result.1 in
     let found = c.whole_steps-count.ensures in
-    let len : length c.run.new.columns ≡ count = c.run.auto.columns ∙ length-take-le count c.loop-at.columns (omega (arith, found.some, i.long)) in
+    let len : length c.run.new.survivors ≡ count = c.run.auto.survivors ∙ length-take-le count c.loop-at.survivors (omega (arith, found.some, i.long)) in
     let within : at + size ≤ length soft = omega (arith, i.within, found.fits) in
     let place : at + size ≡ steps_size c.args.rate 0 (done + count) = omega (arith, i.place, found.size, from_zero c.args.rate done count) in
-    let sum : done + length c.run.new.columns ≡ done + count = omega (arith, len) in
+    let sum : done + length c.run.new.survivors ≡ done + count = omega (arith, len) in
     let firsts = c.first_sums-sums.result in
-    let next = reverse c.run.new.columns ++ i.best.0 in
+    let next = reverse c.run.new.survivors ++ i.best.0 in
     let there : done ≡ 0 + done = omega arith in
     let P : List ℕ → ℕ → Type 0 = λ v n. AreBest (total_of c.args.rate c.args.invert 0 firsts v) n c.run.new.sums next in
     record {
       within = within;
       place = place;
       few = omega (arith, c.requires.1, steps_le c.args.rate (done + count) c.requires.0 (omega (arith, place, within, c.requires.2)));
-      long = omega (arith, length-append c.run.new.columns (drop count c.loop-at.columns), length-drop count c.loop-at.columns, len, i.long, found.some);
+      long = omega (arith, length-append c.run.new.survivors (drop count c.loop-at.survivors), length-drop count c.loop-at.survivors, len, i.long, found.some);
       sums = c.run.array_long;
       bounded = λ s lt. omega (arith, c.run.ensures.bounded s lt, len);
       best = (
         next,
         subst (λ (n : ℕ). P (take (at + size) soft) n) sum
-            (subst (λ (v : List ℕ). P v (done + length c.run.new.columns)) (front_and_piece at size soft)
+            (subst (λ (v : List ℕ). P v (done + length c.run.new.survivors)) (prefix_and_piece at size soft)
             (c.run.ensures.carries.carries 0 done firsts (take at soft) i.best.0 there (length-take-le at soft i.within ∙ i.place) i.best.1)),
       );
     }

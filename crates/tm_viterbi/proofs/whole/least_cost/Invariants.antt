@@ -9,7 +9,7 @@ invariant-loop-at l = record {
   within : l.at ≤ length l.soft;
   place : l.at ≡ steps_size l.rate 0 l.done;
   few : l.done ≤ 69632;
-  long : length l.columns ≡ 120;
+  long : length l.survivors ≡ 120;
   sums : length l.sums ≡ 64;
   bounded : AreAtMost (2 ^ 30 + 510 * l.done) l.sums;
   best : (past : List ℕ) × AreBest (total_of l.rate l.invert 0 l.initial.sums (take l.at l.soft)) l.done l.sums past;

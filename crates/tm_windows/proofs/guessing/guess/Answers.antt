@@ -9,26 +9,26 @@ pub decode-path-requires-clause-octets : goal.decode-path-requires-clause-octets
 decode-path-requires-clause-octets c =
     let s = c.args.shape in
     let before = c.min-before.result in
-    let behind = c.min-behind.result in
+    let after = c.min-after.result in
     let first = c.args.t - before in
     let octets = c.args.octets.now in
     let bits = c.as_mut_slice-bits.result.now in
-    let front = c.args.at - c.steps_len-size.result in
-    let n = length (take (before + behind) bits) in
-    let long : n ≡ before + behind = length-take-le (before + behind) bits (omega (arith, c.as_mut_slice-bits.ensures.len, c.requires.bits, c.min-before.ensures, c.min-behind.ensures)) in
-    let same : steps_size c.args.decoder.now.rate first n ≡ steps_size s.rate first (before + behind)
+    let prefix = c.args.at - c.steps_len-size.result in
+    let n = length (take (before + after) bits) in
+    let long : n ≡ before + after = length-take-le (before + after) bits (omega (arith, c.as_mut_slice-bits.ensures.len, c.requires.bits, c.min-before.ensures, c.min-after.ensures)) in
+    let same : steps_size c.args.decoder.now.rate first n ≡ steps_size s.rate first (before + after)
     = ap (λ (w : WindowShape). steps_size w.rate first n) c.requires.shape ∙ ap (λ (m : ℕ). steps_size s.rate first m) long in
-    let there : steps_size s.rate (first + before) behind ≡ steps_size s.rate c.args.t behind = ap (λ (u : ℕ). steps_size s.rate u behind) (omega (arith, c.if-t-before.false)) in
+    let there : steps_size s.rate (first + before) after ≡ steps_size s.rate c.args.t after = ap (λ (u : ℕ). steps_size s.rate u after) (omega (arith, c.if-t-before.false)) in
     omega (
       arith,
       same,
       there,
-      steps_size-add s.rate first before behind,
+      steps_size-add s.rate first before after,
       c.steps_len-size.ensures,
       c.steps_len-more.ensures,
       c.if-at-size.false,
       c.if-octets-at.false,
       c.if-octets-at-2.false,
-      ap length (take_rest octets front),
-      length-drop front octets,
+      ap length (take_rest octets prefix),
+      length-drop prefix octets,
     )

@@ -4,7 +4,7 @@ use Rattle.std.proofs.lemmas.List.Elements.{All-set}
 use Rattle.tm_base.proofs.Handing.{HandedOver-push, HandedPart-first, HandedPart-after}
 use Rattle.tm_conv.specs.Path.{steps_size}
 use Rattle.tm_conv.proofs.Paths.{steps_size-zero}
-use Rattle.tm_viterbi.specs.Due.{Place, behind}
+use Rattle.tm_viterbi.specs.Due.{Place, after_block}
 use Rattle.tm_viterbi.proofs.Closing.{Closed-push}
 use Rattle.tm_windows.specs.Candidates.{ClosesWith}
 use Rattle.tm_windows.specs.declared.candidate.Candidate.{Candidate}
@@ -38,7 +38,7 @@ returns-in-Err-clause-err g c =
     let here = place (drop l.at octets) in (
       more ++ failed.0 ∷ [],
       HandedPart-after _ _ c.args.blocks.now l.blocks c.settle.new.blocks more (failed.0 ∷ []) l.invariant.handed.1 (HandedPart-first _ _ l.blocks c.settle.new.blocks failed.0 [] failed.1),
-      behind s.rate here failed.0,
+      after_block s.rate here failed.0,
       Closed-push s.rate s.invert s.keep s.ahead _ here more failed.0 l.invariant.handed.2 (subst (λ (o : List ℕ). ClosesWith s (place o) failed.0) (take_rest octets l.at) failed.2),
     )
 

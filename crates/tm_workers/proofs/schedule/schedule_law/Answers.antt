@@ -1,8 +1,8 @@
-use Rattle.tm_workers.proofs.Schedules.{in_turn, each_once, at_most_once, all_below}
+use Rattle.tm_workers.proofs.Schedules.{in_order, each_once, at_most_once, all_below}
 use Rattle.tm_workers.proofs.schedule.schedule_law.Goals as goal
 
-pub returns-clause-in_turn : goal.returns-clause-in_turn
-returns-clause-in_turn c schedule = in_turn schedule
+pub returns-clause-in_order : goal.returns-clause-in_order
+returns-clause-in_order c schedule = in_order schedule
 
 pub returns-clause-each_once : goal.returns-clause-each_once
 returns-clause-each_once c schedule x = each_once x schedule

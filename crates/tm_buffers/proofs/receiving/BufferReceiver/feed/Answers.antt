@@ -5,7 +5,7 @@ use Rattle.tm_channel.specs.Handing.{AreReceivedDue}
 use Rattle.tm_channel.specs.Most.{AreFew}
 use Rattle.tm_buffers.specs.Items.{Collected, collected}
 use Rattle.tm_buffers.specs.declared.items.BufferItems.{BufferItems}
-use Rattle.tm_buffers.proofs.ItemsInTurn.{All, enough, handled, tells}
+use Rattle.tm_buffers.proofs.ItemsWithPhase.{All, enough, handled, tells}
 use Rattle.tm_buffers.proofs.receiving.BufferReceiver.feed.Goals as goal
 use Rattle.tm_buffers.proofs.receiving.BufferReceiver.feed.Goals.{in-Ok, in-Err}
 

@@ -6,7 +6,7 @@ use Rattle.tm_inner.specs.Phase.{IsChosen}
 use Rattle.tm_channel.specs.Most.{AreFew}
 use Rattle.tm_buffers.specs.Items.{Collected, collected}
 use Rattle.tm_buffers.specs.declared.items.BufferItems.{BufferItems}
-use Rattle.tm_buffers.proofs.ItemsInTurn.{All, enough, handled, tells}
+use Rattle.tm_buffers.proofs.ItemsWithPhase.{All, enough, handled, tells}
 use Rattle.tm_buffers.proofs.receiving.BufferReceiver.finish.Goals as goal
 use Rattle.tm_buffers.proofs.receiving.BufferReceiver.finish.Goals.{in-Ok, in-Err}
 

@@ -25,7 +25,7 @@ returns-clause-pushed c = λ given is room.
           (record { octets = both; going = more; stands = sent.fed.stands given stood }, search rules)
       | in-Err w ↦
           let sink = sink_alone w.in-Err.field-0 (λ stopped. true≢false (sym (w.in-Err.ensures.stopped.0 stopped) ∙ going)) in
-          let front = w.in-Err.ensures.front sink in
-          absurd (not-full _ _ _ _ _ c.push-pushed.new.out.is_full _ (front.front given stood) c.push-pushed.new.out.full (w.in-Err.ensures.rose sink)
+          let prefix = w.in-Err.ensures.prefix sink in
+          absurd (not-full _ _ _ _ _ c.push-pushed.new.out.is_full _ (prefix.prefix given stood) c.push-pushed.new.out.full (w.in-Err.ensures.rose sink)
           (symbols-fit config given c.args.octets.now _ (subst IsAccepted (sym c.self.invariant) c.symbols_room.ensures.accepted) is.octets both (search rules)))
     ]

@@ -95,7 +95,7 @@ module _ (c : After-read_u64) (read : c.as_slice-held.result.now ≡ c.args.self
 
   just : HeldBefore c.args.self.now.rules c.args.self.now.before c.args.self.now.octets → 17 < length c.args.self.now.octets
       → length c.args.self.now.octets ≡ window_size c.args.self.now.rules.rate c.args.self.now.before.t (steps_in c.args.self.now.octets)
-  just held_before behind = omega (arith, ap length read, steps_are, size, c.if-held-soft_end-2.false, held_before.size behind)
+  just held_before after = omega (arith, ap length read, steps_are, size, c.if-held-soft_end-2.false, held_before.size after)
 
   bits_long : length c.args.self.now.octets ≡ window_size c.args.self.now.rules.rate c.args.self.now.before.t (steps_in c.args.self.now.octets) → length (bits_in c.args.self.now.octets) ≡ steps_in c.args.self.now.octets
   bits_long end = length-take-le (steps_in c.args.self.now.octets) (drop 17 c.args.self.now.octets) (omega (arith, end, length-drop 17 c.args.self.now.octets))
@@ -133,8 +133,8 @@ returns-then-is_right-2 c =
     let s = c.args.self.now in
     let k = (goal.at.returns-then-is_right-2 c).After-read_u32-steps in
     let long = ap length (same k) in
-    let behind : 17 < length s.octets = omega (arith, long, c.if-held-eq-HEADER.false) in
-    let shape = (held k).shape behind in
+    let after : 17 < length s.octets = omega (arith, long, c.if-held-eq-HEADER.false) in
+    let shape = (held k).shape after in
     let end : length s.octets ≡ 17 + steps_in s.octets = omega (arith, long, steps k, c.if-held-bits_end.true) in
     let is = bits_are (goal.at.returns-then-is_right-2 c).After-are_bits-is_right (same k) (long ∙ end) in
     record { seen = seen_bits s.rules s.before s.octets (due k) end shape (sym is ∙ c.if-is_right-2.true); just = λ e. absurd cc }
@@ -144,8 +144,8 @@ returns-else-is_right-2 c =
     let s = c.args.self.now in
     let k = (goal.at.returns-else-is_right-2 c).After-read_u32-steps in
     let long = ap length (same k) in
-    let behind : 17 < length s.octets = omega (arith, long, c.if-held-eq-HEADER.false) in
-    let shape = (held k).shape behind in
+    let after : 17 < length s.octets = omega (arith, long, c.if-held-eq-HEADER.false) in
+    let shape = (held k).shape after in
     let end : length s.octets ≡ 17 + steps_in s.octets = omega (arith, long, steps k, c.if-held-bits_end.true) in
     let is = bits_are (goal.at.returns-else-is_right-2 c).After-are_bits-is_right (same k) (long ∙ end) in
     record { seen = reason-bits s.rules s.before s.octets (due k) shape (omega (arith, end)) (sym is ∙ c.if-is_right-2.false); just = λ e. absurd cc }
@@ -155,8 +155,8 @@ overflow_add-soft_end c =
     let s = c.args.self.now in
     let k = (goal.at.overflow_add-soft_end c).After-read_u32-steps in
     let long = ap length (same k) in
-    let behind : 17 < length s.octets = omega (arith, long, c.if-held-eq-HEADER.false) in
-    let shape = (held k).shape behind in
+    let after : 17 < length s.octets = omega (arith, long, c.if-held-eq-HEADER.false) in
+    let shape = (held k).shape after in
     record { fits = omega (arith, few k shape, c.from.ensures, c.span.ensures, steps_size-most c.self.inside.rate c.self.inside.t c.from.result) }
 
 pub overflow_add-soft_end-2 : goal.overflow_add-soft_end-2
@@ -164,8 +164,8 @@ overflow_add-soft_end-2 c =
     let s = c.args.self.now in
     let k = (goal.at.overflow_add-soft_end-2 c).After-read_u32-steps in
     let long = ap length (same k) in
-    let behind : 17 < length s.octets = omega (arith, long, c.if-held-eq-HEADER.false) in
-    let shape = (held k).shape behind in
+    let after : 17 < length s.octets = omega (arith, long, c.if-held-eq-HEADER.false) in
+    let shape = (held k).shape after in
     record { fits = omega (arith, few k shape, c.from.ensures, c.span.ensures, steps_size-most c.self.inside.rate c.self.inside.t c.from.result) }
 
 pub returns-then-is_right-3 : goal.returns-then-is_right-3
@@ -174,8 +174,8 @@ returns-then-is_right-3 c =
     let k = (goal.at.returns-then-is_right-3 c).After-read_u32-steps in
     let size = size_is (goal.at.returns-then-is_right-3 c).After-span (steps k) in
     let long = ap length (same k) in
-    let behind : 17 < length s.octets = omega (arith, long, c.if-held-eq-HEADER.false) in
-    let shape = (held k).shape behind in
+    let after : 17 < length s.octets = omega (arith, long, c.if-held-eq-HEADER.false) in
+    let shape = (held k).shape after in
     let end : length s.octets ≡ soft_end s.rules.rate s.before.t (steps_in s.octets) = omega (arith, long, steps k, size, c.if-held-soft_end.true) in
     let bits = (held k).bits (omega (arith, end, steps_size_ge s.rules.rate s.before.t (steps_in s.octets), (Shaped-from_shape s.rules s.before s.octets shape).some)) in
     let is = joint_is (goal.at.returns-then-is_right-3 c).After-is_joined-is_right (same k) (steps k) (long ∙ end) in
@@ -187,8 +187,8 @@ returns-else-is_right-3 c =
     let k = (goal.at.returns-else-is_right-3 c).After-read_u32-steps in
     let size = size_is (goal.at.returns-else-is_right-3 c).After-span (steps k) in
     let long = ap length (same k) in
-    let behind : 17 < length s.octets = omega (arith, long, c.if-held-eq-HEADER.false) in
-    let shape = (held k).shape behind in
+    let after : 17 < length s.octets = omega (arith, long, c.if-held-eq-HEADER.false) in
+    let shape = (held k).shape after in
     let end : length s.octets ≡ soft_end s.rules.rate s.before.t (steps_in s.octets) = omega (arith, long, steps k, size, c.if-held-soft_end.true) in
     let bits = (held k).bits (omega (arith, end, steps_size_ge s.rules.rate s.before.t (steps_in s.octets), (Shaped-from_shape s.rules s.before s.octets shape).some)) in
     let is = joint_is (goal.at.returns-else-is_right-3 c).After-is_joined-is_right (same k) (steps k) (long ∙ end) in
@@ -200,12 +200,12 @@ returns-then-held-soft_end-2 c =
     let k = (goal.at.returns-then-held-soft_end-2 c).After-read_u32-steps in
     let size = size_is (goal.at.returns-then-held-soft_end-2 c).After-span (steps k) in
     let long = ap length (same k) in
-    let behind : 17 < length s.octets = omega (arith, long, c.if-held-eq-HEADER.false) in
-    let shape = (held k).shape behind in
+    let after : 17 < length s.octets = omega (arith, long, c.if-held-eq-HEADER.false) in
+    let shape = (held k).shape after in
     let not_bits : ◌≢◌ {A = ℕ} (length s.octets) (17 + steps_in s.octets) = λ e. c.if-held-bits_end.false (omega (arith, e, long, steps k)) in
     let not_soft : ◌≢◌ {A = ℕ} (length s.octets) (soft_end s.rules.rate s.before.t (steps_in s.octets)) = λ e. c.if-held-soft_end.false (omega (arith, e, long, steps k, size)) in
     record {
-      seen = (seen_between s.rules s.before s.octets (due k) (held k) behind not_bits not_soft, omega (arith, long, steps k, size, c.if-held-soft_end-2.true));
+      seen = (seen_between s.rules s.before s.octets (due k) (held k) after not_bits not_soft, omega (arith, long, steps k, size, c.if-held-soft_end-2.true));
       just = λ e. absurd cc;
     }
 
@@ -215,10 +215,10 @@ verdict_on-verdict-requires c =
     let k = (goal.at.verdict_on-verdict-requires c).After-read_u32-steps in
     let size = size_is (goal.at.verdict_on-verdict-requires c).After-span (steps k) in
     let long = ap length (same k) in
-    let behind : 17 < length s.octets = omega (arith, long, c.if-held-eq-HEADER.false) in
-    let shape = (held k).shape behind in
+    let after : 17 < length s.octets = omega (arith, long, c.if-held-eq-HEADER.false) in
+    let shape = (held k).shape after in
     let at = (goal.at.verdict_on-verdict-requires c).After-read_u64 in
-    let end = just at (same k) (steps k) size (held k) behind in
+    let end = just at (same k) (steps k) size (held k) after in
     let its = its_bits at (same k) (steps k) size in
     let soft = its_soft at (same k) (steps k) size in
     let columns = its_columns at (same k) (steps k) size in
@@ -247,10 +247,10 @@ returns c =
     let k = (goal.at.returns c).After-read_u32-steps in
     let size = size_is (goal.at.returns c).After-span (steps k) in
     let long = ap length (same k) in
-    let behind : 17 < length s.octets = omega (arith, long, c.if-held-eq-HEADER.false) in
-    let shape = (held k).shape behind in
+    let after : 17 < length s.octets = omega (arith, long, c.if-held-eq-HEADER.false) in
+    let shape = (held k).shape after in
     let at = (goal.at.returns c).After-read_u64 in
-    let end = just at (same k) (steps k) size (held k) behind in
+    let end = just at (same k) (steps k) size (held k) after in
     let its = its_bits at (same k) (steps k) size in
     let soft = its_soft at (same k) (steps k) size in
     let columns = its_columns at (same k) (steps k) size in
@@ -261,7 +261,7 @@ returns c =
     let t = ap (λ v. v.before.t) c.self.view_is in
     let starts = ap (λ v. v.before.starts) c.self.view_is in
     let judged : IsJudged s.rules s.before s.octets c.verdict_on-verdict.result = record {
-      right = seen_between s.rules s.before s.octets (due k) (held k) behind (λ e. absurd (omega (arith, e, end))) (λ e. absurd (omega (arith, e, end)));
+      right = seen_between s.rules s.before s.octets (due k) (held k) after (λ e. absurd (omega (arith, e, end))) (λ e. absurd (omega (arith, e, end)));
       whole = omega (arith, end);
       is_verdict = same_verdict _ _ _ _ _ _ _ _ _ _ c.verdict_on-verdict.result
           (λ i. record { rate = rate i; invert = invert i; first = t i; starts = starts i; soft = soft i })

@@ -56,12 +56,12 @@ look-requires-clause-open c =
     let rest = take (length c.args.piece.now - c.loop-taken.taken) (drop c.loop-taken.taken c.args.piece.now) in
     let part = take c.fill-taken.result rest in
     let part_long : length part ≡ c.fill-taken.result = length-take-le c.fill-taken.result rest (omega (arith, count k, rest_long k)) in
-    let front = take (length part - 1) part in
-    let front_long : length front ≡ length part - 1 = length-take-le (length part - 1) part (omega arith) in
+    let prefix = take (length part - 1) part in
+    let prefix_long : length prefix ≡ length part - 1 = length-take-le (length part - 1) part (omega arith) in
     let is : c.fill-taken.new.self.octets ≡ v.octets ++ part = c.fill-taken.ensures.octets ∙ ap (λ u. u.octets ++ part) c.self.view_is in
-    same_seen v.rules _ v.before _ (v.octets ++ front) _ More (sym (ap (λ u. u.rules) c.self.view_is)) (sym (ap (λ u. u.before) c.self.view_is))
+    same_seen v.rules _ v.before _ (v.octets ++ prefix) _ More (sym (ap (λ u. u.rules) c.self.view_is)) (sym (ap (λ u. u.before) c.self.view_is))
     (before_last v.octets part c.fill-taken.new.self.octets is (omega (arith, some k, part_long)))
-    (c.goal-goal.ensures.open front (omega (arith, front_long, part_long, some k, count k, c.goal-goal.ensures.more)))
+    (c.goal-goal.ensures.open prefix (omega (arith, prefix_long, part_long, some k, count k, c.goal-goal.ensures.more)))
 
 pub loop-taken-preserved : goal.loop-taken-preserved
 loop-taken-preserved c =

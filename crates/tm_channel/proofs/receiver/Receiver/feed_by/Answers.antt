@@ -34,10 +34,10 @@ returns-in-Ok-clause-handed g c =
           (stages-few (record { inner = s.inner; bits = s.stream }) now.stages given octets done p.more ok c.take.ensures.inner stood (p.stands given done few stood)),
     )
 
-pub returns-in-Err-clause-front : goal.returns-in-Err-clause-front
-returns-in-Err-clause-front g c = λ _.
+pub returns-in-Err-clause-prefix : goal.returns-in-Err-clause-prefix
+returns-in-Err-clause-prefix g c = λ _.
     let octets = c.args.octets.now in
-    let p = c.in-Err.ensures.front in
+    let p = c.in-Err.ensures.prefix in
     let took = on_handed g.T.ItemTaker.took_phase g.T.ItemTaker.took in
     let broke = on_handed g.T.ItemTaker.broke_phase g.T.ItemTaker.broke in
     subst (λ (r : OctetReceiving). (tried : List (Handed ItemValue)) × HandedPart took broke c.args.taker.now tried c.take.new.taker
@@ -65,7 +65,7 @@ pub returns-in-Err-clause-chosen : goal.returns-in-Err-clause-chosen
 returns-in-Err-clause-chosen g c =
     let octets = c.args.octets.now in
     let chosen = c.take.new.inner.phased.chosen in
-    let p = c.in-Err.ensures.front in
+    let p = c.in-Err.ensures.prefix in
     subst (λ (r : OctetReceiving). (given : List ℕ) (done : List (Handed ItemValue)) → length given + length octets < 2 ^ 60 → StandsFor r given done
     → r.has_stopped ≡ false → IsChosenSoFar r.config (given ++ octets) chosen) c.self.view_is
     (λ given done few stood _. subst (λ (k : Configuration). IsChosenSoFar k (given ++ octets) chosen) c.self.invariant.0 (p.first given done few stood).1)

@@ -5,16 +5,16 @@ use Rattle.tm_base.proofs.Handing.{HandedOver-append, HandedPart-after}
 use Rattle.tm_base.proofs.HandedItems.{HandedOver-items, HandedPart-items}
 use Rattle.tm_config.specs.Configuration.{Configuration}
 use Rattle.tm_config.specs.Accepted.{IsAccepted}
-use Rattle.tm_inner.specs.Phase.{in_turn}
+use Rattle.tm_inner.specs.Phase.{with_phase}
 use Rattle.tm_channel.specs.Items.{ItemValue}
-use Rattle.tm_channel.specs.Handing.{AreReceived, AreReceivedFront}
+use Rattle.tm_channel.specs.Handing.{AreReceived, AreReceivedPrefix}
 use Rattle.tm_channel.specs.Receiving.{waiting_bits}
 use Rattle.tm_channel.specs.Most.{AreFew}
 use Rattle.tm_channel.specs.OctetReceiving.{FinishHands, OctetReceiving, StandsFor, Stages, Ends}
 use Rattle.tm_channel.specs.declared.receiver.RecvError.{RecvError}
 use Rattle.tm_channel.specs.declared.receiver.RecvError.TheVariants.{Taker}
 use Rattle.tm_channel.proofs.FewItems.{ends-few}
-use Rattle.tm_channel.proofs.GivenOctets.{chosen-at_end, ends, ends-front, ends-part, ends-phase}
+use Rattle.tm_channel.proofs.GivenOctets.{chosen-at_end, ends, ends-prefix, ends-part, ends-phase}
 use Rattle.tm_channel.proofs.receiver.Receiver.finish_by.Goals as goal
 use Rattle.tm_channel.proofs.receiver.Receiver.finish_by.Goals.{in-Ok-hand_last, in-Err-hand_last}
 
@@ -23,24 +23,24 @@ roomy : (room spare window : ℕ) → spare + 3 * window + 7 + 4096 ≤ room →
 roomy room spare window most = omega arith
 
 -- the taker failed at the phase
-pub returns-in-Err-clause-front : goal.returns-in-Err-clause-front
-returns-in-Err-clause-front g c = λ _.
+pub returns-in-Err-clause-prefix : goal.returns-in-Err-clause-prefix
+returns-in-Err-clause-prefix g c = λ _.
     let s = c.self.inside in
     let stages : Stages = record { inner = s.inner; bits = s.stream } in
     let took = on_handed g.T.ItemTaker.took_phase g.T.ItemTaker.took in
     let broke = on_handed g.T.ItemTaker.broke_phase g.T.ItemTaker.broke in
     let kept = c.end-count.new.kept in
     subst (λ (r : OctetReceiving). (tried : List (Handed ItemValue)) × HandedPart took broke c.args.taker.now tried c.hand_phase.new.taker
-    × ((given : List ℕ) (done : List (Handed ItemValue)) → StandsFor r given done → AreReceivedFront r.config given (done ++ tried))) c.self.view_is (
-      in_turn kept.phase [],
-      c.in-Err.ensures.front,
-      λ given done stood. subst (λ (k : Configuration). AreReceivedFront k given (done ++ in_turn kept.phase [])) c.self.invariant.0
+    × ((given : List ℕ) (done : List (Handed ItemValue)) → StandsFor r given done → AreReceivedPrefix r.config given (done ++ tried))) c.self.view_is (
+      with_phase kept.phase [],
+      c.in-Err.ensures.prefix,
+      λ given done stood. subst (λ (k : Configuration). AreReceivedPrefix k given (done ++ with_phase kept.phase [])) c.self.invariant.0
           (ends-phase stages s.kept.size kept.phase (map (λ bit. bit == 1) kept.bits) c.end-count.result (c.self.invariant.1 ∙ sym c.self.invariant.0) (roomy s.kept.size (waiting_bits s.inner.config s.inner.config.batch) (s.inner.config.keep + s.inner.config.ahead) c.self.invariant.3) c.end-count.ensures.ends given done stood),
     )
 
 -- it failed at an item that is due with the last bits
-pub returns-in-Err-take_bits-clause-front : goal.returns-in-Err-take_bits-clause-front
-returns-in-Err-take_bits-clause-front g c = λ _.
+pub returns-in-Err-take_bits-clause-prefix : goal.returns-in-Err-take_bits-clause-prefix
+returns-in-Err-take_bits-clause-prefix g c = λ _.
     let s = c.self.inside in
     let stages : Stages = record { inner = s.inner; bits = s.stream } in
     let took = on_handed g.T.ItemTaker.took_phase g.T.ItemTaker.took in
@@ -53,13 +53,13 @@ returns-in-Err-take_bits-clause-front g c = λ _.
     let count = c.end-count.result in
     let over = subst (λ (l : List ℕ). Ends s.inner s.kept.size phase (map (λ bit. bit == 1) l) count) (sym c.bits.ensures) c.end-count.ensures.ends in
     let p = c.in-Err-take_bits.ensures.part in
-    let tried = in_turn phase [] ++ map Item p.tried in
+    let tried = with_phase phase [] ++ map Item p.tried in
     subst (λ (r : OctetReceiving). (tried : List (Handed ItemValue)) × HandedPart took broke start tried middle
-    × ((given : List ℕ) (done : List (Handed ItemValue)) → StandsFor r given done → AreReceivedFront r.config given (done ++ tried))) c.self.view_is (
+    × ((given : List ℕ) (done : List (Handed ItemValue)) → StandsFor r given done → AreReceivedPrefix r.config given (done ++ tried))) c.self.view_is (
       tried,
-      HandedPart-after took broke start first middle (in_turn phase []) (map Item p.tried) c.in-Ok.ensures.handed
+      HandedPart-after took broke start first middle (with_phase phase []) (map Item p.tried) c.in-Ok.ensures.handed
           (HandedPart-items g.T.ItemTaker.took_phase g.T.ItemTaker.broke_phase g.T.ItemTaker.took g.T.ItemTaker.broke first middle p.tried p.handed),
-      λ given done stood. subst (λ (k : Configuration). AreReceivedFront k given (done ++ tried)) c.self.invariant.0
+      λ given done stood. subst (λ (k : Configuration). AreReceivedPrefix k given (done ++ tried)) c.self.invariant.0
           (ends-part g.T.ItemTaker.took g.T.ItemTaker.broke stages c.take_bits.new.stream first middle s.kept.size phase piece count
           (c.self.invariant.1 ∙ sym c.self.invariant.0) (roomy s.kept.size (waiting_bits s.inner.config s.inner.config.batch) (s.inner.config.keep + s.inner.config.ahead) c.self.invariant.3) over p given done stood),
     )
@@ -83,10 +83,10 @@ returns-clause-handed g c =
     subst (λ (r : OctetReceiving). Said r c.match-hand_last.result) c.self.view_is (elim c.match-hand_last.branch as (λ _. Said before c.match-hand_last.result) [
       | in-Ok-hand_last w ↦ (
           let q = w.in-Ok-hand_last.ensures.handed in
-          let all = in_turn phase [] ++ map Item (p.items ++ q.items) in
+          let all = with_phase phase [] ++ map Item (p.items ++ q.items) in
           let said : Said before (Ok count) = (
             all,
-            HandedOver-append took start first last (in_turn phase []) (map Item (p.items ++ q.items)) c.in-Ok.ensures.handed
+            HandedOver-append took start first last (with_phase phase []) (map Item (p.items ++ q.items)) c.in-Ok.ensures.handed
                 (HandedOver-items g.T.ItemTaker.took_phase g.T.ItemTaker.took first last (p.items ++ q.items)
                 (HandedOver-append g.T.ItemTaker.took first middle last p.items q.items p.handed q.handed)),
             λ given done stood. subst (λ (k : Configuration). AreReceived k given (done ++ all) count) c.self.invariant.0
@@ -101,8 +101,8 @@ returns-clause-handed g c =
       | in-Err-hand_last w ↦ subst (Said before) (sym w.result-is) tt
     ])
 
-pub returns-clause-front : goal.returns-clause-front
-returns-clause-front g c =
+pub returns-clause-prefix : goal.returns-clause-prefix
+returns-clause-prefix g c =
     let s = c.self.inside in
     let before : OctetReceiving = record { config = s.config; has_stopped = s.has_stopped; stages = record { inner = s.inner; bits = s.stream } } in
     let took = on_handed g.T.ItemTaker.took_phase g.T.ItemTaker.took in
@@ -117,19 +117,19 @@ returns-clause-front g c =
     let over = subst (λ (l : List ℕ). Ends s.inner s.kept.size phase (map (λ bit. bit == 1) l) count) (sym c.bits.ensures) c.end-count.ensures.ends in
     let p = c.in-Ok-take_bits.ensures.handed in
     let Said : OctetReceiving → Result ℕ RecvError → Type 0 = λ r result. IsErrOf result Taker → (tried : List (Handed ItemValue)) × HandedPart took broke start tried last
-    × ((given : List ℕ) (done : List (Handed ItemValue)) → StandsFor r given done → AreReceivedFront r.config given (done ++ tried)) in
+    × ((given : List ℕ) (done : List (Handed ItemValue)) → StandsFor r given done → AreReceivedPrefix r.config given (done ++ tried)) in
     subst (λ (r : OctetReceiving). Said r c.match-hand_last.result) c.self.view_is (elim c.match-hand_last.branch as (λ _. Said before c.match-hand_last.result) [
       | in-Ok-hand_last w ↦ (let said : Said before (Ok count) = λ none. absurd cc in subst (Said before) (sym w.result-is) said)
       | in-Err-hand_last w ↦ (
           let q = w.in-Err-hand_last.ensures.part in
-          let tried = in_turn phase [] ++ map Item (p.items ++ q.tried) in
+          let tried = with_phase phase [] ++ map Item (p.items ++ q.tried) in
           let said : Said before (Err Taker) = λ _. (
             tried,
-            HandedPart-after took broke start first last (in_turn phase []) (map Item (p.items ++ q.tried)) c.in-Ok.ensures.handed
+            HandedPart-after took broke start first last (with_phase phase []) (map Item (p.items ++ q.tried)) c.in-Ok.ensures.handed
                 (HandedPart-items g.T.ItemTaker.took_phase g.T.ItemTaker.broke_phase g.T.ItemTaker.took g.T.ItemTaker.broke first last (p.items ++ q.tried)
                 (HandedPart-after g.T.ItemTaker.took g.T.ItemTaker.broke first middle last p.items q.tried p.handed q.handed)),
-            λ given done stood. subst (λ (k : Configuration). AreReceivedFront k given (done ++ tried)) c.self.invariant.0
-                (ends-front g.T.ItemTaker.took g.T.ItemTaker.broke before.stages c.take_bits.new.stream first middle
+            λ given done stood. subst (λ (k : Configuration). AreReceivedPrefix k given (done ++ tried)) c.self.invariant.0
+                (ends-prefix g.T.ItemTaker.took g.T.ItemTaker.broke before.stages c.take_bits.new.stream first middle
                 last s.kept.size phase piece count (c.self.invariant.1 ∙ sym c.self.invariant.0) (roomy s.kept.size (waiting_bits s.inner.config s.inner.config.batch) (s.inner.config.keep + s.inner.config.ahead) c.self.invariant.3) over p q given done stood),
           ) in
           subst (Said before) (sym w.result-is) said

@@ -2,8 +2,8 @@ use Rattle.std.proofs.Common.{◌≡◌, ◌+◌, ◌-◌, ◌<◌, ◌∙◌, �
 use Rattle.std.proofs.lemmas.Grind.{common_steps}
 use Rattle.std.proofs.Math.Seq.{take-add}
 use Rattle.tm_channel.specs.Sending.{Sending}
-use Rattle.tm_channel.specs.Steps.{SendsFrames, SendsFramesFront}
-use Rattle.tm_channel.proofs.Steps.{frames-none, frames-more, frames-front, frames-front_of_longer}
+use Rattle.tm_channel.specs.Steps.{SendsFrames, SendsFramesPrefix}
+use Rattle.tm_channel.proofs.Steps.{frames-none, frames-more, frames-prefix, frames-prefix_of_longer}
 use Rattle.tm_channel.proofs.sender.Sender.send.Goals as goal
 
 pub loop-done-init : goal.loop-done-init
@@ -27,16 +27,16 @@ none-failed : (b : Bool) → (IsTrue b → ⊥) → b ≡ false
 none-failed true h = absurd (h refl)
 none-failed false h = refl
 
-pub returns-in-Err-clause-front : goal.returns-in-Err-clause-front
-returns-in-Err-clause-front g c =
+pub returns-in-Err-clause-prefix : goal.returns-in-Err-clause-prefix
+returns-in-Err-clause-prefix g c =
     let end = c.loop-done.done + c.min.result in
     let P : Sending → Type 0 = λ s. 0 < s.config.frame_length in
     let taken = g.O.Sink.taken c.args.out.now in
     let taken_now = g.O.Sink.taken c.send_piece.new.out in
-    subst (SendsFramesFront c.args.self.now taken taken_now) (take-append-drop end c.args.octets.now)
-    (frames-front_of_longer c.args.self.now taken taken_now (take end c.args.octets.now) (drop end c.args.octets.now) (subst P c.self.view_is (omega arith))
-    (subst (SendsFramesFront c.args.self.now taken taken_now) (joined c.loop-done.done c.min.result c.args.octets.now)
-    (frames-front _ _ _ _ _ _ _ c.loop-done.invariant.sent c.in-Err.ensures.front)))
+    subst (SendsFramesPrefix c.args.self.now taken taken_now) (take-append-drop end c.args.octets.now)
+    (frames-prefix_of_longer c.args.self.now taken taken_now (take end c.args.octets.now) (drop end c.args.octets.now) (subst P c.self.view_is (omega arith))
+    (subst (SendsFramesPrefix c.args.self.now taken taken_now) (joined c.loop-done.done c.min.result c.args.octets.now)
+    (frames-prefix _ _ _ _ _ _ _ c.loop-done.invariant.sent c.in-Err.ensures.prefix)))
 
 pub loop-done-preserved : goal.loop-done-preserved
 loop-done-preserved g c = record {

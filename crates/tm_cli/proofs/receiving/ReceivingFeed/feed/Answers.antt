@@ -12,6 +12,6 @@ pub returns-in-Err-clause-stopped : goal.returns-in-Err-clause-stopped
 returns-in-Err-clause-stopped g c = (
   refl,
   λ config start given was.
-      let h = c.in-Err.ensures.front (taker_failed c.in-Err.field-0 (λ stopped. absurd (search rules))) in
+      let h = c.in-Err.ensures.prefix (taker_failed c.in-Err.field-0 (λ stopped. absurd (search rules))) in
       first-more (on_handed g.T.ItemTaker.took_phase g.T.ItemTaker.took) (on_handed g.T.ItemTaker.broke_phase g.T.ItemTaker.broke) config _ start _ _ given _ h.0 h.1 h.2 was,
 )

@@ -6,19 +6,19 @@ use Rattle.tm_base.proofs.HandedItems.{HandedOver-items, HandedPart-items}
 use Rattle.tm_config.specs.Configuration.{Configuration}
 use Rattle.tm_viterbi.specs.WindowBlock.{WindowBlock}
 use Rattle.tm_inner.specs.Phase.{IsChosenBy, phase_octets}
-use Rattle.tm_inner.specs.Handing.{AreHanded, AreHandedFront}
+use Rattle.tm_inner.specs.Handing.{AreHanded, AreHandedPrefix}
 use Rattle.tm_inner.specs.Receiving.{Phasing, Goes}
 use Rattle.tm_inner.proofs.GivenPieces.{few-soft}
-use Rattle.tm_inner.proofs.HandedPieces.{handed-front, handed-last, handed-last_front}
+use Rattle.tm_inner.proofs.HandedPieces.{handed-prefix, handed-last, handed-last_prefix}
 use Rattle.tm_inner.proofs.phased.Phased.end.Goals as goal
 
-pub returns-in-Err-clause-front : goal.returns-in-Err-clause-front
-returns-in-Err-clause-front g c =
+pub returns-in-Err-clause-prefix : goal.returns-in-Err-clause-prefix
+returns-in-Err-clause-prefix g c =
     let p = c.args.self.now in
-    let h = c.in-Err.ensures.front in (
+    let h = c.in-Err.ensures.prefix in (
       h.0,
       h.1,
-      λ given done few stood. handed-front p.config given (done ++ h.0) (h.2 (phase_octets p.config given) done (omega (arith, few, few-soft p.config given)) stood),
+      λ given done few stood. handed-prefix p.config given (done ++ h.0) (h.2 (phase_octets p.config given) done (omega (arith, few, few-soft p.config given)) stood),
     )
 
 pub invariant_of-self : goal.invariant_of-self
@@ -49,8 +49,8 @@ returns-clause-handed g c =
           (handed-last before given (done ++ m.0) h.0 left c.self.invariant.0 h.2 goes)),
     )) c.end.ensures.handed
 
-pub returns-clause-front : goal.returns-clause-front
-returns-clause-front g c =
+pub returns-clause-prefix : goal.returns-clause-prefix
+returns-clause-prefix g c =
     let s = c.self.inside in
     let old = c.args.self.now in
     let took = g.B.BlockTaker.took in
@@ -68,6 +68,6 @@ returns-clause-front g c =
           let goes = subst (λ (k : Configuration). Goes before (phase_octets k given) (done ++ m.0)) (sym config)
           (subst (λ (p : Phasing). Goes p (phase_octets old.config given) (done ++ m.0)) (sym c.self.view_is)
           (m.2 (phase_octets old.config given) done (omega (arith, few, few-soft old.config given)) stood)) in
-          subst (λ (k : Configuration). AreHandedFront k given (done ++ (m.0 ++ map Item h.0))) config
-          (subst (AreHandedFront s.config given) (append_assoc done m.0 (map Item h.0)) (handed-last_front before given (done ++ m.0) h.0 c.self.invariant.0 h.2 goes)),
-    )) c.end.ensures.front
+          subst (λ (k : Configuration). AreHandedPrefix k given (done ++ (m.0 ++ map Item h.0))) config
+          (subst (AreHandedPrefix s.config given) (append_assoc done m.0 (map Item h.0)) (handed-last_prefix before given (done ++ m.0) h.0 c.self.invariant.0 h.2 goes)),
+    )) c.end.ensures.prefix

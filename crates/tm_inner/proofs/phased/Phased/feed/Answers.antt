@@ -7,9 +7,9 @@ use Rattle.tm_config.specs.Configuration.{Configuration, is_signed}
 use Rattle.tm_config.specs.declared.values.Sought.TheVariants.{Find}
 use Rattle.tm_inner.specs.Phase.{IsSoFarBy, IsChosenBy}
 use Rattle.tm_base.specs.HeldOctets.{HeldOctets}
-use Rattle.tm_inner.specs.Receiving.{DecodesFor, FindsFirst, Hands, HandsFront, Phasing, PhasesFor, IsFirstBy, from_form, soft_form}
+use Rattle.tm_inner.specs.Receiving.{DecodesFor, FindsFirst, Hands, HandsPrefix, Phasing, PhasesFor, IsFirstBy, from_form, soft_form}
 use Rattle.tm_inner.proofs.GivenPieces.{same-held, taken-all, form-parts}
-use Rattle.tm_inner.proofs.PhasePieces.{NoneWaits, Chooses, ChoosesFront, hands-going, front-going, hands-waiting, hands-choosing, front-choosing, front-behind, so-far-going, so-far-waiting, so-far-choosing}
+use Rattle.tm_inner.proofs.PhasePieces.{NoneWaits, Chooses, ChoosesPrefix, hands-going, prefix-going, hands-waiting, hands-choosing, prefix-choosing, prefix-after, so-far-going, so-far-waiting, so-far-choosing}
 use Rattle.tm_inner.proofs.phased.Phased.feed.Goals as goal
 
 pub invariant_of-self : goal.invariant_of-self
@@ -26,12 +26,12 @@ returns-then-not-waits-clause-handed g c =
     ap (λ (b : Bool). from_form b octets) (sym c.is_signed-signed.ensures) in
     on_ok_weaker c.decode.result
     (λ h. subst (λ (p : Phasing). Hands (on_handed g.B.BlockTaker.took_phase took) PhasesFor p (record before { decoder = c.decode.new.decoder }) c.args.blocks.now c.decode.new.blocks (soft_form p.config octets)) c.self.view_is
-    (hands-going c.whole_window_law.ensures.front c.phase_law.ensures.within g.B.BlockTaker.took_phase took before c.decode.new.decoder c.args.blocks.now c.decode.new.blocks
+    (hands-going c.whole_window_law.ensures.prefix c.phase_law.ensures.within g.B.BlockTaker.took_phase took before c.decode.new.decoder c.args.blocks.now c.decode.new.blocks
     (soft_form s.config octets) (subst NoneWaits (sym c.self.view_is) none)
     (subst (Hands took DecodesFor s.decoder c.decode.new.decoder c.args.blocks.now c.decode.new.blocks) (sym form) h))) c.decode.ensures.handed
 
-pub returns-then-not-waits-clause-front : goal.returns-then-not-waits-clause-front
-returns-then-not-waits-clause-front g c =
+pub returns-then-not-waits-clause-prefix : goal.returns-then-not-waits-clause-prefix
+returns-then-not-waits-clause-prefix g c =
     let s = c.self.inside in
     let octets = c.args.octets.now in
     let took = g.B.BlockTaker.took in
@@ -41,10 +41,10 @@ returns-then-not-waits-clause-front g c =
     let form : soft_form s.config octets ≡ from_form (c.is_signed-signed.result) octets =
     ap (λ (b : Bool). from_form b octets) (sym c.is_signed-signed.ensures) in
     on_err_weaker c.decode.result
-    (λ h. subst (λ (p : Phasing). HandsFront (on_handed g.B.BlockTaker.took_phase took) (on_handed g.B.BlockTaker.broke_phase broke) PhasesFor (IsFirstBy p.config) p c.args.blocks.now c.decode.new.blocks (soft_form p.config octets)) c.self.view_is
-    (front-going c.whole_window_law.ensures.front c.phase_law.ensures.within g.B.BlockTaker.took_phase g.B.BlockTaker.broke_phase took broke before c.args.blocks.now c.decode.new.blocks
+    (λ h. subst (λ (p : Phasing). HandsPrefix (on_handed g.B.BlockTaker.took_phase took) (on_handed g.B.BlockTaker.broke_phase broke) PhasesFor (IsFirstBy p.config) p c.args.blocks.now c.decode.new.blocks (soft_form p.config octets)) c.self.view_is
+    (prefix-going c.whole_window_law.ensures.prefix c.phase_law.ensures.within g.B.BlockTaker.took_phase g.B.BlockTaker.broke_phase took broke before c.args.blocks.now c.decode.new.blocks
     (soft_form s.config octets) (subst NoneWaits (sym c.self.view_is) none) c.self.invariant.0
-    (subst (HandsFront took broke DecodesFor (FindsFirst s.decoder) s.decoder c.args.blocks.now c.decode.new.blocks) (sym form) h))) c.decode.ensures.front
+    (subst (HandsPrefix took broke DecodesFor (FindsFirst s.decoder) s.decoder c.args.blocks.now c.decode.new.blocks) (sym form) h))) c.decode.ensures.prefix
 
 pub returns-then-not-waits-clause-of : goal.returns-then-not-waits-clause-of
 returns-then-not-waits-clause-of g c = c.decode.ensures.of c.self.inside.config c.self.invariant.0
@@ -54,7 +54,7 @@ returns-then-not-waits-clause-chosen g c = λ soft done stood.
     let p = c.args.self.now in
     let none : NoneWaits p = λ w. let both : IsTrue false = c.if-not-waits.ensures.1 w in absurd cc in
     subst (λ (q : Phasing). IsSoFarBy p.config (soft ++ soft_form p.config c.args.octets.now) q.chosen) (sym c.self.view_is)
-    (so-far-going c.whole_window_law.ensures.front p (soft_form p.config c.args.octets.now) soft done none stood)
+    (so-far-going c.whole_window_law.ensures.prefix p (soft_form p.config c.args.octets.now) soft done none stood)
 
 -- ---- there is room left
 
@@ -138,10 +138,10 @@ returns-in-Err-clause-chosen g c = λ soft done stood.
     let is = subst (λ (l : List ℕ). IsChosenBy s.config l c.choose.new.self.chosen) c.hold-taken.ensures.octets c.choose.ensures.chosen in
     subst (λ (p : Phasing). PhasesFor p soft done → IsSoFarBy p.config (soft ++ soft_form p.config octets) c.choose.new.self.chosen) c.self.view_is
     (λ stands. subst (λ (l : List ℕ). IsSoFarBy s.config (soft ++ l) c.choose.new.self.chosen) f.parts
-    (so-far-choosing c.whole_window_law.ensures.front before c.choose.new.self.chosen form rest soft done asks.0 asks.1 f.many is stands)) stood
+    (so-far-choosing c.whole_window_law.ensures.prefix before c.choose.new.self.chosen form rest soft done asks.0 asks.1 f.many is stands)) stood
 
-pub returns-in-Err-clause-front : goal.returns-in-Err-clause-front
-returns-in-Err-clause-front g c =
+pub returns-in-Err-clause-prefix : goal.returns-in-Err-clause-prefix
+returns-in-Err-clause-prefix g c =
     let s = c.self.inside in
     let t = g.B.BlockTaker in
     let octets = c.args.octets.now in
@@ -153,10 +153,10 @@ returns-in-Err-clause-front g c =
     let before : Phasing = record { config = s.config; decoder = s.decoder; held = s.held.octets; room = s.held.room; chosen = s.chosen } in
     let asks = subst (λ (p : Phasing). (p.config.phase ≡ Find) × (p.chosen ≡ None)) (sym c.self.view_is) (c.waits.ensures.0 c.if-not-waits.false) in
     let f = filled before held c.is_signed-signed.result c.hold-taken.result _ octets c.is_signed-signed.ensures c.hold-taken.ensures.octets c.hold-taken.ensures.room (c.is_full.ensures.0 c.if-not-is_full.false) (c.self.invariant.1 asks.0) in
-    let chose = subst (λ (h : HeldOctets). ChoosesFront t.took_phase t.broke_phase t.took t.broke (record before { held = h.octets; room = h.room }) start c.choose.new.blocks) f.held c.in-Err.ensures.front in
-    subst (λ (p : Phasing). HandsFront (on_handed t.took_phase t.took) (on_handed t.broke_phase t.broke) PhasesFor (IsFirstBy p.config) p start c.choose.new.blocks (soft_form p.config octets)) c.self.view_is
-    (subst (HandsFront (on_handed t.took_phase t.took) (on_handed t.broke_phase t.broke) PhasesFor (IsFirstBy s.config) before start c.choose.new.blocks) f.parts
-    (front-choosing c.whole_window_law.ensures.front c.phase_law.ensures.within c.closed_windows_law.ensures t.took_phase t.broke_phase t.took t.broke before start c.choose.new.blocks form rest
+    let chose = subst (λ (h : HeldOctets). ChoosesPrefix t.took_phase t.broke_phase t.took t.broke (record before { held = h.octets; room = h.room }) start c.choose.new.blocks) f.held c.in-Err.ensures.prefix in
+    subst (λ (p : Phasing). HandsPrefix (on_handed t.took_phase t.took) (on_handed t.broke_phase t.broke) PhasesFor (IsFirstBy p.config) p start c.choose.new.blocks (soft_form p.config octets)) c.self.view_is
+    (subst (HandsPrefix (on_handed t.took_phase t.took) (on_handed t.broke_phase t.broke) PhasesFor (IsFirstBy s.config) before start c.choose.new.blocks) f.parts
+    (prefix-choosing c.whole_window_law.ensures.prefix c.phase_law.ensures.within c.closed_windows_law.ensures t.took_phase t.broke_phase t.took t.broke before start c.choose.new.blocks form rest
     asks.0 asks.1 f.many chose))
 
 pub invariant_of-self-3 : goal.invariant_of-self-3
@@ -181,7 +181,7 @@ returns-clause-chosen g c = λ soft done stood.
     (subst (λ (p : Phasing). IsChosenBy s.config held.octets p.chosen) (sym c.self-2.view_is) c.choose.ensures.chosen) in
     subst (λ (p : Phasing). PhasesFor p soft done → IsSoFarBy p.config (soft ++ soft_form p.config octets) chosen) c.self.view_is
     (λ stands. subst (λ (l : List ℕ). IsSoFarBy s.config (soft ++ l) chosen) f.parts
-    (so-far-choosing c.whole_window_law.ensures.front before chosen form rest soft done asks.0 asks.1 f.many is stands)) stood
+    (so-far-choosing c.whole_window_law.ensures.prefix before chosen form rest soft done asks.0 asks.1 f.many is stands)) stood
 
 pub returns-clause-handed : goal.returns-clause-handed
 returns-clause-handed g c =
@@ -207,11 +207,11 @@ returns-clause-handed g c =
     on_ok_weaker c.decode-2.result
     (λ h. subst (λ (p : Phasing). Hands (on_handed t.took_phase t.took) PhasesFor p (record after { decoder = c.decode-2.new.decoder }) start last (soft_form p.config octets)) c.self.view_is
     (subst (Hands (on_handed t.took_phase t.took) PhasesFor before (record after { decoder = c.decode-2.new.decoder }) start last) f.parts
-    (hands-choosing c.whole_window_law.ensures.front c.phase_law.ensures.within t.took_phase t.took before after c.decode-2.new.decoder start middle last form rest asks.0 asks.1 f.many config chose
+    (hands-choosing c.whole_window_law.ensures.prefix c.phase_law.ensures.within t.took_phase t.took before after c.decode-2.new.decoder start middle last form rest asks.0 asks.1 f.many config chose
     (subst (λ (l : List ℕ). Hands t.took DecodesFor s'.decoder c.decode-2.new.decoder middle last (from_form is_signed l)) (take_rest octets taken) h)))) c.decode-2.ensures.handed
 
-pub returns-clause-front : goal.returns-clause-front
-returns-clause-front g c =
+pub returns-clause-prefix : goal.returns-clause-prefix
+returns-clause-prefix g c =
     let s = c.self.inside in
     let s' = c.self-2.inside in
     let t = g.B.BlockTaker in
@@ -232,7 +232,7 @@ returns-clause-front g c =
     let chose = subst (λ (h : HeldOctets). Chooses t.took_phase t.took (record before { held = h.octets; room = h.room }) after start middle) f.held
     (subst (λ (p : Phasing). Chooses t.took_phase t.took (record before { held = held.octets; room = held.room }) p start middle) (sym c.self-2.view_is) c.in-Ok.ensures.handed) in
     on_err_weaker c.decode-2.result
-    (λ h. subst (λ (p : Phasing). HandsFront (on_handed t.took_phase t.took) (on_handed t.broke_phase t.broke) PhasesFor (IsFirstBy p.config) p start last (soft_form p.config octets)) c.self.view_is
-    (subst (HandsFront (on_handed t.took_phase t.took) (on_handed t.broke_phase t.broke) PhasesFor (IsFirstBy s.config) before start last) f.parts
-    (front-behind c.whole_window_law.ensures.front c.phase_law.ensures.within t.took_phase t.broke_phase t.took t.broke before after start middle last form rest asks.0 asks.1 f.many config c.self-2.invariant.0 chose
-    (subst (λ (l : List ℕ). HandsFront t.took t.broke DecodesFor (FindsFirst s'.decoder) s'.decoder middle last (from_form is_signed l)) (take_rest octets taken) h)))) c.decode-2.ensures.front
+    (λ h. subst (λ (p : Phasing). HandsPrefix (on_handed t.took_phase t.took) (on_handed t.broke_phase t.broke) PhasesFor (IsFirstBy p.config) p start last (soft_form p.config octets)) c.self.view_is
+    (subst (HandsPrefix (on_handed t.took_phase t.took) (on_handed t.broke_phase t.broke) PhasesFor (IsFirstBy s.config) before start last) f.parts
+    (prefix-after c.whole_window_law.ensures.prefix c.phase_law.ensures.within t.took_phase t.broke_phase t.took t.broke before after start middle last form rest asks.0 asks.1 f.many config c.self-2.invariant.0 chose
+    (subst (λ (l : List ℕ). HandsPrefix t.took t.broke DecodesFor (FindsFirst s'.decoder) s'.decoder middle last (from_form is_signed l)) (take_rest octets taken) h)))) c.decode-2.ensures.prefix

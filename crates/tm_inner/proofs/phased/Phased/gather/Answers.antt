@@ -20,5 +20,5 @@ returns-clause-gathered c = λ soft done stood.
     let there = subst (λ (p : Phasing). PhasesFor p soft done) (sym c.self.view_is) stood in
     subst (λ (k : Configuration). PhasesFor now (soft ++ soft_form k octets) done) (ap (λ (p : Phasing). p.config) c.self.view_is)
     (subst (λ (b : Bool). PhasesFor now (soft ++ from_form b octets) done) c.is_signed-signed.ensures
-    (phases-gathered c.whole_window_law.ensures.front c.phase_law.ensures.within before c.gather_octets.new.decoder (from_form c.is_signed-signed.result octets) soft done
+    (phases-gathered c.whole_window_law.ensures.prefix c.phase_law.ensures.within before c.gather_octets.new.decoder (from_form c.is_signed-signed.result octets) soft done
     c.gather_octets.ensures.gathered (subst NoneWaits (sym c.self.view_is) none) there))

@@ -4,8 +4,8 @@ use Rattle.tm_base.specs.Handed.{on_handed}
 use Rattle.tm_config.specs.Configuration.{Configuration}
 use Rattle.tm_inner.specs.Phase.{IsChosenSoFar, skipped_at}
 use Rattle.tm_inner.specs.Handing.{AreHandedDue, AreHandedFirst}
-use Rattle.tm_inner.specs.Receiving.{InnerReceiving, StandsFor, Hands, HandsFront, PhasesFor, IsFirstBy, soft_form}
-use Rattle.tm_inner.proofs.HandedPieces.{chosen-further, stands-further, front-further}
+use Rattle.tm_inner.specs.Receiving.{InnerReceiving, StandsFor, Hands, HandsPrefix, PhasesFor, IsFirstBy, soft_form}
+use Rattle.tm_inner.proofs.HandedPieces.{chosen-further, stands-further, prefix-further}
 use Rattle.tm_inner.proofs.receiver.InnerReceiver.feed_by.Goals as goal
 
 -- how many octets a receiver of this view skips
@@ -56,8 +56,8 @@ returns-in-Err-clause-chosen g c = λ given done stood _.
     subst (λ (r : InnerReceiving). StandsFor r given done → IsChosenSoFar r.config (given ++ octets) c.feed.new.self.chosen) c.self.view_is
     (chosen-further before c.feed.new.self.chosen octets (take (length octets - n) (drop n octets)) n c.self.invariant.0 (take_rest octets n) skip c.feed.ensures.chosen given done) stood
 
-pub returns-in-Err-clause-front : goal.returns-in-Err-clause-front
-returns-in-Err-clause-front g c = λ _.
+pub returns-in-Err-clause-prefix : goal.returns-in-Err-clause-prefix
+returns-in-Err-clause-prefix g c = λ _.
     let s = c.self.inside in
     let t = g.B.BlockTaker in
     let octets = c.args.octets.now in
@@ -66,12 +66,12 @@ returns-in-Err-clause-front g c = λ _.
     let last = c.feed.new.blocks in
     let before : InnerReceiving = record { config = s.config; phased = s.phased; count = s.count; has_stopped = s.has_stopped } in
     let skip = skips before c.args.self.now n (length octets) c.self.view_is c.octets_to_skip-skipped.ensures in
-    let p = subst (λ (l : List ℕ). HandsFront (on_handed t.took_phase t.took) (on_handed t.broke_phase t.broke) PhasesFor (IsFirstBy s.config) s.phased start last (soft_form s.config l)) (take_rest octets n)
-    (subst (λ (k : Configuration). HandsFront (on_handed t.took_phase t.took) (on_handed t.broke_phase t.broke) PhasesFor (IsFirstBy k) s.phased start last (soft_form k (take (length octets - n) (drop n octets)))) c.self.invariant.0 c.in-Err.ensures.front) in (
+    let p = subst (λ (l : List ℕ). HandsPrefix (on_handed t.took_phase t.took) (on_handed t.broke_phase t.broke) PhasesFor (IsFirstBy s.config) s.phased start last (soft_form s.config l)) (take_rest octets n)
+    (subst (λ (k : Configuration). HandsPrefix (on_handed t.took_phase t.took) (on_handed t.broke_phase t.broke) PhasesFor (IsFirstBy k) s.phased start last (soft_form k (take (length octets - n) (drop n octets)))) c.self.invariant.0 c.in-Err.ensures.prefix) in (
       p.tried,
       p.handed,
       λ given done few stood.
           subst (λ (r : InnerReceiving). AreHandedFirst r.config (given ++ octets) (done ++ p.tried)) c.self.view_is
-          (front-further (on_handed t.took_phase t.took) (on_handed t.broke_phase t.broke) before start last octets n skip p given done few
+          (prefix-further (on_handed t.took_phase t.took) (on_handed t.broke_phase t.broke) before start last octets n skip p given done few
           (subst (λ (r : InnerReceiving). StandsFor r given done) (sym c.self.view_is) stood)),
     )

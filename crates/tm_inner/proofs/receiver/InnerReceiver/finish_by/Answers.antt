@@ -9,7 +9,7 @@ use Rattle.tm_inner.specs.declared.receiver.InnerEnd.{InnerEnd}
 use Rattle.tm_inner.specs.Inner.{inner_bits}
 use Rattle.tm_inner.specs.Phase.{IsChosen, phase_octets}
 use Rattle.tm_inner.specs.Receiving.{InnerReceiving, StandsFor, PhasesFor}
-use Rattle.tm_inner.specs.Handing.{AreHanded, AreHandedFront}
+use Rattle.tm_inner.specs.Handing.{AreHanded, AreHandedPrefix}
 use Rattle.tm_inner.proofs.HandedPieces.{chosen-last, all-handed}
 use Rattle.tm_inner.proofs.receiver.InnerReceiver.finish_by.Goals as goal
 use Rattle.tm_inner.proofs.receiver.InnerReceiver.finish_by.Goals.{in-Ok, in-Err}
@@ -42,25 +42,25 @@ returns-clause-handed g c =
       | in-Err w ↦ subst (Said before) (sym w.result-is) tt
     ])
 
-pub returns-clause-front : goal.returns-clause-front
-returns-clause-front g c =
+pub returns-clause-prefix : goal.returns-clause-prefix
+returns-clause-prefix g c =
     let s = c.self.inside in
     let t = g.B.BlockTaker in
     let before : InnerReceiving = record { config = s.config; phased = s.phased; count = s.count; has_stopped = s.has_stopped } in
     let part = HandedPart (on_handed t.took_phase t.took) (on_handed t.broke_phase t.broke) in
     let Said : InnerReceiving → Result InnerEnd FeedError → Type 0 = λ r result. IsErrOf result Taker → (tried : List (Handed WindowBlock)) × part c.args.blocks.now tried c.end.new.blocks
-    × ((given : List ℕ) (done : List (Handed WindowBlock)) → StandsFor r given done → AreHandedFront r.config given (done ++ tried)) in
+    × ((given : List ℕ) (done : List (Handed WindowBlock)) → StandsFor r given done → AreHandedPrefix r.config given (done ++ tried)) in
     subst (λ (r : InnerReceiving). Said r c.match-end.result) c.self.view_is (elim c.match-end.branch as (λ _. Said before c.match-end.result) [
       | in-Ok w ↦ (
           let said : Said before (Ok (record { bits = w.count_bits.result; leftover = w.in-Ok.leftover })) = λ none. absurd cc in
           subst (Said before) (sym w.result-is) said
           )
       | in-Err w ↦ (
-          let h = w.in-Err.ensures.front in
+          let h = w.in-Err.ensures.prefix in
           let said : Said before (Err Taker) = λ _. (
             h.0,
             h.1,
-            λ given done stood. subst (λ (k : Configuration). PhasesFor s.phased (phase_octets k given) done → AreHandedFront k given (done ++ h.0)) c.self.invariant.0
+            λ given done stood. subst (λ (k : Configuration). PhasesFor s.phased (phase_octets k given) done → AreHandedPrefix k given (done ++ h.0)) c.self.invariant.0
                 (h.2 given done stood.few) stood.phases,
           ) in
           subst (Said before) (sym w.result-is) said

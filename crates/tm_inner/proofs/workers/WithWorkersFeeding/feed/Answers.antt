@@ -19,10 +19,10 @@ returns-in-One-clause-handed g c =
     (sym c.in-One.is)
     (on_ok_weaker c.feed.result (λ h. (h.0, h.1, λ given done few stands. (h.2 given done few stands).0)) c.feed.ensures.handed)
 
-pub returns-in-One-clause-front : goal.returns-in-One-clause-front
-returns-in-One-clause-front g c =
+pub returns-in-One-clause-prefix : goal.returns-in-One-clause-prefix
+returns-in-One-clause-prefix g c =
     let piece = c.args.piece.now in
     subst (λ (d : InnerDecoder). IsErrOf c.feed.result Taker → (tried : List WindowBlock)
     × HandedPart g.B.BlockTaker.took g.B.BlockTaker.broke c.args.blocks.now tried c.feed.new.blocks
     × ((given : List ℕ) (done : List WindowBlock) → StandsIn d given done → AreFirst (settings_in d) (given ++ piece) (done ++ tried)))
-    (sym c.in-One.is) c.feed.ensures.front
+    (sym c.in-One.is) c.feed.ensures.prefix

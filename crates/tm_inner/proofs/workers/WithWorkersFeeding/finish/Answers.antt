@@ -16,9 +16,9 @@ returns-in-One-clause-handed g c =
     × ((given : List ℕ) (done : List WindowBlock) → StandsIn d given done → AreBlocksOf (settings_in d) given (done ++ last) left)))
     (sym c.in-One.is) c.finish.ensures.handed
 
-pub returns-in-One-clause-front : goal.returns-in-One-clause-front
-returns-in-One-clause-front g c = λ taker.
-    let last = c.finish.ensures.front taker in
+pub returns-in-One-clause-prefix : goal.returns-in-One-clause-prefix
+returns-in-One-clause-prefix g c = λ taker.
+    let last = c.finish.ensures.prefix taker in
     subst (λ (d : InnerDecoder). (tried : List WindowBlock)
     × HandedPart g.B.BlockTaker.took g.B.BlockTaker.broke c.args.blocks.now tried c.finish.new.blocks
     × ((given : List ℕ) (done : List WindowBlock) → StandsIn d given done → AreFirst (settings_in d) given (done ++ tried)
@@ -36,10 +36,10 @@ returns-in-Many-clause-handed g c =
     × ((given : List ℕ) (done : List WindowBlock) → StandsIn d given done → AreBlocksOf (settings_in d) given (done ++ last) left)))
     (sym c.in-Many.is) c.finish-in-Many.ensures.handed
 
-pub returns-in-Many-clause-front : goal.returns-in-Many-clause-front
-returns-in-Many-clause-front g c =
+pub returns-in-Many-clause-prefix : goal.returns-in-Many-clause-prefix
+returns-in-Many-clause-prefix g c =
     subst (λ (d : InnerDecoder). IsErrOf c.finish-in-Many.result Taker → (tried : List WindowBlock)
     × HandedPart g.B.BlockTaker.took g.B.BlockTaker.broke c.args.blocks.now tried c.finish-in-Many.new.blocks
     × ((given : List ℕ) (done : List WindowBlock) → StandsIn d given done → AreFirst (settings_in d) given (done ++ tried)
     ⊎ ((left : ℕ) × AreBlocksOf (settings_in d) given (done ++ tried) left)))
-    (sym c.in-Many.is) c.finish-in-Many.ensures.front
+    (sym c.in-Many.is) c.finish-in-Many.ensures.prefix

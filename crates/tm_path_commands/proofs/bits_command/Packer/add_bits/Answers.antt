@@ -10,11 +10,11 @@ loop-k-preserved c =
     let bits = c.args.bits.now in
     let k = c.loop-k.k in
     let x = get_or bits k 0 in
-    let front = map (λ bit. bit == 1) (take k bits) in
-    let more : map (λ bit. bit == 1) (take (k + 1) bits) ≡ front ++ (x == 1) ∷ [] =
+    let prefix = map (λ bit. bit == 1) (take k bits) in
+    let more : map (λ bit. bit == 1) (take (k + 1) bits) ≡ prefix ++ (x == 1) ∷ [] =
     ap (map (λ bit. bit == 1)) (take_more bits k 0 (omega arith))
     ∙ map-append (λ bit. bit == 1) (take k bits) (x ∷ []) in
     subst (λ l. Adds c.args.self.now l c.add.new.self)
-    (ap (λ l. front ++ l) (one-bit c.from.result (x == 1) c.from.ensures) ∙ sym more)
-    (adds-more c.args.self.now c.loop-k.self c.add.new.self front (low_bits 1 c.from.result) c.loop-k.invariant
+    (ap (λ l. prefix ++ l) (one-bit c.from.result (x == 1) c.from.ensures) ∙ sym more)
+    (adds-more c.args.self.now c.loop-k.self c.add.new.self prefix (low_bits 1 c.from.result) c.loop-k.invariant
     c.add.ensures)

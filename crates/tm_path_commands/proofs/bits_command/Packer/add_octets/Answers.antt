@@ -11,9 +11,9 @@ loop-k-preserved c =
     let octets = c.args.octets.now in
     let k = c.loop-k.k in
     let x = get_or octets k 0 in
-    let front = bits_of (take k octets) in
-    let more : bits_of (take (k + 1) octets) ≡ front ++ bits_of_octet x =
+    let prefix = bits_of (take k octets) in
+    let more : bits_of (take (k + 1) octets) ≡ prefix ++ bits_of_octet x =
     ap bits_of (take_more octets k 0 (omega arith)) ∙ bits_of-append (take k octets) (x ∷ [])
-    ∙ ap (λ l. front ++ l) (append-nil (bits_of_octet x)) in
+    ∙ ap (λ l. prefix ++ l) (append-nil (bits_of_octet x)) in
     subst (λ l. Adds c.args.self.now l c.add.new.self) (sym more)
-    (adds-more c.args.self.now c.loop-k.self c.add.new.self front (bits_of_octet x) c.loop-k.invariant c.add.ensures)
+    (adds-more c.args.self.now c.loop-k.self c.add.new.self prefix (bits_of_octet x) c.loop-k.invariant c.add.ensures)

@@ -26,7 +26,7 @@ pub returns-in-Err-clause-stopped : goal.returns-in-Err-clause-stopped
 returns-in-Err-clause-stopped g c = (
   refl,
   λ config is.
-      let h = c.in-Err.ensures.front (taker_alone c.in-Err.field-0 (λ stopped. absurd (search rules))) in
+      let h = c.in-Err.ensures.prefix (taker_alone c.in-Err.field-0 (λ stopped. absurd (search rules))) in
       record {
         tried = h.0;
         handed = took-part (λ (t : Trace g.row.O.Denot). t.lines.ghost_name) (λ t. sink_state (g.O.Sink.taken t.lines.now) (g.O.Sink.faults t.lines.now))
@@ -45,7 +45,7 @@ returns-in-Ok-clause-same g c =
 
 pub returns-in-Err-clause-same : goal.returns-in-Err-clause-same
 returns-in-Err-clause-same g c =
-    let h = c.in-Err.ensures.front (taker_alone c.in-Err.field-0 (λ stopped. absurd (search rules))) in (
+    let h = c.in-Err.ensures.prefix (taker_alone c.in-Err.field-0 (λ stopped. absurd (search rules))) in (
       refl,
       same-part (λ (t : Trace g.row.O.Denot). t.lines.ghost_name) (λ t. sink_state (g.O.Sink.taken t.lines.now) (g.O.Sink.faults t.lines.now))
           (λ t. g.O.Sink.is_last t.lines.now) (λ t. t.count) h.0 c.args.self.now.trace c.feed.new.blocks h.1,

@@ -15,8 +15,8 @@ returns-then-is_some-clause-stands c = λ s bit bits found few count h.
     (ap (λ (v : Searching). v.pushed) c.self.view_is) (ap (λ (v : Searching). v.start) c.self.view_is) (ap (λ (v : Searching). v.before) c.self.view_is))
     (sym fields ∙ m.1) fields (ap (λ n. n + 1) after) bits found h
 
-pub returns-then-behind-ge32-clause-stands : goal.returns-then-behind-ge32-clause-stands
-returns-then-behind-ge32-clause-stands c = λ s bit bits found few count h.
+pub returns-then-since-ge32-clause-stands : goal.returns-then-since-ge32-clause-stands
+returns-then-since-ge32-clause-stands c = λ s bit bits found few count h.
     let there = start-there s bits found h in
     let many = count.pushed in
     let same = count.start in
@@ -28,19 +28,19 @@ returns-then-behind-ge32-clause-stands c = λ s bit bits found few count h.
     let rules_were : rules ≡ s.rules =
     ap (λ (v : Searching). v.rules) c.self.view_is ∙ count.rules in
     let before = c.right_before-before.result in
-    let behind : (c.self.inside.pushed + (2 ^ 64 - c.self.inside.start)) % 2 ^ 64 ≡ c.self.inside.pushed - c.self.inside.start = omega (arith, there.0, there.1) in
+    let since : (c.self.inside.pushed + (2 ^ 64 - c.self.inside.start)) % 2 ^ 64 ≡ c.self.inside.pushed - c.self.inside.start = omega (arith, there.0, there.1) in
     let place : ℕ = (c.self.inside.pushed + (2 ^ 64 - 32)) % 2 ^ 64 in
     push_look s _ bit place before (grows s c.args.self.now _ bit count (ap (λ (v : Searching). v.rules) c.self.view_is) (ap (λ (v : Searching). v.word) c.self.view_is)
     pushed start (ap (λ (v : Searching). v.before) c.self.view_is))
     (sym fields ∙ none_awaited c.self.inside.awaited (sym c.is_some.ensures ∙ c.if-is_some.false))
-    (omega (arith, there.0, there.1, c.if-behind-ge32.true)) refl (omega (arith, there.0, there.1, c.if-behind-ge32.true))
-    (c.right_before-before.ensures ∙ (λ i. before_last (behind i) (before_was i)))
+    (omega (arith, there.0, there.1, c.if-since-ge32.true)) refl (omega (arith, there.0, there.1, c.if-since-ge32.true))
+    (c.right_before-before.ensures ∙ (λ i. before_last (since i) (before_was i)))
     (λ l long is. ◌∙◌ {b = option_map (awaited_at before) (here rules place before l)} (c.place_of-self-inside.ensures l c.self.inside.block_bits long is)
     (ap (λ r. option_map (awaited_at before) (here r place before l)) rules_were))
     bits found h
 
-pub returns-else-behind-ge32-clause-stands : goal.returns-else-behind-ge32-clause-stands
-returns-else-behind-ge32-clause-stands c = λ s bit bits found few count h.
+pub returns-else-since-ge32-clause-stands : goal.returns-else-since-ge32-clause-stands
+returns-else-since-ge32-clause-stands c = λ s bit bits found few count h.
     let there = start-there s bits found h in
     let many = count.pushed in
     let same = count.start in
@@ -50,4 +50,4 @@ returns-else-behind-ge32-clause-stands c = λ s bit bits found few count h.
     push_early s _ bit (grows s c.args.self.now _ bit count refl refl refl refl refl)
     (sym fields ∙ none_awaited c.self.inside.awaited (sym c.is_some.ensures ∙ c.if-is_some.false))
     count.awaited count.after
-    (omega (arith, there.0, there.1, c.if-behind-ge32.false)) bits found h
+    (omega (arith, there.0, there.1, c.if-since-ge32.false)) bits found h

@@ -9,8 +9,8 @@ invariant-loop-left l = record {
   rules : l.self.rules ≡ l.initial.self.rules;
   most : l.left ≤ 8;
   few : IfSome (inside_of l.self) (λ count. count + l.left < 8);
-  given : (front : List Bool) × (bits_of_octet l.octet ≡ front ++ low_bits l.left l.octet)
-      × ((bits : List Bool) (found : List Found) → length bits + 8 ≤ 2 ^ 63 → StandsFor l.initial.self bits found → StandsFor l.self (bits ++ front) found);
+  given : (prefix : List Bool) × (bits_of_octet l.octet ≡ prefix ++ low_bits l.left l.octet)
+      × ((bits : List Bool) (found : List Found) → length bits + 8 ≤ 2 ^ 63 → StandsFor l.initial.self bits found → StandsFor l.self (bits ++ prefix) found);
 }
 
 abbrev pub decreases-loop-left : goal.decreases-loop-left

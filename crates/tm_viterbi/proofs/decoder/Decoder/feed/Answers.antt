@@ -25,8 +25,8 @@ returns-in-Ok-clause-handed g c =
           ),
     )
 
-pub returns-in-Err-clause-front : goal.returns-in-Err-clause-front
-returns-in-Err-clause-front g c = λ _.
+pub returns-in-Err-clause-prefix : goal.returns-in-Err-clause-prefix
+returns-in-Err-clause-prefix g c = λ _.
     let s = c.self.inside.stream in
     let piece = c.args.piece.now in
     let err = c.in-Err.ensures.err in

@@ -16,8 +16,8 @@ returns-clause-handed g c =
           subst (λ (v : Settings). AreBlocksOf v given (done ++ ok.0) c.in-Ok.left) set (ok.2 given done stood.open_step stood.reaches),
     )
 
-pub returns-in_default-clause-front : goal.returns-in_default-clause-front
-returns-in_default-clause-front g c = λ _.
+pub returns-in_default-clause-prefix : goal.returns-in_default-clause-prefix
+returns-in_default-clause-prefix g c = λ _.
     let err = c.in_default.ensures.err in
     let set : settings_of c.self.inside.stream ≡ c.args.self.now.settings = ap (λ (d : Decoding). d.settings) c.self.view_is in (
       err.0,

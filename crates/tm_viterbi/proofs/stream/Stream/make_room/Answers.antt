@@ -3,7 +3,7 @@ use Rattle.std.proofs.lemmas.List.{append-nil}
 use Rattle.tm_base.proofs.Handing.{HandedOver-one}
 use Rattle.tm_conv.specs.Path.{steps_size}
 use Rattle.tm_viterbi.specs.WindowBlock.{WindowBlock}
-use Rattle.tm_viterbi.specs.Due.{Place, behind}
+use Rattle.tm_viterbi.specs.Due.{Place, after_block}
 use Rattle.tm_viterbi.specs.Streaming.{Reaches, waiting_octets}
 use Rattle.tm_viterbi.proofs.Closing.{Closed-push}
 use Rattle.tm_viterbi.proofs.Handing.{on_ok, on_err, some_start, room_to_close, closed_on}
@@ -50,7 +50,7 @@ returns-clause-err g c =
       λ all done r.
           let rest = waiting_octets c.args.self.now.waiting ++ c.args.rest.now in
           let at : Place = record { starts = w.starts; t = w.t; octets = r.whole ++ rest } in (
-            behind w.rate at block,
+            after_block w.rate at block,
             Closed-push w.rate w.invert w.keep w.ahead _ at done block r.closed
                 (c.close-found.ensures.closes r.whole rest r.keeps (room_to_close w.rate w.t w.filled w.keep w.ahead r.whole rest full r.keeps.holds.size c.requires.step)),
           ),

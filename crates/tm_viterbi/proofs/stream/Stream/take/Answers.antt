@@ -45,9 +45,9 @@ loop-at-preserved g c =
         λ all done r.
             let here = subst (λ (v : List ℕ). Reaches c.loop-at.self all v (done ++ more)) (sym (take_rest piece at)) (i.handed.2 all done r) in
             let next = ok.4 all (done ++ more) here in
-            let front : drop n (take (length piece - at) (drop at piece)) ≡ drop (at + n) piece = ap (drop n) (take_rest piece at) ∙ drop-drop n at piece in
+            let prefix : drop n (take (length piece - at) (drop at piece)) ≡ drop (at + n) piece = ap (drop n) (take_rest piece at) ∙ drop-drop n at piece in
             subst (λ (v : List WindowBlock). Reaches c.take_next.new.self all (drop (at + n) piece) v) (append_assoc done more ok.2)
-            (subst (λ (v : List ℕ). Reaches c.take_next.new.self all v ((done ++ more) ++ ok.2)) front next),
+            (subst (λ (v : List ℕ). Reaches c.take_next.new.self all v ((done ++ more) ++ ok.2)) prefix next),
       );
     }
 

@@ -1,5 +1,5 @@
 use Rattle.std.proofs.Common.{◌≡◌, ap, arith, length}
-use Rattle.tm_windows.proofs.Gatherings.{due_behind}
+use Rattle.tm_windows.proofs.Gatherings.{due_after}
 use Rattle.tm_windows.proofs.gathering.Gathering.count_closed.Goals as goal
 
 pub returns-clause-due : goal.returns-clause-due
@@ -7,6 +7,6 @@ returns-clause-due c = λ all done r.
     let s = c.args.self.now in
     let same : length c.as_slice.result.now ≡ length s.held.octets = ap length c.as_slice.ensures.octets in
     let count = c.closed_windows.result in
-    due_behind c.best_path_law.ensures.exists s all done count s.register
+    due_after c.best_path_law.ensures.exists s all done count s.register
     (λ some. omega (arith, same, c.closed_windows.ensures.room some))
     (omega (arith, same, c.closed_windows.ensures.all (omega (arith, same, c.requires.room)))) r

@@ -49,12 +49,12 @@ returns-in-Ok-clause-handed g c =
           ),
     )
 
-pub returns-in-Err-clause-front : goal.returns-in-Err-clause-front
-returns-in-Err-clause-front g c = λ _.
+pub returns-in-Err-clause-prefix : goal.returns-in-Err-clause-prefix
+returns-in-Err-clause-prefix g c = λ _.
     let s = c.self.inside.gathering in
     let old = c.args.self.now in
     let taken = c.counted-piece.result.now in
-    let more = c.counted-piece.ensures.front in
+    let more = c.counted-piece.ensures.prefix in
     let err = c.in-Err.ensures.err in
     let set : settings_of s ≡ old.settings = ap (λ (d : ParallelDecoding). d.settings) c.self.view_is in (
       err.0,
