@@ -5,7 +5,9 @@ use std::alloc::{AllocError, Global};
 use std::process::Abort;
 use std::test::Fail;
 use tm_base::{BitReader, MARKER};
-use tm_sync::{Found, Search, clean_law, longer_law, marked_law, one_polarity_law, polarity_law};
+use tm_sync::{
+    Found, Search, clean_law, longer_law, marked_law, no_verify_law, one_polarity_law, polarity_law,
+};
 
 // The coefficients of the generator of the (255,223) code in the dual basis: a codeblock of 264 bits.
 const CODEBLOCK: [u8; 33] = [
@@ -21,6 +23,7 @@ struct Rules {
     fly: u8,
     either: bool,
     block_bits: u32,
+    verify: u8,
 }
 
 fn add_octets(bits: &mut Vec<bool>, octets: &[u8]) -> Result<(), AllocError> {
@@ -53,14 +56,24 @@ fn searched(
     bits: &[bool],
 ) -> Result<(Vec<Found>, u64), AllocError> {
     assert!(rt; rules.tolerance <= 8);
-    let mut search = Search::new(rules.tolerance, rules.fly, rules.either, rules.block_bits);
+    let mut search = Search::new(
+        rules.tolerance,
+        rules.fly,
+        rules.either,
+        rules.block_bits,
+        rules.verify,
+    );
+    let mut room = vec![in alloc; 7; search.room()]?;
     let mut found = Vec::new(alloc);
     for &bit in bits {
         assert!(rt; !search.pending());
-        search.push_bit(bit);
-        match search.next() {
-            Some(place) => found.push(place)?,
-            None => {}
+        search.push_bit(&mut room, bit);
+        // No more places are known at once than further markers verify one.
+        for _ in 0..rules.verify.max(1) {
+            match search.next(&room) {
+                Some(place) => found.push(place)?,
+                None => {}
+            }
         }
     }
     Ok((found, search.finish()))
@@ -99,6 +112,7 @@ fn rules_of(tolerance: u8, fly: u8, either: bool, block_bits: u32) -> Rules {
         fly,
         either,
         block_bits,
+        verify: 0,
     }
 }
 
@@ -199,11 +213,11 @@ fn inside_counts_after_each_kind_of_marker(rt: HostRuntime) -> Result<(), Fail> 
         rt.alloc(),
         &[&[0xE5, 0x30, 0x03, 0xE2], &[0xFF], &[0xFF; 4], &[0xFF]],
     )?;
-    let mut search = Search::new(0, 1, true, 8);
+    let mut search = Search::new(0, 1, true, 8, 0);
     let mut given = 0;
     for &bit in &bits {
         assert!(rt; !search.pending());
-        search.push_bit(bit);
+        search.push_bit(&mut [], bit);
         given = u64::saturating_add(given, 1);
         let part = if given % 40 == 0 { 40 } else { given % 40 };
         assert_eq!(rt;
@@ -212,7 +226,7 @@ fn inside_counts_after_each_kind_of_marker(rt: HostRuntime) -> Result<(), Fail> 
             "after {given} bits"
         );
         assert_eq!(rt; search.pending(), part == 40, "after {given} bits");
-        match search.next() {
+        match search.next(&[]) {
             Some(found) => assert_eq!(rt; found.bridged, given == 80),
             None => {}
         }
@@ -228,6 +242,7 @@ fn laws() {
     longer_law();
     marked_law();
     clean_law();
+    no_verify_law();
 }
 
 // ---- the definition, read over the whole list
@@ -270,13 +285,33 @@ fn place_at(bits: &[bool], at: usize, bridged: bool, inverted: bool) -> Found {
     }
 }
 
-// The least place from `from` on that matches and has room.
+// Whether as many further markers as are to verify it follow a place, and match in its polarity.
+fn is_verified(rules: Rules, bits: &[bool], at: usize, inverted: bool) -> bool {
+    let mut next = at;
+    for _ in 0..rules.verify {
+        next = next
+            .saturating_add(32)
+            .saturating_add(rules.block_bits as usize);
+        if next.saturating_add(32) > bits.len() || match_at(rules, bits, next) != Some(inverted) {
+            return false;
+        }
+    }
+    true
+}
+
+// The place at `at`, where it matches and has room.
+fn match_there(rules: Rules, bits: &[bool], at: usize) -> Option<Found> {
+    match match_at(rules, bits, at) {
+        Some(inverted) if has_room(rules, bits, at) => Some(place_at(bits, at, false, inverted)),
+        _ => None,
+    }
+}
+
+// The least place from `from` on that matches and is verified, and has room.
 fn next_match(rules: Rules, bits: &[bool], from: usize) -> Option<Found> {
     for at in from..bits.len() {
-        match match_at(rules, bits, at) {
-            Some(inverted) if has_room(rules, bits, at) => return Some(place_at(
-                bits, at, false, inverted,
-            )),
+        match match_there(rules, bits, at) {
+            Some(place) if is_verified(rules, bits, at, place.inverted) => return Some(place),
             _ => {}
         }
     }
@@ -300,7 +335,12 @@ fn defined(alloc: Global, rules: Rules, bits: &[bool]) -> Result<(Vec<Found>, u6
             }
             _ => {
                 row = 0;
-                next_match(rules, bits, from)
+                match last {
+                    Some(_) if match_there(rules, bits, from).is_some() => match_there(
+                        rules, bits, from,
+                    ),
+                    _ => next_match(rules, bits, from),
+                }
             }
         };
         match next {
@@ -358,16 +398,67 @@ fn drawn_bits(alloc: Global, seed: u64, block_bits: u32) -> Result<Vec<bool>, Al
 }
 
 #[test]
+fn place_that_further_markers_verify_is_found_with_those_after_it(
+    rt: HostRuntime,
+) -> Result<(), Fail> {
+    // A lone marker, and after it a run of three codeblocks, of which the second marker verifies the first.
+    let bits = bits_of(
+        rt.alloc(),
+        &[
+            &MARKER,
+            &[0x5A],
+            &[0],
+            &MARKER,
+            &[0x5B],
+            &MARKER,
+            &[0x5C],
+            &MARKER,
+            &[0x5D],
+        ],
+    )?;
+    let mut rules = rules_of(0, 0, false, 8);
+    rules.verify = 1;
+    let (found, rest) = searched(&rt, rt.alloc(), rules, &bits)?;
+    assert_eq!(rt;
+        found.as_slice(),
+        [plain(48, 0), plain(88, 0), plain(128, 0)].as_slice()
+    );
+    assert_eq!(rt; rest, 0);
+    rules.verify = 3;
+    let (found, rest) = searched(&rt, rt.alloc(), rules, &bits)?;
+    assert_eq!(rt; found.len(), 0);
+    assert_eq!(rt; rest, 168);
+    Ok(())
+}
+
+// The same bits up to the marker that verifies the first of the run.
+#[test]
+fn place_is_found_with_the_marker_that_verifies_it(rt: HostRuntime) -> Result<(), Fail> {
+    let bits = bits_of(
+        rt.alloc(),
+        &[&MARKER, &[0x5A], &[0], &MARKER, &[0x5B], &MARKER],
+    )?;
+    let mut rules = rules_of(0, 0, false, 8);
+    rules.verify = 1;
+    let (found, rest) = searched(&rt, rt.alloc(), rules, &bits)?;
+    assert_eq!(rt; found.as_slice(), [plain(48, 0)].as_slice());
+    assert_eq!(rt; rest, 32);
+    Ok(())
+}
+
+#[test]
 fn search_finds_the_places_of_the_definition(rt: HostRuntime) -> Result<(), Fail> {
     let mut bridges: u64 = 0;
     let mut complemented: u64 = 0;
+    let mut verified: u64 = 0;
     for seed in 1..121 {
         let block_bits = 1 + (seed % 5) as u32;
         let bits = drawn_bits(rt.alloc(), step(step(seed)), block_bits)?;
         for tolerance in 0..9 {
             for fly in 0..3 {
                 for either in [false, true] {
-                    let rules = rules_of(tolerance, fly, either, block_bits);
+                    let mut rules = rules_of(tolerance, fly, either, block_bits);
+                    rules.verify = ((seed + u64::from(tolerance) + u64::from(fly)) % 3) as u8;
                     let (found, rest) = searched(&rt, rt.alloc(), rules, &bits)?;
                     let (wanted, after) = defined(rt.alloc(), rules, &bits)?;
                     assert_eq!(rt; found.as_slice(), wanted.as_slice(), "{rules:?} at {seed}");
@@ -375,6 +466,7 @@ fn search_finds_the_places_of_the_definition(rt: HostRuntime) -> Result<(), Fail
                     for place in &found {
                         bridges = bridges.saturating_add(u64::from(place.bridged));
                         complemented = complemented.saturating_add(u64::from(place.inverted));
+                        verified = verified.saturating_add(u64::from(rules.verify));
                     }
                 }
             }
@@ -382,12 +474,14 @@ fn search_finds_the_places_of_the_definition(rt: HostRuntime) -> Result<(), Fail
     }
     assert!(rt; bridges > 100);
     assert!(rt; complemented > 100);
+    assert!(rt; verified > 100);
     Ok(())
 }
 
 // Pushes four octets where no codeblock of 33 bits becomes whole.
 fn push_four(rt: &impl Abort, search: &mut Search, octets: [u8; 4])
-    requires { search.old.rules.block_bits ≡ 33 }
+    requires block { search.old.rules.block_bits ≡ 33 }
+    requires alone { search.old.rules.verify ≡ 0 }
     ensures { search.new.rules ≡ search.old.rules }
 {
     assert!(rt; search.inside().unwrap_or(0) <= 25);
@@ -403,14 +497,14 @@ fn push_four(rt: &impl Abort, search: &mut Search, octets: [u8; 4])
 #[test]
 fn octets_are_taken_as_their_bits(rt: HostRuntime) {
     // Two codeblocks of 33 bits, so that the second marker begins at the second bit of an octet.
-    let mut search = Search::new(0, 0, false, 33);
+    let mut search = Search::new(0, 0, false, 33, 0);
     push_four(&rt, &mut search, MARKER);
     assert_eq!(rt; search.inside(), Some(0));
     search.push_octets(&[0xFF, 0x00, 0xFF]);
     search.push_octet(0x00);
     assert_eq!(rt; search.inside(), Some(32));
-    search.push_bit(true);
-    assert_eq!(rt; search.next(), Some(plain(0, 0)));
+    search.push_bit(&mut [], true);
+    assert_eq!(rt; search.next(&[]), Some(plain(0, 0)));
     push_four(&rt, &mut search, [0x0D, 0x67, 0xFE, 0x0E]);
     assert_eq!(rt; search.inside(), None);
     search.push_octet(0xD5);

@@ -1,13 +1,13 @@
--- The places of bits that were all complemented.
-use Rattle.std.proofs.Common.{◌≡◌, ℕ, zero, suc, ◌+◌, ◌<◌, ◌≤◌, Bool, true, false, cond, ◌&&◌, nat_le, nat_lt, List, [], ◌∷◌, length, take, drop, map, refl, sym, ap, ◌∙◌, arith, Option, Some, None, ◌⊎◌, inl, inr}
+-- The places of bits that were all turned over.
+use Rattle.std.proofs.Common.{◌≡◌, ℕ, zero, suc, ◌+◌, ◌<◌, ◌≤◌, Bool, true, false, cond, ◌&&◌, nat_le, nat_lt, List, [], ◌∷◌, length, take, drop, map, refl, sym, ap, ◌∙◌, arith, Option, Some, None, ◌⊎◌, inl, inr, length-drop}
 use Rattle.std.specs.Option.{option_map}
 use Rattle.std.proofs.lemmas.Bool.{cases_lt}
 use Rattle.std.proofs.lemmas.Bool.Decides.{nat_tests}
 use Rattle.tm_sync.specs.declared.found.Found.{Found}
 use Rattle.tm_sync.specs.declared.found.Before.{Before}
 use Rattle.tm_sync.specs.Bits.{flip, complement, in_polarity, difference, differences, marker_bits}
-use Rattle.tm_sync.specs.Places.{Rules, wrong_bits, match_of, before_next, found_at, place_by, place_at, places_from, places, complemented_place}
-use Rattle.tm_sync.proofs.Steps.{places_from-nil, places_from-miss, places_from-one, places_from-inside, place_at-room, place_at-short}
+use Rattle.tm_sync.specs.Places.{Rules, wrong_bits, match_of, is_way, are_verified, verified, way_of, before_next, found_at, place_by, place_at, places_from, places, complemented_place}
+use Rattle.tm_sync.proofs.Steps.{places_from-nil, places_from-miss, places_from-one, places_from-inside, place_at-room, place_at-short, are_verified-zero, are_verified-more, are_verified-past}
 use Rattle.tm_sync.proofs.Matches.{wrong-both}
 use Rattle.tm_sync.proofs.Longer.{Seen, none, some, seen}
 
@@ -91,6 +91,51 @@ place_by-complemented rules at (Some before) bits None = go (nat_lt before.bridg
     go true = λ i. Some (record { place = at; distance = same i; bridged = true; inverted = flip before.inverted })
     go false = refl
 
+is_way-complemented : (way : Option Bool) (inverted : Bool) → is_way (option_map flip way) (flip inverted) ≡ is_way way inverted
+is_way-complemented None inverted = refl
+is_way-complemented (Some true) true = refl
+is_way-complemented (Some true) false = refl
+is_way-complemented (Some false) true = refl
+is_way-complemented (Some false) false = refl
+
+are_verified-complemented : (rules : Rules) (inverted : Bool) (count : ℕ) (bits : List Bool) → rules.either ≡ true → rules.tolerance ≤ 15
+    → are_verified rules (flip inverted) count (complement bits) ≡ are_verified rules inverted count bits
+are_verified-complemented rules inverted zero bits either few = are_verified-zero rules (flip inverted) (complement bits) ∙ sym (are_verified-zero rules inverted bits)
+are_verified-complemented rules inverted (suc count) bits either few =
+    go (are_verified-complemented rules inverted count (drop (32 + rules.block_bits) bits) either few) (cases_lt (length bits) (32 + (32 + rules.block_bits)))
+  where
+    next : drop (32 + rules.block_bits) (complement bits) ≡ complement (drop (32 + rules.block_bits) bits)
+    next = drop-complement (32 + rules.block_bits) bits
+
+    go : are_verified rules (flip inverted) count (complement (drop (32 + rules.block_bits) bits)) ≡ are_verified rules inverted count (drop (32 + rules.block_bits) bits)
+        → (length bits < 32 + (32 + rules.block_bits)) ⊎ (32 + (32 + rules.block_bits) ≤ length bits)
+        → are_verified rules (flip inverted) (suc count) (complement bits) ≡ are_verified rules inverted (suc count) bits
+    go more (inl past) =
+        are_verified-past rules (flip inverted) count (complement bits) (omega (arith, length-complement bits)) ∙ sym (are_verified-past rules inverted count bits past)
+    go more (inr room) =
+        let left = length-drop (32 + rules.block_bits) bits in
+        let way = match-complemented rules (drop (32 + rules.block_bits) bits) either few (omega arith) in
+        are_verified-more rules (flip inverted) count (complement bits) (omega (arith, length-complement bits))
+        ∙ (λ i. is_way (match_of rules (next i)) (flip inverted) && are_verified rules (flip inverted) count (next i))
+        ∙ (λ i. is_way (way i) (flip inverted) && more i)
+        ∙ ap (λ c. c && are_verified rules inverted count (drop (32 + rules.block_bits) bits)) (is_way-complemented (match_of rules (drop (32 + rules.block_bits) bits)) inverted)
+        ∙ sym (are_verified-more rules inverted count bits room)
+
+way_of-complemented : (rules : Rules) (before : Option Before) (bits : List Bool) → rules.either ≡ true → rules.tolerance ≤ 15 → 32 ≤ length bits
+    → way_of rules (option_map turn before) (complement bits) ≡ option_map flip (way_of rules before bits)
+way_of-complemented rules (Some before) bits either few long = match-complemented rules bits either few long
+way_of-complemented rules None bits either few long = ap (verified rules (complement bits)) (match-complemented rules bits either few long) ∙ go (match_of rules bits)
+  where
+    choose : (inverted : Bool) (c : Bool) → cond c (Some (flip inverted)) None ≡ option_map flip (cond c (Some inverted) None)
+    choose inverted true = refl
+    choose inverted false = refl
+
+    go : (way : Option Bool) → verified rules (complement bits) (option_map flip way) ≡ option_map flip (verified rules bits way)
+    go None = refl
+    go (Some inverted) =
+        ap (λ c. cond c (Some (flip inverted)) None) (are_verified-complemented rules inverted rules.verify bits either few)
+        ∙ choose inverted (are_verified rules inverted rules.verify bits)
+
 place_at-complemented : (rules : Rules) (at : ℕ) (before : Option Before) (bits : List Bool) → rules.either ≡ true → rules.tolerance ≤ 15
     → place_at rules at (option_map turn before) (complement bits) ≡ option_map complemented_place (place_at rules at before bits)
 place_at-complemented rules at before bits either few = go (cases_lt (length bits) (32 + rules.block_bits))
@@ -101,8 +146,8 @@ place_at-complemented rules at before bits either few = go (cases_lt (length bit
         ∙ ap (option_map complemented_place) (sym (place_at-short rules at before bits short))
     go (inr room) =
         place_at-room rules at (option_map turn before) (complement bits) (omega (arith, length-complement bits))
-        ∙ ap (place_by rules at (option_map turn before) (complement bits)) (match-complemented rules bits either few (omega arith))
-        ∙ place_by-complemented rules at before bits (match_of rules bits)
+        ∙ ap (place_by rules at (option_map turn before) (complement bits)) (way_of-complemented rules before bits either few (omega arith))
+        ∙ place_by-complemented rules at before bits (way_of rules before bits)
         ∙ ap (option_map complemented_place) (sym (place_at-room rules at before bits room))
 
 after-complemented : (before : Option Before) (f : Found) → Some (before_next (option_map turn before) (complemented_place f)) ≡ option_map turn (Some (before_next before f))

@@ -5,75 +5,83 @@ use Rattle.std.proofs.lemmas.Bool.{cases_lt}
 use Rattle.std.proofs.lemmas.Bool.Decides.{nat_tests}
 use Rattle.tm_sync.specs.declared.found.Found.{Found}
 use Rattle.tm_sync.specs.declared.found.Before.{Before}
-use Rattle.tm_sync.specs.Places.{Rules, match_of, before_next, found_at, place_by, place_at, places_from}
-use Rattle.tm_sync.specs.Searching.{first_place}
-use Rattle.tm_sync.proofs.Steps.{places_from-nil, places_from-short, places_from-miss, places_from-hit, match_of-append, place_at-room, place_at-short}
+use Rattle.tm_sync.specs.Places.{Rules, match_of, way_of, verify_bits, before_next, found_at, place_by, place_at, places_from}
+use Rattle.tm_sync.specs.Searching.{first_place, telling_bits}
+use Rattle.tm_sync.specs.Marked.{ready}
+use Rattle.tm_sync.proofs.Steps.{places_from-nil, places_from-short, places_from-miss, places_from-hit, places_from-unsettled, settled-tells, way_of-append, place_at-room, place_at-short, ready-none}
 use Rattle.tm_sync.proofs.Longer.{Seen, none, some, seen, place_by-append, place_by-place, places_from-room}
 
 -- the place that the first 32 bits are
 abbrev pub here : Rules → ℕ → Option Before → List Bool → Option Found
-here rules at before bits = place_by rules at before bits (match_of rules bits)
+here rules at before bits = place_by rules at before bits (way_of rules before bits)
 
-pub here-append : (rules : Rules) (at : ℕ) (before : Option Before) (bits more : List Bool) → 32 ≤ length bits → here rules at before (bits ++ more) ≡ here rules at before bits
+-- a marker is among the bits that tell a place, and the markers that verify it where it is searched for
+telling-marker : (rules : Rules) (before : Option Before) → 32 ≤ telling_bits rules before
+telling-marker rules None = omega arith
+telling-marker rules (Some before) = omega arith
+
+telling-most : (rules : Rules) (before : Option Before) → telling_bits rules before ≤ 32 + verify_bits rules
+telling-most rules None = omega arith
+telling-most rules (Some before) = omega arith
+
+pub here-append : (rules : Rules) (at : ℕ) (before : Option Before) (bits more : List Bool) → telling_bits rules before ≤ length bits → here rules at before (bits ++ more) ≡ here rules at before bits
 here-append rules at before bits more long =
-    ap (place_by rules at before (bits ++ more)) (match_of-append rules bits more long) ∙ place_by-append rules at before bits more (match_of rules bits) long
-
--- what stands before the bits after a front
-abbrev pub ready : List Bool → Option Before → Option Before
-ready [] before = before
-ready (b ∷ prefix) before = None
-
-ready-none : (prefix : List Bool) → ready prefix None ≡ None
-ready-none [] = refl
-ready-none (b ∷ prefix) = refl
+    let marker = telling-marker rules before in
+    ap (place_by rules at before (bits ++ more)) (way_of-append rules before bits more long) ∙ place_by-append rules at before bits more (way_of rules before bits) (omega arith)
 
 -- ---- the equations
 pub first_place-nil : (rules : Rules) (at : ℕ) (before : Option Before) → first_place rules at before [] ≡ None
 unfolding first_place
 first_place-nil rules at before = refl
 
-first_place-cons : (rules : Rules) (at : ℕ) (before : Option Before) (b : Bool) (bits : List Bool) (o : Option Found) → 32 ≤ length (b ∷ bits) → here rules at before (b ∷ bits) ≡ o
+tests_true : (m n : ℕ) → m ≤ n → nat_le m n ≡ true
+tests_true m n p = grind (arith, nat_tests)
+
+tests_false : (m n : ℕ) → n < m → nat_le m n ≡ false
+tests_false m n p = grind (arith, nat_tests)
+
+first_place-cons : (rules : Rules) (at : ℕ) (before : Option Before) (b : Bool) (bits : List Bool) (o : Option Found) → telling_bits rules before ≤ length (b ∷ bits) → here rules at before (b ∷ bits) ≡ o
     → first_place rules at before (b ∷ bits) ≡ option_or o (first_place rules (at + 1) None bits)
 unfolding first_place
 first_place-cons rules at before b bits o long e =
-    let test : nat_le 32 (length (b ∷ bits)) ≡ true = grind (arith, nat_tests) in
+    let test : nat_le (telling_bits rules before) (length (b ∷ bits)) ≡ true = tests_true (telling_bits rules before) (length (b ∷ bits)) long in
     λ i. cond (test i) (option_or (e i) (first_place rules (at + 1) None bits)) None
 
-first_place-few : (rules : Rules) (at : ℕ) (before : Option Before) (b : Bool) (bits : List Bool) → length (b ∷ bits) < 32 → first_place rules at before (b ∷ bits) ≡ None
+first_place-few : (rules : Rules) (at : ℕ) (before : Option Before) (b : Bool) (bits : List Bool) → length (b ∷ bits) < telling_bits rules before → first_place rules at before (b ∷ bits) ≡ None
 unfolding first_place
 first_place-few rules at before b bits few =
-    let test : nat_le 32 (length (b ∷ bits)) ≡ false = grind (arith, nat_tests) in
+    let test : nat_le (telling_bits rules before) (length (b ∷ bits)) ≡ false = tests_false (telling_bits rules before) (length (b ∷ bits)) few in
     ap (λ c. cond c (option_or (here rules at before (b ∷ bits)) (first_place rules (at + 1) None bits)) None) test
 
-pub first_place-short : (rules : Rules) (at : ℕ) (before : Option Before) (bits : List Bool) → length bits < 32 → first_place rules at before bits ≡ None
+pub first_place-short : (rules : Rules) (at : ℕ) (before : Option Before) (bits : List Bool) → length bits < telling_bits rules before → first_place rules at before bits ≡ None
 first_place-short rules at before [] few = first_place-nil rules at before
 first_place-short rules at before (b ∷ bits) few = first_place-few rules at before b bits few
 
-hit : (rules : Rules) (at : ℕ) (before : Option Before) (b : Bool) (bits : List Bool) (f : Found) → 32 ≤ length (b ∷ bits) → here rules at before (b ∷ bits) ≡ Some f
+pub hit : (rules : Rules) (at : ℕ) (before : Option Before) (b : Bool) (bits : List Bool) (f : Found) → telling_bits rules before ≤ length (b ∷ bits) → here rules at before (b ∷ bits) ≡ Some f
     → first_place rules at before (b ∷ bits) ≡ Some f
 hit rules at before b bits f long e = first_place-cons rules at before b bits (Some f) long e
 
-miss : (rules : Rules) (at : ℕ) (before : Option Before) (b : Bool) (bits : List Bool) → 32 ≤ length (b ∷ bits) → here rules at before (b ∷ bits) ≡ None
+miss : (rules : Rules) (at : ℕ) (before : Option Before) (b : Bool) (bits : List Bool) → telling_bits rules before ≤ length (b ∷ bits) → here rules at before (b ∷ bits) ≡ None
     → first_place rules at before (b ∷ bits) ≡ first_place rules (at + 1) None bits
 miss rules at before b bits long e = first_place-cons rules at before b bits None long e
 
 -- what a first place says of the bits that it was found in
 data First (rules : Rules) (at : ℕ) (before : Option Before) (b : Bool) (bits : List Bool) (f : Found) : Type 0 where
-  at_start : 32 ≤ length (b ∷ bits) → here rules at before (b ∷ bits) ≡ Some f → First rules at before b bits f
-  after_it : 32 ≤ length (b ∷ bits) → here rules at before (b ∷ bits) ≡ None → first_place rules (at + 1) None bits ≡ Some f → First rules at before b bits f
+  at_start : telling_bits rules before ≤ length (b ∷ bits) → here rules at before (b ∷ bits) ≡ Some f → First rules at before b bits f
+  after_it : telling_bits rules before ≤ length (b ∷ bits) → here rules at before (b ∷ bits) ≡ None → first_place rules (at + 1) None bits ≡ Some f → First rules at before b bits f
 
 first : (rules : Rules) (at : ℕ) (before : Option Before) (b : Bool) (bits : List Bool) (f : Found) → first_place rules at before (b ∷ bits) ≡ Some f → First rules at before b bits f
-first rules at before b bits f e = go (cases_lt (length (b ∷ bits)) 32)
+first rules at before b bits f e = go (cases_lt (length (b ∷ bits)) (telling_bits rules before))
   where
-    roomy : 32 ≤ length (b ∷ bits) → Seen (here rules at before (b ∷ bits)) → First rules at before b bits f
+    roomy : telling_bits rules before ≤ length (b ∷ bits) → Seen (here rules at before (b ∷ bits)) → First rules at before b bits f
     roomy long (none h) = after_it long h (sym (miss rules at before b bits long h) ∙ e)
     roomy long (some g h) = let same : Some g ≡ Some f = sym (hit rules at before b bits g long h) ∙ e in at_start long (h ∙ same)
 
-    go : (length (b ∷ bits) < 32) ⊎ (32 ≤ length (b ∷ bits)) → First rules at before b bits f
+    go : (length (b ∷ bits) < telling_bits rules before) ⊎ (telling_bits rules before ≤ length (b ∷ bits)) → First rules at before b bits f
     go (inl few) = let no : None ≡ Some f = sym (first_place-few rules at before b bits few) ∙ e in absurd (cc)
     go (inr long) = roomy long (seen (here rules at before (b ∷ bits)))
 
-none_ahead : (rules : Rules) (at : ℕ) (before : Option Before) (b : Bool) (bits : List Bool) → 32 ≤ length (b ∷ bits) → first_place rules at before (b ∷ bits) ≡ None
+none_ahead : (rules : Rules) (at : ℕ) (before : Option Before) (b : Bool) (bits : List Bool) → telling_bits rules before ≤ length (b ∷ bits) → first_place rules at before (b ∷ bits) ≡ None
     → (here rules at before (b ∷ bits) ≡ None) × (first_place rules (at + 1) None bits ≡ None)
 none_ahead rules at before b bits long e = go (seen (here rules at before (b ∷ bits)))
   where
@@ -88,35 +96,67 @@ first_place-stays rules at before [] more f e = let no : None ≡ Some f = sym (
 first_place-stays rules at before (b ∷ bits) more f e = go (λ e. first_place-stays rules (at + 1) None bits more f e) (first rules at before b bits f e)
   where
     go : (first_place rules (at + 1) None bits ≡ Some f → first_place rules (at + 1) None (bits ++ more) ≡ Some f) → First rules at before b bits f → first_place rules at before ((b ∷ bits) ++ more) ≡ Some f
-    go next (at_start long h) = hit rules at before b (bits ++ more) f (omega (arith, length-append bits more)) (here-append rules at before (b ∷ bits) more long ∙ h)
-    go next (after_it long h rest) = miss rules at before b (bits ++ more) (omega (arith, length-append bits more)) (here-append rules at before (b ∷ bits) more long ∙ h) ∙ next rest
+    go next (at_start long h) = hit rules at before b (bits ++ more) f (omega (arith, long, length-append bits more)) (here-append rules at before (b ∷ bits) more long ∙ h)
+    go next (after_it long h rest) = miss rules at before b (bits ++ more) (omega (arith, long, length-append bits more)) (here-append rules at before (b ∷ bits) more long ∙ h) ∙ next rest
 
--- where none was, the only new one is that of the last 32 bits
-pub first_place-push : (rules : Rules) (at : ℕ) (before : Option Before) (prefix init : List Bool) (b : Bool) → length init ≡ 31 → first_place rules at before (prefix ++ init) ≡ None
-    → first_place rules at before (prefix ++ (init ++ b ∷ [])) ≡ here rules (at + length prefix) (ready prefix before) (init ++ b ∷ [])
-first_place-push rules at before [] [] b e none_yet = absurd (omega arith)
-first_place-push rules at before [] (x ∷ init) b e none_yet = go (seen (here rules at before (x ∷ (init ++ b ∷ []))))
+-- Where none was, the only new one is right after a codeblock, where the 32 bits there are the last ones ..
+pub first_place-right : (rules : Rules) (at : ℕ) (before : Before) (bits : List Bool) → length bits ≡ 32 → first_place rules at (Some before) bits ≡ here rules at (Some before) bits
+first_place-right rules at before [] long = absurd (omega arith)
+first_place-right rules at before (b ∷ bits) long = go (seen (here rules at (Some before) (b ∷ bits)))
   where
-    long : 32 ≤ length (x ∷ (init ++ b ∷ []))
-    long = omega (arith, length-append init (b ∷ []))
+    go : Seen (here rules at (Some before) (b ∷ bits)) → first_place rules at (Some before) (b ∷ bits) ≡ here rules at (Some before) (b ∷ bits)
+    go (none h) = miss rules at (Some before) b bits (omega arith) h ∙ first_place-short rules (at + 1) None bits (omega arith) ∙ sym h
+    go (some f h) = hit rules at (Some before) b bits f (omega arith) h ∙ sym h
+
+-- .. or that which the last 32 bits verify
+pub first_place-settles : (rules : Rules) (at : ℕ) (before : Option Before) (prefix init : List Bool) (b : Bool) → length init + 1 ≡ 32 + verify_bits rules → ready prefix before ≡ None
+    → first_place rules at before (prefix ++ init) ≡ None → first_place rules at before (prefix ++ (init ++ b ∷ [])) ≡ here rules (at + length prefix) None (init ++ b ∷ [])
+first_place-settles rules at before [] [] b e free none_yet = absurd (omega arith)
+first_place-settles rules at before [] (x ∷ init) b e free none_yet =
+    ap (λ before. first_place rules at before (x ∷ (init ++ b ∷ []))) free ∙ go (seen (here rules at None (x ∷ (init ++ b ∷ []))))
+    ∙ ap (λ n. here rules n None (x ∷ (init ++ b ∷ []))) at_is
+  where
+    size : length (init ++ b ∷ []) ≡ length init + 1
+    size = length-append init (b ∷ [])
 
     at_is : at ≡ at + 0
     at_is = omega arith
 
-    go : Seen (here rules at before (x ∷ (init ++ b ∷ []))) → first_place rules at before (x ∷ (init ++ b ∷ [])) ≡ here rules (at + 0) before (x ∷ (init ++ b ∷ []))
-    go (none h) =
-        miss rules at before x (init ++ b ∷ []) long h ∙ first_place-short rules (at + 1) None (init ++ b ∷ []) (omega (arith, length-append init (b ∷ [])))
-        ∙ sym h ∙ ap (λ n. here rules n before (x ∷ (init ++ b ∷ []))) at_is
-    go (some f h) = hit rules at before x (init ++ b ∷ []) f long h ∙ sym h ∙ ap (λ n. here rules n before (x ∷ (init ++ b ∷ []))) at_is
-first_place-push rules at before (y ∷ prefix) init b e none_yet =
-    let long : 32 ≤ length ((y ∷ prefix) ++ init) = omega (arith, length-append prefix init) in
+    go : Seen (here rules at None (x ∷ (init ++ b ∷ []))) → first_place rules at None (x ∷ (init ++ b ∷ [])) ≡ here rules at None (x ∷ (init ++ b ∷ []))
+    go (none h) = let long = size in miss rules at None x (init ++ b ∷ []) (omega arith) h ∙ first_place-short rules (at + 1) None (init ++ b ∷ []) (omega arith) ∙ sym h
+    go (some f h) = let long = size in hit rules at None x (init ++ b ∷ []) f (omega arith) h ∙ sym h
+first_place-settles rules at before (y ∷ prefix) init b e free none_yet =
+    let most = telling-most rules before in
+    let size = length-append prefix init in
+    let more = length-append prefix (init ++ b ∷ []) in
+    let last = length-append init (b ∷ []) in
+    let long : telling_bits rules before ≤ length ((y ∷ prefix) ++ init) = omega arith in
     let ahead = none_ahead rules at before y (prefix ++ init) long none_yet in
     let h : here rules at before (y ∷ (prefix ++ (init ++ b ∷ []))) ≡ None =
     ap (λ l. here rules at before (y ∷ l)) (sym (append_assoc prefix init (b ∷ []))) ∙ here-append rules at before ((y ∷ prefix) ++ init) (b ∷ []) long ∙ ahead.0 in
     let there : at + 1 + length prefix ≡ at + suc (length prefix) = omega arith in
-    miss rules at before y (prefix ++ (init ++ b ∷ [])) (omega (arith, length-append prefix (init ++ b ∷ []), length-append init (b ∷ []))) h
-    ∙ first_place-push rules (at + 1) None prefix init b e ahead.1
-    ∙ (λ i. here rules (there i) (ready-none prefix i) (init ++ b ∷ []))
+    miss rules at before y (prefix ++ (init ++ b ∷ [])) (omega arith) h
+    ∙ first_place-settles rules (at + 1) None prefix init b e (ready-none prefix) ahead.1
+    ∙ ap (λ n. here rules n None (init ++ b ∷ [])) there
+
+-- right after a codeblock, where no place is, the 32 bits match in no way
+pub first_place-unmatched : (rules : Rules) (at : ℕ) (before : Before) (bits : List Bool) → 32 ≤ length bits → first_place rules at (Some before) bits ≡ None → match_of rules bits ≡ None
+first_place-unmatched rules at before [] long none_yet = absurd (omega arith)
+first_place-unmatched rules at before (b ∷ bits) long none_yet = go (match_of rules (b ∷ bits)) refl (none_ahead rules at (Some before) b bits long none_yet).0
+  where
+    go : (way : Option Bool) → match_of rules (b ∷ bits) ≡ way → place_by rules at (Some before) (b ∷ bits) (match_of rules (b ∷ bits)) ≡ None → match_of rules (b ∷ bits) ≡ None
+    go None e h = e
+    go (Some inverted) e h = let no : place_by rules at (Some before) (b ∷ bits) (Some inverted) ≡ None = ap (place_by rules at (Some before) (b ∷ bits)) (sym e) ∙ h in absurd (cc)
+
+-- .. and else there is none
+pub first_place-waits : (rules : Rules) (at : ℕ) (before : Before) (bits : List Bool) (b : Bool) → 32 ≤ length bits → length bits < 32 + verify_bits rules
+    → first_place rules at (Some before) bits ≡ None → first_place rules at (Some before) (bits ++ b ∷ []) ≡ None
+first_place-waits rules at before [] b long few none_yet = absurd (omega arith)
+first_place-waits rules at before (x ∷ bits) b long few none_yet =
+    let size = length-append bits (b ∷ []) in
+    let ahead = none_ahead rules at (Some before) x bits long none_yet in
+    miss rules at (Some before) x (bits ++ b ∷ []) (omega arith) (here-append rules at (Some before) (x ∷ bits) (b ∷ []) long ∙ ahead.0)
+    ∙ first_place-short rules (at + 1) None (bits ++ b ∷ []) (omega arith)
 
 -- ---- places
 none-at : (rules : Rules) (at : ℕ) (before : Option Before) (bits : List Bool) → here rules at before bits ≡ None → place_at rules at before bits ≡ None
@@ -129,10 +169,16 @@ none-at rules at before bits h = go (cases_lt (length bits) (32 + rules.block_bi
 -- where no marker is there, no place is
 pub places_from-none : (rules : Rules) (at : ℕ) (before : Option Before) (bits : List Bool) → first_place rules at before bits ≡ None → places_from rules at 0 before bits ≡ []
 places_from-none rules at before [] e = places_from-nil rules at 0 before
-places_from-none rules at before (b ∷ bits) e = go (λ e. places_from-none rules (at + 1) None bits e) (cases_lt (length (b ∷ bits)) 32)
+places_from-none rules at before (b ∷ bits) e =
+    go (λ e. places_from-none rules (at + 1) None bits e) (cases_lt (length (b ∷ bits)) (telling_bits rules before))
   where
-    go : (first_place rules (at + 1) None bits ≡ None → places_from rules (at + 1) 0 None bits ≡ []) → (length (b ∷ bits) < 32) ⊎ (32 ≤ length (b ∷ bits)) → places_from rules at 0 before (b ∷ bits) ≡ []
-    go next (inl few) = places_from-short rules at before (b ∷ bits) (omega arith)
+    few : (before : Option Before) → length (b ∷ bits) < telling_bits rules before → places_from rules at 0 before (b ∷ bits) ≡ []
+    few None short = let tells = settled-tells rules in places_from-unsettled rules at (b ∷ bits) (omega arith)
+    few (Some before) short = places_from-short rules at (Some before) (b ∷ bits) (omega arith)
+
+    go : (first_place rules (at + 1) None bits ≡ None → places_from rules (at + 1) 0 None bits ≡ []) → (length (b ∷ bits) < telling_bits rules before) ⊎ (telling_bits rules before ≤ length (b ∷ bits))
+        → places_from rules at 0 before (b ∷ bits) ≡ []
+    go next (inl short) = few before short
     go next (inr long) =
         let ahead = none_ahead rules at before b bits long e in
         places_from-miss rules at before b bits (none-at rules at before (b ∷ bits) ahead.0) ∙ next ahead.1
@@ -147,34 +193,44 @@ not-bridged rules at [] f e = let no : None ≡ Some f = sym (first_place-nil ru
 not-bridged rules at (b ∷ bits) f e = go (λ e. not-bridged rules (at + 1) bits f e) (first rules at None b bits f e)
   where
     go : (first_place rules (at + 1) None bits ≡ Some f → f.bridged ≡ false) → First rules at None b bits f → f.bridged ≡ false
-    go next (at_start long h) = not-bridged-here rules at (b ∷ bits) (match_of rules (b ∷ bits)) f h
+    go next (at_start long h) = not-bridged-here rules at (b ∷ bits) (way_of rules None (b ∷ bits)) f h
     go next (after_it long h rest) = next rest
 
 pub after-matched : (before : Option Before) (f : Found) → f.bridged ≡ false → before_next None f ≡ before_next before f
 after-matched None f e = refl
 after-matched (Some before) f e = λ i. record { inverted = f.inverted; bridged = (ap (λ (c : Bool). cond c 1 0) e ∙ sym (ap (λ (c : Bool). cond c (before.bridged + 1) 0) e)) i }
 
--- a first place whose codeblock ends with the bits is the place that is told, and the search goes on after it
-pub places_from-whole : (rules : Rules) (at : ℕ) (before : Option Before) (bits more : List Bool) (f : Found) → first_place rules at before bits ≡ Some f
-    → f.place + 32 + rules.block_bits ≡ at + length bits → places_from rules at 0 before (bits ++ more) ≡ f ∷ places_from rules (at + length bits) 0 (Some (before_next before f)) more
-places_from-whole rules at before [] more f e ends = let no : None ≡ Some f = sym (first_place-nil rules at before) ∙ e in absurd (cc)
-places_from-whole rules at before (b ∷ bits) more f e ends = go (λ e ends. places_from-whole rules (at + 1) None bits more f e ends) (first rules at before b bits f e)
+-- a first place stands in the bits
+pub first_place-start : (rules : Rules) (at : ℕ) (before : Option Before) (bits : List Bool) (f : Found) → first_place rules at before bits ≡ Some f → at ≤ f.place
+first_place-start rules at before [] f e = let no : None ≡ Some f = sym (first_place-nil rules at before) ∙ e in absurd (cc)
+first_place-start rules at before (b ∷ bits) f e = go (λ e. first_place-start rules (at + 1) None bits f e) (first rules at before b bits f e)
   where
-    go : (first_place rules (at + 1) None bits ≡ Some f → f.place + 32 + rules.block_bits ≡ at + 1 + length bits
-        → places_from rules (at + 1) 0 None (bits ++ more) ≡ f ∷ places_from rules (at + 1 + length bits) 0 (Some (before_next None f)) more)
-        → First rules at before b bits f → places_from rules at 0 before ((b ∷ bits) ++ more) ≡ f ∷ places_from rules (at + length (b ∷ bits)) 0 (Some (before_next before f)) more
+    go : (first_place rules (at + 1) None bits ≡ Some f → at + 1 ≤ f.place) → First rules at before b bits f → at ≤ f.place
     go next (at_start long h) =
-        let place : f.place ≡ at = place_by-place rules at before (b ∷ bits) (match_of rules (b ∷ bits)) f h in
-        let size : length (b ∷ bits) ≡ 32 + rules.block_bits = omega arith in
-        let there : at + 32 + rules.block_bits ≡ at + length (b ∷ bits) = omega arith in
-        places_from-hit rules at before (b ∷ bits) more f size
-        (place_at-room rules at before ((b ∷ bits) ++ more) (omega (arith, length-append bits more)) ∙ here-append rules at before (b ∷ bits) more long ∙ h)
-        ∙ ap (λ n. f ∷ places_from rules n 0 (Some (before_next before f)) more) there
-    go next (after_it long h rest) =
-        let there : at + 1 + length bits ≡ at + length (b ∷ bits) = omega arith in
-        places_from-miss rules at before b (bits ++ more) (none-at rules at before (b ∷ (bits ++ more)) (here-append rules at before (b ∷ bits) more long ∙ h))
-        ∙ next rest (omega arith)
-        ∙ (λ i. f ∷ places_from rules (there i) 0 (Some (after-matched before f (not-bridged rules (at + 1) bits f rest) i)) more)
+        let place : f.place ≡ at = place_by-place rules at before (b ∷ bits) (way_of rules before (b ∷ bits)) f h in
+        omega arith
+    go next (after_it long h rest) = let more = next rest in omega arith
+
+-- a first place whose codeblock is whole is the place that is told, and the search goes on after it
+pub places_from-whole : (rules : Rules) (at : ℕ) (before : Option Before) (prefix rest : List Bool) (f : Found) → first_place rules at before (prefix ++ rest) ≡ Some f
+    → f.place + 32 + rules.block_bits ≡ at + length prefix → places_from rules at 0 before (prefix ++ rest) ≡ f ∷ places_from rules (at + length prefix) 0 (Some (before_next before f)) rest
+places_from-whole rules at before [] rest f e ends = let start = first_place-start rules at before rest f e in absurd (omega arith)
+places_from-whole rules at before (b ∷ prefix) rest f e ends = go (λ e ends. places_from-whole rules (at + 1) None prefix rest f e ends) (first rules at before b (prefix ++ rest) f e)
+  where
+    go : (first_place rules (at + 1) None (prefix ++ rest) ≡ Some f → f.place + 32 + rules.block_bits ≡ at + 1 + length prefix
+        → places_from rules (at + 1) 0 None (prefix ++ rest) ≡ f ∷ places_from rules (at + 1 + length prefix) 0 (Some (before_next None f)) rest)
+        → First rules at before b (prefix ++ rest) f → places_from rules at 0 before ((b ∷ prefix) ++ rest) ≡ f ∷ places_from rules (at + length (b ∷ prefix)) 0 (Some (before_next before f)) rest
+    go next (at_start long h) =
+        let place : f.place ≡ at = place_by-place rules at before (b ∷ (prefix ++ rest)) (way_of rules before (b ∷ (prefix ++ rest))) f h in
+        let size : length (b ∷ prefix) ≡ 32 + rules.block_bits = omega arith in
+        let there : at + 32 + rules.block_bits ≡ at + length (b ∷ prefix) = omega arith in
+        places_from-hit rules at before (b ∷ prefix) rest f size (place_at-room rules at before ((b ∷ prefix) ++ rest) (omega (arith, length-append prefix rest)) ∙ h)
+        ∙ ap (λ n. f ∷ places_from rules n 0 (Some (before_next before f)) rest) there
+    go next (after_it long h later) =
+        let there : at + 1 + length prefix ≡ at + length (b ∷ prefix) = omega arith in
+        places_from-miss rules at before b (prefix ++ rest) (none-at rules at before (b ∷ (prefix ++ rest)) h)
+        ∙ next later (omega arith)
+        ∙ (λ i. f ∷ places_from rules (there i) 0 (Some (after-matched before f (not-bridged rules (at + 1) (prefix ++ rest) f later) i)) rest)
 
 -- a first place whose codeblock is not whole is no place yet, nor is another
 pub places_from-unfinished : (rules : Rules) (at : ℕ) (before : Option Before) (bits : List Bool) (f : Found) → first_place rules at before bits ≡ Some f
@@ -185,7 +241,7 @@ places_from-unfinished rules at before (b ∷ bits) f e few = go (λ e few. plac
     go : (first_place rules (at + 1) None bits ≡ Some f → at + 1 + length bits < f.place + 32 + rules.block_bits → places_from rules (at + 1) 0 None bits ≡ [])
         → First rules at before b bits f → places_from rules at 0 before (b ∷ bits) ≡ []
     go next (at_start long h) =
-        let place : f.place ≡ at = place_by-place rules at before (b ∷ bits) (match_of rules (b ∷ bits)) f h in
+        let place : f.place ≡ at = place_by-place rules at before (b ∷ bits) (way_of rules before (b ∷ bits)) f h in
         places_from-short rules at before (b ∷ bits) (omega arith)
     go next (after_it long h rest) = places_from-miss rules at before b bits (none-at rules at before (b ∷ bits) h) ∙ next rest (omega arith)
 
@@ -196,7 +252,8 @@ first_place-room rules at before (b ∷ bits) f e = go (λ e. first_place-room r
   where
     go : (first_place rules (at + 1) None bits ≡ Some f → f.place + 32 ≤ at + 1 + length bits) → First rules at before b bits f → f.place + 32 ≤ at + suc (length bits)
     go next (at_start long h) =
-        let place : f.place ≡ at = place_by-place rules at before (b ∷ bits) (match_of rules (b ∷ bits)) f h in
+        let place : f.place ≡ at = place_by-place rules at before (b ∷ bits) (way_of rules before (b ∷ bits)) f h in
+        let marker = telling-marker rules before in
         omega arith
     go next (after_it long h rest) = let more = next rest in omega arith
 
@@ -210,21 +267,22 @@ places_from-ahead rules at before (b ∷ bits) more f e = go (λ e. places_from-
     go : (first_place rules (at + 1) None bits ≡ Some f → f.place + length (places_from rules (at + 1) 0 None (bits ++ more)) * (32 + rules.block_bits) ≤ at + 1 + length bits + length more)
         → First rules at before b bits f → f.place + length (places_from rules at 0 before ((b ∷ bits) ++ more)) * (32 + rules.block_bits) ≤ at + suc (length bits) + length more
     go next (at_start long h) =
-        let place : f.place ≡ at = place_by-place rules at before (b ∷ bits) (match_of rules (b ∷ bits)) f h in
+        let place : f.place ≡ at = place_by-place rules at before (b ∷ bits) (way_of rules before (b ∷ bits)) f h in
         omega (arith, place, places_from-room rules at 0 before ((b ∷ bits) ++ more), length-append (b ∷ bits) more)
     go next (after_it long h rest) =
         let skipped = places_from-miss rules at before b (bits ++ more) (none-at rules at before (b ∷ (bits ++ more)) (here-append rules at before (b ∷ bits) more long ∙ h)) in
         omega (arith, ap (λ (fs : List Found). length fs * (32 + rules.block_bits)) skipped, next rest)
 
--- where none is there, its marker is not whole
+-- where none is there, its marker is not whole, or those that verify it are not there
 pub places_from-none_ahead : (rules : Rules) (at : ℕ) (before : Option Before) (bits more : List Bool) → first_place rules at before bits ≡ None
-    → length (places_from rules at 0 before (bits ++ more)) * (32 + rules.block_bits) ≤ 31 + length more
+    → length (places_from rules at 0 before (bits ++ more)) * (32 + rules.block_bits) ≤ 31 + verify_bits rules + length more
 places_from-none_ahead rules at before [] more e = omega (arith, places_from-room rules at 0 before more)
-places_from-none_ahead rules at before (b ∷ bits) more e = go (λ e. places_from-none_ahead rules (at + 1) None bits more e) (cases_lt (length (b ∷ bits)) 32)
+places_from-none_ahead rules at before (b ∷ bits) more e = go (λ e. places_from-none_ahead rules (at + 1) None bits more e) (cases_lt (length (b ∷ bits)) (telling_bits rules before))
   where
-    go : (first_place rules (at + 1) None bits ≡ None → length (places_from rules (at + 1) 0 None (bits ++ more)) * (32 + rules.block_bits) ≤ 31 + length more)
-        → (length (b ∷ bits) < 32) ⊎ (32 ≤ length (b ∷ bits)) → length (places_from rules at 0 before ((b ∷ bits) ++ more)) * (32 + rules.block_bits) ≤ 31 + length more
-    go next (inl few) = omega (arith, few, places_from-room rules at 0 before ((b ∷ bits) ++ more), length-append (b ∷ bits) more)
+    go : (first_place rules (at + 1) None bits ≡ None → length (places_from rules (at + 1) 0 None (bits ++ more)) * (32 + rules.block_bits) ≤ 31 + verify_bits rules + length more)
+        → (length (b ∷ bits) < telling_bits rules before) ⊎ (telling_bits rules before ≤ length (b ∷ bits))
+        → length (places_from rules at 0 before ((b ∷ bits) ++ more)) * (32 + rules.block_bits) ≤ 31 + verify_bits rules + length more
+    go next (inl few) = omega (arith, few, telling-most rules before, places_from-room rules at 0 before ((b ∷ bits) ++ more), length-append (b ∷ bits) more)
     go next (inr long) =
         let ahead = none_ahead rules at before b bits long e in
         let skipped = places_from-miss rules at before b (bits ++ more) (none-at rules at before (b ∷ (bits ++ more)) (here-append rules at before (b ∷ bits) more long ∙ ahead.0)) in

@@ -1,28 +1,32 @@
 -- What a search stands for, as it goes on.
-use Rattle.std.proofs.Common.{◌≡◌, ℕ, ◌+◌, ◌-◌, ◌*◌, ◌%◌, ◌^◌, ◌<◌, ◌≤◌, Bool, true, false, cond, ◌==◌, List, [], ◌∷◌, ◌++◌, length, take, drop, refl, sym, ap, ◌∙◌, subst, arith, Option, Some, None, IsSome, IfSome, IfNone, bit_or, unwrap_or, append_assoc, length-append, length-drop, take-append-drop}
+use Rattle.std.proofs.Common.{◌≡◌, ℕ, zero, suc, ◌+◌, ◌-◌, ◌*◌, ◌/◌, ◌%◌, ◌^◌, ◌<◌, ◌≤◌, Bool, true, false, cond, ◌==◌, ◌&&◌, nat_le, List, [], ◌∷◌, ◌++◌, length, take, drop, refl, sym, ap, ◌∙◌, subst, arith, Option, Some, None, IsSome, IfSome, IfNone, bit_or, unwrap_or, append_assoc, length-append, length-drop, take-append-drop, ◌⊎◌, inl, inr}
 use mir.Val.{bool_byte}
 use Rattle.std.specs.Option.{option_map, option_map_or, is_some}
-use Rattle.std.proofs.lemmas.List.{length-take-le, append-nil}
+use Rattle.std.proofs.lemmas.List.{length-take-le, append-nil, append_cancel_left, nil_from_length, take_at, drop_at, drop-drop}
+use Rattle.std.proofs.lemmas.Nat.{div-mul-add, div-add-mod', mod_below}
+use Rattle.std.proofs.lemmas.Bool.{cases_lt}
 use Rattle.std.proofs.lemmas.Bool.Decides.{nat_tests}
 use Rattle.tm_base.specs.Bits.{number_of}
 use Rattle.tm_sync.specs.declared.found.Found.{Found}
 use Rattle.tm_sync.specs.declared.found.Before.{Before}
 use Rattle.tm_sync.specs.declared.found.Awaited.{Awaited}
-use Rattle.tm_sync.specs.Places.{Rules, before_next, match_of, place_by, places, places_from}
-use Rattle.tm_sync.specs.Searching.{Counts, Searching, StandsFor, awaited_at, begun_of, first_place, place_ahead, inside_ahead, inside_of, is_pending, end_of, before_past, before_last}
-use Rattle.tm_sync.proofs.Numbers.{value_from, value-last, number-value}
+use Rattle.tm_sync.specs.Places.{Rules, before_next, wrong_bits, match_of, is_way, are_verified, verified, way_of, verify_bits, found_at, place_at, place_by, places, places_from}
+use Rattle.tm_sync.specs.Searching.{Counts, Searching, StandsFor, Remembers, Recalls, IsRun, IsRecent, awaited_at, begun_of, first_place, from_of, place_ahead, inside_ahead, inside_by, inside_of, is_pending, is_right_after, waiting_of, end_of, before_past}
+use Rattle.tm_sync.proofs.Numbers.{value_from, number-value}
 use Rattle.tm_sync.proofs.Sliding.{byte-number, word-push}
-use Rattle.tm_sync.proofs.Steps.{places_from-nil}
+use Rattle.tm_sync.proofs.Steps.{places_from-short, places_from-hit, wrong_bits-append, match_of-append, is_way-is, are_verified-more, way_of-far, place_at-room}
 use Rattle.tm_sync.proofs.Longer.{Seen, none, some, seen, place_by-place}
-use Rattle.tm_sync.proofs.FirstPlaces.{here, ready, first_place-nil, first_place-short, first_place-stays, first_place-push, first_place-room, places_from-ahead, places_from-none, places_from-none_ahead, places_from-whole, places_from-unfinished, not-bridged-here, after-matched}
-use Rattle.tm_sync.proofs.Ends.{end-there, places-after}
+use Rattle.tm_sync.proofs.FirstPlaces.{here, hit, first_place-nil, first_place-short, first_place-stays, first_place-right, first_place-settles, first_place-unmatched, first_place-waits, first_place-start, first_place-room, places_from-ahead, places_from-none, places_from-none_ahead, places_from-whole, places_from-unfinished, not-bridged-here, after-matched}
+use Rattle.tm_sync.proofs.Recent.{recent-inside, recent-from, last-32, word-last}
+use Rattle.tm_sync.proofs.Looks.{none-or}
+use Rattle.tm_sync.proofs.Ends.{end_after, end_after-is, end_after-append, end-there, first-stays, places-after}
 
 -- ---- the same with the bits cut at the end of the last codeblock found
-pub record Parts (s : Searching) (bits : List Bool) (found : List Found) : Type 0 where
+pub record Parts (s : Searching) (room : List ℕ) (bits : List Bool) (found : List Found) : Type 0 where
   pub prefix : List Bool
   pub rest : List Bool
   pub parts : bits ≡ prefix ++ rest
-  pub found_is : places s.rules prefix ≡ found
+  pub found_first : take (length found) (places s.rules bits) ≡ found
   pub ends : end_of s.rules found ≡ length prefix
   pub start_is : s.start ≡ length prefix
   pub pushed_is : s.pushed ≡ length bits
@@ -31,6 +35,9 @@ pub record Parts (s : Searching) (bits : List Bool) (found : List Found) : Type 
   pub awaited_is : s.awaited ≡ option_map (awaited_at s.before) (first_place s.rules (length prefix) s.before rest)
   pub after_is : IfSome s.awaited (λ m. m.found.place + 32 + s.after ≡ s.pushed)
   pub fresh : IfNone s.awaited (s.after ≡ 0)
+  pub run : IsRun s bits s.awaited
+  pub sized : length room ≡ verify_bits s.rules
+  pub recent : IsRecent room bits (from_of s s.awaited)
 
 -- where the marker of a place ends
 abbrev Ends : Searching → Option Awaited → Type 0
@@ -47,8 +54,8 @@ take-prefix : (prefix rest : List Bool) → take (length prefix) (prefix ++ rest
 take-prefix [] rest = refl
 take-prefix (b ∷ prefix) rest = ap (λ l. b ∷ l) (take-prefix prefix rest)
 
-pub parts_of : (s : Searching) (bits : List Bool) (found : List Found) → StandsFor s bits found → Parts s bits found
-parts_of s bits found h =
+pub parts_of : (s : Searching) (room : List ℕ) (bits : List Bool) (found : List Found) → StandsFor s room bits found → Parts s room bits found
+parts_of s room bits found h =
     let end = end_of s.rules found in
     let there = end-there s.rules bits found h.found_first in
     let long : length (take end bits) ≡ end = length-take-le end bits there in
@@ -63,7 +70,7 @@ parts_of s bits found h =
       prefix = take end bits;
       rest = drop end bits;
       parts = sym (take-append-drop end bits);
-      found_is = h.found_first;
+      found_first = h.found_first;
       ends = sym long;
       start_is = ap (λ (v : Searching). v.start) h.search ∙ sym long;
       pushed_is = pushed;
@@ -72,6 +79,9 @@ parts_of s bits found h =
       awaited_is = awaited ∙ (λ i. option_map (awaited_at (sym before i)) (first i));
       after_is = subst (Ends s) (sym awaited) (ends-at o refl after pushed there);
       fresh = subst (Fresh s) (sym awaited) (fresh-at o after);
+      run = h.run;
+      sized = h.sized;
+      recent = h.recent;
     }
   where
     ends-at : (o : Option Found) → place_ahead s.rules bits found ≡ o → s.after ≡ unwrap_or (option_map (λ f. length bits - (f.place + 32)) o) 0 → s.pushed ≡ length bits
@@ -86,8 +96,8 @@ parts_of s bits found h =
     fresh-at None after = after
     fresh-at (Some f) after = tt
 
-pub stands_of : (s : Searching) (bits : List Bool) (found : List Found) → Parts s bits found → StandsFor s bits found
-stands_of s bits found h =
+pub stands_of : (s : Searching) (room : List ℕ) (bits : List Bool) (found : List Found) → Parts s room bits found → StandsFor s room bits found
+stands_of s room bits found h =
     let end : end_of s.rules found ≡ length h.prefix = h.ends in
     let rest : drop (end_of s.rules found) bits ≡ h.rest = (λ i. drop (end i) (h.parts i)) ∙ drop-prefix h.prefix h.rest in
     let ahead : place_ahead s.rules bits found ≡ first_place s.rules (length h.prefix) s.before h.rest = λ i. first_place s.rules (end i) (sym h.before_is i) (rest i) in
@@ -105,7 +115,10 @@ stands_of s bits found h =
         awaited = awaited i;
         after = after i;
       };
-      found_first = ap (places s.rules) ((λ i. take (end i) (h.parts i)) ∙ take-prefix h.prefix h.rest) ∙ h.found_is;
+      found_first = h.found_first;
+      run = h.run;
+      sized = h.sized;
+      recent = h.recent;
     }
   where
     after-at : (o : Option Found) → Ends s (option_map (awaited_at (before_past None found)) o) → Fresh s (option_map (awaited_at (before_past None found)) o) → s.pushed ≡ length bits
@@ -121,23 +134,38 @@ pub record Grows (s s' : Searching) (b : Bool) : Type 0 where
   pub start : s'.start ≡ s.start
   pub before : s'.before ≡ s.before
 
-grown : (s s' : Searching) (b : Bool) (bits : List Bool) (found : List Found) (h : Parts s bits found) → Grows s s' b
-    → s'.awaited ≡ option_map (awaited_at s.before) (first_place s.rules (length h.prefix) s.before (h.rest ++ b ∷ [])) → Ends s' s'.awaited → Fresh s' s'.awaited
-    → StandsFor s' (bits ++ b ∷ []) found
-grown s s' b bits found h g is after fresh = stands_of s' (bits ++ b ∷ []) found record {
+-- Where the place ahead is this one, or there is none, and the search awaits it. What it is to keep of a place it says there.
+grown : (s s' : Searching) (room room' : List ℕ) (b : Bool) (bits : List Bool) (found : List Found) (h : Parts s room bits found) → Grows s s' b → length room' ≡ length room
+    → (o : Option Found) → first_place s.rules (length h.prefix) s.before (h.rest ++ b ∷ []) ≡ o → s'.awaited ≡ option_map (awaited_at s.before) o
+    → IfSome o (λ f. f.place + 32 + s'.after ≡ s'.pushed) → IfNone o (s'.after ≡ 0)
+    → IsRun s' (bits ++ b ∷ []) (option_map (awaited_at s.before) o) → IsRecent room' (bits ++ b ∷ []) (from_of s' (option_map (awaited_at s.before) o))
+    → StandsFor s' room' (bits ++ b ∷ []) found
+grown s s' room room' b bits found h g size o ahead awaited after fresh run recent = stands_of s' room' (bits ++ b ∷ []) found record {
   prefix = h.prefix;
   rest = h.rest ++ b ∷ [];
   parts = ap (λ l. l ++ b ∷ []) h.parts ∙ append_assoc h.prefix h.rest (b ∷ []);
-  found_is = ap (λ r. places r h.prefix) g.rules ∙ h.found_is;
+  found_first = ap (λ r. take (length found) (places r (bits ++ b ∷ []))) g.rules ∙ first-stays s.rules bits (b ∷ []) found h.found_first;
   ends = ap (λ r. end_of r found) g.rules ∙ h.ends;
   start_is = g.start ∙ h.start_is;
   pushed_is = g.pushed ∙ ap (λ n. n + 1) h.pushed_is ∙ sym (length-append bits (b ∷ []));
   before_is = g.before ∙ h.before_is;
   word_is = g.word ∙ word-push s.word b bits h.word_is;
-  awaited_is = is ∙ (λ i. option_map (awaited_at (sym g.before i)) (first_place (sym g.rules i) (length h.prefix) (sym g.before i) (h.rest ++ b ∷ [])));
-  after_is = after;
-  fresh = fresh;
+  awaited_is = awaited ∙ ap (option_map (awaited_at s.before)) (sym ahead)
+      ∙ (λ i. option_map (awaited_at (sym g.before i)) (first_place (sym g.rules i) (length h.prefix) (sym g.before i) (h.rest ++ b ∷ [])));
+  after_is = subst (Ends s') (sym awaited) (ends-at o after);
+  fresh = subst (Fresh s') (sym awaited) (fresh-at o fresh);
+  run = subst (IsRun s' (bits ++ b ∷ [])) (sym awaited) run;
+  sized = size ∙ h.sized ∙ ap verify_bits (sym g.rules);
+  recent = subst (λ (o : Option Awaited). IsRecent room' (bits ++ b ∷ []) (from_of s' o)) (sym awaited) recent;
 }
+  where
+    ends-at : (o : Option Found) → IfSome o (λ f. f.place + 32 + s'.after ≡ s'.pushed) → Ends s' (option_map (awaited_at s.before) o)
+    ends-at None after = tt
+    ends-at (Some f) after = after
+
+    fresh-at : (o : Option Found) → IfNone o (s'.after ≡ 0) → Fresh s' (option_map (awaited_at s.before) o)
+    fresh-at None fresh = fresh
+    fresh-at (Some f) fresh = tt
 
 -- what the fields were is what the search was
 pub counts : (s old s' : Searching) (b : Bool) (byte : ℕ) → old ≡ s → byte ≡ bool_byte b → s.pushed < 2 ^ 63 → s'.rules ≡ old.rules
@@ -167,189 +195,388 @@ grows s old s' b c rules word pushed start before = record {
 }
 
 -- the bits given, and those up to the last codeblock found
-pub start-there : (s : Searching) (bits : List Bool) (found : List Found) → StandsFor s bits found → (s.pushed ≡ length bits) × (s.start ≤ s.pushed)
-start-there s bits found stood =
-    let h = parts_of s bits found stood in
+pub start-there : (s : Searching) (room : List ℕ) (bits : List Bool) (found : List Found) → StandsFor s room bits found → (s.pushed ≡ length bits) × (s.start ≤ s.pushed)
+start-there s room bits found stood =
+    let h = parts_of s room bits found stood in
     (h.pushed_is, omega (arith, h.pushed_is, h.start_is, ap length h.parts, length-append h.prefix h.rest))
 
--- a place was found before
-pub push_inside : (s s' : Searching) (b : Bool) (m : Awaited) → Grows s s' b → s.awaited ≡ Some m → s'.awaited ≡ s.awaited → s'.after ≡ s.after + 1
-    → (bits : List Bool) (found : List Found) → StandsFor s bits found → StandsFor s' (bits ++ b ∷ []) found
-push_inside s s' b m g was stays more bits found stood =
-    let h = parts_of s bits found stood in
-    let before : m.found.place + 32 + s.after ≡ s.pushed = subst (Ends s) was h.after_is in
-    let grows = g.pushed in
-    let now : m.found.place + 32 + s'.after ≡ s'.pushed = omega arith in
-    grown s s' b bits found h g (stays ∙ same h (first_place s.rules (length h.prefix) s.before h.rest) refl)
-    (subst (Ends s') (sym (stays ∙ was)) now) (subst (Fresh s') (sym (stays ∙ was)) tt)
+-- whether a whole codeblock follows the marker
+pending-test : (s : Searching) (m : Awaited) (c : Bool) → s.awaited ≡ Some m → is_pending s ≡ c → nat_le s.rules.block_bits s.after ≡ c
+pending-test s m c was is = sym (ap (λ (o : Option Awaited). option_map_or (λ count. nat_le s.rules.block_bits count) (option_map (λ _. s.after) o) false) was) ∙ is
+
+not-whole : (s : Searching) (m : Awaited) → s.awaited ≡ Some m → is_pending s ≡ false → s.after < s.rules.block_bits
+not-whole s m was free = let test = pending-test s m false was free in grind (arith, nat_tests)
+
+whole : (s : Searching) (m : Awaited) → s.awaited ≡ Some m → is_pending s ≡ true → s.rules.block_bits ≤ s.after
+whole s m was pending = let test = pending-test s m true was pending in grind (arith, nat_tests)
+
+-- a place that is awaited is the first place
+ahead-is : (s : Searching) (room : List ℕ) (bits : List Bool) (found : List Found) (h : Parts s room bits found) (m : Awaited) → s.awaited ≡ Some m
+    → (f : Found) × (first_place s.rules (length h.prefix) s.before h.rest ≡ Some f) × (awaited_at s.before f ≡ m)
+ahead-is s room bits found h m was = go (first_place s.rules (length h.prefix) s.before h.rest) refl
   where
-    same : (h : Parts s bits found) (o : Option Found) → first_place s.rules (length h.prefix) s.before h.rest ≡ o
-        → s.awaited ≡ option_map (awaited_at s.before) (first_place s.rules (length h.prefix) s.before (h.rest ++ b ∷ []))
-    same h None e = let no : None ≡ Some m = sym (h.awaited_is ∙ ap (option_map (awaited_at s.before)) e) ∙ was in absurd (cc)
-    same h (Some f) e = h.awaited_is ∙ ap (option_map (awaited_at s.before)) (e ∙ sym (first_place-stays s.rules (length h.prefix) s.before h.rest (b ∷ []) f e))
+    go : (o : Option Found) → first_place s.rules (length h.prefix) s.before h.rest ≡ o → (f : Found) × (first_place s.rules (length h.prefix) s.before h.rest ≡ Some f) × (awaited_at s.before f ≡ m)
+    go None e = let no : None ≡ Some m = sym (h.awaited_is ∙ ap (option_map (awaited_at s.before)) e) ∙ was in absurd (cc)
+    go (Some f) e = let is : Some (awaited_at s.before f) ≡ Some m = sym (h.awaited_is ∙ ap (option_map (awaited_at s.before)) e) ∙ was in (f, e, cc)
+
+-- a place was found before, and its codeblock is not whole
+pub push_inside : (s s' : Searching) (room room' : List ℕ) (b : Bool) (m : Awaited) → Grows s s' b → length room' ≡ length room → s.awaited ≡ Some m → is_pending s ≡ false
+    → s'.awaited ≡ s.awaited → s'.after ≡ s.after + 1 → (bits : List Bool) (found : List Found) → StandsFor s room bits found → StandsFor s' room' (bits ++ b ∷ []) found
+push_inside s s' room room' b m g size was free stays more bits found stood =
+    let h = parts_of s room bits found stood in
+    let a = ahead-is s room bits found h m was in
+    let before : m.found.place + 32 + s.after ≡ s.pushed = subst (Ends s) was h.after_is in
+    let place : a.0.place ≡ m.found.place = ap (λ (v : Awaited). v.found.place) a.2 in
+    let grows = g.pushed in
+    let now : a.0.place + 32 + s'.after ≡ s'.pushed = omega arith in
+    let fewer = not-whole s m was free in
+    let rules : s'.rules.block_bits ≡ s.rules.block_bits = ap (λ (r : Rules). r.block_bits) g.rules in
+    let few : s'.after ≤ s'.rules.block_bits = omega arith in
+    let pushed : s'.pushed ≡ length (bits ++ b ∷ []) = g.pushed ∙ ap (λ n. n + 1) h.pushed_is ∙ sym (length-append bits (b ∷ [])) in
+    grown s s' room room' b bits found h g size (Some a.0) (first_place-stays s.rules (length h.prefix) s.before h.rest (b ∷ []) a.0 a.1)
+    (stays ∙ was ∙ ap Some (sym a.2)) now tt (inl few) (recent-inside s' (awaited_at s.before a.0) room' (bits ++ b ∷ []) few pushed)
 
 -- all bits are of the codeblock after a place that was found before
-pub push_run : (s s' : Searching) (more : List Bool) (m : Awaited) → s.awaited ≡ Some m → s'.rules ≡ s.rules → s'.pushed ≡ s.pushed + length more → s'.start ≡ s.start
-    → s'.before ≡ s.before → s'.awaited ≡ s.awaited → s'.after ≡ s.after + length more
-    → (bits : List Bool) (found : List Found) → s'.word ≡ number_of (bits ++ more) % 2 ^ 32 → StandsFor s bits found → StandsFor s' (bits ++ more) found
-push_run s s' more m was rules pushed start before stays after bits found word stood =
-    let h = parts_of s bits found stood in
+pub push_run : (s s' : Searching) (room : List ℕ) (more : List Bool) (m : Awaited) → s.awaited ≡ Some m → s'.rules ≡ s.rules → s'.pushed ≡ s.pushed + length more → s'.start ≡ s.start
+    → s'.before ≡ s.before → s'.awaited ≡ s.awaited → s'.after ≡ s.after + length more → s'.after ≤ s'.rules.block_bits
+    → (bits : List Bool) (found : List Found) → s'.word ≡ number_of (bits ++ more) % 2 ^ 32 → StandsFor s room bits found → StandsFor s' room (bits ++ more) found
+push_run s s' room more m was rules pushed start before stays after few bits found word stood =
+    let h = parts_of s room bits found stood in
+    let a = ahead-is s room bits found h m was in
     let is : s'.awaited ≡ Some m = stays ∙ was in
     let ends : m.found.place + 32 + s.after ≡ s.pushed = subst (Ends s) was h.after_is in
     let now : m.found.place + 32 + s'.after ≡ s'.pushed = omega arith in
-    stands_of s' (bits ++ more) found record {
+    let count : s'.pushed ≡ length (bits ++ more) = pushed ∙ ap (λ n. n + length more) h.pushed_is ∙ sym (length-append bits more) in
+    stands_of s' room (bits ++ more) found record {
       prefix = h.prefix;
       rest = h.rest ++ more;
       parts = ap (λ l. l ++ more) h.parts ∙ append_assoc h.prefix h.rest more;
-      found_is = ap (λ r. places r h.prefix) rules ∙ h.found_is;
+      found_first = ap (λ r. take (length found) (places r (bits ++ more))) rules ∙ first-stays s.rules bits more found h.found_first;
       ends = ap (λ r. end_of r found) rules ∙ h.ends;
       start_is = start ∙ h.start_is;
-      pushed_is = pushed ∙ ap (λ n. n + length more) h.pushed_is ∙ sym (length-append bits more);
+      pushed_is = count;
       before_is = before ∙ h.before_is;
       word_is = word ∙ ap (λ n. n % 2 ^ 32) (number-value (bits ++ more));
-      awaited_is = stays ∙ same h (first_place s.rules (length h.prefix) s.before h.rest) refl
+      awaited_is = is ∙ ap Some (sym a.2) ∙ ap (option_map (awaited_at s.before)) (sym (first_place-stays s.rules (length h.prefix) s.before h.rest more a.0 a.1))
           ∙ (λ i. option_map (awaited_at (sym before i)) (first_place (sym rules i) (length h.prefix) (sym before i) (h.rest ++ more)));
       after_is = subst (Ends s') (sym is) now;
       fresh = subst (Fresh s') (sym is) tt;
+      run = subst (IsRun s' (bits ++ more)) (sym is) (inl few);
+      sized = h.sized ∙ ap verify_bits (sym rules);
+      recent = subst (λ (o : Option Awaited). IsRecent room (bits ++ more) (from_of s' o)) (sym is) (recent-inside s' m room (bits ++ more) few count);
     }
-  where
-    same : (h : Parts s bits found) (o : Option Found) → first_place s.rules (length h.prefix) s.before h.rest ≡ o
-        → s.awaited ≡ option_map (awaited_at s.before) (first_place s.rules (length h.prefix) s.before (h.rest ++ more))
-    same h None e = let no : None ≡ Some m = sym (h.awaited_is ∙ ap (option_map (awaited_at s.before)) e) ∙ was in absurd (cc)
-    same h (Some f) e = h.awaited_is ∙ ap (option_map (awaited_at s.before)) (e ∙ sym (first_place-stays s.rules (length h.prefix) s.before h.rest more f e))
 
 -- no place was found before
-none-yet : (s : Searching) (bits : List Bool) (found : List Found) (h : Parts s bits found) → s.awaited ≡ None → first_place s.rules (length h.prefix) s.before h.rest ≡ None
-none-yet s bits found h was = go (first_place s.rules (length h.prefix) s.before h.rest) refl
+none-yet : (s : Searching) (room : List ℕ) (bits : List Bool) (found : List Found) (h : Parts s room bits found) → s.awaited ≡ None → first_place s.rules (length h.prefix) s.before h.rest ≡ None
+none-yet s room bits found h was = go (first_place s.rules (length h.prefix) s.before h.rest) refl
   where
     go : (o : Option Found) → first_place s.rules (length h.prefix) s.before h.rest ≡ o → first_place s.rules (length h.prefix) s.before h.rest ≡ None
     go None e = e
     go (Some f) e = let no : Some (awaited_at s.before f) ≡ None = sym (h.awaited_is ∙ ap (option_map (awaited_at s.before)) e) ∙ was in absurd (cc)
 
 -- the bits after the last codeblock
-after-is : (s : Searching) (bits : List Bool) (found : List Found) (h : Parts s bits found) → s.pushed ≡ s.start + length h.rest
-after-is s bits found h = omega (arith, h.pushed_is, h.start_is, ap length h.parts, length-append h.prefix h.rest)
+after-is : (s : Searching) (room : List ℕ) (bits : List Bool) (found : List Found) (h : Parts s room bits found) → s.pushed ≡ s.start + length h.rest
+after-is s room bits found h = omega (arith, h.pushed_is, h.start_is, ap length h.parts, length-append h.prefix h.rest)
 
--- there are not 32 bits
-pub push_early : (s s' : Searching) (b : Bool) → Grows s s' b → s.awaited ≡ None → s'.awaited ≡ s.awaited → s'.after ≡ s.after → s'.pushed < s'.start + 32
-    → (bits : List Bool) (found : List Found) → StandsFor s bits found → StandsFor s' (bits ++ b ∷ []) found
-push_early s s' b g was stays same few bits found stood =
-    let h = parts_of s bits found stood in
-    let size = g.pushed in let at = g.start in let n = after-is s bits found h in
-    grown s s' b bits found h g
-    (stays ∙ was ∙ ap (option_map (awaited_at s.before)) (sym (first_place-short s.rules (length h.prefix) s.before (h.rest ++ b ∷ []) (omega (arith, length-append h.rest (b ∷ []))))))
-    (subst (Ends s') (sym (stays ∙ was)) tt) (subst (Fresh s') (sym (stays ∙ was)) (same ∙ subst (Fresh s) was h.fresh))
+-- the room holds the bits from the end of the last codeblock on
+recent-start : (s s' : Searching) (room room' : List ℕ) (b : Bool) (bits : List Bool) (found : List Found) → Parts s room bits found → s.awaited ≡ None → s'.start ≡ s.start
+    → Remembers room room' bits b → IsRecent room' (bits ++ b ∷ []) s'.start
+recent-start s s' room room' b bits found h was start kept =
+    subst (IsRecent room' (bits ++ b ∷ [])) (sym start)
+    (kept.recent s.start (subst (λ (o : Option Awaited). IsRecent room bits (from_of s o)) was h.recent))
 
--- the last 32 bits
-record Window (s s' : Searching) (b : Bool) (prefix rest : List Bool) : Type 0 where
-  before : List Bool
-  init : List Bool
-  parts : rest ≡ before ++ init
-  size : length init ≡ 31
-  word : s'.word ≡ value_from 0 (init ++ b ∷ [])
-  at : s'.pushed ≡ length prefix + length before + 32
-  many : s'.pushed - s'.start ≡ length before + 32
+-- what the search keeps of a place that is told: its codeblock is not whole, or it was verified
+abbrev IsTold : Searching → List Bool → Option Found → Type 0
+IsTold s bits None = s.after ≡ 0
+IsTold s bits (Some f) = (f.place + 32 + s.after ≡ s.pushed)
+    × ((s.after ≤ s.rules.block_bits) ⊎ ((s.after ≡ verify_bits s.rules) × (are_verified s.rules f.inverted s.rules.verify (drop f.place bits) ≡ true)))
 
-window : (s s' : Searching) (b : Bool) (bits : List Bool) (found : List Found) → Grows s s' b → s'.start + 32 ≤ s'.pushed → (h : Parts s bits found) → Window s s' b h.prefix h.rest
-window s s' b bits found g enough h =
-    let pushed = g.pushed in
-    let start = g.start in
-    let since = after-is s bits found h in
-    let n : ℕ = length h.rest - 31 in
+-- no place was awaited, and now the search awaits that which there is, or none
+told : (s s' : Searching) (room room' : List ℕ) (b : Bool) (bits : List Bool) (found : List Found) (h : Parts s room bits found) → Grows s s' b → Remembers room room' bits b
+    → s.awaited ≡ None → (o : Option Found) → first_place s.rules (length h.prefix) s.before (h.rest ++ b ∷ []) ≡ o → s'.awaited ≡ option_map (awaited_at s.before) o
+    → IsTold s' (bits ++ b ∷ []) o → StandsFor s' room' (bits ++ b ∷ []) found
+told s s' room room' b bits found h g kept was None ahead awaited fresh =
+    grown s s' room room' b bits found h g kept.sized None ahead awaited tt fresh tt (recent-start s s' room room' b bits found h was g.start kept)
+told s s' room room' b bits found h g kept was (Some f) ahead awaited (ends, run) =
+    let start = first_place-start s.rules (length h.prefix) s.before (h.rest ++ b ∷ []) f ahead in
+    let same = g.start in
+    let at = h.start_is in
+    let there : s'.start ≤ f.place = omega arith in
+    grown s s' room room' b bits found h g kept.sized (Some f) ahead awaited ends tt (run-at run)
+    (recent-from s' (awaited_at s.before f) room' (bits ++ b ∷ []) s'.start (omega arith) there (recent-start s s' room room' b bits found h was g.start kept))
+  where
+    run-at : (s'.after ≤ s'.rules.block_bits) ⊎ ((s'.after ≡ verify_bits s'.rules) × (are_verified s'.rules f.inverted s'.rules.verify (drop f.place (bits ++ b ∷ [])) ≡ true))
+        → IsRun s' (bits ++ b ∷ []) (Some (awaited_at s.before f))
+    run-at (inl few) = inl few
+    run-at (inr (count, is)) = inr (s'.rules.verify, count, is)
+
+-- ---- what the last 32 bits tell
+-- Right after a codeblock they are a place.
+right-is : (s : Searching) (room : List ℕ) (bits : List Bool) (found : List Found) (h : Parts s room bits found) (b : Bool) → is_right_after (length h.rest + 1) s.before ≡ true
+    → (length (h.rest ++ b ∷ []) ≡ 32) × (first_place s.rules (length h.prefix) s.before (h.rest ++ b ∷ []) ≡ place_by s.rules (length h.prefix) s.before (h.rest ++ b ∷ []) (match_of s.rules (h.rest ++ b ∷ [])))
+right-is s room bits found h b right = go s.before right
+  where
+    go : (before : Option Before) → is_right_after (length h.rest + 1) before ≡ true
+        → (length (h.rest ++ b ∷ []) ≡ 32) × (first_place s.rules (length h.prefix) before (h.rest ++ b ∷ []) ≡ place_by s.rules (length h.prefix) before (h.rest ++ b ∷ []) (match_of s.rules (h.rest ++ b ∷ [])))
+    go None e = absurd (cc)
+    go (Some before) e =
+        let test : (length h.rest + 1 == 32) ≡ true = e in
+        let many : length h.rest + 1 ≡ 32 = grind (arith, nat_tests) in
+        let size : length (h.rest ++ b ∷ []) ≡ 32 = length-append h.rest (b ∷ []) ∙ many in
+        (size, first_place-right s.rules (length h.prefix) before (h.rest ++ b ∷ []) size)
+
+-- Elsewhere there is none as long as they can verify none ..
+waits-is : (s : Searching) (room : List ℕ) (bits : List Bool) (found : List Found) (h : Parts s room bits found) (b : Bool) → s.awaited ≡ None
+    → is_right_after (length h.rest + 1) s.before ≡ false → length h.rest < 32 + verify_bits s.rules → (s.before ≡ None → length h.rest + 1 < 32 + verify_bits s.rules)
+    → first_place s.rules (length h.prefix) s.before (h.rest ++ b ∷ []) ≡ None
+waits-is s room bits found h b was right few fewer = go s.before right fewer (none-yet s room bits found h was) (cases_lt (length h.rest + 1) 32)
+  where
+    go : (before : Option Before) → is_right_after (length h.rest + 1) before ≡ false → (before ≡ None → length h.rest + 1 < 32 + verify_bits s.rules)
+        → first_place s.rules (length h.prefix) before h.rest ≡ None → (length h.rest + 1 < 32) ⊎ (32 ≤ length h.rest + 1) → first_place s.rules (length h.prefix) before (h.rest ++ b ∷ []) ≡ None
+    go None right fewer yet c =
+        let less = fewer refl in
+        first_place-short s.rules (length h.prefix) None (h.rest ++ b ∷ []) (omega (arith, length-append h.rest (b ∷ [])))
+    go (Some before) right fewer yet (inl short) = first_place-short s.rules (length h.prefix) (Some before) (h.rest ++ b ∷ []) (omega (arith, length-append h.rest (b ∷ [])))
+    go (Some before) right fewer yet (inr long) =
+        let test : (length h.rest + 1 == 32) ≡ false = right in
+        let more : 32 ≤ length h.rest = grind (arith, nat_tests) in
+        first_place-waits s.rules (length h.prefix) before h.rest b more few yet
+
+-- what the bits before the last 32, as many as verify a place, are
+abbrev prefix_of : Rules → List Bool → ℕ
+prefix_of rules bits = length bits - (32 + verify_bits rules)
+
+abbrev back_of : Rules → List Bool → List Bool
+back_of rules bits = drop (prefix_of rules bits) bits
+
+-- .. and then that which they verify.
+verified-is : (s : Searching) (room : List ℕ) (bits : List Bool) (found : List Found) (h : Parts s room bits found) (b : Bool) → s.awaited ≡ None
+    → is_right_after (length h.rest + 1) s.before ≡ false → 32 + verify_bits s.rules ≤ length h.rest + 1
+    → (length h.prefix ≤ prefix_of s.rules (bits ++ b ∷ [])) × (32 + verify_bits s.rules ≤ length (bits ++ b ∷ []))
+    × (first_place s.rules (length h.prefix) s.before (h.rest ++ b ∷ []) ≡ here s.rules (prefix_of s.rules (bits ++ b ∷ [])) None (back_of s.rules (bits ++ b ∷ [])))
+verified-is s room bits found h b was right enough =
+    let n : ℕ = length h.rest - (31 + verify_bits s.rules) in
     let before = take n h.rest in
     let init = drop n h.rest in
-    let long : 31 ≤ length h.rest = omega arith in
-    let size : length init ≡ 31 = omega (arith, length-drop n h.rest) in
     let short : length before ≡ n = length-take-le n h.rest (omega arith) in
+    let left = length-drop n h.rest in
+    let size : length init + 1 ≡ 32 + verify_bits s.rules = omega arith in
+    let parts : h.rest ≡ before ++ init = sym (take-append-drop n h.rest) in
     let whole : bits ++ b ∷ [] ≡ (h.prefix ++ before) ++ (init ++ b ∷ []) =
-    ap (λ l. l ++ b ∷ []) (h.parts ∙ ap (λ l. h.prefix ++ l) (sym (take-append-drop n h.rest)) ∙ sym (append_assoc h.prefix before init)) ∙ append_assoc (h.prefix ++ before) init (b ∷ []) in
-    let last : length (init ++ b ∷ []) ≡ 32 = length-append init (b ∷ []) ∙ ap (λ k. k + 1) size in
-    record {
-      before = before;
-      init = init;
-      parts = sym (take-append-drop n h.rest);
-      size = size;
-      word = g.word ∙ word-push s.word b bits h.word_is ∙ ap (λ l. value_from 0 l % 2 ^ 32) whole ∙ value-last (h.prefix ++ before) (init ++ b ∷ []) last;
-      at = omega (arith, h.start_is);
-      many = omega arith;
-    }
+    ap (λ l. l ++ b ∷ []) (h.parts ∙ ap (λ l. h.prefix ++ l) parts ∙ sym (append_assoc h.prefix before init)) ∙ append_assoc (h.prefix ++ before) init (b ∷ []) in
+    let all : length (bits ++ b ∷ []) ≡ length h.prefix + length h.rest + 1 = length-append bits (b ∷ []) ∙ ap (λ n. n + 1) (ap length h.parts ∙ length-append h.prefix h.rest) in
+    let at : length h.prefix + length before ≡ prefix_of s.rules (bits ++ b ∷ []) = omega arith in
+    let last : back_of s.rules (bits ++ b ∷ []) ≡ init ++ b ∷ [] =
+    ap (drop (prefix_of s.rules (bits ++ b ∷ []))) whole
+    ∙ drop_at (h.prefix ++ before) (init ++ b ∷ []) (prefix_of s.rules (bits ++ b ∷ [])) (length-append h.prefix before ∙ at) in
+    let yet : first_place s.rules (length h.prefix) s.before (before ++ init) ≡ None = ap (first_place s.rules (length h.prefix) s.before) (sym parts) ∙ none-yet s room bits found h was in (
+      omega arith,
+      omega arith,
+      ap (first_place s.rules (length h.prefix) s.before) (ap (λ l. l ++ b ∷ []) parts ∙ append_assoc before init (b ∷ []))
+          ∙ go before init size s.before refl parts yet
+          ∙ (λ i. here s.rules (at i) None (sym last i)),
+    )
+  where
+    -- right after a codeblock nothing matches any more
+    again : (init : List Bool) (before : Before) → s.before ≡ Some before → h.rest ≡ init → length init + 1 ≡ 32 + verify_bits s.rules
+        → first_place s.rules (length h.prefix) s.before (init ++ b ∷ []) ≡ here s.rules (length h.prefix + 0) None (init ++ b ∷ [])
+    again init before is parts size =
+        let rest : length h.rest ≡ length init = ap length parts in
+        let test : (length h.rest + 1 == 32) ≡ false = ap (is_right_after (length h.rest + 1)) (sym is) ∙ right in
+        let more : 32 ≤ length h.rest = grind (arith, nat_tests) in
+        let yet : first_place s.rules (length h.prefix) (Some before) h.rest ≡ None = ap (λ o. first_place s.rules (length h.prefix) o h.rest) (sym is) ∙ none-yet s room bits found h was in
+        let nothing : match_of s.rules (h.rest ++ b ∷ []) ≡ None =
+        match_of-append s.rules h.rest (b ∷ []) more ∙ first_place-unmatched s.rules (length h.prefix) before h.rest more yet in
+        (λ i. first_place s.rules (length h.prefix) (is i) (sym parts i ++ b ∷ []))
+        ∙ first_place-waits s.rules (length h.prefix) before h.rest b more (omega arith) yet
+        ∙ sym (ap (λ w. place_by s.rules (length h.prefix + 0) None (h.rest ++ b ∷ []) (verified s.rules (h.rest ++ b ∷ []) w)) nothing)
+        ∙ ap (λ l. here s.rules (length h.prefix + 0) None (l ++ b ∷ [])) parts
 
--- what stands before the last 32 bits
-before-is : (since : ℕ) (before : Option Before) (prefix : List Bool) → since ≡ length prefix + 32 → cond (since == 32) before None ≡ ready prefix before
-before-is since before [] e = let test : (since == 32) ≡ true = grind (arith, nat_tests) in ap (λ c. cond c before None) test
-before-is since before (b ∷ prefix) e = let test : (since == 32) ≡ false = grind (arith, nat_tests) in ap (λ c. cond c before None) test
+    go : (prefix init : List Bool) → length init + 1 ≡ 32 + verify_bits s.rules → (before : Option Before) → s.before ≡ before → h.rest ≡ prefix ++ init
+        → first_place s.rules (length h.prefix) s.before (prefix ++ init) ≡ None
+        → first_place s.rules (length h.prefix) s.before (prefix ++ (init ++ b ∷ [])) ≡ here s.rules (length h.prefix + length prefix) None (init ++ b ∷ [])
+    go [] init size None is parts yet = first_place-settles s.rules (length h.prefix) s.before [] init b size is yet
+    go [] init size (Some before) is parts yet = again init before is parts size
+    go (c ∷ prefix) init size before is parts yet = first_place-settles s.rules (length h.prefix) s.before (c ∷ prefix) init b size refl yet
 
 -- a place that nothing stands before says the same of what follows it
-awaited-ready : (rules : Rules) (at : ℕ) (before : Option Before) (prefix bits : List Bool)
-    → option_map (awaited_at (ready prefix before)) (here rules at (ready prefix before) bits) ≡ option_map (awaited_at before) (here rules at (ready prefix before) bits)
-awaited-ready rules at before [] bits = refl
-awaited-ready rules at before (b ∷ prefix) bits = go (seen (here rules at None bits))
+awaited-free : (rules : Rules) (at : ℕ) (before : Option Before) (bits : List Bool)
+    → option_map (awaited_at None) (here rules at None bits) ≡ option_map (awaited_at before) (here rules at None bits)
+awaited-free rules at before bits = go (seen (here rules at None bits))
   where
     go : Seen (here rules at None bits) → option_map (awaited_at None) (here rules at None bits) ≡ option_map (awaited_at before) (here rules at None bits)
     go (none e) = ap (option_map (awaited_at None)) e ∙ ap (option_map (awaited_at before)) (sym e)
     go (some f e) =
         ap (option_map (awaited_at None)) e
-        ∙ (λ i. Some (record { found = f; next = after-matched before f (not-bridged-here rules at bits (match_of rules bits) f e) i }))
+        ∙ (λ i. Some (record { found = f; next = after-matched before f (not-bridged-here rules at bits (way_of rules None bits) f e) i }))
         ∙ ap (option_map (awaited_at before)) (sym e)
 
-ends-here : (rules : Rules) (at pushed : ℕ) (before other : Option Before) (bits : List Bool) → pushed ≡ at + 32
-    → IfSome (option_map (awaited_at other) (here rules at before bits)) (λ m. m.found.place + 32 + 0 ≡ pushed)
-ends-here rules at pushed before other bits e = go (seen (here rules at before bits))
+-- a place that is searched for is verified in its polarity
+here-verified : (rules : Rules) (at : ℕ) (bits : List Bool) (f : Found) → here rules at None bits ≡ Some f → are_verified rules f.inverted rules.verify bits ≡ true
+here-verified rules at bits f e = go (match_of rules bits) e
   where
-    go : Seen (here rules at before bits) → IfSome (option_map (awaited_at other) (here rules at before bits)) (λ m. m.found.place + 32 + 0 ≡ pushed)
-    go (none is) = subst (λ (o : Option Found). IfSome (option_map (awaited_at other) o) (λ m. m.found.place + 32 + 0 ≡ pushed)) (sym is) tt
-    go (some f is) =
-        let place : f.place ≡ at = place_by-place rules at before bits (match_of rules bits) f is in
-        let ends : f.place + 32 + 0 ≡ pushed = omega arith in
-        subst (λ (o : Option Found). IfSome (option_map (awaited_at other) o) (λ m. m.found.place + 32 + 0 ≡ pushed)) (sym is) ends
+    one : (inverted c : Bool) → are_verified rules inverted rules.verify bits ≡ c → place_by rules at None bits (cond c (Some inverted) None) ≡ Some f → are_verified rules f.inverted rules.verify bits ≡ true
+    one inverted true is e =
+        let same : found_at at false inverted bits ≡ f = cc in
+        ap (λ (g : Found). are_verified rules g.inverted rules.verify bits) (sym same) ∙ is
+    one inverted false is e = absurd (cc)
 
-fresh-here : (s : Searching) (o : Option Awaited) → s.after ≡ 0 → Fresh s o
-fresh-here s None fresh = fresh
-fresh-here s (Some m) fresh = tt
+    go : (way : Option Bool) → place_by rules at None bits (verified rules bits way) ≡ Some f → are_verified rules f.inverted rules.verify bits ≡ true
+    go None e = absurd (cc)
+    go (Some inverted) e = one inverted (are_verified rules inverted rules.verify bits) refl e
 
--- the place that the last 32 bits are
-pub push_look : (s s' : Searching) (b : Bool) (place : ℕ) (before : Option Before) → Grows s s' b → s.awaited ≡ None → s'.start + 32 ≤ s'.pushed → s'.after ≡ 0
-    → s'.pushed ≡ place + 32 → before ≡ before_last (s'.pushed - s'.start) s.before
-    → ((l : List Bool) → length l ≡ 32 → s'.word ≡ number_of l → s'.awaited ≡ option_map (awaited_at before) (here s.rules place before l))
-    → (bits : List Bool) (found : List Found) → StandsFor s bits found → StandsFor s' (bits ++ b ∷ []) found
-push_look s s' b place before g was enough fresh at before_is looks bits found stood =
-    let h = parts_of s bits found stood in
-    let w = window s s' b bits found g enough h in
-    let l : List Bool = w.init ++ b ∷ [] in
-    let last : length l ≡ 32 = length-append w.init (b ∷ []) ∙ ap (λ k. k + 1) w.size in
-    let yet : first_place s.rules (length h.prefix) s.before (w.before ++ w.init) ≡ None =
-    ap (first_place s.rules (length h.prefix) s.before) (sym w.parts) ∙ none-yet s bits found h was in
-    let first : first_place s.rules (length h.prefix) s.before (h.rest ++ b ∷ []) ≡ here s.rules (length h.prefix + length w.before) (ready w.before s.before) l =
-    ap (first_place s.rules (length h.prefix) s.before) (ap (λ v. v ++ b ∷ []) w.parts ∙ append_assoc w.before w.init (b ∷ []))
-    ∙ first_place-push s.rules (length h.prefix) s.before w.before w.init b w.size yet in
-    let kind : before ≡ ready w.before s.before = before_is ∙ before-is (s'.pushed - s'.start) s.before w.before w.many in
-    let there : place ≡ length h.prefix + length w.before = omega (arith, w.at) in
-    let is : s'.awaited ≡ option_map (awaited_at (ready w.before s.before)) (here s.rules (length h.prefix + length w.before) (ready w.before s.before) l) =
-    looks l last (w.word ∙ sym (number-value l)) ∙ (λ i. option_map (awaited_at (kind i)) (here s.rules (there i) (kind i) l)) in
-    grown s s' b bits found h g
-    (is ∙ awaited-ready s.rules (length h.prefix + length w.before) s.before w.before l ∙ ap (option_map (awaited_at s.before)) (sym first))
-    (subst (Ends s') (sym is) (subst (λ (n : ℕ). IfSome (option_map (awaited_at (ready w.before s.before)) (here s.rules (length h.prefix + length w.before) (ready w.before s.before) l)) (λ m. m.found.place + 32 + n ≡ s'.pushed)) (sym fresh)
-    (ends-here s.rules (length h.prefix + length w.before) s'.pushed (ready w.before s.before) (ready w.before s.before) l w.at)))
-    (fresh-here s' s'.awaited fresh)
+pub right-least : (n : ℕ) (before : Option Before) → is_right_after n before ≡ true → n ≡ 32
+right-least n None is = absurd (cc)
+right-least n (Some before) is = grind (arith, nat_tests)
+
+-- ---- a bit tells a place
+told-zero : (s : Searching) (bits : List Bool) (rules : Rules) (at : ℕ) (before : Option Before) (l : List Bool) (way : Option Bool) → s.after ≡ 0 → s.pushed ≡ at + 32
+    → IsTold s bits (place_by rules at before l way)
+told-zero s bits rules at before l way fresh pushed = go (seen (place_by rules at before l way))
+  where
+    go : Seen (place_by rules at before l way) → IsTold s bits (place_by rules at before l way)
+    go (none e) = subst (IsTold s bits) (sym e) fresh
+    go (some f e) =
+        let place : f.place ≡ at = place_by-place rules at before l way f e in
+        let ends : f.place + 32 + s.after ≡ s.pushed = omega arith in
+        let few : s.after ≤ s.rules.block_bits = omega arith in
+        subst (IsTold s bits) (sym e) (ends, inl few)
+
+pub told_right : (s now : Searching) (room room' : List ℕ) (b : Bool) (a : Option Awaited) (bits : List Bool) (found : List Found) → Counts s now b → Remembers room room' bits b
+    → s.awaited ≡ None → is_right_after (now.pushed - now.start) now.before ≡ true
+    → ((l : List Bool) → length l ≡ 32 → now.word ≡ number_of l → a ≡ option_map (awaited_at now.before) (place_by now.rules (now.pushed - 32) now.before l (match_of now.rules l)))
+    → StandsFor s room bits found → StandsFor (record now { awaited = a; after = 0 }) room' (bits ++ b ∷ []) found
+told_right s now room room' b a bits found c kept was right looks stood =
+    let h = parts_of s room bits found stood in
+    let s' : Searching = record now { awaited = a; after = 0 } in
+    let g : Grows s s' b = grows s now s' b c refl refl refl refl refl in
+    let l : List Bool = h.rest ++ b ∷ [] in
+    let pushed = c.pushed in
+    let start = c.start in
+    let many = after-is s room bits found h in
+    let at_is = h.start_is in
+    let since : now.pushed - now.start ≡ length h.rest + 1 = omega arith in
+    let r = right-is s room bits found h b ((λ i. is_right_after (sym since i) (sym c.before i)) ∙ right) in
+    let size = r.0 in
+    let more = length-append h.rest (b ∷ []) in
+    let place : now.pushed - 32 ≡ length h.prefix = omega arith in
+    let word : now.word ≡ number_of l =
+    last-32 now.word h.prefix l size (g.word ∙ word-push s.word b bits h.word_is ∙ ap (λ n. n % 2 ^ 32) (sym (number-value (bits ++ b ∷ [])))
+    ∙ ap (λ v. number_of v % 2 ^ 32) (ap (λ v. v ++ b ∷ []) h.parts ∙ append_assoc h.prefix h.rest (b ∷ []))) in
+    let is : a ≡ option_map (awaited_at s.before) (place_by s.rules (length h.prefix) s.before l (match_of s.rules l)) =
+    looks l size word ∙ (λ i. option_map (awaited_at (c.before i)) (place_by (c.rules i) (place i) (c.before i) l (match_of (c.rules i) l))) in
+    told s s' room room' b bits found h g kept was (place_by s.rules (length h.prefix) s.before l (match_of s.rules l)) r.1 is
+    (told-zero s' (bits ++ b ∷ []) s.rules (length h.prefix) s.before l (match_of s.rules l) refl (omega arith))
+
+pub told_waits : (s now : Searching) (room room' : List ℕ) (b : Bool) (bits : List Bool) (found : List Found) → Counts s now b → Remembers room room' bits b
+    → s.awaited ≡ None → is_right_after (now.pushed - now.start) now.before ≡ false → now.pushed - now.start < 32 + verify_bits now.rules
+    → StandsFor s room bits found → StandsFor (record now { awaited = None; after = 0 }) room' (bits ++ b ∷ []) found
+told_waits s now room room' b bits found c kept was right few stood =
+    let h = parts_of s room bits found stood in
+    let s' : Searching = record now { awaited = None; after = 0 } in
+    let pushed = c.pushed in
+    let start = c.start in
+    let many = after-is s room bits found h in
+    let since : now.pushed - now.start ≡ length h.rest + 1 = omega arith in
+    let lag : verify_bits now.rules ≡ verify_bits s.rules = ap verify_bits c.rules in
+    let less : length h.rest + 1 < 32 + verify_bits s.rules = omega arith in
+    told s s' room room' b bits found h (grows s now s' b c refl refl refl refl refl) kept was None
+    (waits-is s room bits found h b was ((λ i. is_right_after (sym since i) (sym c.before i)) ∙ right) (omega arith) (λ _. less)) refl refl
+
+pub told_verified : (s now : Searching) (room room' : List ℕ) (b : Bool) (a : Option Awaited) (n : ℕ) (bits : List Bool) (found : List Found) → Counts s now b → Remembers room room' bits b
+    → s.awaited ≡ None → is_right_after (now.pushed - now.start) now.before ≡ false → 32 + verify_bits now.rules ≤ now.pushed - now.start → IfSome a (λ _. n ≡ verify_bits now.rules) → IfNone a (n ≡ 0)
+    → ((from : ℕ) → Recalls now room' (bits ++ b ∷ []) from → from + (32 + verify_bits now.rules) ≤ length (bits ++ b ∷ [])
+    → a ≡ option_map (awaited_at None) (here now.rules (prefix_of now.rules (bits ++ b ∷ [])) None (back_of now.rules (bits ++ b ∷ []))))
+    → StandsFor s room bits found → StandsFor (record now { awaited = a; after = n }) room' (bits ++ b ∷ []) found
+told_verified s now room room' b a n bits found c kept was right enough taken waits looks stood =
+    let h = parts_of s room bits found stood in
+    let s' : Searching = record now { awaited = a; after = n } in
+    let g : Grows s s' b = grows s now s' b c refl refl refl refl refl in
+    let all : List Bool = bits ++ b ∷ [] in
+    let pushed = c.pushed in
+    let start = c.start in
+    let many = after-is s room bits found h in
+    let at_is = h.start_is in
+    let since : now.pushed - now.start ≡ length h.rest + 1 = omega arith in
+    let lag : verify_bits now.rules ≡ verify_bits s.rules = ap verify_bits c.rules in
+    let there : 32 + verify_bits s.rules ≤ length h.rest + 1 = omega arith in
+    let v = verified-is s room bits found h b was ((λ i. is_right_after (sym since i) (sym c.before i)) ∙ right) there in
+    let low = v.0 in
+    let room_for = v.1 in
+    let count : now.pushed ≡ length all = c.pushed ∙ ap (λ k. k + 1) h.pushed_is ∙ sym (length-append bits (b ∷ [])) in
+    let is : a ≡ option_map (awaited_at s.before) (here s.rules (prefix_of s.rules all) None (back_of s.rules all)) =
+    looks s'.start (record {
+      pushed = count;
+      word = g.word ∙ word-push s.word b bits h.word_is ∙ ap (λ k. k % 2 ^ 32) (sym (number-value all));
+      sized = kept.sized ∙ h.sized ∙ sym lag;
+      recent = recent-start s s' room room' b bits found h was g.start kept;
+    }) (omega arith)
+    ∙ (λ i. option_map (awaited_at None) (here (c.rules i) (prefix_of (c.rules i) all) None (back_of (c.rules i) all)))
+    ∙ awaited-free s.rules (prefix_of s.rules all) s.before (back_of s.rules all) in
+    told s s' room room' b bits found h g kept was (here s.rules (prefix_of s.rules all) None (back_of s.rules all)) v.2 is
+    (go (seen (here s.rules (prefix_of s.rules all) None (back_of s.rules all))) is count room_for)
+  where
+    go : Seen (here s.rules (prefix_of s.rules (bits ++ b ∷ [])) None (back_of s.rules (bits ++ b ∷ [])))
+        → a ≡ option_map (awaited_at s.before) (here s.rules (prefix_of s.rules (bits ++ b ∷ [])) None (back_of s.rules (bits ++ b ∷ [])))
+        → now.pushed ≡ length (bits ++ b ∷ []) → 32 + verify_bits s.rules ≤ length (bits ++ b ∷ [])
+        → IsTold (record now { awaited = a; after = n }) (bits ++ b ∷ []) (here s.rules (prefix_of s.rules (bits ++ b ∷ [])) None (back_of s.rules (bits ++ b ∷ [])))
+    go (none e) is count room_for =
+        let free : a ≡ None = is ∙ ap (option_map (awaited_at s.before)) e in
+        subst (IsTold (record now { awaited = a; after = n }) (bits ++ b ∷ [])) (sym e) (subst (λ (o : Option Awaited). IfNone o (n ≡ 0)) free waits)
+    go (some f e) is count room_for =
+        let there : a ≡ Some (awaited_at s.before f) = is ∙ ap (option_map (awaited_at s.before)) e in
+        let lag : verify_bits now.rules ≡ verify_bits s.rules = ap verify_bits c.rules in
+        let since : n ≡ verify_bits now.rules = subst (λ (o : Option Awaited). IfSome o (λ _. n ≡ verify_bits now.rules)) there taken in
+        let place : f.place ≡ prefix_of s.rules (bits ++ b ∷ []) =
+        place_by-place s.rules (prefix_of s.rules (bits ++ b ∷ [])) None (back_of s.rules (bits ++ b ∷ []))
+        (way_of s.rules None (back_of s.rules (bits ++ b ∷ []))) f e in
+        let ends : f.place + 32 + n ≡ now.pushed = omega arith in
+        let held : are_verified now.rules f.inverted now.rules.verify (drop f.place (bits ++ b ∷ [])) ≡ true =
+        (λ i. are_verified (c.rules i) f.inverted ((c.rules i).verify) (drop (place i) (bits ++ b ∷ [])))
+        ∙ here-verified s.rules (prefix_of s.rules (bits ++ b ∷ [])) (back_of s.rules (bits ++ b ∷ [])) f e in
+        subst (IsTold (record now { awaited = a; after = n }) (bits ++ b ∷ [])) (sym e) (ends, inr (since, held))
 
 -- the last 32 bits match in no way, and none is bridged there
-pub push_far : (s s' : Searching) (b : Bool) → Grows s s' b → s.awaited ≡ None → s'.awaited ≡ None → s'.after ≡ s.after → s'.start + 32 < s'.pushed
+pub push_far : (s s' : Searching) (room room' : List ℕ) (b : Bool) (bits : List Bool) (found : List Found) → Grows s s' b → Remembers room room' bits b
+    → s.awaited ≡ None → s'.awaited ≡ None → s'.after ≡ s.after → s'.start + 32 < s'.pushed
     → ((l : List Bool) → length l ≡ 32 → s'.word ≡ number_of l → match_of s.rules l ≡ None)
-    → (bits : List Bool) (found : List Found) → StandsFor s bits found → StandsFor s' (bits ++ b ∷ []) found
-push_far s s' b g was free same enough far bits found stood =
-    let h = parts_of s bits found stood in
-    let fresh : s.after ≡ 0 = subst (Fresh s) was h.fresh in
-    let test : (s'.pushed - s'.start == 32) ≡ false = grind (arith, nat_tests) in
-    push_look s s' b (s'.pushed - 32) None g was (omega arith) (same ∙ fresh) (omega arith) (sym (ap (λ c. cond c s.before None) test))
-    (λ l long is. free ∙ ap (λ w. option_map (awaited_at None) (place_by s.rules (s'.pushed - 32) None l w)) (sym (far l long is))) bits found stood
+    → StandsFor s room bits found → StandsFor s' room' (bits ++ b ∷ []) found
+push_far s s' room room' b bits found g kept was free same enough far stood =
+    let h = parts_of s room bits found stood in
+    let pushed = g.pushed in
+    let start = g.start in
+    let many = after-is s room bits found h in
+    let long : 32 < length h.rest + 1 = omega arith in
+    told s s' room room' b bits found h g kept was None (go h long (cases_lt (length h.rest + 1) (32 + verify_bits s.rules))) free (same ∙ subst (Fresh s) was h.fresh)
+  where
+    right : (n : ℕ) (before : Option Before) → 32 < n → is_right_after n before ≡ false
+    right n None more = refl
+    right n (Some before) more = grind (arith, nat_tests)
+
+    go : (h : Parts s room bits found) → 32 < length h.rest + 1
+        → (length h.rest + 1 < 32 + verify_bits s.rules) ⊎ (32 + verify_bits s.rules ≤ length h.rest + 1)
+        → first_place s.rules (length h.prefix) s.before (h.rest ++ b ∷ []) ≡ None
+    go h long (inl few) = waits-is s room bits found h b was (right (length h.rest + 1) s.before long) (omega arith) (λ _. few)
+    go h long (inr there) =
+        let all : List Bool = bits ++ b ∷ [] in
+        let v = verified-is s room bits found h b was (right (length h.rest + 1) s.before long) there in
+        let room_for = v.1 in
+        let last : prefix_of s.rules all + verify_bits s.rules ≡ length all - 32 = omega arith in
+        let left = length-drop (length all - 32) all in
+        let word : s'.word ≡ number_of all % 2 ^ 32 = g.word ∙ word-push s.word b bits h.word_is ∙ ap (λ k. k % 2 ^ 32) (sym (number-value all)) in
+        let no : match_of s.rules (drop (verify_bits s.rules) (back_of s.rules all)) ≡ None =
+        ap (match_of s.rules) (drop-drop (verify_bits s.rules) (prefix_of s.rules all) all ∙ ap (λ k. drop k all) last)
+        ∙ far (drop (length all - 32) all) (omega arith) (word-last s'.word all (omega arith) word) in
+        v.2 ∙ ap (place_by s.rules (prefix_of s.rules all) None (back_of s.rules all)) (way_of-far s.rules (back_of s.rules all) no)
 
 -- ---- places are told
-pub stands_first : (s : Searching) → s.pushed ≡ 0 → s.start ≡ 0 → s.word ≡ 0 → s.before ≡ None → s.awaited ≡ None → s.after ≡ 0 → StandsFor s [] []
-stands_first s pushed start word before free fresh = stands_of s [] [] record {
+pub stands_first : (s : Searching) (room : List ℕ) → length room ≡ verify_bits s.rules → s.pushed ≡ 0 → s.start ≡ 0 → s.word ≡ 0 → s.before ≡ None → s.awaited ≡ None → s.after ≡ 0
+    → StandsFor s room [] []
+stands_first s room size pushed start word before free fresh = stands_of s room [] [] record {
   prefix = [];
   rest = [];
   parts = refl;
-  found_is = places_from-nil s.rules 0 0 None;
+  found_first = refl;
   ends = refl;
   start_is = start;
   pushed_is = pushed;
@@ -358,45 +585,50 @@ stands_first s pushed start word before free fresh = stands_of s [] [] record {
   awaited_is = free ∙ ap (option_map (awaited_at s.before)) (sym (first_place-nil s.rules 0 s.before));
   after_is = subst (Ends s) (sym free) tt;
   fresh = subst (Fresh s) (sym free) fresh;
+  run = subst (IsRun s []) (sym free) tt;
+  sized = size;
+  recent = λ i low within held. absurd (omega arith);
 }
 
 -- the places of the bits are those found, and then those after them
-places-on : (s : Searching) (bits more : List Bool) (found : List Found) (h : Parts s bits found)
+places-on : (s : Searching) (room : List ℕ) (bits more : List Bool) (found : List Found) (h : Parts s room bits found)
     → places s.rules (bits ++ more) ≡ found ++ places_from s.rules (length h.prefix) 0 s.before (h.rest ++ more)
-places-on s bits more found h =
-    ap (places s.rules) (ap (λ l. l ++ more) h.parts ∙ append_assoc h.prefix h.rest more)
-    ∙ places-after s.rules h.prefix (h.rest ++ more) found h.found_is h.ends
-    ∙ (λ i. found ++ places_from s.rules (length h.prefix) 0 (sym h.before_is i) (h.rest ++ more))
+places-on s room bits more found h =
+    let rest : drop (end_of s.rules found) bits ≡ h.rest = (λ i. drop (h.ends i) (h.parts i)) ∙ drop-prefix h.prefix h.rest in
+    places-after s.rules bits more found h.found_first
+    ∙ (λ i. found ++ places_from s.rules (h.ends i) 0 (sym h.before_is i) (rest i ++ more))
+
+places-now : (s : Searching) (room : List ℕ) (bits : List Bool) (found : List Found) (h : Parts s room bits found) → places s.rules bits ≡ found ++ places_from s.rules (length h.prefix) 0 s.before h.rest
+places-now s room bits found h =
+    ap (places s.rules) (sym (append-nil bits)) ∙ places-on s room bits [] found h ∙ ap (λ l. found ++ places_from s.rules (length h.prefix) 0 s.before l) (append-nil h.rest)
 
 -- nothing waits, so all places were told
-pub told_all : (s : Searching) → is_pending s ≡ false → s.after ≤ s.rules.block_bits → (bits : List Bool) (found : List Found) → StandsFor s bits found → places s.rules bits ≡ found
-told_all s free most bits found stood =
-    let h = parts_of s bits found stood in
-    ap (places s.rules) (sym (append-nil bits)) ∙ places-on s bits [] found h
-    ∙ ap (λ fs. found ++ fs) (ap (places_from s.rules (length h.prefix) 0 s.before) (append-nil h.rest) ∙ go h (first_place s.rules (length h.prefix) s.before h.rest) refl) ∙ append-nil found
+pub told_all : (s : Searching) (room : List ℕ) → is_pending s ≡ false → (bits : List Bool) (found : List Found) → StandsFor s room bits found → places s.rules bits ≡ found
+told_all s room free bits found stood =
+    let h = parts_of s room bits found stood in
+    places-now s room bits found h ∙ ap (λ fs. found ++ fs) (go h (first_place s.rules (length h.prefix) s.before h.rest) refl) ∙ append-nil found
   where
-    go : (h : Parts s bits found) (o : Option Found) → first_place s.rules (length h.prefix) s.before h.rest ≡ o → places_from s.rules (length h.prefix) 0 s.before h.rest ≡ []
+    go : (h : Parts s room bits found) (o : Option Found) → first_place s.rules (length h.prefix) s.before h.rest ≡ o → places_from s.rules (length h.prefix) 0 s.before h.rest ≡ []
     go h None e = places_from-none s.rules (length h.prefix) s.before h.rest e
     go h (Some f) e =
         let is : s.awaited ≡ Some (awaited_at s.before f) = h.awaited_is ∙ ap (option_map (awaited_at s.before)) e in
-        let other : (s.after == s.rules.block_bits) ≡ false = sym (ap (λ (o : Option Awaited). option_map_or (λ count. count == s.rules.block_bits) (option_map (λ _. s.after) o) false) is) ∙ free in
         let after : f.place + 32 + s.after ≡ s.pushed = subst (Ends s) is h.after_is in
-        let fewer : s.after < s.rules.block_bits = grind (arith, nat_tests) in
+        let fewer : s.after < s.rules.block_bits = not-whole s (awaited_at s.before f) is free in
         places_from-unfinished s.rules (length h.prefix) s.before h.rest f e (omega (arith, h.pushed_is, ap length h.parts, length-append h.prefix h.rest))
 
 -- how many places there may be with further bits
-pub told-few : (s : Searching) (bits more : List Bool) (found : List Found) → StandsFor s bits found
+pub told-few : (s : Searching) (room : List ℕ) (bits more : List Bool) (found : List Found) → StandsFor s room bits found
     → length (places s.rules (bits ++ more)) * (32 + s.rules.block_bits) ≤ length found * (32 + s.rules.block_bits) + begun_of s + length more
-told-few s bits more found stood =
-    let h = parts_of s bits found stood in
+told-few s room bits more found stood =
+    let h = parts_of s room bits found stood in
     let further = places_from s.rules (length h.prefix) 0 s.before (h.rest ++ more) in
-    let all : length (places s.rules (bits ++ more)) ≡ length found + length further = ap length (places-on s bits more found h) ∙ length-append found further in
+    let all : length (places s.rules (bits ++ more)) ≡ length found + length further = ap length (places-on s room bits more found h) ∙ length-append found further in
     omega (arith, ap (λ n. n * (32 + s.rules.block_bits)) all, go h (first_place s.rules (length h.prefix) s.before h.rest) refl)
   where
-    begun : (o : Option Awaited) → s.awaited ≡ o → begun_of s ≡ option_map_or (λ count. 32 + count) (option_map (λ _. s.after) o) 31
-    begun o is = ap (λ (o : Option Awaited). option_map_or (λ count. 32 + count) (option_map (λ _. s.after) o) 31) is
+    begun : (o : Option Awaited) → s.awaited ≡ o → begun_of s ≡ option_map_or (λ count. 32 + count) (option_map (λ _. s.after) o) (31 + verify_bits s.rules)
+    begun o is = ap (λ (o : Option Awaited). option_map_or (λ count. 32 + count) (option_map (λ _. s.after) o) (31 + verify_bits s.rules)) is
 
-    go : (h : Parts s bits found) (o : Option Found) → first_place s.rules (length h.prefix) s.before h.rest ≡ o
+    go : (h : Parts s room bits found) (o : Option Found) → first_place s.rules (length h.prefix) s.before h.rest ≡ o
         → length (places_from s.rules (length h.prefix) 0 s.before (h.rest ++ more)) * (32 + s.rules.block_bits) ≤ begun_of s + length more
     go h None e =
         let is : s.awaited ≡ None = h.awaited_is ∙ ap (option_map (awaited_at s.before)) e in
@@ -406,16 +638,172 @@ told-few s bits more found stood =
         let after : f.place + 32 + s.after ≡ s.pushed = subst (Ends s) is h.after_is in
         omega (arith, begun (Some (awaited_at s.before f)) is, after, h.pushed_is, ap length h.parts, length-append h.prefix h.rest, places_from-ahead s.rules (length h.prefix) s.before h.rest more f e)
 
+-- ---- codeblocks that were verified together
+div-less : (n u : ℕ) → n < u → n / u ≡ 0
+div-less n u less = ap (λ k. k / u) (zero-row n u) ∙ div-mul-add 0 u n less
+  where
+    zero-row : (n u : ℕ) → n ≡ 0 * u + n
+    zero-row n u = omega arith
+
+div-more : (n u : ℕ) → 0 < u → (u + n) / u ≡ suc (n / u)
+div-more n u any =
+    let rows = div-add-mod' n u in
+    let split : u + n ≡ suc (n / u) * u + n % u = omega arith in
+    ap (λ k. k / u) split ∙ div-mul-add (suc (n / u)) u (n % u) (mod_below n u any)
+
+and-both : (a b : Bool) → (a && b) ≡ true → (a ≡ true) × (b ≡ true)
+and-both true b e = (refl, e)
+and-both false b e = absurd (cc)
+
+-- the places in bits that codeblocks stand in one right after the other
+record Rest (rules : Rules) (at : ℕ) (before : Before) (bits : List Bool) : Type 0 where
+  many : length (places_from rules at 0 (Some before) bits) ≡ length bits / (32 + rules.block_bits)
+  ends : end_after rules at (places_from rules at 0 (Some before) bits) ≡ at + length (places_from rules at 0 (Some before) bits) * (32 + rules.block_bits)
+
+rest-short : (rules : Rules) (at : ℕ) (before : Before) (bits : List Bool) → length bits < 32 + rules.block_bits → Rest rules at before bits
+rest-short rules at before bits short =
+    let nothing = places_from-short rules at (Some before) bits short in
+    record {
+      many = ap length nothing ∙ sym (div-less (length bits) (32 + rules.block_bits) short);
+      ends = ap (end_after rules at) nothing ∙ omega (arith, ap (λ (fs : List Found). length fs * (32 + rules.block_bits)) nothing);
+    }
+
+rest-more : (rules : Rules) (inverted : Bool) (at : ℕ) (before : Before) (bits : List Bool) → 32 + rules.block_bits ≤ length bits → match_of rules bits ≡ Some inverted
+    → ((before : Before) → Rest rules (at + 32 + rules.block_bits) before (drop (32 + rules.block_bits) bits)) → Rest rules at before bits
+rest-more rules inverted at before bits room match more =
+    let u : ℕ = 32 + rules.block_bits in
+    let f : Found = found_at at false inverted bits in
+    let next : Before = before_next (Some before) f in
+    let r = more next in
+    let since = places_from rules (at + 32 + rules.block_bits) 0 (Some next) (drop u bits) in
+    let split : take u bits ++ drop u bits ≡ bits = take-append-drop u bits in
+    let all : places_from rules at 0 (Some before) bits ≡ f ∷ since =
+    ap (places_from rules at 0 (Some before)) (sym split)
+    ∙ places_from-hit rules at (Some before) (take u bits) (drop u bits) f (length-take-le u bits room)
+    (ap (place_at rules at (Some before)) split ∙ place_at-room rules at (Some before) bits room ∙ ap (place_by rules at (Some before) bits) match) in
+    let left = length-drop u bits in
+    let size : length bits ≡ u + length (drop u bits) = omega arith in
+    let further = r.ends in
+    record {
+      many = ap length all ∙ ap suc r.many ∙ sym (div-more (length (drop u bits)) u (omega arith)) ∙ ap (λ n. n / u) (sym size);
+      ends = ap (end_after rules at) all ∙ r.ends ∙ omega (arith, ap (λ (fs : List Found). length fs * u) all);
+    }
+
+rest-run : (rules : Rules) (inverted : Bool) (count at : ℕ) (before : Before) (bits : List Bool) → length bits ≡ count * (32 + rules.block_bits) + 32 → match_of rules bits ≡ Some inverted
+    → are_verified rules inverted count bits ≡ true → Rest rules at before bits
+rest-run rules inverted zero at before bits size match held = go (cases_lt (length bits) (32 + rules.block_bits))
+  where
+    go : (length bits < 32 + rules.block_bits) ⊎ (32 + rules.block_bits ≤ length bits) → Rest rules at before bits
+    go (inl short) = rest-short rules at before bits short
+    go (inr room) =
+        let left = length-drop (32 + rules.block_bits) bits in
+        rest-more rules inverted at before bits room match
+        (λ next. rest-short rules (at + 32 + rules.block_bits) next (drop (32 + rules.block_bits) bits) (omega arith))
+rest-run rules inverted (suc count) at before bits size match held =
+    let left = length-drop (32 + rules.block_bits) bits in
+    let both = and-both (is_way (match_of rules (drop (32 + rules.block_bits) bits)) inverted) (are_verified rules inverted count (drop (32 + rules.block_bits) bits))
+    (sym (are_verified-more rules inverted count bits (omega arith)) ∙ held) in
+    rest-more rules inverted at before bits (omega arith) match
+    (λ next. rest-run rules inverted count (at + 32 + rules.block_bits) next (drop (32 + rules.block_bits) bits) (omega arith) (is_way-is (match_of rules (drop (32 + rules.block_bits) bits)) inverted both.0) both.1)
+
+-- the bits after the codeblock of the place awaited, where it is whole: none, or a marker that matches as its own, and so on
+record Left (s : Searching) (bits : List Bool) (m : Awaited) : Type 0 where
+  size : length (drop (m.found.place + 32 + s.rules.block_bits) bits) ≡ s.after - s.rules.block_bits
+  run : (length (drop (m.found.place + 32 + s.rules.block_bits) bits) ≡ 0)
+      ⊎ ((count : ℕ) × (length (drop (m.found.place + 32 + s.rules.block_bits) bits) ≡ count * (32 + s.rules.block_bits) + 32)
+      × (match_of s.rules (drop (m.found.place + 32 + s.rules.block_bits) bits) ≡ Some m.found.inverted)
+      × (are_verified s.rules m.found.inverted count (drop (m.found.place + 32 + s.rules.block_bits) bits) ≡ true))
+
+left-of : (s : Searching) (bits : List Bool) (m : Awaited) → s.rules.block_bits ≤ s.after → m.found.place + 32 + s.after ≡ length bits → IsRun s bits (Some m) → Left s bits m
+left-of s bits m full ends run =
+    let left = length-drop (m.found.place + 32 + s.rules.block_bits) bits in
+    let size : length (drop (m.found.place + 32 + s.rules.block_bits) bits) ≡ s.after - s.rules.block_bits = omega arith in
+    record { size = size; run = go size run }
+  where
+    go : length (drop (m.found.place + 32 + s.rules.block_bits) bits) ≡ s.after - s.rules.block_bits → IsRun s bits (Some m)
+        → (length (drop (m.found.place + 32 + s.rules.block_bits) bits) ≡ 0)
+        ⊎ ((count : ℕ) × (length (drop (m.found.place + 32 + s.rules.block_bits) bits) ≡ count * (32 + s.rules.block_bits) + 32)
+        × (match_of s.rules (drop (m.found.place + 32 + s.rules.block_bits) bits) ≡ Some m.found.inverted)
+        × (are_verified s.rules m.found.inverted count (drop (m.found.place + 32 + s.rules.block_bits) bits) ≡ true))
+    go size (inl few) = inl (omega arith)
+    go size (inr (zero, count, held)) = inl (omega arith)
+    go size (inr (suc more, count, held)) =
+        let u : ℕ = 32 + s.rules.block_bits in
+        let there : m.found.place + u ≡ m.found.place + 32 + s.rules.block_bits = omega arith in
+        let next : drop u (drop m.found.place bits) ≡ drop (m.found.place + 32 + s.rules.block_bits) bits = drop-drop u m.found.place bits ∙ ap (λ n. drop n bits) there in
+        let since = length-drop m.found.place bits in
+        let both = and-both (is_way (match_of s.rules (drop u (drop m.found.place bits))) m.found.inverted) (are_verified s.rules m.found.inverted more (drop u (drop m.found.place bits)))
+        (sym (are_verified-more s.rules m.found.inverted more (drop m.found.place bits) (omega arith)) ∙ held) in
+        inr (more, omega arith, ap (match_of s.rules) (sym next) ∙ is_way-is (match_of s.rules (drop u (drop m.found.place bits))) m.found.inverted both.0, ap (are_verified s.rules m.found.inverted more) (sym next) ∙ both.1)
+
+-- the place that waits, and those after it
+record Told (s : Searching) (bits : List Bool) (found : List Found) (m : Awaited) : Type 0 where
+  full : s.rules.block_bits ≤ s.after
+  ends : m.found.place + 32 + s.after ≡ length bits
+  rest : List Found
+  tells : places s.rules bits ≡ found ++ m.found ∷ rest
+  many : length rest ≡ (s.after - s.rules.block_bits) / (32 + s.rules.block_bits)
+  last : end_after s.rules (m.found.place + 32 + s.rules.block_bits) rest ≡ m.found.place + 32 + s.rules.block_bits + length rest * (32 + s.rules.block_bits)
+  left : Left s bits m
+  next : before_next (before_past None found) m.found ≡ m.next
+
+told-of : (s : Searching) (room : List ℕ) (bits : List Bool) (found : List Found) (h : Parts s room bits found) (m : Awaited) → s.awaited ≡ Some m → is_pending s ≡ true → Told s bits found m
+told-of s room bits found h m was pending =
+    let a = ahead-is s room bits found h m was in
+    let f = a.0 in
+    let found_is : f ≡ m.found = ap (λ (v : Awaited). v.found) a.2 in
+    let next_is : before_next s.before f ≡ m.next = ap (λ (v : Awaited). v.next) a.2 in
+    let place : f.place ≡ m.found.place = ap (λ (v : Found). v.place) found_is in
+    let full = whole s m was pending in
+    let start = first_place-start s.rules (length h.prefix) s.before h.rest f a.1 in
+    let pushed = h.pushed_is in
+    let after : m.found.place + 32 + s.after ≡ s.pushed = subst (Ends s) was h.after_is in
+    let ends : m.found.place + 32 + s.after ≡ length bits = omega arith in
+    let left = left-of s bits m full ends (subst (IsRun s bits) was h.run) in
+    let since : List Bool = drop (m.found.place + 32 + s.rules.block_bits) bits in
+    let k : ℕ = f.place + 32 + s.rules.block_bits - length h.prefix in
+    let both : length bits ≡ length h.prefix + length h.rest = ap length h.parts ∙ length-append h.prefix h.rest in
+    let size : length (take k h.rest) ≡ k = length-take-le k h.rest (omega arith) in
+    let there : length h.prefix + length (take k h.rest) ≡ m.found.place + 32 + s.rules.block_bits = omega arith in
+    let far : length h.prefix + k ≡ m.found.place + 32 + s.rules.block_bits = omega arith in
+    let tail : drop k h.rest ≡ since =
+    ap (drop k) (sym (ap (drop (length h.prefix)) h.parts ∙ drop-prefix h.prefix h.rest)) ∙ drop-drop k (length h.prefix) bits ∙ ap (λ n. drop n bits) far in
+    let split : take k h.rest ++ drop k h.rest ≡ h.rest = take-append-drop k h.rest in
+    let r = rest-of s bits m left in
+    record {
+      full = full;
+      ends = ends;
+      rest = places_from s.rules (m.found.place + 32 + s.rules.block_bits) 0 (Some m.next) since;
+      tells = places-now s room bits found h
+          ∙ ap (λ fs. found ++ fs) (ap (places_from s.rules (length h.prefix) 0 s.before) (sym split)
+          ∙ places_from-whole s.rules (length h.prefix) s.before (take k h.rest) (drop k h.rest) f (ap (first_place s.rules (length h.prefix) s.before) split ∙ a.1) (omega arith)
+          ∙ (λ i. found_is i ∷ places_from s.rules (there i) 0 (Some (next_is i)) (tail i)));
+      many = r.many ∙ ap (λ n. n / (32 + s.rules.block_bits)) left.size;
+      last = r.ends;
+      left = left;
+      next = (λ i. before_next (sym h.before_is i) (sym found_is i)) ∙ next_is;
+    }
+  where
+    rest-of : (s : Searching) (bits : List Bool) (m : Awaited) (left : Left s bits m) → Rest s.rules (m.found.place + 32 + s.rules.block_bits) m.next (drop (m.found.place + 32 + s.rules.block_bits) bits)
+    rest-of s bits m left = go left.run
+      where
+        go : (length (drop (m.found.place + 32 + s.rules.block_bits) bits) ≡ 0)
+            ⊎ ((count : ℕ) × (length (drop (m.found.place + 32 + s.rules.block_bits) bits) ≡ count * (32 + s.rules.block_bits) + 32)
+            × (match_of s.rules (drop (m.found.place + 32 + s.rules.block_bits) bits) ≡ Some m.found.inverted)
+            × (are_verified s.rules m.found.inverted count (drop (m.found.place + 32 + s.rules.block_bits) bits) ≡ true))
+            → Rest s.rules (m.found.place + 32 + s.rules.block_bits) m.next (drop (m.found.place + 32 + s.rules.block_bits) bits)
+        go (inl empty) = rest-short s.rules (m.found.place + 32 + s.rules.block_bits) m.next (drop (m.found.place + 32 + s.rules.block_bits) bits) (omega arith)
+        go (inr (count, size, match, held)) =
+            rest-run s.rules m.found.inverted count (m.found.place + 32 + s.rules.block_bits) m.next (drop (m.found.place + 32 + s.rules.block_bits) bits) size match held
+
 -- the search tells the place that waits
 pub record Tells (s s' : Searching) (m : Awaited) : Type 0 where
   pub awaited_was : s.awaited ≡ Some m
   pub rules : s'.rules ≡ s.rules
   pub word : s'.word ≡ s.word
   pub pushed : s'.pushed ≡ s.pushed
-  pub start : s'.start ≡ s.pushed
+  pub start : s'.start ≡ m.found.place + 32 + s.rules.block_bits
   pub before : s'.before ≡ Some m.next
-  pub awaited_none : s'.awaited ≡ None
-  pub after_none : s'.after ≡ 0
 
 end-last : (rules : Rules) (found : List Found) (f : Found) → end_of rules (found ++ f ∷ []) ≡ f.place + 32 + rules.block_bits
 end-last rules [] f = refl
@@ -426,48 +814,195 @@ before-last : (found : List Found) (f : Found) (before : Option Before) → befo
 before-last [] f before = refl
 before-last (g ∷ found) f before = before-last found f (Some (before_next before g))
 
-pub told_one : (s s' : Searching) (m : Awaited) → is_pending s ≡ true → Tells s s' m → (bits : List Bool) (found : List Found) → StandsFor s bits found
-    → StandsFor s' bits (found ++ m.found ∷ []) × (places s.rules bits ≡ found ++ m.found ∷ []) × (m.found.place + 32 + s.rules.block_bits ≡ length bits)
-told_one s s' m pending t bits found stood =
-    let h = parts_of s bits found stood in go h (first_place s.rules (length h.prefix) s.before h.rest) refl
+-- where the first 32 bits are a place right after a codeblock, it is the first
+first-here : (rules : Rules) (at : ℕ) (before : Before) (bits : List Bool) (f : Found) → 32 ≤ length bits → here rules at (Some before) bits ≡ Some f → first_place rules at (Some before) bits ≡ Some f
+first-here rules at before [] f long e = absurd (omega arith)
+first-here rules at before (b ∷ bits) f long e = hit rules at (Some before) b bits f long e
+
+pub inside-is : (s : Searching) (m : Awaited) → s.awaited ≡ Some m → unwrap_or (inside_of s) 0 ≡ s.after
+inside-is s m was = ap (λ (o : Option Awaited). unwrap_or (option_map (λ _. s.after) o) 0) was
+
+-- its codeblock lies in the bits
+pub told-fits : (s : Searching) (room : List ℕ) (m : Awaited) (bits : List Bool) (found : List Found) → s.awaited ≡ Some m → is_pending s ≡ true → StandsFor s room bits found
+    → m.found.place + 32 + s.rules.block_bits ≤ s.pushed
+told-fits s room m bits found was pending stood =
+    let h = parts_of s room bits found stood in
+    let full = whole s m was pending in
+    let after : m.found.place + 32 + s.after ≡ s.pushed = subst (Ends s) was h.after_is in
+    omega arith
+
+-- what the clause of a place that is told says
+abbrev Gives : Searching → Searching → List ℕ → List Bool → List Found → Found → Type 0
+Gives s s' room bits found f = StandsFor s' room bits (found ++ f ∷ [])
+    × ((rest : List Found) × (places s.rules bits ≡ found ++ f ∷ rest) × (length rest ≡ waiting_of s'))
+    × (f.place + 32 + unwrap_or (inside_of s) 0 ≡ length bits)
+
+-- where the search follows the codeblock that is told, and awaits the place ahead
+gives : (s s' : Searching) (room : List ℕ) (m : Awaited) (bits : List Bool) (found : List Found) (h : Parts s room bits found) (told : Told s bits found m) → Tells s s' m
+    → s'.awaited ≡ option_map (awaited_at s'.before) (first_place s'.rules (m.found.place + 32 + s.rules.block_bits) s'.before (drop (m.found.place + 32 + s.rules.block_bits) bits))
+    → Ends s' s'.awaited → Fresh s' s'.awaited → IsRun s' bits s'.awaited → IsRecent room bits (from_of s' s'.awaited) → length told.rest ≡ waiting_of s'
+    → Gives s s' room bits found m.found
+gives s s' room m bits found h told t awaited ends fresh run recent many =
+    let e : ℕ = m.found.place + 32 + s.rules.block_bits in
+    let left = told.left.size in
+    let place = told.ends in
+    let full = told.full in
+    let tells : places s.rules bits ≡ (found ++ m.found ∷ []) ++ told.rest = told.tells ∙ sym (append_assoc found (m.found ∷ []) told.rest) in
+    let since = length-drop e bits in
+    let size : length (take e bits) ≡ e = length-take-le e bits (omega arith) in
+    let inside : unwrap_or (inside_of s) 0 ≡ s.after = inside-is s m t.awaited_was in (
+      stands_of s' room bits (found ++ m.found ∷ []) record {
+        prefix = take e bits;
+        rest = drop e bits;
+        parts = sym (take-append-drop e bits);
+        found_first = ap (λ r. take (length (found ++ m.found ∷ [])) (places r bits)) t.rules ∙ ap (take (length (found ++ m.found ∷ []))) tells
+            ∙ take_at (found ++ m.found ∷ []) told.rest (length (found ++ m.found ∷ [])) refl;
+        ends = ap (λ r. end_of r (found ++ m.found ∷ [])) t.rules ∙ end-last s.rules found m.found ∙ sym size;
+        start_is = t.start ∙ sym size;
+        pushed_is = t.pushed ∙ h.pushed_is;
+        before_is = t.before ∙ ap Some (sym told.next) ∙ sym (before-last found m.found None);
+        word_is = t.word ∙ h.word_is;
+        awaited_is = awaited ∙ ap (λ n. option_map (awaited_at s'.before) (first_place s'.rules n s'.before (drop e bits))) (sym size);
+        after_is = ends;
+        fresh = fresh;
+        run = run;
+        sized = h.sized ∙ ap verify_bits (sym t.rules);
+        recent = recent;
+      },
+      (told.rest, told.tells, many),
+      ap (λ n. m.found.place + 32 + n) inside ∙ told.ends,
+    )
+
+-- no codeblock follows it
+pub told_last : (s s' : Searching) (room : List ℕ) (m : Awaited) → is_pending s ≡ true → Tells s s' m → s.after - s.rules.block_bits < 32 → s'.awaited ≡ None → s'.after ≡ 0
+    → (bits : List Bool) (found : List Found) → StandsFor s room bits found → Gives s s' room bits found m.found
+told_last s s' room m pending t short free fresh bits found stood =
+    let h = parts_of s room bits found stood in
+    let told = told-of s room bits found h m t.awaited_was pending in
+    let size = told.left.size in
+    let left : List Bool = drop (m.found.place + 32 + s.rules.block_bits) bits in
+    let none_left : length left ≡ 0 = empty told.left in
+    let nothing : left ≡ [] = nil_from_length left none_left in
+    let start = t.start in
+    let pushed = t.pushed in
+    let given = h.pushed_is in
+    let ends = told.ends in
+    let zero_left : s.after - s.rules.block_bits ≡ 0 = omega arith in
+    let from : from_of s' s'.awaited ≡ s'.start = ap (from_of s') free in
+    gives s s' room m bits found h told t
+    (free ∙ ap (option_map (awaited_at s'.before)) (sym (ap (first_place s'.rules (m.found.place + 32 + s.rules.block_bits) s'.before) nothing
+    ∙ first_place-nil s'.rules (m.found.place + 32 + s.rules.block_bits) s'.before)))
+    (subst (Ends s') (sym free) tt) (subst (Fresh s') (sym free) fresh) (subst (IsRun s' bits) (sym free) tt)
+    (λ i low within held. absurd (omega arith))
+    (told.many ∙ div-less (s.after - s.rules.block_bits) (32 + s.rules.block_bits) (omega arith)
+    ∙ sym (ap (λ (o : Option Awaited). option_map_or (λ count. (count + 32) / (32 + s'.rules.block_bits)) (option_map (λ _. s'.after) o) 0) free))
   where
-    go : (h : Parts s bits found) (o : Option Found) → first_place s.rules (length h.prefix) s.before h.rest ≡ o
-        → StandsFor s' bits (found ++ m.found ∷ []) × (places s.rules bits ≡ found ++ m.found ∷ []) × (m.found.place + 32 + s.rules.block_bits ≡ length bits)
-    go h None e = let no : None ≡ Some m = sym (h.awaited_is ∙ ap (option_map (awaited_at s.before)) e) ∙ t.awaited_was in absurd (cc)
-    go h (Some f) e =
-        let is : Some (awaited_at s.before f) ≡ Some m = sym (h.awaited_is ∙ ap (option_map (awaited_at s.before)) e) ∙ t.awaited_was in
-        let same : awaited_at s.before f ≡ m = cc in
-        let found_is : f ≡ m.found = ap (λ (v : Awaited). v.found) same in
-        let next_is : before_next s.before f ≡ m.next = ap (λ (v : Awaited). v.next) same in
-        let whole : (s.after == s.rules.block_bits) ≡ true =
-        sym (ap (λ (o : Option Awaited). option_map_or (λ count. count == s.rules.block_bits) (option_map (λ _. s.after) o) false) t.awaited_was) ∙ pending in
-        let after : m.found.place + 32 + s.after ≡ s.pushed = subst (Ends s) t.awaited_was h.after_is in
-        let full : s.after ≡ s.rules.block_bits = grind (arith, nat_tests) in
-        let place : f.place ≡ m.found.place = ap (λ (g : Found). g.place) found_is in
-        let long : length h.prefix + length h.rest ≡ length bits = sym (ap length h.parts ∙ length-append h.prefix h.rest) in
-        let ends : f.place + 32 + s.rules.block_bits ≡ length h.prefix + length h.rest = omega (arith, h.pushed_is) in
-        let tells : places s.rules bits ≡ found ++ m.found ∷ [] =
-        ap (places s.rules) (sym (append-nil bits)) ∙ places-on s bits [] found h
-        ∙ ap (λ fs. found ++ fs) (places_from-whole s.rules (length h.prefix) s.before h.rest [] f e ends
-        ∙ ap (λ fs. f ∷ fs) (places_from-nil s.rules (length h.prefix + length h.rest) 0 (Some (before_next s.before f))) ∙ ap (λ (g : Found). g ∷ []) found_is) in
-        let size : m.found.place + 32 + s.rules.block_bits ≡ length bits = omega (arith, h.pushed_is) in (
-          stands_of s' bits (found ++ m.found ∷ []) record {
-            prefix = bits;
-            rest = [];
-            parts = sym (append-nil bits);
-            found_is = ap (λ r. places r bits) t.rules ∙ tells;
-            ends = ap (λ r. end_of r (found ++ m.found ∷ [])) t.rules ∙ end-last s.rules found m.found ∙ size;
-            start_is = t.start ∙ h.pushed_is;
-            pushed_is = t.pushed ∙ h.pushed_is;
-            before_is = t.before ∙ ap Some (sym next_is) ∙ (λ i. Some (before_next (h.before_is i) (found_is i))) ∙ sym (before-last found m.found None);
-            word_is = t.word ∙ h.word_is;
-            awaited_is = t.awaited_none ∙ ap (option_map (awaited_at s'.before)) (sym (first_place-nil s'.rules (length bits) s'.before));
-            after_is = subst (Ends s') (sym t.awaited_none) tt;
-            fresh = subst (Fresh s') (sym t.awaited_none) t.after_none;
-          },
-          tells,
-          size,
-        )
+    empty : Left s bits m → length (drop (m.found.place + 32 + s.rules.block_bits) bits) ≡ 0
+    empty left = go left.size left.run
+      where
+        go : length (drop (m.found.place + 32 + s.rules.block_bits) bits) ≡ s.after - s.rules.block_bits
+            → (length (drop (m.found.place + 32 + s.rules.block_bits) bits) ≡ 0)
+            ⊎ ((count : ℕ) × (length (drop (m.found.place + 32 + s.rules.block_bits) bits) ≡ count * (32 + s.rules.block_bits) + 32)
+            × (match_of s.rules (drop (m.found.place + 32 + s.rules.block_bits) bits) ≡ Some m.found.inverted)
+            × (are_verified s.rules m.found.inverted count (drop (m.found.place + 32 + s.rules.block_bits) bits) ≡ true))
+            → length (drop (m.found.place + 32 + s.rules.block_bits) bits) ≡ 0
+        go size (inl none_left) = none_left
+        go size (inr (count, size', match, held)) = absurd (omega arith)
+
+-- where further markers verified the place that is told, the room holds what was given from its first bit on
+pub told-recent : (s : Searching) (room : List ℕ) (count : ℕ) (bits : List Bool) (found rest : List Found) (f : Found) → inside_of s ≡ Some count → s.rules.block_bits < count
+    → StandsFor s room bits found → places s.rules bits ≡ found ++ f ∷ rest → IsRecent room bits f.place
+told-recent s room count bits found rest f is more stood tells = go s.awaited refl
+  where
+    go : (o : Option Awaited) → s.awaited ≡ o → IsRecent room bits f.place
+    go None e = let no : None ≡ Some count = ap (option_map (λ _. s.after)) (sym e) ∙ is in absurd (cc)
+    go (Some m) e =
+        let same : Some s.after ≡ Some count = ap (option_map (λ _. s.after)) (sym e) ∙ is in
+        let after : s.after ≡ count = cc in
+        let over : nat_le s.after s.rules.block_bits ≡ false = grind (arith, nat_tests) in
+        let full : nat_le s.rules.block_bits s.after ≡ true = grind (arith, nat_tests) in
+        let pending : is_pending s ≡ true = ap (λ (o : Option Awaited). option_map_or (λ count. nat_le s.rules.block_bits count) (option_map (λ _. s.after) o) false) e ∙ full in
+        let told = told-of s room bits found (parts_of s room bits found stood) m e pending in
+        let lists : f ∷ rest ≡ m.found ∷ told.rest = append_cancel_left found (f ∷ rest) (m.found ∷ told.rest) (sym tells ∙ told.tells) in
+        let this : f ≡ m.found = cc in
+        let from : from_of s s.awaited ≡ f.place =
+        ap (from_of s) e ∙ ap (λ c. cond c s.pushed m.found.place) over ∙ ap (λ (g : Found). g.place) (sym this) in
+        subst (IsRecent room bits) from stood.recent
+
+-- the search goes on from a state with the same bits
+pub recalls-same : (s now : Searching) (room : List ℕ) (bits : List Bool) (from : ℕ) → now.pushed ≡ s.pushed → now.word ≡ s.word → now.rules ≡ s.rules → Recalls s room bits from → Recalls now room bits from
+recalls-same s now room bits from pushed word rules r = record { pushed = pushed ∙ r.pushed; word = word ∙ r.word; sized = r.sized ∙ ap verify_bits (sym rules); recent = r.recent }
+
+-- no more bits follow a marker than verify its place
+most-after : (count size after more : ℕ) → after ≤ inside_by count size → size ≤ after → after - size ≡ more * (32 + size) + 32 → more * (32 + size) ≤ count * (32 + size)
+most-after zero size after more most full left = absurd (omega arith)
+most-after (suc count) size after more most full left = omega arith
+
+-- codeblocks follow it that were verified with it
+pub told_next : (s s' : Searching) (room : List ℕ) (m a : Awaited) (word : ℕ) → is_pending s ≡ true → Tells s s' m → s.after ≤ inside_by s.rules.verify s.rules.block_bits
+    → 32 ≤ s.after - s.rules.block_bits → s'.awaited ≡ Some a → s'.after ≡ s.after - s.rules.block_bits - 32 → (bits : List Bool) (found : List Found)
+    → ((from : ℕ) → Recalls s room bits from → (s'.after ≡ 0) ⊎ ((32 ≤ s'.after) × (s'.after ≤ verify_bits s.rules)) → from + 32 + s'.after ≤ length bits
+    → word ≡ number_of (take 32 (drop (length bits - (32 + s'.after)) bits)))
+    → ((l : List Bool) → length l ≡ 32 → word ≡ number_of l → a ≡ awaited_at s'.before (found_at s'.start false m.found.inverted l))
+    → StandsFor s room bits found → Gives s s' room bits found m.found
+told_next s s' room m a word pending t most long awaits after bits found words matches stood =
+    let h = parts_of s room bits found stood in
+    let told = told-of s room bits found h m t.awaited_was pending in
+    go h told told.left.size told.left.run
+  where
+    go : Parts s room bits found → Told s bits found m → length (drop (m.found.place + 32 + s.rules.block_bits) bits) ≡ s.after - s.rules.block_bits
+        → (length (drop (m.found.place + 32 + s.rules.block_bits) bits) ≡ 0)
+        ⊎ ((count : ℕ) × (length (drop (m.found.place + 32 + s.rules.block_bits) bits) ≡ count * (32 + s.rules.block_bits) + 32)
+        × (match_of s.rules (drop (m.found.place + 32 + s.rules.block_bits) bits) ≡ Some m.found.inverted)
+        × (are_verified s.rules m.found.inverted count (drop (m.found.place + 32 + s.rules.block_bits) bits) ≡ true))
+        → Gives s s' room bits found m.found
+    go h told size (inl none_left) = absurd (omega arith)
+    go h told size (inr (count, size', match, held)) =
+        let e : ℕ = m.found.place + 32 + s.rules.block_bits in
+        let left : List Bool = drop e bits in
+        let l : List Bool = take 32 left in
+        let full = told.full in
+        let ends = told.ends in
+        let pushed = t.pushed in
+        let given = h.pushed_is in
+        let start = t.start in
+        let since : s'.after ≡ count * (32 + s.rules.block_bits) = omega arith in
+        let there : length bits - (32 + s'.after) ≡ e = omega arith in
+        let few : count * (32 + s.rules.block_bits) ≤ verify_bits s.rules = most-after s.rules.verify s.rules.block_bits s.after count most full (omega arith) in
+        let back : (s'.after ≡ 0) ⊎ ((32 ≤ s'.after) × (s'.after ≤ verify_bits s.rules)) =
+        subst (λ (n : ℕ). (n ≡ 0) ⊎ ((32 ≤ n) × (n ≤ verify_bits s.rules))) (sym since) (none-or count s.rules.block_bits (verify_bits s.rules) few) in
+        let more : nat_le s.after s.rules.block_bits ≡ false = grind (arith, nat_tests) in
+        let from : from_of s s.awaited ≡ m.found.place = ap (from_of s) t.awaited_was ∙ ap (λ c. cond c s.pushed m.found.place) more in
+        let recent : IsRecent room bits m.found.place = subst (IsRecent room bits) from h.recent in
+        let size-l : length l ≡ 32 = length-take-le 32 left (omega arith) in
+        let word_is : word ≡ number_of l =
+        words m.found.place (record { pushed = h.pushed_is; word = h.word_is ∙ ap (λ n. n % 2 ^ 32) (sym (number-value bits)); sized = h.sized; recent = recent }) back (omega arith)
+        ∙ ap (λ n. number_of (take 32 (drop n bits))) there in
+        let same : wrong_bits m.found.inverted left ≡ wrong_bits m.found.inverted l =
+        ap (wrong_bits m.found.inverted) (sym (take-append-drop 32 left)) ∙ wrong_bits-append m.found.inverted l (drop 32 left) (omega arith) in
+        let a_is : a ≡ awaited_at s'.before (found_at s'.start false m.found.inverted l) = matches l size-l word_is in
+        let ahead : first_place s'.rules e s'.before left ≡ Some (found_at s'.start false m.found.inverted l) =
+        (λ i. first_place (t.rules i) e (t.before i) left)
+        ∙ first-here s.rules e m.next left (found_at e false m.found.inverted left) (omega arith) (ap (place_by s.rules e (Some m.next) left) match)
+        ∙ (λ i. Some (record { place = sym t.start i; distance = same i; bridged = false; inverted = m.found.inverted })) in
+        let place : a.found.place ≡ s'.start = ap (λ (v : Awaited). v.found.place) a_is in
+        let way : a.found.inverted ≡ m.found.inverted = ap (λ (v : Awaited). v.found.inverted) a_is in
+        let at : a.found.place ≡ e = place ∙ t.start in
+        let ends' : a.found.place + 32 + s'.after ≡ s'.pushed = omega arith in
+        let run : IsRun s' bits (Some a) = inr (
+          count,
+          since ∙ ap (λ (r : Rules). count * (32 + r.block_bits)) (sym t.rules),
+          (λ i. are_verified (t.rules i) (way i) count (drop (at i) bits)) ∙ held,
+        ) in
+        let later : m.found.place ≤ a.found.place = omega arith in
+        let there' : m.found.place ≤ s'.pushed = omega arith in
+        gives s s' room m bits found h told t
+        (awaits ∙ ap Some a_is ∙ ap (option_map (awaited_at s'.before)) (sym ahead))
+        (subst (Ends s') (sym awaits) ends') (subst (Fresh s') (sym awaits) tt) (subst (IsRun s' bits) (sym awaits) run)
+        (subst (λ (o : Option Awaited). IsRecent room bits (from_of s' o)) (sym awaits) (recent-from s' a room bits m.found.place there' later recent))
+        (told.many ∙ ap (λ n. n / (32 + s.rules.block_bits)) (omega arith)
+        ∙ ap (λ (r : Rules). (s'.after + 32) / (32 + r.block_bits)) (sym t.rules)
+        ∙ sym (ap (λ (o : Option Awaited). option_map_or (λ count. (count + 32) / (32 + s'.rules.block_bits)) (option_map (λ _. s'.after) o) 0) awaits))
 
 pub some_awaited : (o : Option Awaited) → is_some o ≡ true → (m : Awaited) × (o ≡ Some m)
 some_awaited None e = absurd (cc)
@@ -478,29 +1013,43 @@ none_awaited None e = refl
 none_awaited (Some m) e = absurd (cc)
 
 -- ---- the end of the bits
--- where a codeblock waits, no bits follow it
-pub left-pending : (s : Searching) → is_pending s ≡ true → (bits : List Bool) (found : List Found) → StandsFor s bits found → 0 ≡ length bits - end_of s.rules (places s.rules bits)
-left-pending s pending bits found stood = go s.awaited refl
+-- where codeblocks wait, few bits follow the last of them
+pub left-pending : (s : Searching) (room : List ℕ) → is_pending s ≡ true → (bits : List Bool) (found : List Found) → StandsFor s room bits found
+    → (s.after - s.rules.block_bits) % (32 + s.rules.block_bits) ≡ length bits - end_of s.rules (places s.rules bits)
+left-pending s room pending bits found stood = go s.awaited refl
   where
-    go : (o : Option Awaited) → s.awaited ≡ o → 0 ≡ length bits - end_of s.rules (places s.rules bits)
-    go None e = let no : false ≡ true = sym (ap (λ (o : Option Awaited). option_map_or (λ count. count == s.rules.block_bits) (option_map (λ _. s.after) o) false) e) ∙ pending in absurd (cc)
+    go : (o : Option Awaited) → s.awaited ≡ o → (s.after - s.rules.block_bits) % (32 + s.rules.block_bits) ≡ length bits - end_of s.rules (places s.rules bits)
+    go None e = let no : false ≡ true = sym (ap (λ (o : Option Awaited). option_map_or (λ count. nat_le s.rules.block_bits count) (option_map (λ _. s.after) o) false) e) ∙ pending in absurd (cc)
     go (Some m) e =
-        let t = told_one s (record s { start = s.pushed; before = Some m.next; awaited = None; after = 0 }) m pending
-        record { awaited_was = e; rules = refl; word = refl; pushed = refl; start = refl; before = refl; awaited_none = refl; after_none = refl } bits found stood in
-        let end : end_of s.rules (places s.rules bits) ≡ m.found.place + 32 + s.rules.block_bits = ap (end_of s.rules) t.1 ∙ end-last s.rules found m.found in
-        omega (arith, t.2)
+        let told = told-of s room bits found (parts_of s room bits found stood) m e pending in
+        let full = told.full in
+        let ends = told.ends in
+        let last = told.last in
+        let rows = div-add-mod' (s.after - s.rules.block_bits) (32 + s.rules.block_bits) in
+        let many = ap (λ n. n * (32 + s.rules.block_bits)) told.many in
+        let end : end_of s.rules (places s.rules bits) ≡ m.found.place + 32 + s.rules.block_bits + length told.rest * (32 + s.rules.block_bits) =
+        ap (end_of s.rules) told.tells ∙ sym (end_after-is s.rules (found ++ m.found ∷ told.rest)) ∙ end_after-append s.rules 0 found (m.found ∷ told.rest) ∙ told.last in
+        omega arith
 
 -- else those after the last codeblock found
-pub left-after : (s : Searching) → is_pending s ≡ false → s.after ≤ s.rules.block_bits → (bits : List Bool) (found : List Found) → StandsFor s bits found
+pub left-after : (s : Searching) (room : List ℕ) → is_pending s ≡ false → (bits : List Bool) (found : List Found) → StandsFor s room bits found
     → (s.pushed ≡ length bits) × (s.start ≤ s.pushed) × (s.start ≡ end_of s.rules (places s.rules bits))
-left-after s free most bits found stood =
-    let h = parts_of s bits found stood in
-    let since = after-is s bits found h in
-    (h.pushed_is, omega arith, h.start_is ∙ sym h.ends ∙ ap (end_of s.rules) (sym (told_all s free most bits found stood)))
+left-after s room free bits found stood =
+    let h = parts_of s room bits found stood in
+    let since = after-is s room bits found h in
+    (h.pushed_is, omega arith, h.start_is ∙ sym h.ends ∙ ap (end_of s.rules) (sym (told_all s room free bits found stood)))
 
--- no more bits follow a marker than a codeblock has
-pub most_after : (s other : Searching) → other ≡ s → other.after ≤ other.rules.block_bits → s.after ≤ s.rules.block_bits
-most_after s other same most = subst (λ (v : Searching). v.after ≤ v.rules.block_bits) same most
+-- no more bits follow a marker than verify its place, or than a codeblock has
+pub most_after : (s other : Searching) → other ≡ s → other.after ≤ inside_by other.rules.verify other.rules.block_bits → s.after ≤ inside_by s.rules.verify s.rules.block_bits
+most_after s other same most = subst (λ (v : Searching). v.after ≤ inside_by v.rules.verify v.rules.block_bits) same most
+
+pub block-most : (verify size : ℕ) → size ≤ inside_by verify size
+block-most zero size = omega arith
+block-most (suc verify) size = omega arith
+
+pub verify-most : (verify size : ℕ) → verify * (32 + size) ≤ inside_by verify size
+verify-most zero size = omega arith
+verify-most (suc verify) size = omega arith
 
 -- ---- octets
 -- a place is awaited where bits follow its marker
@@ -510,6 +1059,18 @@ some_inside s is = go s.awaited refl
     go : (o : Option Awaited) → s.awaited ≡ o → (m : Awaited) × (s.awaited ≡ Some m)
     go None e = let no : IsSome (option_map (λ (m : Awaited). s.after) None) = subst (λ (o : Option Awaited). IsSome (option_map (λ _. s.after) o)) e is in absurd (cc)
     go (Some m) e = (m, e)
+
+-- where no further markers verify a place the room is empty
+pub verify-none : (rules : Rules) → rules.verify ≡ 0 → verify_bits rules ≡ 0
+verify-none rules zero_verify = ap (λ n. n * (32 + rules.block_bits)) zero_verify ∙ omega arith
+
+pub room-same : (room room' : List ℕ) → length room ≡ 0 → length room' ≡ 0 → room ≡ room'
+room-same room room' empty empty' = nil_from_length room empty ∙ sym (nil_from_length room' empty')
+
+pub first-zero : (o o' : Option ℕ) (lag : ℕ) → lag ≡ 0 → IfNone o ((unwrap_or o' 0 ≡ 0) ⊎ (o' ≡ Some lag)) → IfNone o (unwrap_or o' 0 ≡ 0)
+first-zero (Some count) o' lag zero_lag first = tt
+first-zero None o' lag zero_lag (inl zero_inside) = zero_inside
+first-zero None o' lag zero_lag (inr is) = ap (λ (o : Option ℕ). unwrap_or o 0) is ∙ zero_lag
 
 pub none_few : (o : Option ℕ) (left : ℕ) → o ≡ None → IfSome o (λ count. count + left < 8)
 none_few o left e = subst (λ (o : Option ℕ). IfSome o (λ count. count + left < 8)) (sym e) tt
@@ -524,7 +1085,7 @@ few_more None (Some count) left any most few more first = omega arith
 pub few_free : (s : Searching) (left : ℕ) → IfSome (inside_of s) (λ count. count + left < 8) → 8 ≤ s.rules.block_bits → is_pending s ≡ false
 few_free s left few fits = go (inside_of s) few
   where
-    go : (o : Option ℕ) → IfSome o (λ count. count + left < 8) → option_map_or (λ count. count == s.rules.block_bits) o false ≡ false
+    go : (o : Option ℕ) → IfSome o (λ count. count + left < 8) → option_map_or (λ count. nat_le s.rules.block_bits count) o false ≡ false
     go None few = refl
     go (Some count) few = grind (arith, nat_tests)
 

@@ -7,5 +7,7 @@ pub mod FirstPlaces
 pub mod MarkedStreams
 pub mod Complemented
 pub mod CleanStreams
+pub mod Recent
 pub mod Ends
+pub mod Looks
 pub mod Given

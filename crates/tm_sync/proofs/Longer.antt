@@ -4,8 +4,8 @@ use Rattle.std.specs.List.{AllByRecursion}
 use Rattle.std.proofs.lemmas.Bool.{cases_lt}
 use Rattle.tm_sync.specs.declared.found.Found.{Found}
 use Rattle.tm_sync.specs.declared.found.Before.{Before}
-use Rattle.tm_sync.specs.Places.{Rules, match_of, before_next, found_at, place_by, place_at, places_from, places}
-use Rattle.tm_sync.proofs.Steps.{places_from-nil, places_from-short, places_from-one, places_from-miss, places_from-inside, match_of-append, wrong_bits-append, place_at-room, place_at-short}
+use Rattle.tm_sync.specs.Places.{Rules, way_of, settled_by, before_next, found_at, place_by, place_at, places_from, places}
+use Rattle.tm_sync.proofs.Steps.{places_from-nil, places_from-short, places_from-one, places_from-miss, places_from-inside, places_from-unsettled, settled-room, settled-tells, settled-few, way_of-append, wrong_bits-append, place_at-room, place_at-short}
 
 -- what stands at a place with room for its codeblock stays, whatever comes after
 pub place_by-append : (rules : Rules) (at : ℕ) (before : Option Before) (bits more : List Bool) (way : Option Bool) → 32 ≤ length bits
@@ -15,13 +15,25 @@ place_by-append rules at None bits more None long = refl
 place_by-append rules at (Some before) bits more None long =
     λ i. cond (nat_lt before.bridged rules.fly) (Some (record { place = at; distance = wrong_bits-append before.inverted bits more long i; bridged = true; inverted = before.inverted })) None
 
-pub place_at-append : (rules : Rules) (at : ℕ) (before : Option Before) (bits more : List Bool) → 32 + rules.block_bits ≤ length bits
+-- the bits that settle whether a place with its codeblock stands at their start
+abbrev room_of : Rules → Option Before → ℕ
+room_of rules None = settled_by rules.verify rules.block_bits
+room_of rules (Some before) = 32 + rules.block_bits
+
+place_at-append : (rules : Rules) (at : ℕ) (before : Option Before) (bits more : List Bool) → room_of rules before ≤ length bits
     → place_at rules at before (bits ++ more) ≡ place_at rules at before bits
-place_at-append rules at before bits more room =
-    place_at-room rules at before (bits ++ more) (omega (arith, length-append bits more))
-    ∙ ap (place_by rules at before (bits ++ more)) (match_of-append rules bits more (omega arith))
-    ∙ place_by-append rules at before bits more (match_of rules bits) (omega arith)
-    ∙ sym (place_at-room rules at before bits room)
+place_at-append rules at None bits more room =
+    let whole = settled-room rules in
+    let tells = settled-tells rules in
+    place_at-room rules at None (bits ++ more) (omega (arith, length-append bits more))
+    ∙ ap (place_by rules at None (bits ++ more)) (way_of-append rules None bits more (omega arith))
+    ∙ place_by-append rules at None bits more (way_of rules None bits) (omega arith)
+    ∙ sym (place_at-room rules at None bits (omega arith))
+place_at-append rules at (Some before) bits more room =
+    place_at-room rules at (Some before) (bits ++ more) (omega (arith, length-append bits more))
+    ∙ ap (place_by rules at (Some before) (bits ++ more)) (way_of-append rules (Some before) bits more (omega arith))
+    ∙ place_by-append rules at (Some before) bits more (way_of rules (Some before) bits) (omega arith)
+    ∙ sym (place_at-room rules at (Some before) bits room)
 
 -- whether a place is there, with the equation
 pub data Seen (o : Option Found) : Type 0 where
@@ -52,18 +64,22 @@ place_at-stands rules at before bits f e = go (cases_lt (length bits) (32 + rule
   where
     go : (length bits < 32 + rules.block_bits) ⊎ (32 + rules.block_bits ≤ length bits) → Stands rules at bits f
     go (inl short) = let no : None ≡ Some f = sym (place_at-short rules at before bits short) ∙ e in absurd (cc)
-    go (inr room) = record { place = place_by-place rules at before bits (match_of rules bits) f (sym (place_at-room rules at before bits room) ∙ e); room = room }
+    go (inr room) = record { place = place_by-place rules at before bits (way_of rules before bits) f (sym (place_at-room rules at before bits room) ∙ e); room = room }
 
 later : (at : ℕ) (fs : List Found) → AllByRecursion (λ f. at + 1 ≤ f.place) fs → AllByRecursion (λ f. at ≤ f.place) fs
 later at [] all = tt
 later at (f ∷ fs) all = (let one = all.0 in omega arith, later at fs all.1)
 
-past-of : (rules : Rules) (end at : ℕ) (fs : List Found) → end < at + 32 + rules.block_bits → AllByRecursion (λ f. at ≤ f.place) fs → AllByRecursion (λ f. end < f.place + 32 + rules.block_bits) fs
+-- these places, where they are searched for, are not settled in the bits up to `end`
+abbrev AreAfter : Rules → ℕ → List Found → Type 0
+AreAfter rules end = AllByRecursion (λ f. end < f.place + settled_by rules.verify rules.block_bits)
+
+past-of : (rules : Rules) (end at : ℕ) (fs : List Found) → end < at + settled_by rules.verify rules.block_bits → AllByRecursion (λ f. at ≤ f.place) fs → AreAfter rules end fs
 past-of rules end at [] short all = tt
 past-of rules end at (f ∷ fs) short all = (let one = all.0 in omega arith, past-of rules end at fs short all.1)
 
-past-same : (rules : Rules) (end end' : ℕ) (fs : List Found) → end ≡ end' → AllByRecursion (λ f. end < f.place + 32 + rules.block_bits) fs → AllByRecursion (λ f. end' < f.place + 32 + rules.block_bits) fs
-past-same rules end end' fs same all = subst (λ (n : ℕ). AllByRecursion (λ f. n < f.place + 32 + rules.block_bits) fs) same all
+past-same : (rules : Rules) (end end' : ℕ) (fs : List Found) → end ≡ end' → AreAfter rules end fs → AreAfter rules end' fs
+past-same rules end end' fs same all = subst (λ (n : ℕ). AreAfter rules n fs) same all
 
 -- no place stands before the first bit
 pub places_from-start : (rules : Rules) (at skip : ℕ) (before : Option Before) (bits : List Bool) → AllByRecursion (λ f. at ≤ f.place) (places_from rules at skip before bits)
@@ -107,17 +123,16 @@ places-count rules bits = omega (arith, places-room rules bits)
 
 -- ---- a longer list
 
--- Its places are first those of the shorter one. The codeblocks of the others end after that, and so many more bits
--- have few of them.
+-- Its places are first those of the shorter one. The others are not settled there, and so many more bits have few of them.
 pub record GoesOn (rules : Rules) (end more : ℕ) (all first : List Found) : Type 0 where
   pub rest : List Found
   pub is : all ≡ first ++ rest
-  pub past : AllByRecursion (λ f. end < f.place + 32 + rules.block_bits) rest
-  pub few : length rest * (32 + rules.block_bits) < 32 + rules.block_bits + more
+  pub past : AreAfter rules end rest
+  pub few : length rest * (32 + rules.block_bits) < settled_by rules.verify rules.block_bits + more
 
 pub places_from-append : (rules : Rules) (at skip : ℕ) (before : Option Before) (bits more : List Bool)
     → GoesOn rules (at + length bits) (length more) (places_from rules at skip before (bits ++ more)) (places_from rules at skip before bits)
-places_from-append rules at skip before [] more = record {
+places_from-append rules at skip before [] more = let whole = settled-room rules in record {
   rest = places_from rules at skip before more;
   is = ap (λ l. l ++ places_from rules at skip before more) (sym (places_from-nil rules at skip before));
   past = past-of rules (at + 0) at (places_from rules at skip before more) (omega arith) (places_from-start rules at skip before more);
@@ -131,19 +146,20 @@ places_from-append rules at (suc skip) before (b ∷ bits) more =
       few = go.few;
     }
 places_from-append rules at zero before (b ∷ bits) more =
-    roomy (λ skip since. places_from-append rules (at + 1) skip since bits more) (cases_lt (length (b ∷ bits)) (32 + rules.block_bits))
+    roomy (λ skip since. places_from-append rules (at + 1) skip since bits more) before (cases_lt (length (b ∷ bits)) (room_of rules before))
   where
-    here : ((skip : ℕ) (before : Option Before) → GoesOn rules (at + 1 + length bits) (length more) (places_from rules (at + 1) skip before (bits ++ more)) (places_from rules (at + 1) skip before bits))
+    here : (before : Option Before)
+        → ((skip : ℕ) (before : Option Before) → GoesOn rules (at + 1 + length bits) (length more) (places_from rules (at + 1) skip before (bits ++ more)) (places_from rules (at + 1) skip before bits))
         → place_at rules at before (b ∷ (bits ++ more)) ≡ place_at rules at before (b ∷ bits) → Seen (place_at rules at before (b ∷ bits))
         → GoesOn rules (at + length (b ∷ bits)) (length more) (places_from rules at 0 before ((b ∷ bits) ++ more)) (places_from rules at 0 before (b ∷ bits))
-    here next same (none e) =
+    here before next same (none e) =
         let go = next 0 None in record {
           rest = go.rest;
           is = places_from-miss rules at before b (bits ++ more) (same ∙ e) ∙ go.is ∙ ap (λ l. l ++ go.rest) (sym (places_from-miss rules at before b bits e));
           past = past-same rules (at + 1 + length bits) (at + suc (length bits)) go.rest (omega arith) go.past;
           few = go.few;
         }
-    here next same (some f e) =
+    here before next same (some f e) =
         let go = next (31 + rules.block_bits) (Some (before_next before f)) in record {
           rest = go.rest;
           is = places_from-one rules at before b (bits ++ more) f (same ∙ e) ∙ ap (λ l. f ∷ l) go.is
@@ -152,16 +168,23 @@ places_from-append rules at zero before (b ∷ bits) more =
           few = go.few;
         }
 
-    roomy : ((skip : ℕ) (before : Option Before) → GoesOn rules (at + 1 + length bits) (length more) (places_from rules (at + 1) skip before (bits ++ more)) (places_from rules (at + 1) skip before bits))
-        → (length (b ∷ bits) < 32 + rules.block_bits) ⊎ (32 + rules.block_bits ≤ length (b ∷ bits))
+    short : (before : Option Before) → length (b ∷ bits) < settled_by rules.verify rules.block_bits → places_from rules at 0 before (b ∷ bits) ≡ []
         → GoesOn rules (at + length (b ∷ bits)) (length more) (places_from rules at 0 before ((b ∷ bits) ++ more)) (places_from rules at 0 before (b ∷ bits))
-    roomy next (inl short) = record {
+    short before few empty = record {
       rest = places_from rules at 0 before ((b ∷ bits) ++ more);
-      is = ap (λ l. l ++ places_from rules at 0 before ((b ∷ bits) ++ more)) (sym (places_from-short rules at before (b ∷ bits) short));
+      is = ap (λ l. l ++ places_from rules at 0 before ((b ∷ bits) ++ more)) (sym empty);
       past = past-of rules (at + length (b ∷ bits)) at (places_from rules at 0 before ((b ∷ bits) ++ more)) (omega arith) (places_from-start rules at 0 before ((b ∷ bits) ++ more));
-      few = omega (arith, short, places_from-room rules at 0 before ((b ∷ bits) ++ more), length-append (b ∷ bits) more);
+      few = omega (arith, few, places_from-room rules at 0 before ((b ∷ bits) ++ more), length-append (b ∷ bits) more);
     }
-    roomy next (inr room) = here next (place_at-append rules at before (b ∷ bits) more room) (seen (place_at rules at before (b ∷ bits)))
+
+    roomy : ((skip : ℕ) (before : Option Before) → GoesOn rules (at + 1 + length bits) (length more) (places_from rules (at + 1) skip before (bits ++ more)) (places_from rules (at + 1) skip before bits))
+        → (before : Option Before) → (length (b ∷ bits) < room_of rules before) ⊎ (room_of rules before ≤ length (b ∷ bits))
+        → GoesOn rules (at + length (b ∷ bits)) (length more) (places_from rules at 0 before ((b ∷ bits) ++ more)) (places_from rules at 0 before (b ∷ bits))
+    roomy next None (inl few) = short None few (places_from-unsettled rules at (b ∷ bits) few)
+    roomy next (Some before) (inl few) =
+        let whole = settled-room rules in
+        short (Some before) (omega arith) (places_from-short rules at (Some before) (b ∷ bits) few)
+    roomy next before (inr room) = here before next (place_at-append rules at before (b ∷ bits) more room) (seen (place_at rules at before (b ∷ bits)))
 
 pub places-append : (rules : Rules) (bits more : List Bool) → GoesOn rules (length bits) (length more) (places rules (bits ++ more)) (places rules bits)
 places-append rules bits more =
@@ -197,15 +220,17 @@ places_from-end rules at zero before (b ∷ bits) = here (λ skip since. places_
 pub places-end : (rules : Rules) (bits : List Bool) → EndBefore rules (length bits) (places rules bits)
 places-end rules bits = subst (λ (n : ℕ). EndBefore rules n (places rules bits)) (omega arith) (places_from-end rules 0 0 None bits)
 
--- so many codeblocks' bits more have as many places more at most
-pub places-few : (rules : Rules) (bits more : List Bool) (count : ℕ) → length more ≤ count * (32 + rules.block_bits) → length (places rules (bits ++ more)) ≤ length (places rules bits) + count
+-- so many codeblocks' bits more have as many places more at most, and those that they verify
+pub places-few : (rules : Rules) (bits more : List Bool) (count : ℕ) → length more ≤ count * (32 + rules.block_bits)
+    → length (places rules (bits ++ more)) ≤ length (places rules bits) + count + rules.verify
 places-few rules bits more count short =
     let go = places-append rules bits more in
     let all : length (places rules (bits ++ more)) ≡ length (places rules bits) + length go.rest = ap length go.is ∙ length-append (places rules bits) go.rest in
-    let few : length go.rest ≤ count = elim (cases_lt count (length go.rest)) as (λ _. length go.rest ≤ count) [
+    let settled = settled-few rules in
+    let few : length go.rest ≤ count + rules.verify = elim (cases_lt (count + rules.verify) (length go.rest)) as (λ _. length go.rest ≤ count + rules.verify) [
       | inl many ↦ (
-          let one : count + 1 ≤ length go.rest = omega (arith, many) in
-          absurd (omega (arith, mul-le-mul_right (32 + rules.block_bits) one, go.few, short))
+          let one : count + rules.verify + 1 ≤ length go.rest = omega (arith, many) in
+          absurd (omega (arith, mul-le-mul_right (32 + rules.block_bits) one, go.few, short, settled))
           )
       | inr there ↦ there
     ] in
@@ -224,6 +249,6 @@ after-prefix rules bits more =
 pub places-goes_on : (rules : Rules) (bits more : List Bool) → places rules (bits ++ more) ≡ places rules bits ++ drop (length (places rules bits)) (places rules (bits ++ more))
 places-goes_on rules bits more = (places-append rules bits more).is ∙ ap (λ l. places rules bits ++ l) (sym (after-prefix rules bits more))
 
-pub places-past : (rules : Rules) (bits more : List Bool) → AllByRecursion (λ f. length bits < f.place + 32 + rules.block_bits) (drop (length (places rules bits)) (places rules (bits ++ more)))
-places-past rules bits more =
-    subst (λ (fs : List Found). AllByRecursion (λ f. length bits < f.place + 32 + rules.block_bits) fs) (sym (after-prefix rules bits more)) (places-append rules bits more).past
+pub places-past : (rules : Rules) (bits more : List Bool)
+    → AllByRecursion (λ f. length bits < f.place + settled_by rules.verify rules.block_bits) (drop (length (places rules bits)) (places rules (bits ++ more)))
+places-past rules bits more = subst (AreAfter rules (length bits)) (sym (after-prefix rules bits more)) (places-append rules bits more).past

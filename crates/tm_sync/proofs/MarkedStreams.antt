@@ -1,48 +1,37 @@
 -- The places in a stream of entries.
-use Rattle.std.proofs.Common.{◌≡◌, ℕ, suc, ◌+◌, ◌<◌, ◌≤◌, Bool, true, false, cond, nat_lt, List, [], ◌∷◌, ◌++◌, length, refl, sym, ap, subst, ◌∙◌, arith, Option, Some, None, append_assoc, length-append, ◌⊎◌, inl, inr}
-use Rattle.std.proofs.lemmas.List.{append-nil}
+use Rattle.std.proofs.Common.{◌≡◌, ℕ, suc, ◌+◌, ◌<◌, ◌≤◌, Bool, true, false, cond, nat_lt, List, [], ◌∷◌, ◌++◌, length, take, drop, refl, sym, ap, subst, ◌∙◌, arith, Option, Some, None, append_assoc, length-append, ◌⊎◌, inl, inr}
+use Rattle.std.proofs.lemmas.List.{append-nil, drop_at}
 use Rattle.std.proofs.lemmas.Bool.{cases_lt}
 use Rattle.std.proofs.lemmas.Bool.Decides.{nat_tests}
 use Rattle.tm_sync.specs.declared.found.Before.{Before}
-use Rattle.tm_sync.specs.Places.{Rules, wrong_bits, match_of, before_next, found_at, place_by, place_at, places_from, places}
-use Rattle.tm_sync.proofs.Steps.{places_from-nil, places_from-miss, places_from-hit, match_of-append, wrong_bits-append, place_at-room, place_at-short}
-use Rattle.tm_sync.specs.Marked.{Entry, joined, HasNoMarker, MayGap, MayBridge, place_by_marker, place_of, places_of, AreEntries, IsMarked}
-
--- what stands before the bits after a gap
-abbrev pub ready : List Bool → Option Before → Option Before
-ready [] before = before
-ready (b ∷ gap) before = None
-
-ready-none : (gap : List Bool) → ready gap None ≡ None
-ready-none [] = refl
-ready-none (b ∷ gap) = refl
+use Rattle.tm_sync.specs.Places.{Rules, wrong_bits, match_of, way_of, before_next, found_at, place_by, place_at, places_from, places}
+use Rattle.tm_sync.proofs.Steps.{places_from-nil, places_from-miss, places_from-hit, wrong_bits-append, place_at-room, place_at-short, ready-none}
+use Rattle.tm_sync.specs.Marked.{Entry, joined, ready, HasNoMarker, MayGap, MayBridge, place_by_marker, place_of, places_of, AreEntries, IsMarked}
 
 -- no place stands where no marker matches and none may be bridged
 none_at : (rules : Rules) (at : ℕ) (before : Option Before) (b : Bool) (bits gap : List Bool)
-    → HasNoMarker rules (b ∷ gap) (b ∷ bits) → MayGap rules before (b ∷ gap) (b ∷ bits) → place_at rules at before (b ∷ bits) ≡ None
-none_at rules at before b bits gap none waits = go (cases_lt (length (b ∷ bits)) (32 + rules.block_bits)) before waits
+    → HasNoMarker rules before (b ∷ gap) (b ∷ bits) → MayGap rules before (b ∷ gap) (b ∷ bits) → place_at rules at before (b ∷ bits) ≡ None
+none_at rules at before b bits gap none waits = go (cases_lt (length (b ∷ bits)) (32 + rules.block_bits)) before waits (λ room. none 0 (omega arith) (omega arith))
   where
-    here : 32 + rules.block_bits ≤ length (b ∷ bits) → match_of rules (b ∷ bits) ≡ None
-    here room = none 0 (omega arith) (omega arith)
-
     go : (length (b ∷ bits) < 32 + rules.block_bits) ⊎ (32 + rules.block_bits ≤ length (b ∷ bits)) → (before : Option Before) → MayGap rules before (b ∷ gap) (b ∷ bits)
-        → place_at rules at before (b ∷ bits) ≡ None
-    go (inl short) before waits = place_at-short rules at before (b ∷ bits) short
-    go (inr room) None waits = place_at-room rules at None (b ∷ bits) room ∙ ap (place_by rules at None (b ∷ bits)) (here room)
-    go (inr room) (Some before) (inl enough) =
+        → (32 + rules.block_bits ≤ length (b ∷ bits) → way_of rules before (b ∷ bits) ≡ None) → place_at rules at before (b ∷ bits) ≡ None
+    go (inl short) before waits here = place_at-short rules at before (b ∷ bits) short
+    go (inr room) None waits here = place_at-room rules at None (b ∷ bits) room ∙ ap (place_by rules at None (b ∷ bits)) (here room)
+    go (inr room) (Some before) (inl enough) here =
         let test : nat_lt before.bridged rules.fly ≡ false = grind (arith, nat_tests) in
         place_at-room rules at (Some before) (b ∷ bits) room ∙ ap (place_by rules at (Some before) (b ∷ bits)) (here room)
         ∙ ap (λ c. cond c (Some (found_at at true before.inverted (b ∷ bits))) None) test
-    go (inr room) (Some before) (inr short) = absurd (omega arith)
+    go (inr room) (Some before) (inr short) here = absurd (omega arith)
 
 -- the search goes past a gap
 pub places_from-gap : (rules : Rules) (at : ℕ) (before : Option Before) (gap rest : List Bool)
-    → HasNoMarker rules gap (gap ++ rest) → MayGap rules before gap (gap ++ rest)
+    → HasNoMarker rules before gap (gap ++ rest) → MayGap rules before gap (gap ++ rest)
     → places_from rules at 0 before (gap ++ rest) ≡ places_from rules (at + length gap) 0 (ready gap before) rest
 places_from-gap rules at before [] rest none waits = ap (λ n. places_from rules n 0 before rest) (omega arith)
 places_from-gap rules at before (b ∷ gap) rest none waits =
     places_from-miss rules at before b (gap ++ rest) (none_at rules at before b (gap ++ rest) gap none waits)
-    ∙ places_from-gap rules (at + 1) None gap rest (λ q below room. none (suc q) (omega arith) (omega arith)) (unguarded gap)
+    ∙ places_from-gap rules (at + 1) None gap rest
+    (λ q below room. ap (λ before. way_of rules before (drop q (gap ++ rest))) (ready-none (take q gap)) ∙ none (suc q) (omega arith) (omega arith)) (unguarded gap)
     ∙ (λ i. places_from rules (far i) 0 (ready-none gap i) rest)
   where
     far : at + 1 + length gap ≡ at + length (b ∷ gap)
@@ -54,11 +43,11 @@ places_from-gap rules at before (b ∷ gap) rest none waits =
 
 -- the place that an entry's marker and block are
 place_of-is : (rules : Rules) (at : ℕ) (before : Option Before) (e : Entry) (rest : List Bool) → length e.marker ≡ 32 → length e.block ≡ rules.block_bits
-    → MayBridge rules before e (match_of rules e.marker)
+    → MayBridge rules before e (match_of rules e.marker) → way_of rules (ready e.gap before) (e.marker ++ (e.block ++ rest)) ≡ match_of rules e.marker
     → place_at rules (at + length e.gap) (ready e.gap before) (e.marker ++ (e.block ++ rest)) ≡ Some (place_of rules at before e)
-place_of-is rules at before e rest long size may =
+place_of-is rules at before e rest long size may verified =
     place_at-room rules (at + length e.gap) (ready e.gap before) (e.marker ++ (e.block ++ rest)) (omega (arith, length-append e.marker (e.block ++ rest), length-append e.block rest))
-    ∙ ap (place_by rules (at + length e.gap) (ready e.gap before) (e.marker ++ (e.block ++ rest))) (match_of-append rules e.marker (e.block ++ rest) (omega arith))
+    ∙ ap (place_by rules (at + length e.gap) (ready e.gap before) (e.marker ++ (e.block ++ rest))) verified
     ∙ go before e.gap (match_of rules e.marker) may
   where
     same : (inverted : Bool) → wrong_bits inverted (e.marker ++ (e.block ++ rest)) ≡ wrong_bits inverted e.marker
@@ -100,7 +89,7 @@ pub places_of-are : (rules : Rules) (at : ℕ) (before : Option Before) (entries
     → places_from rules at 0 before (joined entries last) ≡ places_of rules at before entries
 places_of-are rules at before [] last (none, waits) =
     let whole : last ++ [] ≡ last = append-nil last in
-    let none' = subst (λ (bits : List Bool). HasNoMarker rules last bits) (sym whole) none in
+    let none' = subst (λ (bits : List Bool). HasNoMarker rules before last bits) (sym whole) none in
     let waits' = subst (λ (bits : List Bool). MayGap rules before last bits) (sym whole) waits in
     ap (places_from rules at 0 before) (sym whole)
     ∙ places_from-gap rules at before last [] none' waits' ∙ places_from-nil rules (at + length last) 0 (ready last before)
@@ -108,8 +97,10 @@ places_of-are rules at before (e ∷ entries) last (one, more) =
     let f = place_of rules at before e in
     let rest = joined entries last in
     let split : e.marker ++ (e.block ++ rest) ≡ (e.marker ++ e.block) ++ rest = sym (append_assoc e.marker e.block rest) in
+    let verified : way_of rules (ready e.gap before) (e.marker ++ (e.block ++ rest)) ≡ match_of rules e.marker =
+    ap (way_of rules (ready e.gap before)) (sym (drop_at e.gap (e.marker ++ (e.block ++ rest)) (length e.gap) refl)) ∙ one.verified in
     let here : place_at rules (at + length e.gap) (ready e.gap before) ((e.marker ++ e.block) ++ rest) ≡ Some f =
-    ap (place_at rules (at + length e.gap) (ready e.gap before)) (sym split) ∙ place_of-is rules at before e rest one.marker one.block one.bridged in
+    ap (place_at rules (at + length e.gap) (ready e.gap before)) (sym split) ∙ place_of-is rules at before e rest one.marker one.block one.bridged verified in
     let ends : at + length e.gap + 32 + rules.block_bits ≡ f.place + 32 + rules.block_bits = ap (λ n. n + 32 + rules.block_bits) (sym (place_of-place rules at before e)) in
     places_from-gap rules at before e.gap (e.marker ++ (e.block ++ rest)) one.gap one.waits
     ∙ ap (places_from rules (at + length e.gap) 0 (ready e.gap before)) split

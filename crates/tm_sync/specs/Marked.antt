@@ -1,9 +1,9 @@
 -- A stream of bits in which marked codeblocks were sent: gaps, marker parts and codeblocks.
-use Rattle.std.specs.Prelude.{◌≡◌, ℕ, ◌+◌, ◌≤◌, ◌<◌, Bool, true, false, List, [], ◌∷◌, ◌++◌, length, drop, Option, Some, None, MatchOption, ◌⊎◌}
+use Rattle.std.specs.Prelude.{◌≡◌, ℕ, ◌+◌, ◌≤◌, ◌<◌, Bool, true, false, List, [], ◌∷◌, ◌++◌, length, drop, Option, Some, None, MatchOption, ◌⊎◌, take}
 use Rattle.tm_sync.specs.declared.found.Found.{Found}
 use Rattle.tm_sync.specs.declared.found.Before.{Before}
 use Rattle.tm_sync.specs.Bits.{marker_bits}
-use Rattle.tm_sync.specs.Places.{Rules, match_of, before_next, found_at}
+use Rattle.tm_sync.specs.Places.{Rules, match_of, way_of, before_next, found_at}
 
 -- what came of one marked codeblock that was sent: bits that are no part of it, its marker part and
 -- its block part
@@ -17,10 +17,18 @@ abbrev pub joined : List Entry → List Bool → List Bool
 joined [] last = last
 joined (e ∷ entries) last = e.gap ++ (e.marker ++ (e.block ++ joined entries last))
 
--- the bits begin with a gap, and at no place in it, with room for a codeblock, do 32 bits match
-abbrev pub HasNoMarker : Rules → List Bool → List Bool → Type 0
-HasNoMarker rules gap bits = (q : ℕ) → q < length gap → q + 32 + rules.block_bits ≤ length bits
-    → match_of rules (drop q bits) ≡ None
+-- what ends right before the bits after a gap: no codeblock, where the gap has any bits
+abbrev pub ready : List Bool → Option Before → Option Before
+ready [] before = before
+ready (b ∷ gap) before = None
+
+-- The bits begin with a gap, and at no place in it, with room for a codeblock, do 32 bits match so
+-- that a place stands there: at its first bit in no way, where a codeblock ends right before it,
+-- and elsewhere in none that further markers verify.
+abbrev pub HasNoMarker : Rules → Option Before → List Bool → List Bool → Type 0
+HasNoMarker rules before gap bits = (q : ℕ) → q < length gap
+    → q + 32 + rules.block_bits ≤ length bits
+    → way_of rules (ready (take q gap) before) (drop q bits) ≡ None
 
 -- a gap directly follows a codeblock only where no place may be bridged there, or no codeblock
 -- has room
@@ -57,13 +65,16 @@ places_of rules at before (e ∷ entries) =
 pub record IsEntry (rules : Rules) (before : Option Before) (e : Entry) (bits : List Bool) : Type 0 where
   pub marker : length e.marker ≡ 32
   pub block : length e.block ≡ rules.block_bits
-  pub gap : HasNoMarker rules e.gap bits
+  pub gap : HasNoMarker rules before e.gap bits
   pub waits : MayGap rules before e.gap bits
   pub bridged : MayBridge rules before e (match_of rules e.marker)
+  -- where no codeblock ends right before its marker part, further markers verify a match of it
+  pub verified : way_of rules (ready e.gap before) (drop (length e.gap) bits)
+      ≡ match_of rules e.marker
 
 -- entries after `at` bits, and a last gap
 abbrev pub AreEntries : Rules → ℕ → Option Before → List Entry → List Bool → Type 0
-AreEntries rules at before [] last = HasNoMarker rules last last × MayGap rules before last last
+AreEntries rules at before [] last = HasNoMarker rules before last last × MayGap rules before last last
 AreEntries rules at before (e ∷ entries) last =
     let f = place_of rules at before e in
     IsEntry rules before e (joined (e ∷ entries) last)

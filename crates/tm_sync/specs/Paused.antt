@@ -1,7 +1,7 @@
 -- A search as plain values.
 use Rattle.std.specs.Prelude.{Bool, ◌&&◌, nat_le}
 use Rattle.tm_sync.specs.declared.found.Paused.{Paused}
-use Rattle.tm_sync.specs.Searching.{Searching}
+use Rattle.tm_sync.specs.Searching.{Searching, inside_by}
 
 -- the search that goes on from these values
 abbrev pub resumed : Paused → Searching
@@ -11,6 +11,7 @@ resumed p = record {
     fly = p.fly;
     either = p.either;
     block_bits = p.block_bits;
+    verify = p.verify;
   };
   pushed = p.pushed;
   word = p.word;
@@ -22,4 +23,4 @@ resumed p = record {
 
 -- a search can have these values
 abbrev pub is_resumable : Paused → Bool
-is_resumable p = nat_le p.tolerance 8 && nat_le p.after p.block_bits
+is_resumable p = nat_le p.tolerance 8 && nat_le p.after (inside_by p.verify p.block_bits)

@@ -1,6 +1,6 @@
 -- Where markers with a whole codeblock after them stand in a list of bits (CCSDS 131.0-B, Frame
 -- Synchronization).
-use Rattle.std.specs.Prelude.{ℕ, zero, suc, ◌+◌, Bool, true, false, if◌then◌else◌, ◌&&◌, nat_le, nat_lt, List, [], ◌∷◌, length, take, Option, Some, None}
+use Rattle.std.specs.Prelude.{ℕ, zero, suc, ◌+◌, ◌*◌, Bool, true, false, if◌then◌else◌, ◌&&◌, nat_le, nat_lt, List, [], ◌∷◌, length, take, drop, Option, Some, None}
 use Rattle.std.specs.Option.{option_map_or}
 use Rattle.tm_sync.specs.declared.found.Found.{Found}
 use Rattle.tm_sync.specs.declared.found.Before.{Before}
@@ -16,6 +16,8 @@ pub record Rules : Type 0 where
   pub either : Bool
   -- the bits of a codeblock
   pub block_bits : ℕ
+  -- how many further markers must match before a place that is searched for is taken
+  pub verify : ℕ
 
 -- the number of the first 32 bits that differ from the marker, or from the inverted marker
 unfoldable pub wrong_bits : Bool → List Bool → ℕ
@@ -27,6 +29,40 @@ unfoldable pub match_of : Rules → List Bool → Option Bool
 match_of rules bits =
     if nat_le (wrong_bits false bits) rules.tolerance then Some false
     else (if rules.either && nat_le (wrong_bits true bits) rules.tolerance then Some true else None)
+
+-- whether a match is in this polarity
+abbrev pub is_way : Option Bool → Bool → Bool
+is_way None inverted = false
+is_way (Some true) inverted = inverted
+is_way (Some false) inverted = flip inverted
+
+-- after each of so many codeblocks with their markers stand 32 bits more, and they match in this
+-- polarity
+unfoldable pub are_verified : Rules → Bool → ℕ → List Bool → Bool
+are_verified rules inverted zero bits = true
+are_verified rules inverted (suc count) bits =
+    let next = drop (32 + rules.block_bits) bits in
+    nat_le 32 (length next) && (is_way (match_of rules next) inverted && are_verified rules inverted count next)
+
+-- a match, where the markers after it verify it
+abbrev pub verified : Rules → List Bool → Option Bool → Option Bool
+verified rules bits None = None
+verified rules bits (Some inverted) = if are_verified rules inverted rules.verify bits then Some inverted else None
+
+-- The polarity in which a place stands at the start of the bits: that in which the first 32 match.
+-- Where no codeblock ends right before them, further markers must verify it.
+abbrev pub way_of : Rules → Option Before → List Bool → Option Bool
+way_of rules None bits = verified rules bits (match_of rules bits)
+way_of rules (Some before) bits = match_of rules bits
+
+-- the bits from a place up to the last marker that verifies it
+abbrev pub verify_bits : Rules → ℕ
+verify_bits rules = rules.verify * (32 + rules.block_bits)
+
+-- how many bits, from a place on, have room for its codeblock and for the markers that verify it
+abbrev pub settled_by : ℕ → ℕ → ℕ
+settled_by zero size = 32 + size
+settled_by (suc count) size = suc count * (32 + size) + 32
 
 -- the place whose 32 bits these are
 abbrev pub found_at : ℕ → Bool → Bool → List Bool → Found
@@ -48,7 +84,7 @@ place_by rules at None bits None = None
 -- the place at the start of the bits, which follow `at` others, where they have room for its
 -- codeblock
 unfoldable pub place_at : Rules → ℕ → Option Before → List Bool → Option Found
-place_at rules at before bits = if nat_le (32 + rules.block_bits) (length bits) then place_by rules at before bits (match_of rules bits) else None
+place_at rules at before bits = if nat_le (32 + rules.block_bits) (length bits) then place_by rules at before bits (way_of rules before bits) else None
 
 -- what stands before the first bit after a place's codeblock
 abbrev pub before_next : Option Before → Found → Before

@@ -1,12 +1,12 @@
 -- What contracts see of a search, and for which bits, given so far, and places, found so far, it
 -- stands.
-use Rattle.std.specs.Prelude.{◌≡◌, ℕ, ◌+◌, ◌-◌, ◌*◌, ◌%◌, ◌^◌, Bool, false, ◌==◌, List, [], ◌∷◌, length, take, drop, if◌then◌else◌, nat_le, Option, Some, None, unwrap_or, bit_or}
+use Rattle.std.specs.Prelude.{◌≡◌, ℕ, zero, suc, ◌+◌, ◌-◌, ◌*◌, ◌/◌, ◌%◌, ◌^◌, ◌<◌, ◌≤◌, Bool, true, false, ◌==◌, List, [], ◌∷◌, ◌++◌, length, take, drop, slice_index, slice_index_or, if◌then◌else◌, nat_le, Option, Some, None, unwrap_or, bit_or, ◌⊎◌}
 use Rattle.std.specs.Option.{option_map, option_map_or, option_or}
 use Rattle.tm_base.specs.Bits.{bit_number, number_of}
 use Rattle.tm_sync.specs.declared.found.Found.{Found}
 use Rattle.tm_sync.specs.declared.found.Before.{Before}
 use Rattle.tm_sync.specs.declared.found.Awaited.{Awaited}
-use Rattle.tm_sync.specs.Places.{Rules, match_of, place_by, before_next, places}
+use Rattle.tm_sync.specs.Places.{Rules, are_verified, way_of, verify_bits, place_by, before_next, places}
 
 -- what contracts see of a search
 pub record Searching : Type 0 where
@@ -28,12 +28,29 @@ inside_of s = option_map (λ _. s.after) s.awaited
 
 -- whether a whole codeblock follows that marker
 abbrev pub is_pending : Searching → Bool
-is_pending s = option_map_or (λ count. count == s.rules.block_bits) (inside_of s) false
+is_pending s = option_map_or (λ count. nat_le s.rules.block_bits count) (inside_of s) false
 
 -- how many of the bits given may be part of the marker or the codeblock of the next place: those
--- from that marker on, or else fewer than a marker has
+-- from that marker on, or else fewer than tell whether a place stands at their start
 abbrev pub begun_of : Searching → ℕ
-begun_of s = option_map_or (λ count. 32 + count) (inside_of s) 31
+begun_of s = option_map_or (λ count. 32 + count) (inside_of s) (31 + verify_bits s.rules)
+
+-- the most bits after the marker of a place that was not given yet
+abbrev pub inside_by : ℕ → ℕ → ℕ
+inside_by zero size = size
+inside_by (suc count) size = suc count * (32 + size)
+
+abbrev pub most_inside : Rules → ℕ
+most_inside rules = inside_by rules.verify rules.block_bits
+
+-- how many bits stand after the next marker once a place is given that had so many after its own
+abbrev pub inside_next : Rules → ℕ → Option ℕ
+inside_next rules count =
+    if nat_le (32 + rules.block_bits) count then Some (count - (32 + rules.block_bits)) else None
+
+-- how many codeblocks are whole and were not given
+abbrev pub waiting_of : Searching → ℕ
+waiting_of s = option_map_or (λ count. (count + 32) / (32 + s.rules.block_bits)) (inside_of s) 0
 
 -- ---- over whole lists
 -- the bits up to the end of the last codeblock of these places
@@ -47,12 +64,17 @@ abbrev pub before_past : Option Before → List Found → Option Before
 before_past before [] = before
 before_past before (f ∷ found) = before_past (Some (before_next before f)) found
 
--- the first place in the bits after `at` others whose 32 bits are there, whether or not its
--- codeblock is
+-- the bits that tell whether a place stands at their start
+abbrev pub telling_bits : Rules → Option Before → ℕ
+telling_bits rules None = 32 + verify_bits rules
+telling_bits rules (Some before) = 32
+
+-- the first place in the bits after `at` others whose 32 bits are there, with those that verify
+-- it, whether or not its codeblock is
 unfoldable pub first_place : Rules → ℕ → Option Before → List Bool → Option Found
 first_place rules at before [] = None
 first_place rules at before (b ∷ bits) =
-    if nat_le 32 (length (b ∷ bits)) then option_or (place_by rules at before (b ∷ bits) (match_of rules (b ∷ bits))) (first_place rules (at + 1) None bits)
+    if nat_le (telling_bits rules before) (length (b ∷ bits)) then option_or (place_by rules at before (b ∷ bits) (way_of rules before (b ∷ bits))) (first_place rules (at + 1) None bits)
     else None
 
 -- the first place after the codeblocks of the places found
@@ -81,11 +103,47 @@ search_of rules bits found = record {
   after = unwrap_or (inside_ahead rules bits found) 0;
 }
 
--- It was given these bits, and has found these places: they are those of the bits up to the end of
--- the last one's codeblock.
-pub record StandsFor (s : Searching) (bits : List Bool) (found : List Found) : Type 0 where
+-- Where more than a codeblock follows the awaited place's marker, markers verified the place: so
+-- many codeblocks follow, each with a marker after it that matches as the first.
+abbrev pub IsRun : Searching → List Bool → Option Awaited → Type 0
+IsRun s bits None = Unit {0}
+IsRun s bits (Some m) = (s.after ≤ s.rules.block_bits)
+    ⊎ ((count : ℕ) × (s.after ≡ count * (32 + s.rules.block_bits))
+    × (are_verified s.rules m.found.inverted count (drop m.found.place bits) ≡ true))
+
+-- ---- the room
+-- A room holds the bits before the last 32, from one on, as many as it has octets: each as 0 or 1,
+-- bit i in octet i % size.
+abbrev pub IsRecent : List ℕ → List Bool → ℕ → Type 0
+IsRecent room bits from = (i : ℕ) → from ≤ i → i + 32 < length bits
+    → length bits ≤ i + 32 + length room
+    → slice_index room (i % length room) ≡ bit_number (slice_index_or bits i false)
+
+-- from which bit on the room has to hold what was given
+abbrev pub from_of : Searching → Option Awaited → ℕ
+from_of s None = s.start
+from_of s (Some m) = if nat_le s.after s.rules.block_bits then s.pushed else m.found.place
+
+-- one bit more is given, and the room still holds what it held, and the bit that leaves the last 32
+pub record Remembers (room room' : List ℕ) (bits : List Bool) (bit : Bool) : Type 0 where
+  pub sized : length room' ≡ length room
+  pub recent : (from : ℕ) → IsRecent room bits from → IsRecent room' (bits ++ bit ∷ []) from
+
+-- It was given these bits, and can look at those from one on again.
+pub record Recalls (s : Searching) (room : List ℕ) (bits : List Bool) (from : ℕ) : Type 0 where
+  pub pushed : s.pushed ≡ length bits
+  pub word : s.word ≡ number_of bits % 2 ^ 32
+  pub sized : length room ≡ verify_bits s.rules
+  pub recent : IsRecent room bits from
+
+-- It was given these bits, of which the room holds those that it may look at again, and has found
+-- these places: they are the first in the bits.
+pub record StandsFor (s : Searching) (room : List ℕ) (bits : List Bool) (found : List Found) : Type 0 where
   pub search : s ≡ search_of s.rules bits found
-  pub found_first : places s.rules (take (end_of s.rules found) bits) ≡ found
+  pub found_first : take (length found) (places s.rules bits) ≡ found
+  pub run : IsRun s bits s.awaited
+  pub sized : length room ≡ verify_bits s.rules
+  pub recent : IsRecent room bits (from_of s s.awaited)
 
 -- It has counted one bit more, which is now the last of the 32, and has not looked at it.
 pub record Counts (s s' : Searching) (bit : Bool) : Type 0 where
@@ -97,9 +155,10 @@ pub record Counts (s s' : Searching) (bit : Bool) : Type 0 where
   pub awaited : s'.awaited ≡ s.awaited
   pub after : s'.after ≡ s.after
 
--- what ends right before the last 32 bits
-abbrev pub before_last : ℕ → Option Before → Option Before
-before_last since before = if since == 32 then before else None
+-- whether the last 32 bits directly follow a codeblock, where so many bits stand after its end
+abbrev pub is_right_after : ℕ → Option Before → Bool
+is_right_after since None = false
+is_right_after since (Some before) = since == 32
 
 -- how many numbers, from one more than the tolerance on, show that 32 bits match in no way, where
 -- so many of them differ from the marker

@@ -38,6 +38,7 @@ pub struct Paused {
     pub fly: u8,
     pub either: bool,
     pub block_bits: u32,
+    pub verify: u8,
     /// The last 32 bits.
     pub word: u32,
     /// How many bits were given, and how many of them stand before the end of the last codeblock found.
@@ -47,5 +48,5 @@ pub struct Paused {
     pub before: Option<Before>,
     /// The first place after it, and how many bits were given after its marker.
     pub awaited: Option<Awaited>,
-    pub after: u32,
+    pub after: u64,
 }

@@ -1,6 +1,8 @@
 //! The search for attached sync markers in a stream of bits (CCSDS 131.0-B, Frame Synchronization): which markers stand
 //! there with a whole codeblock after them. A marker may have some wrong bits, may be missing right after a
-//! codeblock, and may be inverted. The search keeps the last 32 bits and no others. It stands on the marker of tm_base.
+//! codeblock, and may be inverted. Where none ends right before it, further markers may be asked for before it is
+//! believed. The search keeps the last 32 bits, and in a room that it is handed as many more as these markers span. It
+//! stands on the marker of tm_base.
 #![tactic(auto)]
 
 mod found;
@@ -8,5 +10,8 @@ mod laws;
 mod search;
 
 pub use found::{Awaited, Before, Found, Paused};
-pub use laws::{clean_law, few_places_law, longer_law, marked_law, one_polarity_law, polarity_law};
+pub use laws::{
+    clean_law, few_places_law, longer_law, marked_law, no_verify_law, one_polarity_law,
+    polarity_law,
+};
 pub use search::Search;

@@ -1,12 +1,12 @@
 // The search, bit by bit.
-ghost use Rattle.std.specs.Prelude.{◌≡◌, ◌<◌, ◌≤◌, ◌^◌, ◌+◌, ◌-◌, ◌*◌, ◌%◌, ◌↔◌, ℕ, Bool, true, false, List, [], ◌∷◌, ◌++◌, length, IsTrue, IsSome, IfSome, IfNone, Some, None, count_ones, unwrap_or};
+ghost use Rattle.std.specs.Prelude.{◌≡◌, ◌<◌, ◌≤◌, ◌^◌, ◌+◌, ◌-◌, ◌*◌, ◌%◌, ◌↔◌, ◌⊎◌, ℕ, Bool, true, false, List, [], ◌∷◌, ◌++◌, length, take, drop, slice_index_or, IsTrue, IsSome, IfSome, IfNone, Some, None, Option, count_ones, unwrap_or};
 ghost use Rattle.std.specs.Option.{option_map};
 ghost use Rattle.tm_base.specs.Bits.{number_of, bits_of, bits_of_octet};
 ghost use Rattle.tm_sync.specs.declared.found.Found.{Found};
 ghost use Rattle.tm_sync.specs.declared.found.Before.{Before};
-ghost use Rattle.tm_sync.specs.Places.{Rules, wrong_bits, match_of, place_by, places};
+ghost use Rattle.tm_sync.specs.Places.{Rules, wrong_bits, match_of, are_verified, way_of, verify_bits, found_at, place_by, places};
 ghost use Rattle.tm_sync.specs.Paused.{is_resumable, resumed};
-ghost use Rattle.tm_sync.specs.Searching.{Counts, Searching, StandsFor, awaited_at, before_last, far_count, end_of, inside_ahead, inside_of, is_pending};
+ghost use Rattle.tm_sync.specs.Searching.{Counts, Recalls, Remembers, Searching, StandsFor, awaited_at, far_count, end_of, inside_ahead, inside_by, inside_next, inside_of, is_pending, is_right_after, most_inside, waiting_of};
 
 use crate::found::{Awaited, Before, Found, Paused};
 use std::marker::Model;
@@ -19,6 +19,7 @@ pub struct Search {
     fly: u8,
     either: bool,
     block_bits: u32,
+    verify: u8,
     // The last 32 bits.
     word: u32,
     // The bits given, and those before the end of the last codeblock found.
@@ -27,7 +28,7 @@ pub struct Search {
     before: Option<Before>,
     // The first place after that codeblock, and the bits after its marker.
     awaited: Option<Awaited>,
-    after: u32,
+    after: u64,
     // 32 bits match in no way where the number of them that differ from the marker is one of `far` numbers from here
     // on.
     too_many: u8,
@@ -37,12 +38,18 @@ pub struct Search {
 
 impl Model for Search {
     ghost use Rattle.std.specs.Prelude.{◌≡◌, ◌<◌, ◌≤◌, ◌+◌, ◌-◌, ◌^◌, None};
-    ghost use Rattle.tm_sync.specs.Searching.{Searching, far_count};
+    ghost use Rattle.tm_sync.specs.Searching.{Searching, far_count, inside_by};
 
     ghost Value = { Searching };
 
     ghost view = { λ s. record {
-      rules = record { tolerance = s.tolerance; fly = s.fly; either = s.either; block_bits = s.block_bits };
+      rules = record {
+        tolerance = s.tolerance;
+        fly = s.fly;
+        either = s.either;
+        block_bits = s.block_bits;
+        verify = s.verify;
+      };
       pushed = s.pushed;
       word = s.word;
       start = s.start;
@@ -51,7 +58,7 @@ impl Model for Search {
       after = s.after;
     } };
 
-    ghost invariant = { λ s. (s.after ≤ s.block_bits) × (s.tolerance ≤ 8) × (s.too_many ≡ s.tolerance + 1)
+    ghost invariant = { λ s. (s.after ≤ inside_by s.verify s.block_bits) × (s.tolerance ≤ 8) × (s.too_many ≡ s.tolerance + 1)
         × (0 < s.far → (s.far ≡ far_count s.tolerance s.either) × (s.awaited ≡ None) × (s.start + 32 ≤ s.pushed)) };
 }
 
@@ -59,24 +66,27 @@ impl Search {
     /// A search that was given no bits.
     ///
     /// `tolerance` is the most wrong bits, at most 8, with which a marker still matches; `fly` the most places in a row
-    /// that are taken though no marker matches there; `either` says whether inverted markers match too; and
-    /// `block_bits` is the size of a codeblock in bits.
-    pub fn new(tolerance: u8, fly: u8, either: bool, block_bits: u32) -> Search
+    /// that are taken though no marker matches there; `either` says whether inverted markers match too; `block_bits` is
+    /// the size of a codeblock in bits; and `verify` is how many further markers, each right after the codeblock of the
+    /// one before, must match in the same polarity before a place that is searched for is taken.
+    pub fn new(tolerance: u8, fly: u8, either: bool, block_bits: u32, verify: u8) -> Search
         requires { tolerance ≤ 8 }
         ensures rules { result.rules ≡ record {
           tolerance = tolerance;
           fly = fly;
           either = either;
           block_bits = block_bits;
+          verify = verify;
         } }
         ensures inside { inside_of result ≡ None }
-        ensures stands { StandsFor result [] [] }
+        ensures stands { (room : List ℕ) → length room ≡ verify_bits result.rules → StandsFor result room [] [] }
     {
         Search {
             tolerance,
             fly,
             either,
             block_bits,
+            verify,
             word: 0,
             pushed: 0,
             start: 0,
@@ -88,13 +98,22 @@ impl Search {
         }
     }
 
+    /// How many octets its room has: one for each bit of as many codeblocks with their markers as verify a place. The
+    /// room is handed to the calls that write or read it, and to no others; what it holds before the first does not
+    /// matter. Where a place needs no further markers it is empty.
+    pub fn room(&self) -> usize
+        ensures { result ≡ verify_bits self.now.rules }
+    {
+        verified_by(self.verify, self.block_bits) as usize
+    }
+
     /// The search that goes on from these values. None where no search has them: where the tolerance is above 8, or
-    /// more bits follow a marker than a codeblock has.
+    /// more bits follow a marker than a codeblock has, or those with their markers that verify a place.
     pub fn resume(paused: &Paused) -> Option<Search>
         ensures some { IfSome result (λ search. search ≡ resumed paused.now) }
         ensures valid { IsTrue (is_resumable paused.now) ↔ IsSome result }
     {
-        if paused.tolerance > 8 || paused.after > paused.block_bits {
+        if paused.tolerance > 8 || paused.after > most_after(paused.verify, paused.block_bits) {
             return None;
         }
         Some(Search {
@@ -102,6 +121,7 @@ impl Search {
             fly: paused.fly,
             either: paused.either,
             block_bits: paused.block_bits,
+            verify: paused.verify,
             word: paused.word,
             pushed: paused.pushed,
             start: paused.start,
@@ -123,6 +143,7 @@ impl Search {
             fly: self.fly,
             either: self.either,
             block_bits: self.block_bits,
+            verify: self.verify,
             word: self.word,
             pushed: self.pushed,
             start: self.start,
@@ -132,40 +153,45 @@ impl Search {
         }
     }
 
-    /// Takes the next bit of the stream. A codeblock that is whole must have been asked for, by `next`.
+    /// Takes the next bit of the stream. The codeblocks that are whole must have been asked for, by `next`. `room` is the
+    /// search's own, of `room()` octets.
     ///
     /// The bits given in all are to be below 2^63.
-    pub fn push_bit(&mut self, bit: bool)
+    pub fn push_bit(&mut self, room: &mut [u8], bit: bool)
         requires { is_pending self.old ≡ false }
         ensures rules { self.new.rules ≡ self.old.rules }
         ensures more { IfSome (inside_of self.old) (λ count. inside_of self.new ≡ Some (count + 1)) }
-        ensures first { IfNone (inside_of self.old) (unwrap_or (inside_of self.new) 0 ≡ 0) }
-        ensures within { unwrap_or (inside_of self.new) 0 ≤ self.new.rules.block_bits }
+        ensures first { IfNone (inside_of self.old) ((unwrap_or (inside_of self.new) 0 ≡ 0)
+            ⊎ (inside_of self.new ≡ Some (verify_bits self.new.rules))) }
+        ensures within { unwrap_or (inside_of self.new) 0 ≤ most_inside self.new.rules }
+        ensures size { length room.new ≡ length room.old }
         ensures stands { (bits : List Bool) (found : List Found) → length bits < 2 ^ 63
-            → StandsFor self.old bits found → StandsFor self.new (bits ++ bit ∷ []) found }
+            → StandsFor self.old room.old bits found → StandsFor self.new room.new (bits ++ bit ∷ []) found }
     {
+        remember(room, self.pushed, self.word >> 31 == 1);
         self.word = (self.word << 1) | u32::from(bit);
         self.pushed = self.pushed.wrapping_add(1);
         if self.pushed != 0 && is_far(self.word, self.too_many, self.far) {
             return;
         }
         self.far = 0;
-        self.look_closer();
+        self.look_closer(room);
     }
 
     /// Takes the next eight bits of the stream, the most significant bit of `octet` first, as eight calls of `push_bit`
     /// do. No codeblock may be whole before the last of them: the one under way lacks eight bits or more, and where
-    /// none is under way, a codeblock has eight or more.
+    /// none is under way, a codeblock has eight or more, and no further markers verify a place.
     ///
     /// The bits given in all are to be below 2^63.
     pub fn push_octet(&mut self, octet: u8)
         requires fits { unwrap_or (inside_of self.old) 0 + 8 ≤ self.old.rules.block_bits }
+        requires alone { IfNone (inside_of self.old) (self.old.rules.verify ≡ 0) }
         ensures rules { self.new.rules ≡ self.old.rules }
         ensures more { IfSome (inside_of self.old) (λ count. inside_of self.new ≡ Some (count + 8)) }
         ensures first { IfNone (inside_of self.old) (unwrap_or (inside_of self.new) 0 < 8) }
         ensures within { unwrap_or (inside_of self.new) 0 ≤ self.new.rules.block_bits }
-        ensures stands { (bits : List Bool) (found : List Found) → length bits + 8 ≤ 2 ^ 63
-            → StandsFor self.old bits found → StandsFor self.new (bits ++ bits_of_octet octet) found }
+        ensures stands { (room : List ℕ) (bits : List Bool) (found : List Found) → length bits + 8 ≤ 2 ^ 63
+            → StandsFor self.old room bits found → StandsFor self.new room (bits ++ bits_of_octet octet) found }
     {
         match self.awaited {
             Some(_) => self.push_octets(&[octet]),
@@ -182,79 +208,161 @@ impl Search {
         requires fits { unwrap_or (inside_of self.old) 0 + 8 * length octets.now ≤ self.old.rules.block_bits }
         ensures rules { self.new.rules ≡ self.old.rules }
         ensures more { inside_of self.new ≡ Some (unwrap_or (inside_of self.old) 0 + 8 * length octets.now) }
-        ensures stands { (bits : List Bool) (found : List Found) → length bits + 8 * length octets.now ≤ 2 ^ 63
-            → StandsFor self.old bits found → StandsFor self.new (bits ++ bits_of octets.now) found }
+        ensures stands { (room : List ℕ) (bits : List Bool) (found : List Found)
+            → length bits + 8 * length octets.now ≤ 2 ^ 63
+            → StandsFor self.old room bits found → StandsFor self.new room (bits ++ bits_of octets.now) found }
     {
         self.word = last_bits(self.word, octets);
-        let count = 8 * octets.len() as u32;
-        self.pushed = self.pushed.wrapping_add(u64::from(count));
+        let count = 8 * octets.len() as u64;
+        self.pushed = self.pushed.wrapping_add(count);
         self.after += count;
     }
 
     // Takes the bits of an octet one by one.
     fn push_bits(&mut self, octet: u8)
         requires free { inside_of self.old ≡ None }
+        requires alone { self.old.rules.verify ≡ 0 }
         requires fits { 8 ≤ self.old.rules.block_bits }
         ensures rules { self.new.rules ≡ self.old.rules }
         ensures first { unwrap_or (inside_of self.new) 0 < 8 }
-        ensures stands { (bits : List Bool) (found : List Found) → length bits + 8 ≤ 2 ^ 63
-            → StandsFor self.old bits found → StandsFor self.new (bits ++ bits_of_octet octet) found }
+        ensures stands { (room : List ℕ) (bits : List Bool) (found : List Found) → length bits + 8 ≤ 2 ^ 63
+            → StandsFor self.old room bits found → StandsFor self.new room (bits ++ bits_of_octet octet) found }
     {
+        let mut room: [u8; 0] = [];
         let mut left: u32 = 8;
         while left > 0 {
             left -= 1;
-            self.push_bit(octet >> left & 1 == 1);
+            self.push_bit(&mut room, octet >> left & 1 == 1);
         }
     }
 
     // Takes the last bit, which is counted and in the last 32 bits, where they may be a place or one is awaited.
     #[cold]
     #[inline(never)]
-    fn look_closer(&mut self)
+    fn look_closer(&mut self, room: &[u8])
         requires { is_pending self.old ≡ false }
         ensures rules { self.new.rules ≡ self.old.rules }
         ensures more { IfSome (inside_of self.old) (λ count. inside_of self.new ≡ Some (count + 1)) }
-        ensures first { IfNone (inside_of self.old) (unwrap_or (inside_of self.new) 0 ≡ 0) }
-        ensures within { unwrap_or (inside_of self.new) 0 ≤ self.new.rules.block_bits }
-        ensures stands { (s : Searching) (bit : Bool) (bits : List Bool) (found : List Found) → length bits < 2 ^ 63
-            → Counts s self.old bit → StandsFor s bits found → StandsFor self.new (bits ++ bit ∷ []) found }
+        ensures first { IfNone (inside_of self.old) ((unwrap_or (inside_of self.new) 0 ≡ 0)
+            ⊎ (inside_of self.new ≡ Some (verify_bits self.new.rules))) }
+        ensures within { unwrap_or (inside_of self.new) 0 ≤ most_inside self.new.rules }
+        ensures stands { (s : Searching) (was : List ℕ) (bit : Bool) (bits : List Bool) (found : List Found)
+            → length bits < 2 ^ 63 → Counts s self.old bit → Remembers was room.now bits bit
+            → StandsFor s was bits found → StandsFor self.new room.now (bits ++ bit ∷ []) found }
     {
         if self.awaited.is_some() {
             self.after += 1;
             return;
         }
+        let (awaited, after) = self.place_told(room);
+        self.awaited = awaited;
+        self.after = after;
+        self.far = far_while(
+            self.awaited,
+            self.start,
+            self.pushed,
+            self.tolerance,
+            self.either,
+        );
+    }
+
+    // The place that the last bit, which is counted and in the last 32 bits, tells, and the bits after its marker,
+    // where none was awaited.
+    fn place_told(&self, room: &[u8]) -> (Option<Awaited>, u64)
+        ensures first { (result.1 ≡ 0) ⊎ (result.1 ≡ verify_bits self.now.rules) }
+        ensures fresh { IfNone result.0 (result.1 ≡ 0) }
+        ensures stands { (s : Searching) (was : List ℕ) (bit : Bool) (bits : List Bool) (found : List Found)
+            → length bits < 2 ^ 63 → Counts s self.now bit → Remembers was room.now bits bit → s.awaited ≡ None
+            → StandsFor s was bits found
+            → StandsFor (record self.now { awaited = result.0; after = result.1 }) room.now (bits ++ bit ∷ []) found }
+    {
         let since = self.pushed.wrapping_sub(self.start);
-        if since >= 32 {
-            let place = self.pushed.wrapping_sub(32);
-            let before = right_before(since, self.before);
-            self.awaited = place_of(
-                self.word,
-                place,
-                before,
-                self.tolerance,
-                self.fly,
-                self.either,
+        if right_after(since, self.before) {
+            return (
+                place_of(
+                    self.word,
+                    self.pushed.wrapping_sub(32),
+                    self.before,
+                    self.tolerance,
+                    self.fly,
+                    self.either,
+                ),
+                0,
             );
-            self.after = 0;
-            self.far = far_while(
-                self.awaited,
-                self.start,
-                self.pushed,
-                self.tolerance,
-                self.either,
-            );
+        }
+        let lag = verified_by(self.verify, self.block_bits);
+        if since < 32 + lag {
+            return (None, 0);
+        }
+        match self.place_verified(room, lag) {
+            Some(awaited) => (Some(awaited), lag),
+            None => (None, 0),
         }
     }
 
+    // The place `lag` bits before the last 32, where the markers after it verify it.
+    fn place_verified(&self, room: &[u8], lag: u64) -> Option<Awaited>
+        requires { lag ≡ verify_bits self.now.rules }
+        ensures { (bits : List Bool) (from : ℕ) → Recalls self.now room.now bits from → from + 32 + lag ≤ length bits
+            → result ≡ option_map (awaited_at None) (place_by self.now.rules (length bits - (32 + lag)) None
+            (drop (length bits - (32 + lag)) bits)
+            (way_of self.now.rules None (drop (length bits - (32 + lag)) bits))) }
+    {
+        let word = self.word_at(room, lag);
+        let place = self.pushed.wrapping_sub(32 + lag);
+        match place_of(word, place, None, self.tolerance, self.fly, self.either) {
+            Some(awaited) if self.is_verified(room, awaited.found.inverted) => Some(awaited),
+            _ => None,
+        }
+    }
+
+    // Whether the markers up to the last 32 bits match in this polarity.
+    fn is_verified(&self, room: &[u8], inverted: bool) -> bool
+        ensures { (bits : List Bool) (from : ℕ) → Recalls self.now room.now bits from
+            → from + 32 + verify_bits self.now.rules ≤ length bits
+            → result ≡ are_verified self.now.rules inverted self.now.rules.verify
+            (drop (length bits - (32 + verify_bits self.now.rules)) bits) }
+    {
+        let mut left = self.verify;
+        while left > 0 {
+            left -= 1;
+            let word = self.word_at(room, verified_by(left, self.block_bits));
+            match polarity_of(wrong_count(word), self.tolerance, self.either) {
+                Some(way) if way == inverted => {}
+                _ => return false,
+            }
+        }
+        true
+    }
+
+    // The 32 bits that end `back` bits before the last: the last 32, or bits of the room.
+    fn word_at(&self, room: &[u8], back: u64) -> u32
+        ensures { (bits : List Bool) (from : ℕ) → Recalls self.now room.now bits from
+            → (back ≡ 0) ⊎ ((32 ≤ back) × (back ≤ verify_bits self.now.rules)) → from + 32 + back ≤ length bits
+            → result ≡ number_of (take 32 (drop (length bits - (32 + back)) bits)) }
+    {
+        if back == 0 || room.is_empty() {
+            return self.word;
+        }
+        let first = self.pushed.wrapping_sub(32).wrapping_sub(back);
+        let mut word: u32 = 0;
+        for k in 0..32u64 {
+            let at = first.wrapping_add(k) % room.len() as u64;
+            word = (word << 1) | u32::from(room[at as usize]);
+        }
+        word
+    }
+
     /// How many bits were given after the marker of the first place after the last codeblock found, upright, inverted
-    /// or bridged; None where no place stands there yet.
+    /// or bridged; None where no place stands there yet, or further markers that are to verify it were not given. Once
+    /// they are, these may be the bits of several codeblocks.
     pub fn inside(&self) -> Option<u64>
         ensures count { result ≡ inside_of self.now }
-        ensures ahead { (bits : List Bool) (found : List Found) → StandsFor self.now bits found
+        ensures ahead { (room : List ℕ) (bits : List Bool) (found : List Found) → StandsFor self.now room bits found
             → result ≡ inside_ahead self.now.rules bits found }
     {
         match self.awaited {
-            Some(_) => Some(u64::from(self.after)),
+            Some(_) => Some(self.after),
             None => None,
         }
     }
@@ -264,34 +372,46 @@ impl Search {
         ensures { result ≡ is_pending self.now }
     {
         match self.awaited {
-            Some(_) => self.after == self.block_bits,
+            Some(_) => self.after >= u64::from(self.block_bits),
             None => false,
         }
     }
 
-    /// The next place, once its codeblock is whole.
-    pub fn next(&mut self) -> Option<Found>
+    /// The next place, once its codeblock is whole. Of places that were verified together each call gives one. `room` is
+    /// the search's own.
+    pub fn next(&mut self, room: &[u8]) -> Option<Found>
         ensures rules { self.new.rules ≡ self.old.rules }
         ensures pending { IsSome result ↔ IsTrue (is_pending self.old) }
-        ensures free { is_pending self.new ≡ false }
+        ensures free { IfNone result (is_pending self.new ≡ false) }
         ensures unchanged { IfNone result (self.new ≡ self.old) }
-        ensures whole { IfSome result (λ f. (inside_of self.old ≡ Some self.old.rules.block_bits)
-            × (inside_of self.new ≡ None)) }
-        ensures none { IfNone result ((bits : List Bool) (found : List Found) → StandsFor self.old bits found
-            → places self.old.rules bits ≡ found) }
-        ensures some { IfSome result (λ f. (bits : List Bool) (found : List Found) → StandsFor self.old bits found
-            → StandsFor self.new bits (found ++ f ∷ []) × (places self.old.rules bits ≡ found ++ f ∷ [])
-            × (f.place + 32 + self.old.rules.block_bits ≡ length bits)) }
+        ensures whole { IfSome result (λ f. (count : ℕ) × (inside_of self.old ≡ Some count)
+            × (self.old.rules.block_bits ≤ count) × (inside_of self.new ≡ inside_next self.old.rules count)) }
+        ensures none { IfNone result ((bits : List Bool) (found : List Found)
+            → StandsFor self.old room.now bits found → places self.old.rules bits ≡ found) }
+        ensures some { IfSome result (λ f. (bits : List Bool) (found : List Found)
+            → StandsFor self.old room.now bits found
+            → StandsFor self.new room.now bits (found ++ f ∷ [])
+            × ((rest : List Found) × (places self.old.rules bits ≡ found ++ f ∷ rest)
+            × (length rest ≡ waiting_of self.new))
+            × (f.place + 32 + unwrap_or (inside_of self.old) 0 ≡ length bits)) }
     {
         if !self.pending() {
             return None;
         }
         match self.awaited {
             Some(awaited) => {
-                self.awaited = None;
-                self.after = 0;
+                let block = u64::from(self.block_bits);
+                let left = self.after - block;
                 self.before = Some(awaited.next);
-                self.start = self.pushed;
+                self.start = awaited.found.place.wrapping_add(32 + block);
+                if left < 32 {
+                    self.awaited = None;
+                    self.after = 0;
+                    return Some(awaited.found);
+                }
+                let word = self.word_at(room, left - 32);
+                self.awaited = Some(matched(word, self.start, awaited.found.inverted));
+                self.after = left - 32;
                 Some(awaited.found)
             }
             None => None,
@@ -300,13 +420,45 @@ impl Search {
 
     /// The number of bits after the last codeblock that is whole, or of all bits where none is.
     pub fn finish(self) -> u64
-        ensures { (bits : List Bool) (found : List Found) → length bits < 2 ^ 63 → StandsFor self bits found
-            → result ≡ length bits - end_of self.rules (places self.rules bits) }
+        ensures { (room : List ℕ) (bits : List Bool) (found : List Found) → length bits < 2 ^ 63
+            → StandsFor self room bits found → result ≡ length bits - end_of self.rules (places self.rules bits) }
     {
         if self.pending() {
-            return 0;
+            let block = u64::from(self.block_bits);
+            return (self.after - block) % (32 + block);
         }
         self.pushed.wrapping_sub(self.start)
+    }
+}
+
+// The bits of so many codeblocks with their markers.
+fn verified_by(count: u8, block_bits: u32) -> u64
+    ensures value { result ≡ count * (32 + block_bits) }
+    ensures few { result < 2 ^ 42 }
+{
+    u64::from(count) * (32 + u64::from(block_bits))
+}
+
+// The most bits after the marker of a place that was not given yet.
+fn most_after(verify: u8, block_bits: u32) -> u64
+    ensures { result ≡ inside_by verify block_bits }
+{
+    if verify == 0 {
+        return u64::from(block_bits);
+    }
+    verified_by(verify, block_bits)
+}
+
+// Keeps the bit that leaves the last 32, where `pushed` bits were given.
+fn remember(room: &mut [u8], pushed: u64, oldest: bool)
+    ensures size { length room.new ≡ length room.old }
+    ensures remembers { (bits : List Bool) (bit : Bool) → pushed ≡ length bits
+        → (32 ≤ length bits → oldest ≡ slice_index_or bits (length bits - 32) false)
+        → Remembers room.old room.new bits bit }
+{
+    if !room.is_empty() && pushed >= 32 {
+        let at = (pushed - 32) % room.len() as u64;
+        room[at as usize] = u8::from(oldest);
     }
 }
 
@@ -339,20 +491,21 @@ fn far_while(awaited: Option<Awaited>, start: u64, pushed: u64, tolerance: u8, e
 
 // Whether the last 32 bits match in no way.
 fn is_far(word: u32, too_many: u8, far: u8) -> bool
-    ensures { IsTrue result → (0 < far) × ((bits : List Bool) (tolerance : ℕ) (either : Bool) (fly block_bits : ℕ)
-        → tolerance ≤ 8
-        → too_many ≡ tolerance + 1 → far ≡ far_count tolerance either → length bits ≡ 32 → word ≡ number_of bits
-        → match_of (record { tolerance = tolerance; fly = fly; either = either; block_bits = block_bits }) bits
-        ≡ None) }
+    ensures { IsTrue result → (0 < far) × ((rules : Rules) (bits : List Bool) → rules.tolerance ≤ 8
+        → too_many ≡ rules.tolerance + 1 → far ≡ far_count rules.tolerance rules.either → length bits ≡ 32
+        → word ≡ number_of bits → match_of rules bits ≡ None) }
 {
     wrong_count(word).wrapping_sub(too_many) < far
 }
 
-// What ends right before the last 32 bits, where `since` bits follow the last codeblock found.
-fn right_before(since: u64, before: Option<Before>) -> Option<Before>
-    ensures { result ≡ before_last since before }
+// Whether the last 32 bits directly follow a codeblock, where `since` bits were given after its end.
+fn right_after(since: u64, before: Option<Before>) -> bool
+    ensures { result ≡ is_right_after since before }
 {
-    if since == 32 { before } else { None }
+    match before {
+        Some(_) => since == 32,
+        None => false,
+    }
 }
 
 // The number of the last 32 bits that differ from the marker.
@@ -366,13 +519,8 @@ fn wrong_count(word: u32) -> u8
 // The polarity in which 32 bits match of which `wrong` differ from the marker.
 fn polarity_of(wrong: u8, tolerance: u8, either: bool) -> Option<bool>
     requires { wrong ≤ 32 }
-    ensures { (bits : List Bool) (fly block_bits : ℕ) → length bits ≡ 32 → wrong ≡ wrong_bits false bits
-        → result ≡ match_of (record {
-          tolerance = tolerance;
-          fly = fly;
-          either = either;
-          block_bits = block_bits;
-        }) bits }
+    ensures { (rules : Rules) (bits : List Bool) → rules.tolerance ≡ tolerance → rules.either ≡ either
+        → length bits ≡ 32 → wrong ≡ wrong_bits false bits → result ≡ match_of rules bits }
 {
     if wrong <= tolerance {
         return Some(false);
@@ -395,7 +543,26 @@ fn distance_of(wrong: u8, inverted: bool) -> u8
     if inverted { 32 - wrong } else { wrong }
 }
 
-// The place that the last 32 bits are, after `place` others. `before` is what ends right before them.
+// The place after `place` bits whose 32 bits are `word`, which match in this polarity.
+fn matched(word: u32, place: u64, inverted: bool) -> Awaited
+    ensures { (before : Option Before) (bits : List Bool) → length bits ≡ 32 → word ≡ number_of bits
+        → result ≡ awaited_at before (found_at place false inverted bits) }
+{
+    Awaited {
+        found: Found {
+            place,
+            distance: distance_of(wrong_count(word), inverted),
+            bridged: false,
+            inverted,
+        },
+        next: Before {
+            inverted,
+            bridged: 0,
+        },
+    }
+}
+
+// The place that 32 bits are, after `place` others. `before` is what ends right before them.
 fn place_of(
     word: u32,
     place: u64,
@@ -404,30 +571,13 @@ fn place_of(
     fly: u8,
     either: bool,
 ) -> Option<Awaited>
-    ensures { (bits : List Bool) (block_bits : ℕ) → length bits ≡ 32 → word ≡ number_of bits
-        → result ≡ option_map (awaited_at before)
-        (place_by (record {
-          tolerance = tolerance;
-          fly = fly;
-          either = either;
-          block_bits = block_bits;
-        }) place before bits
-        (match_of (record { tolerance = tolerance; fly = fly; either = either; block_bits = block_bits }) bits)) }
+    ensures { (rules : Rules) (bits : List Bool) → rules.tolerance ≡ tolerance → rules.fly ≡ fly
+        → rules.either ≡ either → length bits ≡ 32 → word ≡ number_of bits
+        → result ≡ option_map (awaited_at before) (place_by rules place before bits (match_of rules bits)) }
 {
     let wrong = wrong_count(word);
     match polarity_of(wrong, tolerance, either) {
-        Some(inverted) => Some(Awaited {
-            found: Found {
-                place,
-                distance: distance_of(wrong, inverted),
-                bridged: false,
-                inverted,
-            },
-            next: Before {
-                inverted,
-                bridged: 0,
-            },
-        }),
+        Some(inverted) => Some(matched(word, place, inverted)),
         None => match before {
             Some(before) if before.bridged < fly => Some(Awaited {
                 found: Found {

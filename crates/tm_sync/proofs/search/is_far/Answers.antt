@@ -12,9 +12,9 @@ returns c = λ far.
     let less : gap < c.args.far = grind (arith, nat_tests) in
     let few : wrong ≤ 32 = c.wrong_count.ensures.few in (
       omega arith,
-      λ bits tolerance either fly block_bits most many count long is.
-          let most_far : far_count tolerance either ≤ 32 = at_most tolerance either in
-          match-far _ bits _ most long (c.wrong_count.ensures.upright bits long is) (omega arith) (omega arith),
+      λ rules bits most many count long is.
+          let most_far : far_count rules.tolerance rules.either ≤ 32 = at_most rules.tolerance rules.either in
+          match-far rules bits _ most long (c.wrong_count.ensures.upright bits long is) (omega arith) (omega arith),
     )
   where
     at_most : (tolerance : ℕ) (either : Bool) → far_count tolerance either ≤ 32

@@ -1,16 +1,17 @@
-use Rattle.std.proofs.Common.{sym}
+use Rattle.std.proofs.Common.{sym, ◌∙◌, ◌-◌, arith}
 use Rattle.tm_sync.proofs.Matches.{wrong-inverted, match-upright, match-given, match-inverted, match-none}
 use Rattle.tm_sync.proofs.search.polarity_of.Goals as goal
 
 pub returns-then-wrong-tolerance : goal.returns-then-wrong-tolerance
-returns-then-wrong-tolerance c = λ bits fly block_bits long is. sym (match-upright _ bits _ is c.if-wrong-tolerance.true)
+returns-then-wrong-tolerance c = λ rules bits tolerance either long is. sym (match-upright rules bits c.args.wrong is (omega arith))
 
 pub returns-then-not-either : goal.returns-then-not-either
-returns-then-not-either c = λ bits fly block_bits long is. sym (match-given _ bits _ is c.if-wrong-tolerance.false c.if-not-either.true)
+returns-then-not-either c = λ rules bits tolerance either long is. sym (match-given rules bits c.args.wrong is (omega arith) (either ∙ c.if-not-either.true))
 
 pub returns-then-wrong-tolerance-2 : goal.returns-then-wrong-tolerance-2
-returns-then-wrong-tolerance-2 c = λ bits fly block_bits long is.
-    sym (match-inverted _ bits _ _ is c.if-wrong-tolerance.false c.if-not-either.false (wrong-inverted _ bits long is) c.if-wrong-tolerance-2.true)
+returns-then-wrong-tolerance-2 c = λ rules bits tolerance either long is.
+    sym (match-inverted rules bits c.args.wrong (32 - c.args.wrong) is (omega arith) (either ∙ c.if-not-either.false) (wrong-inverted c.args.wrong bits long is) (omega arith))
 
 pub returns : goal.returns
-returns c = λ bits fly block_bits long is. sym (match-none _ bits _ _ is c.if-wrong-tolerance.false (wrong-inverted _ bits long is) c.if-wrong-tolerance-2.false)
+returns c = λ rules bits tolerance either long is.
+    sym (match-none rules bits c.args.wrong (32 - c.args.wrong) is (omega arith) (wrong-inverted c.args.wrong bits long is) (omega arith))

@@ -1,21 +1,55 @@
-use Rattle.std.proofs.Common.{◌∙◌, sym, refl, ap}
-use Rattle.tm_sync.specs.Searching.{Searching}
-use Rattle.tm_sync.proofs.Given.{told_one, told_all, most_after}
+use Rattle.std.proofs.Common.{◌≡◌, ℕ, ◌≤◌, ◌-◌, ◌⊎◌, ◌∙◌, Some, true, sym, refl, ap, subst, arith}
+use Rattle.tm_sync.specs.Places.{Rules, verify_bits}
+use Rattle.tm_sync.specs.Searching.{Searching, is_pending}
+use Rattle.tm_sync.proofs.Given.{told_last, told_next, told_all, told-fits, most_after, recalls-same}
 use Rattle.tm_sync.proofs.search.Search.next.Goals as goal
 
 pub returns-then-not-pending-clause-none : goal.returns-then-not-pending-clause-none
-returns-then-not-pending-clause-none c bits found h = told_all c.args.self.now (sym c.pending.ensures ∙ c.if-not-pending.true) (most_after c.args.self.now _ c.self.view_is c.self.invariant.0) bits found h
+returns-then-not-pending-clause-none c bits found h = told_all c.args.self.now c.args.room.now (sym c.pending.ensures ∙ c.if-not-pending.true) bits found h
 
-pub returns-in-Some-clause-some : goal.returns-in-Some-clause-some
-returns-in-Some-clause-some c bits found h =
-    let view = sym c.self.view_is in
-    told_one c.args.self.now _ c.in-Some.awaited (sym c.pending.ensures ∙ c.if-not-pending.false) record {
-      awaited_was = ap (λ (s : Searching). s.awaited) view ∙ c.in-Some.is;
-      rules = ap (λ (s : Searching). s.rules) c.self.view_is;
-      word = ap (λ (s : Searching). s.word) c.self.view_is;
-      pushed = ap (λ (s : Searching). s.pushed) c.self.view_is;
-      start = ap (λ (s : Searching). s.pushed) c.self.view_is;
+pub returns-then-left-lt32-clause-some : goal.returns-then-left-lt32-clause-some
+returns-then-left-lt32-clause-some c bits found h =
+    let s = c.args.self.now in
+    let view = c.self.view_is in
+    let m = c.in-Some.awaited in
+    let pending : is_pending s ≡ true = sym c.pending.ensures ∙ c.if-not-pending.false in
+    let was : s.awaited ≡ Some m = ap (λ (v : Searching). v.awaited) (sym view) ∙ c.in-Some.is in
+    let fits = told-fits s c.args.room.now m bits found was pending h in
+    let pushed : c.self.inside.pushed ≡ s.pushed = ap (λ (v : Searching). v.pushed) view in
+    let after : c.self.inside.after ≡ s.after = ap (λ (v : Searching). v.after) view in
+    let block : c.from-block.result ≡ s.rules.block_bits = c.from-block.ensures ∙ ap (λ (v : Searching). v.rules.block_bits) view in
+    told_last s _ c.args.room.now m pending record {
+      awaited_was = was;
+      rules = ap (λ (v : Searching). v.rules) view;
+      word = ap (λ (v : Searching). v.word) view;
+      pushed = pushed;
+      start = omega arith;
       before = refl;
-      awaited_none = refl;
-      after_none = refl;
-    } bits found h
+    } (omega (arith, c.if-left-lt32.true)) refl refl bits found h
+
+pub returns-else-left-lt32-clause-some : goal.returns-else-left-lt32-clause-some
+returns-else-left-lt32-clause-some c bits found h =
+    let s = c.args.self.now in
+    let view = c.self.view_is in
+    let room = c.args.room.now in
+    let m = c.in-Some.awaited in
+    let pending : is_pending s ≡ true = sym c.pending.ensures ∙ c.if-not-pending.false in
+    let was : s.awaited ≡ Some m = ap (λ (v : Searching). v.awaited) (sym view) ∙ c.in-Some.is in
+    let fits = told-fits s room m bits found was pending h in
+    let rules = ap (λ (v : Searching). v.rules) view in
+    let word = ap (λ (v : Searching). v.word) view in
+    let pushed : c.self.inside.pushed ≡ s.pushed = ap (λ (v : Searching). v.pushed) view in
+    let after : c.self.inside.after ≡ s.after = ap (λ (v : Searching). v.after) view in
+    let block : c.from-block.result ≡ s.rules.block_bits = c.from-block.ensures ∙ ap (λ (v : Searching). v.rules.block_bits) view in
+    let since : ℕ = c.self.inside.after - c.from-block.result - 32 in
+    told_next s _ room m c.matched.result c.word_at-word.result pending record {
+      awaited_was = was;
+      rules = rules;
+      word = word;
+      pushed = pushed;
+      start = omega arith;
+      before = refl;
+    } (most_after s _ view c.self.invariant.0) (omega (arith, c.if-left-lt32.false)) refl (omega arith) bits found
+    (λ from r back there. c.word_at-word.ensures bits from (recalls-same s _ room bits from pushed word rules r)
+    (subst (λ (r : Rules). (since ≡ 0) ⊎ ((32 ≤ since) × (since ≤ verify_bits r))) (sym rules) back) there)
+    (λ l size is. c.matched.ensures (Some m.next) l size is) h
