@@ -4,21 +4,21 @@ undisturbed and of disturbed units, and rows that are drawn.
 
     bench/stream_rows.py > rows.txt
 
-A row is "send" or "receive", 21 numbers of a configuration in the order of tmchan_config, octets in hexadecimal ("-": none) that are given, and
-those that have to come: symbols, or frames. Rows that are refused are "check", 21 numbers, and the answer.
+A row is "send" or "receive", 22 numbers of a configuration in the order of tmchan_config, octets in hexadecimal ("-": none) that are given, and
+those that have to come: symbols, or frames. Rows that are refused are "check", 22 numbers, and the answer.
 """
 import re
 from pathlib import Path
 
-NAMES = "code depth length inner invert randomize basis tolerance repair soft start skip workers limit fly keep ahead phase polarity batch pack".split()
+NAMES = "code depth length inner invert randomize basis tolerance repair soft start skip workers limit fly keep ahead phase polarity batch pack verify".split()
 UNSET = 2**64 - 1
 DEFAULTS = dict(code=16, depth=1, length=UNSET, inner=12, invert=UNSET, randomize=1, basis=0, tolerance=0, repair=UNSET, soft=0, start=0, skip=0,
-                workers=1, limit=2**32, fly=0, keep=8192, ahead=256, phase=0, polarity=0, batch=32, pack=1)
+                workers=1, limit=2**32, fly=0, keep=8192, ahead=256, phase=0, polarity=0, batch=32, pack=1, verify=0)
 WORDS = {"code": {"rs16": 16, "rs8": 8, "none": 0}, "inner": {"none": 0, "1/2": 12, "2/3": 23, "3/4": 34, "5/6": 56, "7/8": 78},
          "invert": {"on": 1, "off": 0}, "randomize": {"on": 1, "off": 0}, "basis": {"dual": 0, "poly": 1}, "soft": {"u8": 0, "i8": 1},
          "start": {"zero": 0, "any": 1}, "phase": {"given": 0, "find": 1}, "polarity": {"given": 0, "find": 1}, "pack": {"on": 1, "off": 0}}
 REFUSALS = {word: -16 - k for k, word in enumerate("code depth length inner switch basis tolerance repair soft start skip workers limit fly keep ahead "
-                                                   "phase polarity batch pack".split())}
+                                                   "phase polarity batch pack verify".split())}
 values = {}
 
 

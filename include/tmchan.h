@@ -77,6 +77,7 @@ extern "C" {
 #define TMCHAN_BAD_POLARITY (-33)
 #define TMCHAN_BAD_BATCH (-34)
 #define TMCHAN_BAD_PACK (-35)
+#define TMCHAN_BAD_VERIFY (-36)
 
 /* The version of the library that is linked. */
 uint32_t tmchan_version(void);
@@ -170,6 +171,7 @@ typedef struct {
     uint64_t polarity;  /* the polarity of the bits is given: 0 (default), or to be found: 1 */
     uint64_t batch;     /* how many codeblocks a receiver repairs and hands over at once: 1 to 32 (default) */
     uint64_t pack;      /* with no inner code, eight bits make an octet: 1 (default), or each bit is an octet of its own, as symbols are: 0 */
+    uint64_t verify;    /* how many further markers must match before a place that is searched for is taken, 0 (default) to 7 */
 } tmchan_config;
 
 /* Fills in the defaults. */

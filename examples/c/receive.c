@@ -11,11 +11,11 @@
 
 #include "tmchan.h"
 
-enum { PIECE = 65536, NAMES = 21 };
+enum { PIECE = 65536, NAMES = 22 };
 
 static const char *const names[NAMES] = {"code", "depth", "length", "inner", "invert", "randomize", "basis", "tolerance", "repair", "soft",
                                          "start", "skip", "workers", "limit", "fly", "keep", "ahead", "phase", "polarity",
-                                         "batch", "pack"};
+                                         "batch", "pack", "verify"};
 
 static int64_t show(int64_t count, const uint8_t *frames, const tmchan_report *reports) {
     size_t octets = 0;

@@ -17,7 +17,7 @@ from gnuradio import analog, blocks, gr
 
 LIBRARY = ctypes.CDLL(os.environ.get("LIBTMCHAN", os.path.join(os.path.dirname(__file__), "../../out/libtmchan.so")))
 SIZE, ANSWER = ctypes.c_size_t, ctypes.c_int64
-NAMES = "code depth length inner invert randomize basis tolerance repair soft start skip workers limit fly keep ahead phase polarity batch pack"
+NAMES = "code depth length inner invert randomize basis tolerance repair soft start skip workers limit fly keep ahead phase polarity batch pack verify"
 
 
 class Config(ctypes.Structure):

@@ -9,7 +9,7 @@
 
 #include "tmchan.h"
 
-enum { OPTIONS = 21 };
+enum { OPTIONS = 22 };
 
 static long differing, calls;
 static size_t line_number;

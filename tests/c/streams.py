@@ -7,7 +7,7 @@ import ctypes
 import sys
 
 LIBRARY = ctypes.CDLL(sys.argv[1])
-SIZE, NUMBERS = ctypes.c_size_t, ctypes.c_uint64 * 21
+SIZE, NUMBERS = ctypes.c_size_t, ctypes.c_uint64 * 22
 PIECE = 3000
 for name in ("sender_room", "sender_push", "sender_finish", "decoder_room", "decoder_push", "decoder_finish", "receiver_room",
              "receiver_push", "receiver_finish"):
@@ -51,9 +51,9 @@ def receive(config, given):
 rows = [line.split() for line in sys.stdin]
 wrong = []
 for number, (kind, *words) in enumerate(rows, 1):
-    config = NUMBERS(*map(int, words[:21]))
-    given = [b"" if digits == "-" else bytes.fromhex(digits) for digits in words[21:]] if kind != "check" else None
-    right = (call("config_check", config) == int(words[21]) if kind == "check"
+    config = NUMBERS(*map(int, words[:22]))
+    given = [b"" if digits == "-" else bytes.fromhex(digits) for digits in words[22:]] if kind != "check" else None
+    right = (call("config_check", config) == int(words[22]) if kind == "check"
              else {"send": send, "receive": receive}[kind](config, given[0]) == given[1])
     wrong += [] if right else [number]
 print(f"{len(rows)} rows of streams by ctypes, {len(wrong)} differ", *wrong[:9])

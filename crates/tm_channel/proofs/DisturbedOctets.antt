@@ -37,6 +37,7 @@ accepted = record {
   ahead = omega arith;
   some_batch = omega arith;
   batch = omega arith;
+  verify = omega arith;
 }
 
 pub phase-given : IsChosen link octets None

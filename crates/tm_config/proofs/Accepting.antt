@@ -3,7 +3,7 @@ use Rattle.std.proofs.Common.{◌≡◌, ◌⊎◌, inl, inr, ℕ, ◌*◌, ◌/
 use Rattle.std.proofs.Common.{◌==◌, ◌&&◌, nat_le, unwrap_or, if◌then◌else◌, ◌≢◌}
 use Rattle.std.proofs.lemmas.Bool.Decides.{nat_tests}
 use Rattle.std.proofs.Math.Nat.{mul-div_cancel_left}
-use Rattle.tm_config.specs.Bounds.{longest_codeblock, deepest, most_tolerance, most_skip, most_workers, most_limit, most_fly, least_keep, most_keep, most_ahead, most_batch}
+use Rattle.tm_config.specs.Bounds.{longest_codeblock, deepest, most_tolerance, most_skip, most_workers, most_limit, most_fly, least_keep, most_keep, most_ahead, most_batch, most_verify}
 use Rattle.tm_config.specs.declared.values.Raw.{Raw}
 use Rattle.tm_config.specs.declared.values.OuterCode.{OuterCode}
 use Rattle.tm_config.specs.declared.values.OuterCode.TheVariants.{Rs16, Rs8, Uncoded}
@@ -49,6 +49,7 @@ pub record AllPass (raw : Raw) : Type 0 where
   pub polarity : sought_fits raw.polarity ≡ true
   pub batch : is_within 1 most_batch raw.batch ≡ true
   pub pack : switch_fits raw.pack ≡ true
+  pub verify : nat_le raw.verify most_verify ≡ true
 
 pub all_pass : (raw : Raw) → refusal_of raw ≡ None → AllPass raw
 unfolding refusal_of
@@ -73,6 +74,7 @@ all_pass raw none =
     let p18 = p17.1 in
     let p19 = p18.1 in
     let p20 = p19.1 in
+    let p21 = p20.1 in
     record {
       code = p1.0;
       depth = p2.0;
@@ -94,6 +96,7 @@ all_pass raw none =
       polarity = p18.0;
       batch = p19.0;
       pack = p20.0;
+      verify = p21.0;
     }
 
 within : (least most value : ℕ) → is_within least most value ≡ true → (least ≤ value) × (value ≤ most)
@@ -196,4 +199,5 @@ configuration_is_accepted raw none =
       ahead = at_most raw.ahead most_ahead pass.ahead;
       some_batch = (within 1 most_batch raw.batch pass.batch).0;
       batch = (within 1 most_batch raw.batch pass.batch).1;
+      verify = at_most raw.verify most_verify pass.verify;
     }

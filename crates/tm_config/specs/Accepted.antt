@@ -3,7 +3,7 @@ use Rattle.std.specs.Prelude.{◌≡◌, ℕ, ◌*◌, ◌/◌, ◌%◌, ◌≤�
 use Rattle.std.specs.Prelude.{List, [], ◌∷◌, Option, Some, None, codes, if◌then◌else◌}
 use Rattle.std.specs.List.{list_any}
 use Rattle.tm_config.specs.Bounds.{deepest, most_tolerance, most_skip, most_workers, most_limit}
-use Rattle.tm_config.specs.Bounds.{most_fly, least_keep, most_keep, most_ahead, most_batch}
+use Rattle.tm_config.specs.Bounds.{most_fly, least_keep, most_keep, most_ahead, most_batch, most_verify}
 use Rattle.tm_config.specs.Configuration.{Configuration, data_length, most_data}
 use Rattle.tm_config.specs.Configuration.{correctable, is_uncoded, all_codes, code_of}
 use Rattle.tm_config.specs.Configuration.{number_of_rate, all_rates, number_of_switch, all_switches}
@@ -14,7 +14,7 @@ use Rattle.tm_config.specs.declared.values.OuterCode.TheVariants.{Uncoded}
 use Rattle.tm_config.specs.declared.error.ConfigError.{ConfigError}
 use Rattle.tm_config.specs.declared.error.ConfigError.TheVariants.{Code, Depth, Length, Inner, Switch, Basis, Tolerance}
 use Rattle.tm_config.specs.declared.error.ConfigError.TheVariants.{Repair, Soft, Start, Skip, Workers, Limit, Fly}
-use Rattle.tm_config.specs.declared.error.ConfigError.TheVariants.{Keep, Ahead, Phase, Polarity, Batch, Pack}
+use Rattle.tm_config.specs.declared.error.ConfigError.TheVariants.{Keep, Ahead, Phase, Polarity, Batch, Pack, Verify}
 
 -- each value is within its range; the others are choices, and any of them is accepted
 pub record IsAccepted (c : Configuration) : Type 0 where
@@ -38,6 +38,7 @@ pub record IsAccepted (c : Configuration) : Type 0 where
   pub ahead : c.ahead ≤ most_ahead
   pub some_batch : 1 ≤ c.batch
   pub batch : c.batch ≤ most_batch
+  pub verify : c.verify ≤ most_verify
 
 -- the value is one of a list
 abbrev pub is_listed : ℕ → List ℕ → Bool
@@ -107,6 +108,7 @@ tests raw =
     ∷ (sought_fits raw.polarity, Polarity)
     ∷ (is_within 1 most_batch raw.batch, Batch)
     ∷ (switch_fits raw.pack, Pack)
+    ∷ (nat_le raw.verify most_verify, Verify)
     ∷ []
 
 -- the error of the first test that fails
@@ -141,6 +143,7 @@ name_of Phase = codes "phase"
 name_of Polarity = codes "polarity"
 name_of Batch = codes "batch"
 name_of Pack = codes "pack"
+name_of Verify = codes "verify"
 
 -- their places in the order of the tests
 abbrev pub place_of : ConfigError → ℕ
@@ -164,3 +167,4 @@ place_of Phase = 16
 place_of Polarity = 17
 place_of Batch = 18
 place_of Pack = 19
+place_of Verify = 20

@@ -46,3 +46,7 @@ most_ahead = 4096
 -- the most codeblocks that are repaired at once
 abbrev pub most_batch : ℕ
 most_batch = 32
+
+-- the most further markers that must match before a place that is searched for is taken
+abbrev pub most_verify : ℕ
+most_verify = 7

@@ -47,6 +47,7 @@ default_raw = record {
   polarity = 0;
   batch = 32;
   pack = 1;
+  verify = 0;
 }
 
 -- the first of these values that has the number, or another where none has
@@ -178,6 +179,7 @@ configuration_of raw = record {
   polarity = sought_of raw.polarity;
   batch = raw.batch;
   pack = is_on raw.pack;
+  verify = raw.verify;
 }
 
 -- each choice has the number that was given for it

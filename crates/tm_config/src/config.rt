@@ -43,7 +43,7 @@ impl Config {
     /// - `Inner`: 0, 12, 23, 34, 56 or 78. `Switch`: `invert` `None`, 0 or 1, and `randomize` 0 or 1. `Basis`: 0 or 1.
     /// - `Tolerance`: 0 to 8. `Repair`: `None`, or 0 to E. `Soft`, `Start`: 0 or 1. `Skip`: 0 to 15.
     /// - `Workers`: 1 to 64. `Limit`: 1 to 2^40. `Fly`: 0 to 15. `Keep`: 64 to 65,536. `Ahead`: 0 to 4,096.
-    /// - `Phase`, `Polarity`: 0 or 1. `Batch`: 1 to 32. `Pack`: 0 or 1.
+    /// - `Phase`, `Polarity`: 0 or 1. `Batch`: 1 to 32. `Pack`: 0 or 1. `Verify`: 0 to 7.
     pub fn check(raw: &Raw) -> Result<Config, ConfigError>
         ensures ok { OnOk result (refusal_of raw.now ≡ None) }
         ensures config { IfOk result (λ config. config ≡ configuration_of raw.now) }
@@ -266,6 +266,14 @@ impl Config {
     {
         number_of_switch(self.values.pack)
     }
+
+    /// How many further markers must match before a place that is searched for is taken.
+    pub fn verify(&self) -> u64
+        ensures value { result ≡ self.now.verify }
+        ensures accepted { IsAccepted self.now }
+    {
+        self.values.verify
+    }
 }
 
 // The values, with those that were not given.
@@ -296,5 +304,6 @@ fn resolved(raw: &Raw) -> Values
         polarity: sought_of(raw.polarity),
         batch: raw.batch,
         pack: is_on(raw.pack),
+        verify: raw.verify,
     }
 }

@@ -28,6 +28,7 @@ pub enum ConfigError {
     Polarity,
     Batch,
     Pack,
+    Verify,
 }
 
 impl ConfigError {
@@ -57,6 +58,7 @@ impl ConfigError {
             ConfigError::Polarity => "polarity",
             ConfigError::Batch => "batch",
             ConfigError::Pack => "pack",
+            ConfigError::Verify => "verify",
         }
     }
 

@@ -33,6 +33,8 @@ pub const MOST_AHEAD: u64 = 4096;
 
 pub const MOST_BATCH: u64 = 32;
 
+pub const MOST_VERIFY: u64 = 7;
+
 // The most data octets of a codeword, or of a frame where there is no code.
 fn most_data(code: OuterCode) -> u64
     ensures { result ≡ most_data code }
@@ -151,6 +153,7 @@ pub fn refusal(raw: &Raw) -> Option<ConfigError>
         (is_choice(raw.polarity), ConfigError::Polarity),
         (is_within(1, MOST_BATCH, raw.batch), ConfigError::Batch),
         (is_choice(raw.pack), ConfigError::Pack),
+        (raw.verify <= MOST_VERIFY, ConfigError::Verify),
     ])
 }
 

@@ -51,6 +51,8 @@ pub struct Raw {
     pub batch: u64,
     /// Whether eight bits make an octet where there is no inner code (1), or each bit is an octet of its own (0).
     pub pack: u64,
+    /// How many further markers must match before a place that is searched for is taken: up to 7.
+    pub verify: u64,
 }
 
 /// The values that hold where an option is not given.
@@ -80,6 +82,7 @@ impl Default for Raw {
             polarity: 0,
             batch: 32,
             pack: 1,
+            verify: 0,
         }
     }
 }
@@ -151,6 +154,8 @@ pub struct Values {
     pub batch: u64,
     /// Whether eight bits make an octet where there is no inner code.
     pub pack: bool,
+    /// How many further markers must match before a place that is searched for is taken.
+    pub verify: u64,
 }
 
 impl OuterCode {

@@ -32,10 +32,11 @@ static LINES: [(&str, Raw); 2] = [
             polarity: 0,
             batch: 32,
             pack: 1,
+            verify: 0,
         },
     ),
     (
-        "tmchan encode --code rs8 --depth 4 --length 956 --inner 7/8 --invert off --randomize off --basis poly --tolerance 8 --repair 7 --soft i8 --start any --skip 15 --workers 64 --limit 1099511627776 --fly 14 --keep 65536 --ahead 4096 --phase find --polarity find --batch 7 --pack off",
+        "tmchan encode --code rs8 --depth 4 --length 956 --inner 7/8 --invert off --randomize off --basis poly --tolerance 8 --repair 7 --soft i8 --start any --skip 15 --workers 64 --limit 1099511627776 --fly 14 --keep 65536 --ahead 4096 --phase find --polarity find --batch 7 --pack off --verify 6",
         Raw {
             code: 8,
             depth: 4,
@@ -58,6 +59,7 @@ static LINES: [(&str, Raw); 2] = [
             polarity: 1,
             batch: 7,
             pack: 0,
+            verify: 6,
         },
     ),
 ];

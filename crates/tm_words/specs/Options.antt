@@ -73,6 +73,7 @@ options =
     ∷ (codes "polarity", sought_words)
     ∷ (codes "batch", [])
     ∷ (codes "pack", switch_words)
+    ∷ (codes "verify", [])
     ∷ []
 
 -- the options that `soak` has besides
@@ -119,4 +120,5 @@ raw_of rows = record {
   polarity = unwrap_or (number_given (codes "polarity") rows) default_raw.polarity;
   batch = unwrap_or (number_given (codes "batch") rows) default_raw.batch;
   pack = unwrap_or (number_given (codes "pack") rows) default_raw.pack;
+  verify = unwrap_or (number_given (codes "verify") rows) default_raw.verify;
 }

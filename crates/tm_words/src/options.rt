@@ -13,7 +13,7 @@ const NO_NUMBER: u64 = u64::MAX;
 pub type OptionRow<'a> = (&'a str, &'a [(&'a str, u64)]);
 
 // The options of every command.
-pub static OPTIONS: [OptionRow<'static>; 21] = [
+pub static OPTIONS: [OptionRow<'static>; 22] = [
     ("code", &[("rs16", 16), ("rs8", 8), ("none", 0)]),
     ("depth", &[]),
     ("length", &[]),
@@ -45,6 +45,7 @@ pub static OPTIONS: [OptionRow<'static>; 21] = [
     ("polarity", &[("given", 0), ("find", 1)]),
     ("batch", &[]),
     ("pack", &[("on", 1), ("off", 0)]),
+    ("verify", &[]),
 ];
 
 // The options that `soak` has besides.
@@ -169,5 +170,6 @@ pub fn raw(matches: &ArgMatches) -> Raw
         polarity: number_or(matches, "polarity", default.polarity),
         batch: number_or(matches, "batch", default.batch),
         pack: number_or(matches, "pack", default.pack),
+        verify: number_or(matches, "verify", default.verify),
     }
 }

@@ -43,7 +43,8 @@ phase=2 polarity=2|phase\n\
 polarity=2 batch=0|polarity\n\
 batch=0|batch\n\
 batch=33 pack=2|batch\n\
-pack=2|pack\n";
+pack=2 verify=8|pack\n\
+verify=8|verify\n";
 
 fn check_refused(rt: &impl Abort, alloc: Global) -> Result<(), AllocError> {
     for row in REFUSED.lines() {
@@ -62,7 +63,7 @@ fn check_refused(rt: &impl Abort, alloc: Global) -> Result<(), AllocError> {
 
 #[test]
 fn refuses_the_first_value_out_of_range(rt: HostRuntime) -> Result<(), Fail> {
-    assert_eq!(rt; REFUSED.lines().count(), 30);
+    assert_eq!(rt; REFUSED.lines().count(), 31);
     check_refused(&rt, rt.alloc())?;
     Ok(())
 }
@@ -140,6 +141,7 @@ fn tells_each_value(rt: HostRuntime) {
         polarity: 1,
         batch: 31,
         pack: 0,
+        verify: 7,
     };
     match Config::check(&raw) {
         Ok(config) => {
@@ -172,8 +174,14 @@ fn tells_each_value(rt: HostRuntime) {
                 [1, 1, 15, 64]
             );
             assert_eq!(rt;
-                [config.limit(), config.fly(), config.batch(), config.pack()],
-                [1_099_511_627_776, 15, 31, 0]
+                [
+                    config.limit(),
+                    config.fly(),
+                    config.batch(),
+                    config.pack(),
+                    config.verify()
+                ],
+                [1_099_511_627_776, 15, 31, 0, 7]
             );
             assert_eq!(rt;
                 [

@@ -36,6 +36,7 @@ fn with(raw: Raw, name: &str, number: u64) -> Option<Raw> {
         "polarity" => raw.polarity = number,
         "batch" => raw.batch = number,
         "pack" => raw.pack = number,
+        "verify" => raw.verify = number,
         _ => return None,
     }
     Some(raw)

@@ -31,6 +31,7 @@ raw_of options = record {
   polarity = options.polarity;
   batch = options.batch;
   pack = options.pack;
+  verify = options.verify;
 }
 
 -- the configuration that they give

@@ -35,6 +35,7 @@ pub struct Options {
     pub polarity: u64,
     pub batch: u64,
     pub pack: u64,
+    pub verify: u64,
 }
 
 /// Fills in the values that hold where an option is not given.
@@ -65,6 +66,7 @@ pub extern "C" fn tmchan_config_defaults(options: &mut Options)
         polarity: raw.polarity,
         batch: raw.batch,
         pack: raw.pack,
+        verify: raw.verify,
     };
 }
 
@@ -135,5 +137,6 @@ pub fn raw(options: &Options) -> Raw
         polarity: options.polarity,
         batch: options.batch,
         pack: options.pack,
+        verify: options.verify,
     }
 }

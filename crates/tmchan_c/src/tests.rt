@@ -92,6 +92,7 @@ fn frames_are_sent_and_received_after_handles(rt: HostRuntime) {
         polarity: 0,
         batch: 0,
         pack: 0,
+        verify: 0,
     };
     assert_eq!(rt; tmchan_config_check(&options), -17);
     tmchan_config_defaults(&mut options);
