@@ -19,6 +19,7 @@ rules_of c = record {
   fly = c.fly;
   either = is_sought c.polarity;
   block_bits = 8 * codeblock_length c;
+  verify = c.verify;
 }
 
 -- octets with the randomizer taken off, where it is on
