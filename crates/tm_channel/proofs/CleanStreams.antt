@@ -1,7 +1,10 @@
 -- The items of frames that were sent with no gap and not disturbed.
-use Rattle.std.proofs.Common.{◌≡◌, ◌+◌, ◌*◌, ℕ, Bool, true, false, cond, List, [], ◌∷◌, ◌++◌, length, map, refl, sym, ap, ◌∙◌, subst, arith, append_assoc}
+use Rattle.std.proofs.Common.{◌≡◌, ◌<◌, ◌≤◌, ◌⊎◌, ◌+◌, ◌*◌, ℕ, Bool, true, false, cond, nat_le, List, [], ◌∷◌, ◌++◌, length, map, refl, sym, ap, ◌∙◌, subst, arith, append_assoc, inl, inr}
 use Rattle.std.specs.Prelude.{replicate}
 use Rattle.std.specs.List.{AllByRecursion, range_with_len}
+use Rattle.std.proofs.lemmas.Bool.{cases_lt}
+use Rattle.std.proofs.lemmas.Bool.Decides.{nat_tests}
+use Rattle.std.proofs.lemmas.List.{length-map}
 use Rattle.std.proofs.lemmas.List.FromFn.{length-map-range_with_len}
 use Rattle.tm_base.specs.Bits.{bits_of}
 use Rattle.tm_base.specs.Marker.{marker}
@@ -16,11 +19,11 @@ use Rattle.tm_sync.specs.Bits.{marker_bits}
 use Rattle.tm_sync.specs.Places.{places}
 use Rattle.tm_sync.specs.Marked.{Entry, joined, IsMarked, clean_entries, clean_places}
 use Rattle.tm_sync.proofs.MarkedStreams.{places-marked}
-use Rattle.tm_sync.proofs.CleanStreams.{clean-marked, places-clean}
+use Rattle.tm_sync.proofs.CleanStreams.{clean-marked, places-clean, places-too_few}
 use Rattle.tm_codeblock.specs.Cadu.{codeblock_of, sent_codeblock, cadu}
 use Rattle.tm_codeblock.specs.ReceivedCodeblock.{rules_of, received_column, received_columns}
-use Rattle.tm_channel.specs.Items.{ItemValue, AreItems}
-use Rattle.tm_channel.specs.SentStream.{IsFrame, SentUnit, entries_of, IsSent, unit_places, sent_columns, AreRepaired, AreWithin, IsNear, IsAsSent, AreAsSent, sent_bits, clean_answers, clean_items}
+use Rattle.tm_channel.specs.Items.{ItemValue, AreItems, AreItemsOf}
+use Rattle.tm_channel.specs.SentStream.{IsFrame, SentUnit, entries_of, IsSent, unit_places, sent_columns, AreRepaired, AreWithin, IsNear, IsAsSent, AreAsSent, sent_bits, clean_answers, clean_items, found_frames}
 use Rattle.tm_channel.proofs.SentCodeblocks.{length-sent_codeblock, received-as_sent}
 use Rattle.tm_channel.proofs.Repairs.{items-as_sent}
 
@@ -61,23 +64,35 @@ units-are_frames : (c : Configuration) (frames : List (List ℕ)) → AllByRecur
 units-are_frames c [] are = tt
 units-are_frames c (frame ∷ frames) are = (are.0, units-are_frames c frames are.1)
 
-marked : (c : Configuration) (frames : List (List ℕ)) → IsAccepted c → AllByRecursion (IsFrame c) frames
+-- there are frames enough to verify the first
+enough : (c : Configuration) (frames : List (List ℕ)) → c.verify < length frames → (blocks_of c frames ≡ []) ⊎ ((rules_of c).verify < length (blocks_of c frames))
+enough c frames many = inr (omega (arith, many, length-map frames (sent_block c)))
+
+marked : (c : Configuration) (frames : List (List ℕ)) → IsAccepted c → AllByRecursion (IsFrame c) frames → c.verify < length frames
     → IsMarked (rules_of c) (sent_bits c frames) (entries_of (clean_units c frames)) []
-marked c frames ok are =
+marked c frames ok are many =
     subst (λ (es : List Entry). IsMarked (rules_of c) (sent_bits c frames) es []) (entries-are c frames)
     (subst (λ (bits : List Bool). IsMarked (rules_of c) bits (clean_entries (blocks_of c frames)) []) (sym (bits-are c frames))
-    (clean-marked (rules_of c) (blocks_of c frames) (blocks-sized c frames ok are)))
+    (clean-marked (rules_of c) (blocks_of c frames) (blocks-sized c frames ok are) (enough c frames many)))
 
 -- the bits of frames are a stream of their units
-pub sent-clean : (c : Configuration) (frames : List (List ℕ)) → IsAccepted c → AllByRecursion (IsFrame c) frames → IsSent c (sent_bits c frames) (clean_units c frames) []
-sent-clean c frames ok are = record { marked = marked c frames ok are; frames = units-are_frames c frames are }
+sent-clean : (c : Configuration) (frames : List (List ℕ)) → IsAccepted c → AllByRecursion (IsFrame c) frames → c.verify < length frames
+    → IsSent c (sent_bits c frames) (clean_units c frames) []
+sent-clean c frames ok are many = record { marked = marked c frames ok are many; frames = units-are_frames c frames are }
 
-places-are : (c : Configuration) (frames : List (List ℕ)) → IsAccepted c → AllByRecursion (IsFrame c) frames
+places-are : (c : Configuration) (frames : List (List ℕ)) → IsAccepted c → AllByRecursion (IsFrame c) frames → c.verify < length frames
     → unit_places c (clean_units c frames) ≡ clean_places (8 * codeblock_length c) 0 (blocks_of c frames)
-places-are c frames ok are =
-    sym (places-marked (rules_of c) (sent_bits c frames) (entries_of (clean_units c frames)) [] (marked c frames ok are))
+places-are c frames ok are many =
+    sym (places-marked (rules_of c) (sent_bits c frames) (entries_of (clean_units c frames)) [] (marked c frames ok are many))
     ∙ ap (places (rules_of c)) (bits-are c frames)
-    ∙ places-clean (rules_of c) (blocks_of c frames) (blocks-sized c frames ok are)
+    ∙ places-clean (rules_of c) (blocks_of c frames) (blocks-sized c frames ok are) (enough c frames many)
+
+-- of fewer none is found
+places-none : (c : Configuration) (frames : List (List ℕ)) → IsAccepted c → AllByRecursion (IsFrame c) frames → length frames ≤ c.verify
+    → places (rules_of c) (sent_bits c frames) ≡ []
+places-none c frames ok are few =
+    ap (places (rules_of c)) (bits-are c frames)
+    ∙ places-too_few (rules_of c) (blocks_of c frames) (blocks-sized c frames ok are) (omega (arith, few, length-map frames (sent_block c)))
 
 -- ---- one item
 
@@ -123,10 +138,28 @@ clean-from c at (frame ∷ frames) [] ok are sent = absurd sent
 clean-from c at (frame ∷ frames) (item ∷ items) ok are sent =
     (λ i. clean-one c at frame item ok are.0 sent.0 i ∷ clean-from c (at + 32 + 8 * codeblock_length c) frames items ok are.1 sent.1 i)
 
--- the items of frames that were sent are these frames
+-- no places have no items
+no-items : (c : Configuration) (bits : List Bool) (items : List ItemValue) → AreItemsOf c bits [] items → items ≡ []
+no-items c bits [] are = refl
+no-items c bits (item ∷ items) are = absurd are
+
+-- the items of frames that were sent are those of the frames that are found
 pub items-clean : (c : Configuration) (frames : List (List ℕ)) (items : List ItemValue) → IsAccepted c → AllByRecursion (IsFrame c) frames
-    → AreItems c (sent_bits c frames) items → items ≡ clean_items c 0 frames
-items-clean c frames items ok are its =
-    clean-from c 0 frames items ok are
-    (subst (λ (fs : List Found). AreAsSent c fs (clean_units c frames) items) (places-are c frames ok are)
-    (items-as_sent c (sent_bits c frames) (clean_units c frames) [] items ok (sent-clean c frames ok are) its))
+    → AreItems c (sent_bits c frames) items → items ≡ clean_items c 0 (found_frames c frames)
+items-clean c frames items ok are its = elim (cases_lt c.verify (length frames)) as (λ _. items ≡ clean_items c 0 (found_frames c frames)) [
+  | inl many ↦ (
+      let more : nat_le (length frames) c.verify ≡ false = grind (arith, nat_tests) in
+      let all : found_frames c frames ≡ frames = ap (λ t. cond t [] frames) more in
+      clean-from c 0 frames items ok are
+      (subst (λ (fs : List Found). AreAsSent c fs (clean_units c frames) items) (places-are c frames ok are many)
+      (items-as_sent c (sent_bits c frames) (clean_units c frames) [] items ok (sent-clean c frames ok are many) its))
+      ∙ ap (clean_items c 0) (sym all)
+      )
+  | inr few ↦ (
+      let fewer : nat_le (length frames) c.verify ≡ true = grind (arith, nat_tests) in
+      let none : found_frames c frames ≡ [] = ap (λ t. cond t [] frames) fewer in
+      no-items c (sent_bits c frames) items
+      (subst (λ (fs : List Found). AreItemsOf c (sent_bits c frames) fs items) (places-none c frames ok are few) its)
+      ∙ ap (clean_items c 0) (sym none)
+      )
+]

@@ -30,7 +30,7 @@ use Rattle.tm_codeblock.specs.Frames.{whole_frames}
 use Rattle.tm_channel.specs.Sent.{cadus, sent}
 use Rattle.tm_channel.specs.Items.{ItemValue, AreItems, complemented_item}
 use Rattle.tm_channel.specs.Receive.{Receive}
-use Rattle.tm_channel.specs.SentStream.{sent_bits, clean_items}
+use Rattle.tm_channel.specs.SentStream.{sent_bits, clean_items, found_frames}
 use Rattle.tm_channel.proofs.Polarity.{items-complemented}
 use Rattle.tm_channel.proofs.CleanStreams.{items-clean}
 use Rattle.tm_channel.proofs.ReceivedOctets.{are_frames, bits-sent}
@@ -155,7 +155,7 @@ all-twice (item ∷ items) = (λ i. twice-complemented item i ∷ all-twice item
 
 pub received-half_complemented : ComplementedBlocks → (c : Configuration) (octets : List ℕ) (items : List ItemValue)
     → IsAccepted c → c.inner ≡ Some R12 → c.polarity ≡ Find → c.start ≡ Any → c.skip ≡ 0 → AreOctets octets
-    → Receive c 0 (complemented_octets (sent c octets)) items → items ≡ map complemented_item (clean_items c 0 (whole_frames c.frame_length octets))
+    → Receive c 0 (complemented_octets (sent c octets)) items → items ≡ map complemented_item (clean_items c 0 (found_frames c (whole_frames c.frame_length octets)))
 received-half_complemented complemented c octets items ok half find any none small r =
     let frames = whole_frames c.frame_length octets in
     let bits : r.bits ≡ complement (sent_bits c (whole_frames c.frame_length octets)) =

@@ -1,5 +1,5 @@
 -- The octets of disturbed units meet what is asked of them.
-use Rattle.std.proofs.Common.{◌≡◌, ◌<◌, ℕ, zero, suc, Bool, true, false, List, [], ◌∷◌, replicate, None, refl, sym, ap, subst, arith, inl, inr}
+use Rattle.std.proofs.Common.{◌≡◌, ◌<◌, ℕ, zero, suc, Bool, true, false, List, [], ◌∷◌, replicate, Option, None, Some, refl, sym, ap, subst, arith, inl, inr}
 use Rattle.std.proofs.lemmas.List.Elements.{All-cons, All-nil}
 use Rattle.tm_base.specs.Bits.{bits_of, low_bits}
 use Rattle.tm_config.specs.Accepted.{IsAccepted}
@@ -9,7 +9,8 @@ use Rattle.tm_rs_code.specs.Code.{AreElements, IsSystematic, root}
 use Rattle.tm_rs_code.proofs.Register.{value_at-zeros}
 use Rattle.tm_rs_code.proofs.Systematic.{systematic_only}
 use Rattle.tm_sync.specs.Bits.{complement, marker_bits}
-use Rattle.tm_sync.specs.Places.{match_of, wrong_bits}
+use Rattle.tm_sync.specs.declared.found.Before.{Before}
+use Rattle.tm_sync.specs.Places.{match_of, are_verified, wrong_bits}
 use Rattle.tm_sync.specs.Marked.{Entry, joined, HasNoMarker, IsMarked}
 use Rattle.tm_codeblock.specs.Cadu.{coded_octets, codeblock_of}
 use Rattle.tm_codeblock.specs.ReceivedCodeblock.{rules_of, codeblock_in, received_columns}
@@ -48,32 +49,32 @@ inner-bits = record { blocks = []; left = 0; are_blocks = (refl, refl); are_bits
 
 -- ---- the units
 
-no-gap : (bits : List Bool) → HasNoMarker (rules_of link) [] bits
-no-gap bits q below = absurd (omega arith)
+no-gap : (before : Option Before) (bits : List Bool) → HasNoMarker (rules_of link) before [] bits
+no-gap before bits q below = absurd (omega arith)
 
 inverted_entry : Entry
 inverted_entry = record { gap = true ∷ []; marker = complement marker_bits; block = replicate 136 true }
 
-one-gap : HasNoMarker (rules_of link) (true ∷ []) (joined (inverted_entry ∷ []) last)
+one-gap : (before : Before) → HasNoMarker (rules_of link) (Some before) (true ∷ []) (joined (inverted_entry ∷ []) last)
 unfolding inverted_entry match_of wrong_bits low_bits
-one-gap zero below room = refl
-one-gap (suc q) below room = absurd (omega (arith, below))
+one-gap before zero below room = refl
+one-gap before (suc q) below room = absurd (omega (arith, below))
 
-last-gap : HasNoMarker (rules_of link) last last
-last-gap q below room = absurd (omega (arith, room))
+last-gap : (before : Option Before) → HasNoMarker (rules_of link) before last last
+last-gap before q below room = absurd (omega (arith, room))
 
 marked : IsMarked (rules_of link) (bits_of octets) (entries_of units) last
-unfolding inverted_entry match_of wrong_bits low_bits
+unfolding inverted_entry match_of are_verified wrong_bits low_bits
 marked = record {
   parts = refl;
   are_entries = (
-    record { marker = refl; block = refl; gap = no-gap (joined (entries_of units) last); waits = tt; bridged = tt },
+    record { marker = refl; block = refl; gap = no-gap None (joined (entries_of units) last); waits = tt; bridged = tt; verified = refl },
     (
-      record { marker = refl; block = refl; gap = λ q below. absurd (omega (arith, below)); waits = tt; bridged = (refl, omega arith) },
+      record { marker = refl; block = refl; gap = λ q below. absurd (omega (arith, below)); waits = tt; bridged = (refl, omega arith); verified = refl },
       (
-        record { marker = refl; block = refl; gap = one-gap; waits = inl (omega arith); bridged = tt },
+        record { marker = refl; block = refl; gap = one-gap _; waits = inl (omega arith); bridged = tt; verified = refl },
         (
-          last-gap,
+          last-gap _,
           inr (omega arith),
         ),
       ),

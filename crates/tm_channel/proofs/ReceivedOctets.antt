@@ -14,7 +14,7 @@ use Rattle.tm_codeblock.proofs.Frames.{splits}
 use Rattle.tm_channel.specs.Sent.{cadus, sent}
 use Rattle.tm_channel.specs.Items.{ItemValue, AreItems, frames_of}
 use Rattle.tm_channel.specs.Receive.{Receive}
-use Rattle.tm_channel.specs.SentStream.{IsFrame, SentUnit, IsSent, unit_places, AreAsSent, AreNear, unit_frames, sent_bits, clean_items}
+use Rattle.tm_channel.specs.SentStream.{IsFrame, SentUnit, IsSent, unit_places, AreAsSent, AreNear, unit_frames, sent_bits, clean_items, found_frames}
 use Rattle.tm_channel.proofs.Repairs.{items-as_sent, frames-sent}
 use Rattle.tm_channel.proofs.CleanStreams.{items-clean}
 use Rattle.tm_channel.proofs.OnlyItems.{items-only}
@@ -70,7 +70,7 @@ pub bits-sent : (c : Configuration) (octets : List ℕ) → bits_of (cadus c oct
 bits-sent c octets = bits-of_cadus c (whole_frames c.frame_length octets)
 
 pub received-clean : CleanBits → (c : Configuration) (octets : List ℕ) (items : List ItemValue) → IsAccepted c → c.skip ≡ 0 → IsStartKnown c → AreOctets octets
-    → Receive c 0 (sent c octets) items → items ≡ clean_items c 0 (whole_frames c.frame_length octets)
+    → Receive c 0 (sent c octets) items → items ≡ clean_items c 0 (found_frames c (whole_frames c.frame_length octets))
 received-clean clean c octets items ok none known small r =
     items-clean c (whole_frames c.frame_length octets) items ok (are_frames c octets ok small)
     (subst (λ (l : List Bool). AreItems c l items) (clean c (cadus c octets) r.bits ok none known r.inner ∙ bits-sent c octets) r.are_items)

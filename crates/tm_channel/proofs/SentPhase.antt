@@ -32,7 +32,7 @@ use Rattle.tm_channel.specs.Sent.{cadus, sent, sent_phase}
 use Rattle.tm_channel.specs.Items.{ItemValue}
 use Rattle.tm_channel.specs.Handing.{AreReceived}
 use Rattle.tm_channel.specs.Receive.{Receive}
-use Rattle.tm_channel.specs.SentStream.{clean_items}
+use Rattle.tm_channel.specs.SentStream.{clean_items, found_frames}
 
 -- no more steps are compared than were sent
 sent-steps : (rate : Rate) (invert : Bool) (window register steps : ℕ) (bits : List ℕ) → AreCompared rate window (sure (path rate invert 0 register bits)) steps → steps ≤ length bits
@@ -179,12 +179,12 @@ sent-skip c = go (is_sought c.phase)
 
 -- the phase, where it is to be found, and then the items of the whole frames
 pub handed-clean : HasBest → ((c : Configuration) (octets : List ℕ) (items : List ItemValue) → IsAccepted c → c.skip ≡ 0 → IsStartKnown c → AreOctets octets
-    → Receive c 0 (sent c octets) items → items ≡ clean_items c 0 (whole_frames c.frame_length octets))
+    → Receive c 0 (sent c octets) items → items ≡ clean_items c 0 (found_frames c (whole_frames c.frame_length octets)))
     → (c : Configuration) (octets : List ℕ) (handed : List (Handed ItemValue)) (bits : ℕ) → IsAccepted c → c.skip ≡ 0 → IsStartKnown c → AreOctets octets
-    → AreReceived c (sent c octets) handed bits → handed ≡ with_phase (sent_phase c) (clean_items c 0 (whole_frames c.frame_length octets))
+    → AreReceived c (sent c octets) handed bits → handed ≡ with_phase (sent_phase c) (clean_items c 0 (found_frames c (whole_frames c.frame_length octets)))
 handed-clean best clean c octets handed bits ok none start small r =
     let chosen : r.chosen ≡ sent_phase c = phase-sent best c octets r.chosen none r.choice in
     let inner : Inner c 0 (sent c octets) r.are_items.0 = subst (λ (n : ℕ). Inner c n (sent c octets) r.are_items.0) (ap skip_of chosen ∙ sent-skip c) r.are_items.1 in
-    let items : r.items ≡ clean_items c 0 (whole_frames c.frame_length octets) =
+    let items : r.items ≡ clean_items c 0 (found_frames c (whole_frames c.frame_length octets)) =
     clean c octets r.items ok none start small (record { bits = r.are_items.0; inner = inner; are_items = r.are_items.3 }) in
     r.are ∙ ap (λ (o : Option Chosen). with_phase o r.items) chosen ∙ ap (with_phase (sent_phase c)) items

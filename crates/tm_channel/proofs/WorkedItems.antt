@@ -19,7 +19,7 @@ use Rattle.tm_rs_code.proofs.DistanceLaw.{same_of_distance}
 use Rattle.tm_rs_code.proofs.Numbers.{AreElements-replicate}
 use Rattle.tm_rs_code.proofs.Register.{value_at-zeros}
 use Rattle.tm_rs_solve.specs.declared.answers.Answer.TheVariants.{Fixed, Beyond}
-use Rattle.tm_sync.specs.Places.{wrong_bits, match_of, place_at, places_from}
+use Rattle.tm_sync.specs.Places.{wrong_bits, match_of, are_verified, place_at, places_from}
 use Rattle.tm_codeblock.specs.ReceivedCodeblock.{codeblock_in, received_columns, frame_of}
 use Rattle.tm_channel.specs.Items.{AreItems}
 use Rattle.tm_channel.specs.SentStream.{IsSent}
@@ -50,19 +50,19 @@ interleaved_two = record coded { depth = 2; frame_length = 4 }
 row_bridged : AreItems bare (bits_of (0x1A ∷ 0xCF ∷ 0xFC ∷ 0x1D ∷ 0x7B ∷ 0x1A ∷ 0xCF ∷ 0xFC ∷ 0x1E ∷ 0x01 ∷ []))
     (record { found = record { place = 0; distance = 0; bridged = false; inverted = false }; answers = []; frame = 0x7B ∷ [] }
     ∷ record { found = record { place = 40; distance = 2; bridged = true; inverted = false }; answers = []; frame = 0x01 ∷ [] } ∷ [])
-unfolding low_bits wrong_bits match_of place_at places_from codeblock_in received_columns frame_of
+unfolding low_bits wrong_bits match_of are_verified place_at places_from codeblock_in received_columns frame_of
 row_bridged = (record { place = refl; words = []; nearest = tt; frame = refl }, (record { place = refl; words = []; nearest = tt; frame = refl }, tt))
 
 -- an inverted marker, where either polarity is taken: the codeblock is complemented
 row_inverted : AreItems (record bare { polarity = Find }) (bits_of (0xE5 ∷ 0x30 ∷ 0x03 ∷ 0xE2 ∷ 0x84 ∷ []))
     (record { found = record { place = 0; distance = 0; bridged = false; inverted = true }; answers = []; frame = 0x7B ∷ [] } ∷ [])
-unfolding low_bits wrong_bits match_of place_at places_from codeblock_in received_columns frame_of
+unfolding low_bits wrong_bits match_of are_verified place_at places_from codeblock_in received_columns frame_of
 row_inverted = (record { place = refl; words = []; nearest = tt; frame = refl }, tt)
 
 -- the randomizer's first octet is FF
 row_randomized : AreItems (record bare { randomize = true }) (bits_of (0x1A ∷ 0xCF ∷ 0xFC ∷ 0x1D ∷ 0x84 ∷ []))
     (record { found = record { place = 0; distance = 0; bridged = false; inverted = false }; answers = []; frame = 0x7B ∷ [] } ∷ [])
-unfolding low_bits wrong_bits match_of place_at places_from codeblock_in received_columns frame_of sequence_bit xor
+unfolding low_bits wrong_bits match_of are_verified place_at places_from codeblock_in received_columns frame_of sequence_bit xor
 row_randomized = (record { place = refl; words = []; nearest = tt; frame = refl }, tt)
 
 -- ---- with an outer code
@@ -74,7 +74,7 @@ zeros = record { size = refl; elements = AreElements-replicate 33; codeword = λ
 -- one wrong symbol is repaired, and the frame is that of the codeword
 row_fixed : AreItems coded (bits_of (0x1A ∷ 0xCF ∷ 0xFC ∷ 0x1D ∷ 0x07 ∷ replicate 32 0))
     (record { found = record { place = 0; distance = 0; bridged = false; inverted = false }; answers = Fixed 1 ∷ []; frame = 0 ∷ [] } ∷ [])
-unfolding low_bits wrong_bits match_of place_at places_from codeblock_in received_columns frame_of
+unfolding low_bits wrong_bits match_of are_verified place_at places_from codeblock_in received_columns frame_of
 row_fixed = (record { place = refl; words = replicate 33 0 ∷ []; nearest = ((zeros, refl, omega arith), tt); frame = refl }, tt)
 
 -- a word that is no codeword
@@ -98,7 +98,7 @@ off-beyond c is = elim (cases_eq (distance c off) 0) [
 -- with nothing repaired it is reported, and there is no frame
 row_beyond : AreItems (record coded { repair = 0 }) (bits_of (0x1A ∷ 0xCF ∷ 0xFC ∷ 0x1D ∷ replicate 32 0 ++ 7 ∷ []))
     (record { found = record { place = 0; distance = 0; bridged = false; inverted = false }; answers = Beyond ∷ []; frame = [] } ∷ [])
-unfolding low_bits wrong_bits match_of place_at places_from codeblock_in received_columns frame_of off
+unfolding low_bits wrong_bits match_of are_verified place_at places_from codeblock_in received_columns frame_of off
 row_beyond = (record { place = refl; words = [] ∷ []; nearest = (off-beyond, tt); frame = refl }, tt)
 
 -- ---- columns and frames
@@ -124,14 +124,14 @@ row_sent : IsSent bare (bits_of (0x1A ∷ 0xCF ∷ 0xFC ∷ 0x1D ∷ 0x7B ∷ 0x
     (record { received = record { gap = []; marker = bits_of (0x1A ∷ 0xCF ∷ 0xFC ∷ 0x1D ∷ []); block = bits_of (0x7B ∷ []) }; frame = 0x7B ∷ [] }
     ∷ record { received = record { gap = []; marker = bits_of (0x1A ∷ 0xCF ∷ 0xFC ∷ 0x1E ∷ []); block = bits_of (0x03 ∷ []) }; frame = 0x01 ∷ [] } ∷ [])
     (false ∷ true ∷ false ∷ [])
-unfolding low_bits wrong_bits match_of
+unfolding low_bits wrong_bits match_of are_verified
 row_sent = record {
   marked = record {
     parts = refl;
     are_entries = (
-      record { marker = refl; block = refl; gap = λ q within. absurd (omega arith); waits = tt; bridged = tt },
+      record { marker = refl; block = refl; gap = λ q within. absurd (omega arith); waits = tt; bridged = tt; verified = refl },
       (
-        record { marker = refl; block = refl; gap = λ q within. absurd (omega arith); waits = tt; bridged = (refl, omega arith) },
+        record { marker = refl; block = refl; gap = λ q within. absurd (omega arith); waits = tt; bridged = (refl, omega arith); verified = refl },
         (λ q within room. absurd (omega arith), inl (omega arith)),
       ),
     );

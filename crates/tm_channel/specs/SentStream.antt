@@ -1,6 +1,6 @@
 -- Bits in which channel access data units were sent, with gaps and disturbance, and the items that
 -- they come to.
-use Rattle.std.specs.Prelude.{◌≡◌, ℕ, ◌+◌, ◌*◌, ◌≤◌, Bool, false, if◌then◌else◌, List, [], ◌∷◌, ◌++◌, length, map, None, replicate}
+use Rattle.std.specs.Prelude.{◌≡◌, ℕ, ◌+◌, ◌*◌, ◌≤◌, Bool, false, if◌then◌else◌, nat_le, List, [], ◌∷◌, ◌++◌, length, map, None, replicate}
 use Rattle.std.specs.List.{AllByRecursion}
 use Rattle.tm_base.specs.Bits.{AreOctets, bits_of}
 use Rattle.tm_config.specs.Configuration.{Configuration, codeblock_length, is_uncoded}
@@ -111,3 +111,8 @@ clean_items c at (frame ∷ frames) = record {
   answers = clean_answers c;
   frame = frame;
 } ∷ clean_items c (at + 32 + 8 * codeblock_length c) frames
+
+-- the frames that are found of these where they are sent so: none of 1 up to as many as further
+-- markers are to verify the first
+abbrev pub found_frames : Configuration → List (List ℕ) → List (List ℕ)
+found_frames c frames = if nat_le (length frames) c.verify then [] else frames

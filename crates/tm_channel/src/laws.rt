@@ -18,7 +18,7 @@ ghost use Rattle.tm_channel.specs.Sent.{sent, sent_phase};
 ghost use Rattle.tm_channel.specs.Items.{ItemValue, frames_of, complemented_item};
 ghost use Rattle.tm_channel.specs.Handing.{AreReceived, AreReceivedDue, AreReceivedFirst, AreReceivedPrefix};
 ghost use Rattle.tm_channel.specs.Receive.{Receive, ReceiveDue, ReceiveFirst, ReceivePrefix};
-ghost use Rattle.tm_channel.specs.SentStream.{AreAsSent, AreNear, AreWithin, IsSent, SentUnit, clean_items, sent_columns, unit_frames, unit_places};
+ghost use Rattle.tm_channel.specs.SentStream.{AreAsSent, AreNear, AreWithin, IsSent, SentUnit, clean_items, found_frames, sent_columns, unit_frames, unit_places};
 ghost use Rattle.tm_channel.specs.Disturbed as disturbed;
 
 use tm_conv::{best_path_law, complement_law};
@@ -127,13 +127,13 @@ pub fn disturbed_octets_law()
 {}
 
 /// The items of what is sent for octets, where none is skipped, nothing was disturbed and it is known where the first
-/// path starts: the whole frames of the octets, in order and with nothing wrong. Their frames joined are these. Where
-/// the phase is to be found none of the octets is skipped, at no cost, and it is handed over before the items. It does
-/// nothing.
+/// path starts: the whole frames of the octets, in order and with nothing wrong; but none where there are no more of
+/// them than further markers are to verify the first. Their frames joined are these. Where the phase is to be found
+/// none of the octets is skipped, at no cost, and it is handed over before the items. It does nothing.
 pub fn clean_law()
     ensures items { (c : Configuration) (octets : List ℕ) (items : List ItemValue) → IsAccepted c → c.skip ≡ 0
-        → IsStartKnown c → AreOctets octets
-        → Receive c 0 (sent c octets) items → items ≡ clean_items c 0 (whole_frames c.frame_length octets) }
+        → IsStartKnown c → AreOctets octets → Receive c 0 (sent c octets) items
+        → items ≡ clean_items c 0 (found_frames c (whole_frames c.frame_length octets)) }
     ensures frames { (c : Configuration) (at : ℕ) (frames : List (List ℕ))
         → frames_of (clean_items c at frames) ≡ concat frames }
     ensures phase { (c : Configuration) (octets : List ℕ) (chosen : Option Chosen) → c.skip ≡ 0
@@ -141,7 +141,8 @@ pub fn clean_law()
     ensures handed { (c : Configuration) (octets : List ℕ) (handed : List (Handed ItemValue)) (bits : ℕ) → IsAccepted c
         → c.skip ≡ 0 → IsStartKnown c → AreOctets octets
         → AreReceived c (sent c octets) handed bits
-        → handed ≡ with_phase (sent_phase c) (clean_items c 0 (whole_frames c.frame_length octets)) }
+        → handed ≡ with_phase (sent_phase c)
+        (clean_items c 0 (found_frames c (whole_frames c.frame_length octets))) }
 {
     clean_inner_law();
     best_path_law();
@@ -158,7 +159,7 @@ pub fn polarity_law()
     ensures half_rate { (c : Configuration) (octets : List ℕ) (items : List ItemValue) → IsAccepted c
         → c.inner ≡ Some R12 → c.polarity ≡ Find → c.start ≡ Any → c.skip ≡ 0 → AreOctets octets
         → Receive c 0 (complemented_octets (sent c octets)) items
-        → items ≡ map complemented_item (clean_items c 0 (whole_frames c.frame_length octets)) }
+        → items ≡ map complemented_item (clean_items c 0 (found_frames c (whole_frames c.frame_length octets))) }
     ensures phase { (c : Configuration) (octets : List ℕ) (chosen : Option Chosen) → c.skip ≡ 0
         → IsChosen c (complemented_octets (sent c octets)) chosen → chosen ≡ sent_phase c }
 {
