@@ -1,12 +1,11 @@
 -- Bits of octets between two places.
-use Rattle.std.proofs.Common.{◌≡◌, ℕ, zero, suc, ◌+◌, ◌-◌, ◌*◌, ◌/◌, ◌%◌, ◌<◌, ◌≤◌, ◌==◌, Bool, List, [], ◌∷◌, ◌++◌, length, take, drop, map, min, get_or, refl, sym, ap, ◌∙◌, subst, arith, length-drop, take-append-drop, inl, inr}
+use Rattle.std.proofs.Common.{◌≡◌, ℕ, zero, suc, ◌+◌, ◌-◌, ◌*◌, ◌/◌, ◌%◌, ◌<◌, ◌≤◌, ◌==◌, List, [], ◌∷◌, ◌++◌, length, take, drop, map, min, get_or, refl, sym, ap, ◌∙◌, arith, length-drop, take-append-drop, inl, inr}
 use Rattle.std.proofs.lemmas.List.{take_all, drop_all, drop-map, drop-append-le, take-append-le, length-map}
 use Rattle.std.proofs.lemmas.Bool.{cases_lt}
 use Rattle.std.proofs.Math.Seq.{take-add}
 use Rattle.tm_base.specs.Bits.{bits_of, bits_of_octet}
 use Rattle.tm_base.proofs.Packing.{length-low_bits, length-bits_of, bits_of-take, bits_of-drop}
-use Rattle.tm_channel.specs.Receiving.{GoesOn, bits_between}
-use Rattle.tm_channel.proofs.Pieces.{goes-then}
+use Rattle.tm_channel.specs.Receiving.{bits_between}
 
 drop-twice : {A : Type 0} (a b : ℕ) (xs : List A) → drop b (drop a xs) ≡ drop (a + b) xs
 drop-twice zero b xs = (let same : b ≡ 0 + b = omega arith in ap (λ n. drop n xs) same)
@@ -124,11 +123,3 @@ drop-most skip octets = elim (cases_lt (8 * length octets) skip) as
       | inr least ↦ (let same : min skip (8 * length octets) ≡ skip = omega (arith, least)
           in ap (λ n. drop n (bits_of octets)) same)
     ]
-
--- ---- what goes on
-pub goes-between : (Stood Stands Ends : List Bool → Type 0) (from at to : ℕ) (octets : List ℕ) → from ≤ at → at ≤ to
-    → GoesOn Stood Stands (bits_between from at octets) → GoesOn Stands Ends (bits_between at to octets)
-    → GoesOn Stood Ends (bits_between from to octets)
-goes-between Stood Stands Ends from at to octets first second goes more =
-    subst (GoesOn Stood Ends) (between-joined from at to octets first second)
-    (goes-then Stood Stands Ends (bits_between from at octets) (bits_between at to octets) goes more)

@@ -17,7 +17,9 @@ pub mod HandedItems
 pub mod Handing
 pub mod Batches
 pub mod Streaming
+pub mod Recalled
 pub mod Stepping
+pub mod Settling
 pub mod Pieces
 pub mod Between
 pub mod AllBits

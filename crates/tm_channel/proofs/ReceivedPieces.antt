@@ -1,20 +1,18 @@
 -- The bits of one block after another are received.
-use Rattle.std.proofs.Common.{◌≡◌, ◌==◌, ◌<◌, ◌^◌, ℕ, Bool, List, [], ◌++◌, length, take, map, refl, sym, ap, ◌∙◌, subst}
+use Rattle.std.proofs.Common.{◌≡◌, ◌==◌, ◌<◌, ◌^◌, ℕ, Bool, List, [], ◌++◌, length, map, refl, sym, ap, ◌∙◌, subst}
 use Rattle.std.proofs.lemmas.List.{append-nil, map-append}
 use Rattle.std.proofs.Math.Seq.{drop-length}
 use Rattle.tm_base.specs.Takers.{HandedOver, HandedPart}
 use Rattle.tm_base.proofs.Handing.{HandedOver-append, HandedPart-after}
 use Rattle.tm_config.specs.Configuration.{Configuration}
 use Rattle.tm_sync.specs.declared.found.Found.{Found}
-use Rattle.tm_sync.specs.Searching.{Searching, StandsFor as SearchStandsFor}
 use Rattle.tm_viterbi.specs.WindowBlock.{WindowBlock}
 use Rattle.tm_viterbi.specs.Clean.{kept_bits}
 use Rattle.tm_inner.proofs.DueBits.{kept-append}
 use Rattle.tm_channel.specs.Items.{ItemValue, AreItemsOf}
 use Rattle.tm_channel.specs.Due.{due, due_count}
-use Rattle.tm_channel.specs.Receiving.{beyond, AreDue, AreFirstDue, AreFirstFurther, AreFurther, AreItemsFor, Batching, GoesOn, Holding, Holds, IsHanded, Stands}
-use Rattle.tm_channel.specs.OctetReceiving.{BitReceiving, StandsForBits, Received, ReceivedPart}
-use Rattle.tm_channel.proofs.Streaming.{turn-broke, turn-items, turn-stands}
+use Rattle.tm_channel.specs.Receiving.{beyond, AreDue, AreFirstDue, AreFirstFurther, AreFurther, Holds, HoldsMore}
+use Rattle.tm_channel.specs.OctetReceiving.{BitReceiving, StandsForBits, Received, ReceivedPart, Settles, SettlesPart}
 use Rattle.tm_channel.proofs.Pieces.{goes-then, due-then, first-due-then, first-due-all}
 
 -- no bits
@@ -28,69 +26,41 @@ received-none took s taker = record {
       (sym (ap (λ (l : List Bool). beyond (due s.batch.config bits) (due s.batch.config l)) (append-nil bits) ∙ drop-length (due s.batch.config bits))) tt;
 }
 
--- the same search and batch, of which other codeblocks are kept
-stands-same : (s s' : Searching) (b b' : Batching) (bits : List Bool) → s' ≡ s → b'.config ≡ b.config → b'.part ≡ b.part
-    → Holding b.config (SearchStandsFor s) b.part b'.kept (due_count b.config bits) bits
-    → Stands s' b' bits
-stands-same s s' b b' bits same config part h =
-    subst (λ (v : Searching). Holding b'.config (SearchStandsFor v) b'.part b'.kept
-    (due_count b'.config bits) bits)
-    (sym same)
-    (subst (λ (l : List Bool). Holding b'.config (SearchStandsFor s) l b'.kept
-    (due_count b'.config bits) bits)
-    (sym part)
-    (subst (λ (c : Configuration). Holding c (SearchStandsFor s) b.part b'.kept
-    (due_count c bits) bits)
-    (sym config) h))
+-- bits were given to a receiver, of which its search was told nothing
+abbrev pub Pushes : BitReceiving → BitReceiving → List Bool → Type 0
+Pushes a b piece = (handed : ℕ) (bits : List Bool) → length (bits ++ piece) < 2 ^ 63 → Holds a.search a.room a.batch handed bits
+    → HoldsMore b.search b.room b.batch handed bits piece
 
--- what a search and a batch hold once bits were taken, where they stood before
-held-then : (a b : BitReceiving) (piece bits : List Bool) → b.batch.config ≡ a.batch.config
-    → ((handed : ℕ) → GoesOn (Holds a.search a.batch handed) (Holds b.search b.batch handed) piece)
+held-then : (a b : BitReceiving) (piece bits : List Bool) → b.batch.config ≡ a.batch.config → Pushes a b piece
     → length (bits ++ piece) < 2 ^ 63 → StandsForBits a bits
-    → Holds b.search b.batch (due_count b.batch.config bits) (bits ++ piece)
-held-then a b piece bits config goes few stood =
-    subst (λ (c : Configuration). Holds b.search b.batch (due_count c bits)
-    (bits ++ piece)) (sym config)
-    (goes (due_count a.batch.config bits) bits few stood)
+    → HoldsMore b.search b.room b.batch (due_count b.batch.config bits) bits piece
+held-then a b piece bits config pushes few stood =
+    subst (λ (c : Configuration). HoldsMore b.search b.room b.batch (due_count c bits) bits piece) (sym config)
+    (pushes (due_count a.batch.config bits) bits few stood)
 
--- bits were taken, and then the batch was handed over where it is full
-pub received-turn : {T : Type 0} (took : T → ItemValue → T
-    → Type 0) (a b c : BitReceiving) (taker now : T) (piece : List Bool)
-    (items : List ItemValue) → b.batch.config ≡ a.batch.config
-    → ((handed : ℕ) → GoesOn (Holds a.search a.batch handed) (Holds b.search b.batch handed) piece)
-    → c.search ≡ b.search → c.batch.config ≡ b.batch.config → c.batch.part ≡ b.batch.part
-    → IsHanded b.batch.config b.batch.kept c.batch.kept items → HandedOver took taker items now
-    → Received took a c taker now piece
-received-turn took a b c taker now piece items config goes same_search same_config same_part is handed = record {
-  config = same_config ∙ config;
-  stands = λ bits few stood. stands-same b.search c.search b.batch c.batch (bits ++ piece) same_search same_config
-      same_part
-      (turn-stands b.batch.config (SearchStandsFor b.search) b.batch.part b.batch.kept c.batch.kept bits (bits ++ piece)
-      items
-      (held-then a b piece bits config goes few stood) is);
+-- and then the codeblocks that are whole with them were kept, and each batch that was full was handed over
+pub received-turn : {T : Type 0} (took : T → ItemValue → T → Type 0) (a b c : BitReceiving) (taker now : T) (piece : List Bool) (items : List ItemValue)
+    → b.batch.config ≡ a.batch.config → Pushes a b piece → c.batch.config ≡ b.batch.config
+    → Settles b c items → HandedOver took taker items now → Received took a c taker now piece
+received-turn took a b c taker now piece items config pushes same settles handed = record {
+  config = same ∙ config;
+  stands = λ bits few stood. (settles bits piece few (held-then a b piece bits config pushes few stood)).0;
   items = items;
   handed = handed;
-  due = λ bits few stood. subst (λ (c : Configuration). AreFurther c bits piece items) config
-      (turn-items b.batch.config (SearchStandsFor b.search) b.batch.part b.batch.kept c.batch.kept bits (bits ++ piece)
-      items
-      (held-then a b piece bits config goes few stood) is);
+  due = λ bits few stood. subst (λ (k : Configuration). AreFurther k bits piece items) config
+      (settles bits piece few (held-then a b piece bits config pushes few stood)).1;
 }
 
--- bits were taken, and at an item of the batch, which is full, the taker failed
-pub part-turn : {T : Type 0} (took broke : T → ItemValue → T
-    → Type 0) (a b c : BitReceiving) (taker now : T) (piece : List Bool)
-    (count : ℕ) (items : List ItemValue) → b.batch.config ≡ a.batch.config
-    → ((handed : ℕ) → GoesOn (Holds a.search a.batch handed) (Holds b.search b.batch handed) piece)
-    → c.batch.config ≡ b.batch.config → length b.batch.kept ≡ b.batch.config.batch
-    → AreItemsFor b.batch.config (take count b.batch.kept) items
-    → HandedPart took broke taker items now → ReceivedPart took broke a c taker now piece
-part-turn took broke a b c taker now piece count items config goes same_config many are handed = record {
-  config = same_config ∙ config;
-  tried = items;
+-- at an item of which the taker failed
+pub part-turn : {T : Type 0} (took broke : T → ItemValue → T → Type 0) (a b c : BitReceiving) (taker now : T) (piece : List Bool) (tried : List ItemValue)
+    → b.batch.config ≡ a.batch.config → Pushes a b piece → c.batch.config ≡ b.batch.config
+    → SettlesPart b tried → HandedPart took broke taker tried now → ReceivedPart took broke a c taker now piece
+part-turn took broke a b c taker now piece tried config pushes same settles handed = record {
+  config = same ∙ config;
+  tried = tried;
   handed = handed;
-  first = λ bits few stood. subst (λ (c : Configuration). AreFirstFurther c bits piece items) config
-      (turn-broke b.batch.config (SearchStandsFor b.search) b.batch.part b.batch.kept bits (bits ++ piece) count items
-      (held-then a b piece bits config goes few stood) many are);
+  first = λ bits few stood. subst (λ (k : Configuration). AreFirstFurther k bits piece tried) config
+      (settles bits piece few (held-then a b piece bits config pushes few stood));
 }
 
 -- bits, and then others

@@ -41,10 +41,10 @@ few-places count left begun more size all some few = elim (cases_lt count left) 
   | inr many ↦ absurd (omega (arith, all, some, few, mul-le-mul_right size many))
 ]
 
-pub spare-due : (s : Searching) (b : Batching) (bits more : List Bool) → s.rules ≡ rules_of b.config → Stands s b bits
+pub spare-due : (s : Searching) (room : List ℕ) (b : Batching) (bits more : List Bool) → s.rules ≡ rules_of b.config → Stands s room b bits
     → length more ≤ waiting_bits b.config (b.config.batch - length b.kept) - 1 - begun_of s → due b.config (bits ++ more) ≡ due b.config bits
-spare-due s b bits [] same stood few = ap (due b.config) (append-nil bits)
-spare-due s b bits (bit ∷ rest) same stood few =
+spare-due s room b bits [] same stood few = ap (due b.config) (append-nil bits)
+spare-due s room b bits (bit ∷ rest) same stood few =
     let c = b.config in
     let rules = rules_of c in
     let more = bit ∷ rest in
@@ -57,7 +57,7 @@ spare-due s b bits (bit ∷ rest) same stood few =
     let most : length longer ≡ length all + length further = ap length goes_on ∙ length-append all further in
     let size : ℕ = 32 + rules.block_bits in
     let told : length longer * size ≤ length all * size + begun_of s + length more =
-    subst (λ (r : Rules). length (places r (bits ++ more)) * (32 + r.block_bits) ≤ length all * (32 + r.block_bits) + begun_of s + length more) same (told-few s bits more all stood.search) in
+    subst (λ (r : Rules). length (places r (bits ++ more)) * (32 + r.block_bits) ≤ length all * (32 + r.block_bits) + begun_of s + length more) same (told-few s room bits more all stood.search) in
     let less : length further < c.batch - length b.kept =
     few-places (length further) (c.batch - length b.kept) (begun_of s) (length more) size (omega (arith, told, ap (λ n. n * size) most)) (omega arith) (omega (arith, few, waiting-most c (c.batch - length b.kept))) in
     let still : due_count c (bits ++ more) ≡ count = not_full c.batch (length all) (length longer) (omega (arith, stood.within, most)) (omega (arith, less, waiting, most, stood.within)) in

@@ -1,18 +1,17 @@
 -- What a receiver keeps and has handed over, one bit on.
-use Rattle.std.proofs.Common.{◌≡◌, ℕ, zero, suc, ◌+◌, ◌-◌, ◌<◌, ◌≤◌, Bool, List, [], ◌∷◌, ◌++◌, length, take, drop, map, refl, sym, ap, ◌∙◌, subst, arith, append_assoc, length-append, length-drop, take-append-drop, Option, None, Some, unwrap_or, inl, inr}
+use Rattle.std.proofs.Common.{◌≡◌, ℕ, zero, suc, ◌+◌, ◌-◌, ◌<◌, ◌≤◌, Bool, List, [], ◌∷◌, ◌++◌, length, take, drop, map, refl, sym, ap, ◌∙◌, subst, arith, append_assoc, length-append, length-drop, take-append-drop, None, inl, inr}
 use Rattle.std.specs.List.{AllByRecursion}
-use Rattle.std.proofs.lemmas.List.{length-map, take-append-le, drop-append-le, drop_at, append-nil, map-append}
+use Rattle.std.proofs.lemmas.List.{length-map, length-take-le, nil_from_length, take-append-le, drop-append-le, drop_at, append-nil, map-append}
 use Rattle.std.proofs.Math.Seq.{drop-length, drop-nil, take-length, drop-append_seam}
 use Rattle.tm_sync.specs.declared.found.Found.{Found}
 use Rattle.tm_sync.specs.Places.{places}
-use Rattle.tm_sync.specs.Searching.{Searching, StandsFor, inside_of}
 use Rattle.tm_sync.proofs.Steps.{places_from-nil}
 use Rattle.tm_sync.proofs.Longer.{EndBefore, places-end, places-append}
 use Rattle.tm_config.specs.Configuration.{Configuration}
 use Rattle.tm_codeblock.specs.ReceivedCodeblock.{rules_of, codeblock_at}
 use Rattle.tm_channel.specs.Items.{ItemValue, IsItem, AreItemsOf, AreFirstItemsOf}
-use Rattle.tm_channel.specs.Due.{in_batches, due_count, due}
-use Rattle.tm_channel.specs.Receiving.{Kept, kept_of, kept_at, beyond, AreItemsFor, Holding, HoldingMore, IsHanded}
+use Rattle.tm_channel.specs.Due.{in_batches, due_count, due_count_of, due_of, due}
+use Rattle.tm_channel.specs.Receiving.{Kept, kept_of, kept_at, beyond, AreItemsFor, Holding, IsHanded}
 use Rattle.tm_channel.proofs.Batches.{batches-le, batches-more, full, length-due, not_full}
 
 -- ---- codeblocks stay as the bits go on
@@ -33,7 +32,7 @@ drop-all P (suc count) [] all = tt
 drop-all P (suc count) (x ∷ xs) all = drop-all P count xs all.1
 
 -- a codeblock that ends with the bits
-kept-last : (c : Configuration) (bits prefix part : List Bool) (f : Found) → bits ≡ prefix ++ part → length part ≡ (rules_of c).block_bits → f.place + 32 + (rules_of c).block_bits ≡ length bits
+pub kept-last : (c : Configuration) (bits prefix part : List Bool) (f : Found) → bits ≡ prefix ++ part → length part ≡ (rules_of c).block_bits → f.place + 32 + (rules_of c).block_bits ≡ length bits
     → kept_at c bits f ≡ kept_of c f part
 kept-last c bits prefix part f parts size ends =
     let long : length prefix ≡ f.place + 32 = omega (arith, ap length parts, length-append prefix part) in
@@ -56,61 +55,47 @@ take-map' f (suc count) [] = refl
 take-map' f (suc count) (x ∷ xs) = ap (λ l. f x ∷ l) (take-map' f count xs)
 
 -- the codeblocks that wait stay as the bits go on
-kept-longer : (c : Configuration) (stands : List Bool → List Found → Type 0) (part : List Bool) (kept : List Kept)
-    (handed : ℕ) (bits more : List Bool)
-    → Holding c stands part kept handed bits
-    → kept ≡ map (kept_at c (bits ++ more)) (drop handed (places (rules_of c) bits))
-kept-longer c stands part kept handed bits more h =
-    h.waiting ∙ sym (kept-same c bits more (drop handed (places (rules_of c) bits))
+kept-longer : (c : Configuration) (bits more : List Bool) (handed : ℕ)
+    → map (kept_at c (bits ++ more)) (drop handed (places (rules_of c) bits)) ≡ map (kept_at c bits) (drop handed (places (rules_of c) bits))
+kept-longer c bits more handed =
+    kept-same c bits more (drop handed (places (rules_of c) bits))
     (drop-all (λ (f : Found). f.place + 32 + (rules_of c).block_bits ≤ length bits) handed (places (rules_of c) bits)
-    (places-end (rules_of c) bits)))
+    (places-end (rules_of c) bits))
 
--- ---- one bit on
--- no codeblock is whole with this bit
-pub stands-none : (c : Configuration) (stands stands' : List Bool → List Found
-    → Type 0) (part part' : List Bool) (kept : List Kept)
-    (handed : ℕ) (bits more longer : List Bool)
-    → Holding c stands part kept handed bits → places (rules_of c) (bits ++ more) ≡ places (rules_of c) bits
-    → stands' (bits ++ more) (places (rules_of c) bits)
-    → bits ++ more ≡ longer ++ part' → Holding c stands' part' kept handed (bits ++ more)
-stands-none c stands stands' part part' kept handed bits more longer h same now parts = record {
-  search = subst (λ (fs : List Found). stands' (bits ++ more) fs) (sym same) now;
-  within = subst (λ (fs : List Found). handed ≤ length fs) (sym same) h.within;
-  waiting = kept-longer c stands part kept handed bits more h
-      ∙ ap (λ (fs : List Found). map (kept_at c (bits ++ more)) (drop handed fs)) (sym same);
-  prefix = longer;
-  parts = parts;
-}
-
--- a codeblock is whole with the last of these bits
-pub record Whole (c : Configuration) (bits more : List Bool) (part : List Bool) (f : Found) : Type 0 where
-  pub longer : places (rules_of c) (bits ++ more) ≡ places (rules_of c) bits ++ f ∷ []
-  pub ends : f.place + 32 + (rules_of c).block_bits ≡ length (bits ++ more)
-  pub prefix : List Bool
-  pub parts : bits ++ more ≡ prefix ++ part
-  pub size : length part ≡ (rules_of c).block_bits
-
--- it is kept
-pub stands-kept : (c : Configuration) (stands stands' : List Bool → List Found → Type 0) (old part now : List Bool)
-    (kept kept' : List Kept) (handed : ℕ) (bits more : List Bool) (f : Found)
-    → Holding c stands old kept handed bits → Whole c bits more part f → kept' ≡ kept ++ kept_of c f part ∷ []
-    → now ≡ [] → stands' (bits ++ more) (places (rules_of c) bits ++ f ∷ [])
-    → Holding c stands' now kept' handed (bits ++ more)
-stands-kept c stands stands' old part now kept kept' handed bits more f h w is none told =
+-- the places of bits are the first ones of more bits
+first-places : (c : Configuration) (bits more : List Bool) → take (length (places (rules_of c) bits)) (places (rules_of c) (bits ++ more)) ≡ places (rules_of c) bits
+first-places c bits more =
     let fs : List Found = places (rules_of c) bits in
-    let one : kept_at c (bits ++ more) f ≡ kept_of c f part = kept-last c (bits ++ more) w.prefix part f w.parts w.size w.ends in
-    let all : drop handed (fs ++ f ∷ []) ≡ drop handed fs ++ f ∷ [] = drop-append-le handed fs (f ∷ []) h.within in
-    let size = length-append fs (f ∷ []) in
+    let go = places-append (rules_of c) bits more in
+    ap (take (length fs)) go.is ∙ take-append-le (length fs) fs go.rest (omega arith) ∙ take-length fs
+
+-- ---- one place is told
+first-told : (c : Configuration) (bits : List Bool) (told rest : List Found) (f : Found) → places (rules_of c) bits ≡ told ++ f ∷ rest
+    → take (length (told ++ f ∷ [])) (places (rules_of c) bits) ≡ told ++ f ∷ []
+first-told c bits told rest f tells =
+    let prefix : List Found = told ++ f ∷ [] in
+    ap (take (length prefix)) (tells ∙ sym (append_assoc told (f ∷ []) rest))
+    ∙ take-append-le (length prefix) prefix rest (omega arith) ∙ take-length prefix
+
+-- its codeblock is kept
+pub told-kept : (c : Configuration) (stands stands' : List Bool → List Found → Type 0) (old part now : List Bool)
+    (kept kept' : List Kept) (handed : ℕ) (bits : List Bool) (told rest : List Found) (f : Found)
+    → Holding c stands old kept handed bits told → places (rules_of c) bits ≡ told ++ f ∷ rest
+    → kept_at c bits f ≡ kept_of c f part → kept' ≡ kept ++ kept_of c f part ∷ [] → now ≡ []
+    → stands' bits (told ++ f ∷ []) → Holding c stands' now kept' handed bits (told ++ f ∷ [])
+told-kept c stands stands' old part now kept kept' handed bits told rest f h tells one is none next =
+    let after : drop handed (told ++ f ∷ []) ≡ drop handed told ++ f ∷ [] = drop-append-le handed told (f ∷ []) h.within in
+    let size = length-append told (f ∷ []) in
     let below = h.within in
     record {
-      search = subst (λ (gs : List Found). stands' (bits ++ more) gs) (sym w.longer) told;
-      within = subst (λ (gs : List Found). handed ≤ length gs) (sym w.longer) (omega (arith, size, below));
-      waiting = is ∙ (λ i. kept-longer c stands old kept handed bits more h i ++ sym one i ∷ [])
-          ∙ sym (map-append (kept_at c (bits ++ more)) (drop handed fs) (f ∷ []))
-          ∙ ap (map (kept_at c (bits ++ more))) (sym all)
-          ∙ ap (λ (gs : List Found). map (kept_at c (bits ++ more)) (drop handed gs)) (sym w.longer);
-      prefix = bits ++ more;
-      parts = sym (append-nil (bits ++ more)) ∙ ap (λ l. (bits ++ more) ++ l) (sym none);
+      search = next;
+      first = first-told c bits told rest f tells;
+      within = omega (arith, size, below);
+      waiting = is ∙ (λ i. h.waiting i ++ sym one i ∷ [])
+          ∙ sym (map-append (kept_at c bits) (drop handed told) (f ∷ []))
+          ∙ ap (map (kept_at c bits)) (sym after);
+      prefix = bits;
+      parts = sym (append-nil bits) ∙ ap (λ l. bits ++ l) (sym none);
     }
 
 -- items of a prefix of the places are first ones
@@ -120,100 +105,6 @@ first-of c bits count fs [] are = tt
 first-of c bits zero fs (item ∷ items) are = absurd are
 first-of c bits (suc count) [] (item ∷ items) are = absurd are
 first-of c bits (suc count) (f ∷ fs) (item ∷ items) are = (are.0, first-of c bits count fs items are.1)
-
--- ---- a batch that is full, or not
-
--- how many codeblocks wait
-waiting-count : (c : Configuration) (stands : List Bool → List Found → Type 0) (part : List Bool) (kept : List Kept)
-    (handed : ℕ) (bits : List Bool)
-    → Holding c stands part kept handed bits → length kept ≡ length (places (rules_of c) bits) - handed
-waiting-count c stands part kept handed bits h =
-    ap length h.waiting ∙ length-map (drop handed (places (rules_of c) bits)) (kept_at c bits)
-    ∙ length-drop handed (places (rules_of c) bits)
-
--- what follows the places of a front that are due
-after-due : (c : Configuration) (bits : List Bool) (fs : List Found)
-    → beyond (due c bits) fs ≡ drop (due_count c bits) fs
-after-due c bits fs =
-    ap (λ k. drop k fs) (length-due c bits)
-
--- where the batch is not full nothing more is due
-due-none : (c : Configuration) (bits all : List Bool)
-    → due_count c all ≡ due_count c bits
-    → beyond (due c bits) (due c all) ≡ []
-due-none c bits all same =
-    after-due c bits (due c all)
-    ∙ ap (λ k. drop k (due c all)) (sym same ∙ sym (length-due c all))
-    ∙ drop-length (due c all)
-
--- where it is full all places are due
-due-all : (c : Configuration) (bits all : List Bool)
-    → due_count c all ≡ length (places (rules_of c) all)
-    → beyond (due c bits) (due c all)
-    ≡ drop (due_count c bits) (places (rules_of c) all)
-due-all c bits all whole =
-    after-due c bits (due c all)
-    ∙ ap (drop (due_count c bits))
-    (ap (λ k. take k (places (rules_of c) all)) whole ∙ take-length (places (rules_of c) all))
-
--- what was due of `bits` was handed over, then `all` bits were taken, and the batch was handed over where it is full
-pub turn-stands : (c : Configuration) (stands : List Bool → List Found
-    → Type 0) (part : List Bool) (kept kept' : List Kept)
-    (bits all : List Bool) (items : List ItemValue)
-    → Holding c stands part kept (due_count c bits) all → IsHanded c kept kept' items
-    → Holding c stands part kept' (due_count c all) all
-turn-stands c stands part kept kept' bits all items h (inl (few, same, none)) =
-    let count = waiting-count c stands part kept (due_count c bits) all h in
-    let still = not_full c.batch (length (places (rules_of c) bits)) (length (places (rules_of c) all)) h.within
-    (subst (λ n. n < c.batch) count few) in
-    subst (λ (l : List Kept). Holding c stands part l (due_count c all) all) (sym same)
-    (subst (λ n. Holding c stands part kept n all) (sym still) h)
-turn-stands c stands part kept kept' bits all items h (inr (many, nothing, are)) =
-    let fs : List Found = places (rules_of c) all in
-    let count = waiting-count c stands part kept (due_count c bits) all h in
-    let whole = full c.batch (length (places (rules_of c) bits)) (length fs) h.within (sym count ∙ many) in
-    record {
-      search = h.search;
-      within = batches-le c.batch (length fs);
-      waiting = nothing ∙ ap (map (kept_at c all)) (sym (ap (λ n. drop n fs) whole ∙ drop-length fs));
-      prefix = h.prefix;
-      parts = h.parts;
-    }
-
-pub turn-items : (c : Configuration) (stands : List Bool → List Found
-    → Type 0) (part : List Bool) (kept kept' : List Kept)
-    (bits all : List Bool) (items : List ItemValue)
-    → Holding c stands part kept (due_count c bits) all → IsHanded c kept kept' items
-    → AreItemsOf c all (beyond (due c bits) (due c all)) items
-turn-items c stands part kept kept' bits all items h (inl (few, same, none)) =
-    let count = waiting-count c stands part kept (due_count c bits) all h in
-    let still = not_full c.batch (length (places (rules_of c) bits)) (length (places (rules_of c) all)) h.within
-    (subst (λ n. n < c.batch) count few) in
-    subst (λ (fs : List Found). AreItemsOf c all fs items) (sym (due-none c bits all still))
-    (subst (λ (is : List ItemValue). AreItemsOf c all [] is) (sym none) tt)
-turn-items c stands part kept kept' bits all items h (inr (many, nothing, are)) =
-    let count = waiting-count c stands part kept (due_count c bits) all h in
-    let whole = full c.batch (length (places (rules_of c) bits)) (length (places (rules_of c) all)) h.within (sym count
-    ∙ many) in
-    subst (λ (fs : List Found). AreItemsOf c all fs items) (sym (due-all c bits all whole))
-    (items-of c all (drop (due_count c bits) (places (rules_of c) all)) items
-    (subst (λ (ks : List Kept). AreItemsFor c ks items) h.waiting are))
-
--- the taker failed at an item of a full batch
-pub turn-broke : (c : Configuration) (stands : List Bool → List Found → Type 0) (part : List Bool) (kept : List Kept)
-    (bits all : List Bool) (count : ℕ) (items : List ItemValue)
-    → Holding c stands part kept (due_count c bits) all → length kept ≡ c.batch
-    → AreItemsFor c (take count kept) items
-    → AreFirstItemsOf c all (beyond (due c bits) (due c all)) items
-turn-broke c stands part kept bits all count items h many are =
-    let wait = waiting-count c stands part kept (due_count c bits) all h in
-    let whole = full c.batch (length (places (rules_of c) bits)) (length (places (rules_of c) all)) h.within (sym wait
-    ∙ many) in
-    let waiting : List Found = drop (due_count c bits) (places (rules_of c) all) in
-    subst (λ (fs : List Found). AreFirstItemsOf c all fs items) (sym (due-all c bits all whole))
-    (first-of c all count waiting items (items-of c all (take count waiting) items
-    (subst (λ (ks : List Kept). AreItemsFor c ks items)
-    (ap (take count) h.waiting ∙ take-map' (kept_at c all) count waiting) are)))
 
 -- ---- items of a prefix of the places
 pub first-longer : (c : Configuration) (bits : List Bool) (fs gs : List Found) (items : List ItemValue) → AreFirstItemsOf c bits fs items → AreFirstItemsOf c bits (fs ++ gs) items
@@ -234,6 +125,128 @@ first-append c bits [] gs [] others are also = also
 first-append c bits [] gs (item ∷ items) others are also = absurd are
 first-append c bits (f ∷ fs) gs [] others are also = absurd are
 first-append c bits (f ∷ fs) gs (item ∷ items) others are also = (are.0, first-append c bits fs gs items others are.1 also)
+
+-- ---- a batch that is full, or not
+
+-- how many codeblocks wait
+waiting-count : (c : Configuration) (stands : List Bool → List Found → Type 0) (part : List Bool) (kept : List Kept)
+    (handed : ℕ) (bits : List Bool) (told : List Found)
+    → Holding c stands part kept handed bits told → length kept ≡ length told - handed
+waiting-count c stands part kept handed bits told h =
+    ap length h.waiting ∙ length-map (drop handed told) (kept_at c bits) ∙ length-drop handed told
+
+-- what follows the places of a front that are due
+pub after-due : (c : Configuration) (bits : List Bool) (fs : List Found)
+    → beyond (due c bits) fs ≡ drop (due_count c bits) fs
+after-due c bits fs =
+    ap (λ k. drop k fs) (length-due c bits)
+
+-- none of the places that are due
+pub due-none : (c : Configuration) (bits : List Bool) → drop (due_count c bits) (due c bits) ≡ []
+due-none c bits = ap (λ k. drop k (due c bits)) (sym (length-due c bits)) ∙ drop-length (due c bits)
+
+-- the batch was handed over where it is full with what was told last
+pub turn-stands : (c : Configuration) (stands : List Bool → List Found
+    → Type 0) (part : List Bool) (kept kept' : List Kept)
+    (told now : List Found) (bits : List Bool) (items : List ItemValue)
+    → Holding c stands part kept (due_count_of c told) bits now → IsHanded c kept kept' items
+    → Holding c stands part kept' (due_count_of c now) bits now
+turn-stands c stands part kept kept' told now bits items h (inl (few, same, none)) =
+    let count = waiting-count c stands part kept (due_count_of c told) bits now h in
+    let still = not_full c.batch (length told) (length now) h.within (subst (λ n. n < c.batch) count few) in
+    subst (λ (l : List Kept). Holding c stands part l (due_count_of c now) bits now) (sym same)
+    (subst (λ n. Holding c stands part kept n bits now) (sym still) h)
+turn-stands c stands part kept kept' told now bits items h (inr (many, nothing, are)) =
+    let count = waiting-count c stands part kept (due_count_of c told) bits now h in
+    let whole = full c.batch (length told) (length now) h.within (sym count ∙ many) in
+    record {
+      search = h.search;
+      first = h.first;
+      within = batches-le c.batch (length now);
+      waiting = nothing ∙ ap (map (kept_at c bits)) (sym (ap (λ n. drop n now) whole ∙ drop-length now));
+      prefix = h.prefix;
+      parts = h.parts;
+    }
+
+-- the places told that are due, before and after those that wait
+due-before : (c : Configuration) (told : List Found) (f : Found) → take (due_count_of c told) (told ++ f ∷ []) ≡ due_of c told
+due-before c told f = take-append-le (due_count_of c told) told (f ∷ []) (batches-le c.batch (length told))
+
+due-split : (c : Configuration) (told : List Found) (f : Found) (count : ℕ) → count ≤ due_count_of c told
+    → drop count (told ++ f ∷ []) ≡ drop count (due_of c told) ++ drop (due_count_of c told) (told ++ f ∷ [])
+due-split c told f count least =
+    let now : List Found = told ++ f ∷ [] in
+    let long : length (due_of c told) ≡ due_count_of c told = length-take-le (due_count_of c told) told (batches-le c.batch (length told)) in
+    let split : now ≡ due_of c told ++ drop (due_count_of c told) now =
+    sym (take-append-drop (due_count_of c told) now) ∙ ap (λ l. l ++ drop (due_count_of c told) now) (due-before c told f) in
+    ap (drop count) split ∙ drop-append-le count (due_of c told) (drop (due_count_of c told) now) (omega (arith, long, least))
+
+-- the items handed over are those of the places told that are due, but for so many of the first
+pub turn-items : (c : Configuration) (stands : List Bool → List Found
+    → Type 0) (part : List Bool) (kept kept' : List Kept)
+    (told : List Found) (f : Found) (bits : List Bool) (count : ℕ) (items others : List ItemValue)
+    → Holding c stands part kept (due_count_of c told) bits (told ++ f ∷ []) → IsHanded c kept kept' others
+    → count ≤ due_count_of c told → AreItemsOf c bits (drop count (due_of c told)) items
+    → AreItemsOf c bits (drop count (due_of c (told ++ f ∷ []))) (items ++ others)
+turn-items c stands part kept kept' told f bits count items others h (inl (few, same, none)) least were =
+    let now : List Found = told ++ f ∷ [] in
+    let wait = waiting-count c stands part kept (due_count_of c told) bits now h in
+    let still = not_full c.batch (length told) (length now) h.within (subst (λ n. n < c.batch) wait few) in
+    let due_now : due_of c now ≡ due_of c told = ap (λ n. take n now) still ∙ due-before c told f in
+    subst (λ (fs : List Found). AreItemsOf c bits (drop count fs) (items ++ others)) (sym due_now)
+    (subst (λ (l : List ItemValue). AreItemsOf c bits (drop count (due_of c told)) l)
+    (sym (ap (λ l. items ++ l) none ∙ append-nil items)) were)
+turn-items c stands part kept kept' told f bits count items others h (inr (many, nothing, are)) least were =
+    let now : List Found = told ++ f ∷ [] in
+    let wait = waiting-count c stands part kept (due_count_of c told) bits now h in
+    let whole = full c.batch (length told) (length now) h.within (sym wait ∙ many) in
+    let all : due_of c now ≡ now = ap (λ n. take n now) whole ∙ take-length now in
+    subst (λ (fs : List Found). AreItemsOf c bits fs (items ++ others)) (sym (ap (drop count) all ∙ due-split c told f count least))
+    (items-append c bits (drop count (due_of c told)) (drop (due_count_of c told) now) items others were
+    (items-of c bits (drop (due_count_of c told) now) others (subst (λ (ks : List Kept). AreItemsFor c ks others) h.waiting are)))
+
+take-take : (a c : ℕ) (xs : List Found) → a ≤ c → take a (take c xs) ≡ take a xs
+take-take zero c xs le = refl
+take-take (suc a) zero xs le = absurd (omega arith)
+take-take (suc a) (suc c) [] le = refl
+take-take (suc a) (suc c) (x ∷ xs) le = ap (λ l. x ∷ l) (take-take a c xs (omega arith))
+
+-- places told that are whole batches are first ones of all that are due
+due-first : (c : Configuration) (bits : List Bool) (told : List Found) → take (length told) (places (rules_of c) bits) ≡ told → due_count_of c told ≡ length told
+    → due c bits ≡ told ++ drop (length told) (due c bits)
+due-first c bits told first whole =
+    let all : List Found = places (rules_of c) bits in
+    let rest : List Found = drop (length told) all in
+    let parts : all ≡ told ++ rest = sym (take-append-drop (length told) all) ∙ ap (λ l. l ++ rest) first in
+    let size : length all ≡ length told + length rest = ap length parts ∙ length-append told rest in
+    let more : due_count_of c told ≤ due_count c bits = subst (λ n. due_count_of c told ≤ in_batches c.batch n) (sym size) (batches-more c.batch (length told) (length rest)) in
+    let prefix : take (length told) (due c bits) ≡ told = take-take (length told) (due_count c bits) all (omega (arith, whole, more)) ∙ first in
+    sym (take-append-drop (length told) (due c bits)) ∙ ap (λ l. l ++ drop (length told) (due c bits)) prefix
+
+-- the taker failed at an item of a full batch
+pub turn-broke : (c : Configuration) (stands : List Bool → List Found → Type 0) (part : List Bool) (kept : List Kept)
+    (told : List Found) (f : Found) (bits : List Bool) (count number : ℕ) (items others : List ItemValue)
+    → Holding c stands part kept (due_count_of c told) bits (told ++ f ∷ []) → length kept ≡ c.batch
+    → AreItemsFor c (take number kept) others
+    → count ≤ due_count_of c told → AreItemsOf c bits (drop count (due_of c told)) items
+    → AreFirstItemsOf c bits (drop count (due c bits)) (items ++ others)
+turn-broke c stands part kept told f bits count number items others h many are least were =
+    let now : List Found = told ++ f ∷ [] in
+    let wait = waiting-count c stands part kept (due_count_of c told) bits now h in
+    let whole = full c.batch (length told) (length now) h.within (sym wait ∙ many) in
+    let waiting : List Found = drop (due_count_of c told) now in
+    let within = h.within in
+    let rest : List Found = drop (length now) (due c bits) in
+    let split : drop count (due c bits) ≡ (drop count (due_of c told) ++ waiting) ++ rest =
+    ap (drop count) (due-first c bits now h.first whole) ∙ drop-append-le count now rest (omega (arith, least, within))
+    ∙ ap (λ l. l ++ rest) (due-split c told f count least) in
+    let last : AreFirstItemsOf c bits waiting others =
+    first-of c bits number waiting others (items-of c bits (take number waiting) others
+    (subst (λ (ks : List Kept). AreItemsFor c ks others)
+    (ap (take number) h.waiting ∙ take-map' (kept_at c bits) number waiting) are)) in
+    subst (λ (fs : List Found). AreFirstItemsOf c bits fs (items ++ others)) (sym split)
+    (first-longer c bits (drop count (due_of c told) ++ waiting) rest (items ++ others)
+    (first-append c bits (drop count (due_of c told)) waiting items others were last))
 
 -- ---- items stay as the bits go on
 item-more : (c : Configuration) (bits more : List Bool) (f : Found) (item : ItemValue) → f.place + 32 + (rules_of c).block_bits ≤ length bits
@@ -274,12 +287,6 @@ due-more c bits more =
     let first : take a (due c (bits ++ more)) ≡ due c bits =
     take-take a b (places (rules_of c) (bits ++ more)) le ∙ ap (take a) go.is ∙ take-append-le a fs go.rest (batches-le c.batch (length fs)) in
     sym (take-append-drop a (due c (bits ++ more))) ∙ (λ i. first i ++ drop (sym (length-due c bits) i) (due c (bits ++ more)))
-  where
-    take-take : (a c : ℕ) (xs : List Found) → a ≤ c → take a (take c xs) ≡ take a xs
-    take-take zero c xs le = refl
-    take-take (suc a) zero xs le = absurd (omega arith)
-    take-take (suc a) (suc c) [] le = refl
-    take-take (suc a) (suc c) (x ∷ xs) le = ap (λ l. x ∷ l) (take-take a c xs (omega arith))
 
 -- beyond in two steps
 beyond-twice : (xs ys zs : List Found) → ys ≡ xs ++ beyond xs ys → zs ≡ ys ++ beyond ys zs → beyond xs zs ≡ beyond xs ys ++ beyond ys zs
@@ -326,7 +333,7 @@ first-of-all c bits more rest items are =
 
 -- ---- the end
 pub items-last : (c : Configuration) (stands : List Bool → List Found → Type 0) (part : List Bool) (kept : List Kept) (bits : List Bool) (items : List ItemValue)
-    → Holding c stands part kept (due_count c bits) bits → AreItemsFor c kept items
+    → Holding c stands part kept (due_count c bits) bits (places (rules_of c) bits) → AreItemsFor c kept items
     → AreItemsOf c bits (beyond (due c bits) (places (rules_of c) bits)) items
 items-last c stands part kept bits items h are =
     let waiting : List Found = drop (due_count c bits) (places (rules_of c) bits) in
@@ -334,7 +341,7 @@ items-last c stands part kept bits items h are =
     (items-of c bits waiting items (subst (λ (ks : List Kept). AreItemsFor c ks items) h.waiting are))
 
 pub first-last : (c : Configuration) (stands : List Bool → List Found → Type 0) (part : List Bool) (kept : List Kept) (bits : List Bool) (count : ℕ) (items : List ItemValue)
-    → Holding c stands part kept (due_count c bits) bits
+    → Holding c stands part kept (due_count c bits) bits (places (rules_of c) bits)
     → AreItemsFor c (take count kept) items
     → AreFirstItemsOf c bits (beyond (due c bits) (places (rules_of c) bits)) items
 first-last c stands part kept bits count items h are =
@@ -345,10 +352,11 @@ first-last c stands part kept bits count items h are =
 
 pub stands-new : (c : Configuration) (stands : List Bool → List Found → Type 0) (part : List Bool) (kept : List Kept)
     → stands [] [] → part ≡ [] → kept ≡ []
-    → Holding c stands part kept (due_count c []) []
+    → Holding c stands part kept (due_count c []) [] (places (rules_of c) [])
 stands-new c stands part kept told none nothing =
     let no : places (rules_of c) [] ≡ [] = places_from-nil (rules_of c) 0 0 None in record {
       search = subst (λ (fs : List Found). stands [] fs) (sym no) told;
+      first = take-length (places (rules_of c) []);
       within = batches-le c.batch (length (places (rules_of c) []));
       waiting = nothing ∙ ap (map (kept_at c [])) (sym (drop-nil (in_batches c.batch 0)))
           ∙ ap (λ (fs : List Found). map (kept_at c []) (drop (in_batches c.batch (length fs)) fs)) (sym no);
@@ -356,92 +364,48 @@ stands-new c stands part kept told none nothing =
       parts = sym none;
     }
 
--- ---- a search is asked for the place that is whole
--- what is held before further bits, whatever the search and the codeblock under way are
-pub before-more : (c : Configuration) (stands : List Bool → List Found → Type 0) (part : List Bool) (kept : List Kept)
-    (handed : ℕ) (bits more : List Bool)
-    → HoldingMore c stands part kept handed bits more → Holding c (λ l fs. Unit {0}) bits kept handed bits
-before-more c stands part kept handed bits more h = record
-    { search = tt; within = h.within; waiting = h.waiting; prefix = []; parts = refl }
+-- ---- further bits are given, of which the search is told nothing yet
+-- the codeblock under way has the last of them
+more-held : (c : Configuration) (stands stands' : List Bool → List Found
+    → Type 0) (part part' : List Bool) (kept kept' : List Kept)
+    (handed : ℕ) (bits more prefix : List Bool) → Holding c stands part kept handed bits (places (rules_of c) bits)
+    → kept' ≡ kept → stands' (bits ++ more) (places (rules_of c) bits) → bits ++ more ≡ prefix ++ part'
+    → Holding c stands' part' kept' handed (bits ++ more) (places (rules_of c) bits)
+more-held c stands stands' part part' kept kept' handed bits more prefix h same told parts = record {
+  search = told;
+  first = first-places c bits more;
+  within = h.within;
+  waiting = same ∙ h.waiting ∙ sym (kept-longer c bits more handed);
+  prefix = prefix;
+  parts = parts;
+}
 
--- there is none
-pub none-further : (c : Configuration) (s s' : Searching) (part : List Bool) (kept : List Kept) (handed : ℕ)
-    (bits more : List Bool)
-    → s.rules ≡ rules_of c → s' ≡ s
-    → ((l : List Bool) (found : List Found) → StandsFor s l found → places s.rules l ≡ found)
-    → HoldingMore c (StandsFor s) part kept handed bits more → Holding c (StandsFor s') part kept handed (bits ++ more)
-none-further c s s' part kept handed bits more rules same told h =
-    let places_are : places (rules_of c) (bits ++ more) ≡ places (rules_of c) bits =
-    ap (λ r. places r (bits ++ more)) (sym rules) ∙ told (bits ++ more) (places (rules_of c) bits) h.search in
-    stands-none c (λ l fs. Unit {0}) (StandsFor s') bits part kept handed bits more h.prefix
-    (before-more c (StandsFor s) part kept handed bits more h) places_are
-    (subst (λ (v : Searching). StandsFor v (bits ++ more) (places (rules_of c) bits)) (sym same) h.search) h.parts
-
--- there is one
-pub whole-further : (c : Configuration) (s s' : Searching) (part : List Bool) (kept : List Kept) (handed : ℕ)
-    (f : Found)
-    (bits more : List Bool) → s.rules ≡ rules_of c → length part ≡ unwrap_or (inside_of s) 0
-    → inside_of s ≡ Some s.rules.block_bits
-    → ((l : List Bool) (found : List Found) → StandsFor s l found → StandsFor s' l (found ++ f ∷ [])
-    × (places s.rules l ≡ found ++ f ∷ []) × (f.place + 32 + s.rules.block_bits ≡ length l))
-    → HoldingMore c (StandsFor s) part kept handed bits more
-    → Whole c bits more part f × StandsFor s' (bits ++ more) (places (rules_of c) bits ++ f ∷ [])
-whole-further c s s' part kept handed f bits more rules long inside told h =
-    let size : s.rules.block_bits ≡ (rules_of c).block_bits = ap (λ r. r.block_bits) rules in
-    let t = told (bits ++ more) (places (rules_of c) bits) h.search in (
-      record {
-        longer = ap (λ r. places r (bits ++ more)) (sym rules) ∙ t.1;
-        ends = ap (λ n. f.place + 32 + n) (sym size) ∙ t.2;
-        prefix = h.prefix;
-        parts = h.parts;
-        size = long ∙ ap (λ (o : Option ℕ). unwrap_or o 0) inside ∙ size;
-      },
-      t.0,
-    )
-
--- ---- further bits are given
 -- to the codeblock under way
 pub more-inside : (c : Configuration) (stands stands' : List Bool → List Found
     → Type 0) (part part' : List Bool) (kept kept' : List Kept)
-    (handed : ℕ) (bits more : List Bool) → Holding c stands part kept handed bits
+    (handed : ℕ) (bits more : List Bool) → Holding c stands part kept handed bits (places (rules_of c) bits)
     → part' ≡ part ++ more → kept' ≡ kept → stands' (bits ++ more) (places (rules_of c) bits)
-    → HoldingMore c stands' part' kept' handed bits more
-more-inside c stands stands' part part' kept kept' handed bits more h grows same told = record {
-  search = told;
-  within = h.within;
-  waiting = same ∙ h.waiting;
-  prefix = h.prefix;
-  parts = ap (λ l. l ++ more) h.parts ∙ append_assoc h.prefix part more ∙ ap (λ l. h.prefix ++ l) (sym grows);
-}
+    → Holding c stands' part' kept' handed (bits ++ more) (places (rules_of c) bits)
+more-inside c stands stands' part part' kept kept' handed bits more h grows same told =
+    more-held c stands stands' part part' kept kept' handed bits more h.prefix h same told
+    (ap (λ l. l ++ more) h.parts ∙ append_assoc h.prefix part more ∙ ap (λ l. h.prefix ++ l) (sym grows))
 
 -- where none is under way, and the last bits begin one
 pub more-begun : (c : Configuration) (stands stands' : List Bool → List Found
     → Type 0) (part part' : List Bool) (kept kept' : List Kept)
-    (handed : ℕ) (bits before more : List Bool) → Holding c stands part kept handed bits
+    (handed : ℕ) (bits before more : List Bool) → Holding c stands part kept handed bits (places (rules_of c) bits)
     → more ≡ before ++ part' → kept' ≡ kept → stands' (bits ++ more) (places (rules_of c) bits)
-    → HoldingMore c stands' part' kept' handed bits more
-more-begun c stands stands' part part' kept kept' handed bits before more h ends same told = record {
-  search = told;
-  within = h.within;
-  waiting = same ∙ h.waiting;
-  prefix = bits ++ before;
-  parts = ap (λ l. bits ++ l) ends ∙ sym (append_assoc bits before part');
-}
+    → Holding c stands' part' kept' handed (bits ++ more) (places (rules_of c) bits)
+more-begun c stands stands' part part' kept kept' handed bits before more h ends same told =
+    more-held c stands stands' part part' kept kept' handed bits more (bits ++ before) h same told
+    (ap (λ l. bits ++ l) ends ∙ sym (append_assoc bits before part'))
 
 -- where none is under way
 pub more-outside : (c : Configuration) (stands stands' : List Bool → List Found
     → Type 0) (part part' : List Bool) (kept kept' : List Kept)
-    (handed : ℕ) (bits more : List Bool) → Holding c stands part kept handed bits
+    (handed : ℕ) (bits more : List Bool) → Holding c stands part kept handed bits (places (rules_of c) bits)
     → length part' ≡ 0 → kept' ≡ kept → stands' (bits ++ more) (places (rules_of c) bits)
-    → HoldingMore c stands' part' kept' handed bits more
-more-outside c stands stands' part part' kept kept' handed bits more h none same told = record {
-  search = told;
-  within = h.within;
-  waiting = same ∙ h.waiting;
-  prefix = bits ++ more;
-  parts = sym (append-nil (bits ++ more)) ∙ ap (λ l. (bits ++ more) ++ l) (sym (empty part' none));
-}
-  where
-    empty : (l : List Bool) → length l ≡ 0 → l ≡ []
-    empty [] e = refl
-    empty (b ∷ l) e = absurd (omega arith)
+    → Holding c stands' part' kept' handed (bits ++ more) (places (rules_of c) bits)
+more-outside c stands stands' part part' kept kept' handed bits more h none same told =
+    more-held c stands stands' part part' kept kept' handed bits more (bits ++ more) h same told
+    (sym (append-nil (bits ++ more)) ∙ ap (λ l. (bits ++ more) ++ l) (sym (nil_from_length part' none)))

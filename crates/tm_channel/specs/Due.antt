@@ -9,10 +9,17 @@ use Rattle.tm_codeblock.specs.ReceivedCodeblock.{rules_of}
 abbrev pub in_batches : ℕ → ℕ → ℕ
 in_batches size count = size * (count / size)
 
--- how many places of bits have items that are due: those in whole batches of the configuration
-abbrev pub due_count : Configuration → List Bool → ℕ
-due_count c bits = in_batches c.batch (length (places (rules_of c) bits))
+-- how many of these places have items that are due: those in whole batches of the configuration
+abbrev pub due_count_of : Configuration → List Found → ℕ
+due_count_of c told = in_batches c.batch (length told)
 
 -- these places: the first ones
+abbrev pub due_of : Configuration → List Found → List Found
+due_of c told = take (due_count_of c told) told
+
+-- those of the places of bits
+abbrev pub due_count : Configuration → List Bool → ℕ
+due_count c bits = due_count_of c (places (rules_of c) bits)
+
 abbrev pub due : Configuration → List Bool → List Found
-due c bits = take (due_count c bits) (places (rules_of c) bits)
+due c bits = due_of c (places (rules_of c) bits)

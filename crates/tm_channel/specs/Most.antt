@@ -17,10 +17,11 @@ most_bits_at (Some rate) c octets = waiting_bits c c.batch + 3 * (c.keep + c.ahe
 abbrev pub most_bits : Configuration → ℕ → ℕ
 most_bits c = most_bits_at c.inner c
 
--- how many items are handed over with so many octets, or at the end: as many as there are codeblocks
--- in these bits, that of the codeblock under way, and those that wait for their batch to be full
+-- how many items are handed over with so many octets, or at the end: as many as there are
+-- codeblocks in these bits, that of the codeblock under way, those that wait for their batch to be
+-- full, and those that the bits verify
 abbrev pub most_items : Configuration → ℕ → ℕ
-most_items c octets = most_bits c octets / (32 + (rules_of c).block_bits) + c.batch
+most_items c octets = most_bits c octets / (32 + (rules_of c).block_bits) + c.batch + c.verify
 
 -- these are no more items than that, and their frames have no more octets than as many frames
 abbrev pub AreFew : Configuration → ℕ → List ItemValue → Type 0

@@ -14,19 +14,21 @@ use Rattle.tm_inner.specs.Phase.{IsChosen, IsChosenSoFar, with_phase}
 use Rattle.tm_inner.specs.Handing.{AreHanded, AreHandedDue}
 use Rattle.tm_inner.specs.Receiving.{InnerReceiving, StandsFor as InnerStandsFor}
 use Rattle.tm_channel.specs.Items.{ItemValue, AreItemsOf}
-use Rattle.tm_channel.specs.Due.{due}
+use Rattle.tm_channel.specs.Due.{due, due_count}
 use Rattle.tm_channel.specs.Handing.{phase_of, AreReceived, AreReceivedDue, AreReceivedFirst, AreReceivedPrefix}
 use Rattle.tm_channel.specs.Most.{AreFew}
-use Rattle.tm_channel.specs.Receiving.{Batching, Stands, waiting_bits, GoesOn, AreDue, AreFirstDue, AreLast, AreFirstLast}
+use Rattle.tm_channel.specs.Receiving.{Batching, Stands, HoldsMore, waiting_bits, GoesOn, AreDue, AreFirstDue, AreFurther, AreFirstFurther, AreLast, AreFirstLast}
 
 -- what contracts see of a receiver of bits
 pub record BitReceiving : Type 0 where
   pub search : Searching
+  -- the bits that the search may look at again
+  pub room : List ℕ
   pub batch : Batching
 
 -- it was given these bits
 abbrev pub StandsForBits : BitReceiving → List Bool → Type 0
-StandsForBits r = Stands r.search r.batch
+StandsForBits r = Stands r.search r.room r.batch
 
 -- what contracts see of both stages of a receiver: the inner code, and the search for codeblocks in
 -- its bits
@@ -137,6 +139,23 @@ abbrev pub FinishChooses : OctetReceiving → OctetReceiving → Type 0
 FinishChooses before now = (given : List ℕ) (done : List (Handed ItemValue))
     → StandsFor before given done → before.has_stopped ≡ false
     → IsChosen before.config given now.stages.inner.phased.chosen
+
+-- ---- codeblocks that are whole
+
+-- Whatever bits it stood for, and whichever were given then, of which the search was told nothing:
+-- it stands for all now, and these are the items that are due with the last ones.
+abbrev pub Settles : BitReceiving → BitReceiving → List ItemValue → Type 0
+Settles before now items = (bits more : List Bool) → length (bits ++ more) < 2 ^ 63
+    → HoldsMore before.search before.room before.batch (due_count before.batch.config bits) bits
+    more
+    → StandsForBits now (bits ++ more) × AreFurther before.batch.config bits more items
+
+-- these are first ones of the items that are due with the last ones
+abbrev pub SettlesPart : BitReceiving → List ItemValue → Type 0
+SettlesPart before tried = (bits more : List Bool) → length (bits ++ more) < 2 ^ 63
+    → HoldsMore before.search before.room before.batch (due_count before.batch.config bits) bits
+    more
+    → AreFirstFurther before.batch.config bits more tried
 
 -- ---- bits that are received
 

@@ -16,8 +16,7 @@ pub record Receive (c : Configuration) (phase : ℕ) (octets : List ℕ) (items 
   pub are_items : AreItems c bits items
 
 -- These are the items that are due once octets were received: in whole batches, the first of those
--- whose codeblocks lie whole in the bits of all blocks but the last, or with no inner code in the
--- bits.
+-- of the places in the bits of all blocks but the last, or with no inner code in the bits.
 pub record ReceiveDue (c : Configuration) (phase : ℕ) (octets : List ℕ) (items : List ItemValue) : Type 0 where
   pub blocks : List WindowBlock
   pub are_due : AreInnerDue c phase octets blocks

@@ -1,9 +1,9 @@
 -- What a receiver keeps of the bits that it was given, and which items it has handed over of them.
-use Rattle.std.specs.Prelude.{◌≡◌, ℕ, ◌+◌, ◌-◌, ◌*◌, ◌<◌, ◌≤◌, ◌^◌, Bool, false, List, [], ◌∷◌, ◌++◌, length, take, drop, map, get_or, unwrap_or, nat_lt, if◌then◌else◌, ◌⊎◌}
+use Rattle.std.specs.Prelude.{◌≡◌, ◌==◌, ℕ, zero, suc, ◌+◌, ◌-◌, ◌*◌, ◌%◌, ◌<◌, ◌≤◌, ◌^◌, Bool, false, List, [], ◌∷◌, ◌++◌, length, take, drop, map, get_or, unwrap_or, nat_lt, if◌then◌else◌, ◌⊎◌}
 use Rattle.tm_base.specs.Bits.{bits_of}
 use Rattle.tm_config.specs.Configuration.{Configuration, codeblock_length}
 use Rattle.tm_sync.specs.declared.found.Found.{Found}
-use Rattle.tm_sync.specs.Places.{places}
+use Rattle.tm_sync.specs.Places.{places, verify_bits}
 use Rattle.tm_sync.specs.Searching.{Searching, StandsFor, inside_of, is_pending}
 use Rattle.tm_codeblock.specs.ReceivedCodeblock.{rules_of, codeblock_in}
 use Rattle.tm_channel.specs.Items.{ItemValue, IsItem, AreItemsOf, AreFirstItemsOf}
@@ -86,27 +86,18 @@ IsHanded c before kept items =
     ((length before < c.batch) × (kept ≡ before) × (items ≡ []))
     ⊎ ((length before ≡ c.batch) × (kept ≡ []) × AreItemsFor c before items)
 
--- What is kept of these bits where the items of the first `handed` places were handed over: the
--- search was told all of their places, the codeblocks of the other places wait, and the codeblock
--- under way has the last bits.
+-- What is kept of these bits where the search was told these of their places, the first ones, and
+-- the items of the first `handed` of them were handed over: the codeblocks of the others wait, and
+-- the codeblock under way has the last bits.
 pub record Holding (c : Configuration) (stands : List Bool → List Found
     → Type 0) (part : List Bool) (kept : List Kept)
-    (handed : ℕ) (bits : List Bool) : Type 0 where
-  pub search : stands bits (places (rules_of c) bits)
-  pub within : handed ≤ length (places (rules_of c) bits)
-  pub waiting : kept ≡ map (kept_at c bits) (drop handed (places (rules_of c) bits))
+    (handed : ℕ) (bits : List Bool) (told : List Found) : Type 0 where
+  pub search : stands bits told
+  pub first : take (length told) (places (rules_of c) bits) ≡ told
+  pub within : handed ≤ length told
+  pub waiting : kept ≡ map (kept_at c bits) (drop handed told)
   pub prefix : List Bool
   pub parts : bits ≡ prefix ++ part
-
--- the same, but of `more` bits that the search was given, it was told nothing yet
-pub record HoldingMore (c : Configuration) (stands : List Bool → List Found
-    → Type 0) (part : List Bool) (kept : List Kept)
-    (handed : ℕ) (bits more : List Bool) : Type 0 where
-  pub search : stands (bits ++ more) (places (rules_of c) bits)
-  pub within : handed ≤ length (places (rules_of c) bits)
-  pub waiting : kept ≡ map (kept_at c bits) (drop handed (places (rules_of c) bits))
-  pub prefix : List Bool
-  pub parts : bits ++ more ≡ prefix ++ part
 
 -- what contracts see of a batch of codeblocks: the bits of the one under way, those that are kept,
 -- and the items that were written when these were repaired
@@ -116,34 +107,47 @@ pub record Batching : Type 0 where
   pub kept : List Kept
   pub items : List ItemValue
 
--- these bits were given to a search and a batch, and the codeblocks of all places but the first
--- `handed` ones are kept
-abbrev pub Holds : Searching → Batching → ℕ → List Bool → Type 0
-Holds s b handed bits = Holding b.config (StandsFor s) b.part b.kept handed bits
+-- these bits were given to a search with its room and to a batch, the search was told these of
+-- their places, and the codeblocks of all of these but the first `handed` ones are kept
+abbrev pub HoldsTold : Searching → List ℕ → Batching → ℕ → List Bool → List Found → Type 0
+HoldsTold s room b handed bits told =
+    Holding b.config (StandsFor s room) b.part b.kept handed bits told
 
--- then `more` bits were too, and it is not known yet whether a codeblock is whole with them
-abbrev pub HoldsMore : Searching → Batching → ℕ → List Bool → List Bool → Type 0
-HoldsMore s b handed bits more = HoldingMore b.config (StandsFor s) b.part b.kept handed bits more
+-- the search was told all of their places
+abbrev pub Holds : Searching → List ℕ → Batching → ℕ → List Bool → Type 0
+Holds s room b handed bits = HoldsTold s room b handed bits (places (rules_of b.config) bits)
+
+-- then `more` bits were given too, of which the search was told nothing yet
+abbrev pub HoldsMore : Searching → List ℕ → Batching → ℕ → List Bool → List Bool → Type 0
+HoldsMore s room b handed bits more =
+    HoldsTold s room b handed (bits ++ more) (places (rules_of b.config) bits)
 
 -- these bits were given to a search and a batch, which was handed over whenever it was full
-abbrev pub Stands : Searching → Batching → List Bool → Type 0
-Stands s b bits = Holds s b (due_count b.config bits) bits
+abbrev pub Stands : Searching → List ℕ → Batching → List Bool → Type 0
+Stands s room b bits = Holds s room b (due_count b.config bits) bits
 
--- a search and a batch agree, whatever bits were given, and a codeblock may be whole
-pub record Agree (s : Searching) (b : Batching) : Type 0 where
+-- The bits of the codeblock that is under way or whole are gathered, as far as they were given. Or
+-- codeblocks are whole that were verified together, with a marker after the last of them: of these
+-- no bits are.
+abbrev pub IsGathered : Searching → List Bool → Type 0
+IsGathered s part = let inside = unwrap_or (inside_of s) 0 in
+    ((inside ≤ s.rules.block_bits) × (length part ≡ inside))
+    ⊎ ((part ≡ []) × ((count : ℕ) × (count ≤ s.rules.verify)
+    × (inside ≡ count * (32 + s.rules.block_bits))))
+
+-- a search, its room and a batch agree, whatever bits were given, and codeblocks may be whole
+pub record Agree (s : Searching) (room : List ℕ) (b : Batching) : Type 0 where
   pub same : s.rules ≡ rules_of b.config
+  pub sized : length room ≡ verify_bits s.rules
+  pub gathered : IsGathered s b.part
+  pub most : length b.part ≤ 8 * codeblock_length b.config
+
+-- they agree, no codeblock is whole that is not kept, and the batch is not full
+pub record IsReady (s : Searching) (room : List ℕ) (b : Batching) : Type 0 where
+  pub same : s.rules ≡ rules_of b.config
+  pub sized : length room ≡ verify_bits s.rules
   pub within : unwrap_or (inside_of s) 0 ≤ s.rules.block_bits
   pub long : length b.part ≡ unwrap_or (inside_of s) 0
-
--- they agree, and no codeblock is whole that is not kept
-pub record IsFree (s : Searching) (b : Batching) : Type 0 where
-  pub agree : Agree s b
-  pub free : is_pending s ≡ false
-  pub most : length b.kept ≤ b.config.batch
-
--- and the batch is not full
-pub record IsReady (s : Searching) (b : Batching) : Type 0 where
-  pub agree : Agree s b
   pub free : is_pending s ≡ false
   pub few : length b.kept < b.config.batch
 
@@ -157,3 +161,9 @@ waiting_bits c count = if nat_lt 1 c.workers then count * (32 + (rules_of c).blo
 -- the bits of octets after the first `from` ones, up to bit `to`
 abbrev pub bits_between : ℕ → ℕ → List ℕ → List Bool
 bits_between from to octets = take (to - from) (drop from (bits_of octets))
+
+-- so many bits from number `from` on, out of a room that holds bit i as 0 or 1 in octet i % size
+abbrev pub room_bits : List ℕ → ℕ → ℕ → List Bool
+room_bits room from zero = []
+room_bits room from (suc count) =
+    (get_or room (from % length room) 0 == 1) ∷ room_bits room (from + 1) count

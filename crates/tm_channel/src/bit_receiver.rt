@@ -1,12 +1,16 @@
 // Bits in, items out.
-ghost use Rattle.std.specs.Prelude.{◌≡◌, ◌≢◌, ◌<◌, ◌≤◌, ◌+◌, ◌-◌, ◌*◌, ◌/◌, ◌^◌, ℕ, Bool, List, [], ◌∷◌, ◌++◌, length, take, drop, OnOk, OnErr, IsSome, IsTrue, None, unwrap_or};
+ghost use Rattle.std.specs.Prelude.{◌≡◌, ◌≢◌, ◌<◌, ◌≤◌, ◌+◌, ◌-◌, ◌*◌, ◌/◌, ◌%◌, ◌^◌, ◌⊎◌, ℕ, Bool, false, List, [], ◌∷◌, ◌++◌, length, take, drop, OnOk, OnErr, IsSome, IsTrue, None, unwrap_or};
 ghost use Rattle.tm_base.specs.Bits.{bits_of, bits_of_octet};
 ghost use Rattle.tm_base.specs.Outside.{HasCause};
 ghost use Rattle.tm_base.specs.Takers.{HandedOver, HandedPart};
-ghost use Rattle.tm_sync.specs.Searching.{inside_of};
+ghost use Rattle.tm_sync.specs.declared.found.Found.{Found};
+ghost use Rattle.tm_sync.specs.Places.{places};
+ghost use Rattle.tm_sync.specs.Searching.{inside_of, waiting_of};
+ghost use Rattle.tm_config.specs.Configuration.{codeblock_length};
+ghost use Rattle.tm_codeblock.specs.ReceivedCodeblock.{rules_of};
 ghost use Rattle.tm_channel.specs.Items.{ItemValue};
-ghost use Rattle.tm_channel.specs.Receiving.{Agree, AreItemsFor, GoesOn, Holds, HoldsMore, IsFree, IsHanded, IsReady, bits_between};
-ghost use Rattle.tm_channel.specs.OctetReceiving.{Received, ReceivedPart};
+ghost use Rattle.tm_channel.specs.Receiving.{Agree, AreItemsFor, Holds, HoldsMore, HoldsTold, IsHanded, IsReady, bits_between, room_bits};
+ghost use Rattle.tm_channel.specs.OctetReceiving.{Received, ReceivedPart, Settles, SettlesPart};
 
 use crate::item::ItemTaker;
 use crate::store::Codeblocks;
@@ -40,6 +44,8 @@ fn hand_over<T: ItemTaker>(batch: &Codeblocks, taker: &mut T) -> Result<(), Fail
 #[derive(Drop)]
 pub struct BitReceiver {
     pub search: Search,
+    // The bits that the search may look at again.
+    pub room: Vec<u8>,
     pub batch: Codeblocks,
 }
 
@@ -56,22 +62,23 @@ impl BitReceiver {
         requires workers { P.is_ready by.now }
         requires from { from ≤ 8 * length octets.now }
         requires most { 8 * length octets.now < 2 ^ 63 }
-        requires ready { IsReady self.old.search self.old.batch }
-        ensures ready { IsReady self.new.search self.new.batch }
+        requires ready { IsReady self.old.search self.old.room.items self.old.batch }
+        ensures ready { IsReady self.new.search self.new.room.items self.new.batch }
         ensures config { self.new.batch.config ≡ self.old.batch.config }
-        ensures handed { OnOk result (Received T.took (record { search = self.old.search; batch = self.old.batch })
-            (record { search = self.new.search; batch = self.new.batch }) taker.old taker.new
-            (drop from (bits_of octets.now))) }
-        ensures part { OnErr result
-            (ReceivedPart T.took T.broke (record { search = self.old.search; batch = self.old.batch })
-            (record { search = self.new.search; batch = self.new.batch }) taker.old taker.new
-            (drop from (bits_of octets.now))) }
+        ensures handed { OnOk result (Received T.took
+            (record { search = self.old.search; room = self.old.room.items; batch = self.old.batch })
+            (record { search = self.new.search; room = self.new.room.items; batch = self.new.batch })
+            taker.old taker.new (drop from (bits_of octets.now))) }
+        ensures part { OnErr result (ReceivedPart T.took T.broke
+            (record { search = self.old.search; room = self.old.room.items; batch = self.old.batch })
+            (record { search = self.new.search; room = self.new.room.items; batch = self.new.batch })
+            taker.old taker.new (drop from (bits_of octets.now))) }
         ensures cause { HasCause (T.faults taker.old) (T.faults taker.new) (T.is_last taker.new) result }
     {
         let mut at = from;
         while at < 8 * octets.len() {
-            at = self.take(octets, at);
-            match self.hand_full(by, taker) {
+            at += self.push(octets, at);
+            match self.keep_all(by, taker) {
                 Ok(()) => {}
                 Err(Failed) => return Err(Failed),
             }
@@ -79,29 +86,43 @@ impl BitReceiver {
         Ok(())
     }
 
-    // Takes the bits of octets after the first `from` ones, until the batch is full or the octets end. Answers up to
-    // which of their bits it took them.
-    fn take(&mut self, octets: &[u8], from: usize) -> usize
-        requires from { from < 8 * length octets.now }
-        requires most { 8 * length octets.now < 2 ^ 63 }
-        requires ready { IsReady self.old.search self.old.batch }
-        ensures some { from < result }
-        ensures within { result ≤ 8 * length octets.now }
-        ensures free { IsFree self.new.search self.new.batch }
+    // Keeps the codeblocks that are whole with the last bits, and hands over each batch that is full with them.
+    fn keep_all<P: Workers, T: ItemTaker>(&mut self, by: &P, taker: &mut T) -> Result<(), Failed>
+        requires workers { P.is_ready by.now }
+        requires agree { Agree self.old.search self.old.room.items self.old.batch }
+        requires few { length self.old.batch.kept < self.old.batch.config.batch }
+        ensures ready { IsReady self.new.search self.new.room.items self.new.batch }
         ensures config { self.new.batch.config ≡ self.old.batch.config }
-        ensures holds { (handed : ℕ)
-            → GoesOn (Holds self.old.search self.old.batch handed) (Holds self.new.search self.new.batch handed)
-            (bits_between from result octets.now) }
+        ensures all { OnOk result ((items : List ItemValue) × HandedOver T.took taker.old items taker.new
+            × Settles (record { search = self.old.search; room = self.old.room.items; batch = self.old.batch })
+            (record { search = self.new.search; room = self.new.room.items; batch = self.new.batch }) items) }
+        ensures broke { OnErr result ((tried : List ItemValue) × HandedPart T.took T.broke taker.old tried taker.new
+            × SettlesPart (record { search = self.old.search; room = self.old.room.items; batch = self.old.batch })
+            tried) }
+        ensures cause { HasCause (T.faults taker.old) (T.faults taker.new) (T.is_last taker.new) result }
     {
-        let mut at = from;
-        while at < 8 * octets.len() {
-            at += self.push(octets, at);
-            self.keep_whole();
-            if self.batch.count() == self.batch.room() {
-                return at;
+        while self.keep_whole() {
+            match self.hand_full(by, taker) {
+                Ok(()) => {}
+                Err(Failed) => {
+                    self.skip_whole();
+                    return Err(Failed);
+                }
             }
         }
-        at
+        Ok(())
+    }
+
+    // Passes over the codeblocks that are whole, and keeps none.
+    fn skip_whole(&mut self)
+        requires agree { Agree self.old.search self.old.room.items self.old.batch }
+        requires few { length self.old.batch.kept < self.old.batch.config.batch }
+        ensures ready { IsReady self.new.search self.new.room.items self.new.batch }
+        ensures config { self.new.batch.config ≡ self.old.batch.config }
+    {
+        while self.keep_whole() {
+            self.batch.clear();
+        }
     }
 
     // Gives bits of octets after the first `at` ones to the search, and to the codeblock that they stand in: the
@@ -110,16 +131,17 @@ impl BitReceiver {
     fn push(&mut self, octets: &[u8], at: usize) -> usize
         requires at { at < 8 * length octets.now }
         requires most { 8 * length octets.now < 2 ^ 63 }
-        requires ready { IsReady self.old.search self.old.batch }
+        requires ready { IsReady self.old.search self.old.room.items self.old.batch }
         ensures some { 0 < result }
         ensures within { at + result ≤ 8 * length octets.now }
-        ensures agree { Agree self.new.search self.new.batch }
+        ensures agree { Agree self.new.search self.new.room.items self.new.batch }
         ensures config { self.new.batch.config ≡ self.old.batch.config }
         ensures kept { self.new.batch.kept ≡ self.old.batch.kept }
         ensures holds { (handed : ℕ) (bits : List Bool)
             → length (bits ++ bits_between at (at + result) octets.now) < 2 ^ 63
-            → Holds self.old.search self.old.batch handed bits
-            → HoldsMore self.new.search self.new.batch handed bits (bits_between at (at + result) octets.now) }
+            → Holds self.old.search self.old.room.items self.old.batch handed bits
+            → HoldsMore self.new.search self.new.room.items self.new.batch handed bits
+            (bits_between at (at + result) octets.now) }
     {
         let first = at / 8;
         if at % 8 == 0 {
@@ -139,79 +161,115 @@ impl BitReceiver {
 
     // Gives a bit to the search, and to the codeblock that it stands in.
     fn push_bit(&mut self, bit: bool)
-        requires ready { IsReady self.old.search self.old.batch }
-        ensures agree { Agree self.new.search self.new.batch }
+        requires ready { IsReady self.old.search self.old.room.items self.old.batch }
+        ensures agree { Agree self.new.search self.new.room.items self.new.batch }
         ensures config { self.new.batch.config ≡ self.old.batch.config }
         ensures kept { self.new.batch.kept ≡ self.old.batch.kept }
         ensures holds { (handed : ℕ) (bits : List Bool) → length (bits ++ bit ∷ []) < 2 ^ 63
-            → Holds self.old.search self.old.batch handed bits
-            → HoldsMore self.new.search self.new.batch handed bits (bit ∷ []) }
+            → Holds self.old.search self.old.room.items self.old.batch handed bits
+            → HoldsMore self.new.search self.new.room.items self.new.batch handed bits (bit ∷ []) }
     {
         match self.search.inside() {
             Some(_) => self.batch.push_bit(bit),
             None => {}
         }
-        self.search.push_bit(bit);
+        self.search.push_bit(self.room.as_mut_slice(), bit);
     }
 
     // Gives octets to the search, and to the codeblock that it stands in, which they do not go beyond.
     fn push_octets(&mut self, octets: &[u8])
-        requires ready { IsReady self.old.search self.old.batch }
+        requires ready { IsReady self.old.search self.old.room.items self.old.batch }
         requires inside { IsSome (inside_of self.old.search) }
         requires fits { unwrap_or (inside_of self.old.search) 0 + 8
             * length octets.now ≤ self.old.search.rules.block_bits }
-        ensures agree { Agree self.new.search self.new.batch }
+        ensures agree { Agree self.new.search self.new.room.items self.new.batch }
         ensures config { self.new.batch.config ≡ self.old.batch.config }
         ensures kept { self.new.batch.kept ≡ self.old.batch.kept }
         ensures holds { (handed : ℕ) (bits : List Bool) → length (bits ++ bits_of octets.now) < 2 ^ 63
-            → Holds self.old.search self.old.batch handed bits
-            → HoldsMore self.new.search self.new.batch handed bits (bits_of octets.now) }
+            → Holds self.old.search self.old.room.items self.old.batch handed bits
+            → HoldsMore self.new.search self.new.room.items self.new.batch handed bits (bits_of octets.now) }
     {
         self.batch.push_octets(octets);
         self.search.push_octets(octets);
     }
 
-    // Gives an octet to the search where no codeblock is under way, and its bits after a marker to the codeblock that
-    // they begin.
+    // Gives an octet to the search where no codeblock is under way and no further markers verify a place, and its bits
+    // after a marker to the codeblock that they begin.
     fn push_octet(&mut self, octet: u8)
-        requires ready { IsReady self.old.search self.old.batch }
+        requires ready { IsReady self.old.search self.old.room.items self.old.batch }
         requires outside { inside_of self.old.search ≡ None }
+        requires alone { self.old.search.rules.verify ≡ 0 }
         requires fits { 8 ≤ self.old.search.rules.block_bits }
-        ensures agree { Agree self.new.search self.new.batch }
+        ensures agree { Agree self.new.search self.new.room.items self.new.batch }
         ensures config { self.new.batch.config ≡ self.old.batch.config }
         ensures kept { self.new.batch.kept ≡ self.old.batch.kept }
         ensures holds { (handed : ℕ) (bits : List Bool) → length (bits ++ bits_of_octet octet) < 2 ^ 63
-            → Holds self.old.search self.old.batch handed bits
-            → HoldsMore self.new.search self.new.batch handed bits (bits_of_octet octet) }
+            → Holds self.old.search self.old.room.items self.old.batch handed bits
+            → HoldsMore self.new.search self.new.room.items self.new.batch handed bits (bits_of_octet octet) }
     {
         self.search.push_octet(octet);
         let begun = self.search.inside().unwrap_or(0) as u32;
         self.batch.begin(octet, begun);
     }
 
-    // Keeps the codeblock that is whole with the last bits, if one is.
-    fn keep_whole(&mut self)
-        requires agree { Agree self.old.search self.old.batch }
+    // Keeps one of the codeblocks that are whole with the last bits. Answers whether one was.
+    fn keep_whole(&mut self) -> bool
+        requires agree { Agree self.old.search self.old.room.items self.old.batch }
         requires few { length self.old.batch.kept < self.old.batch.config.batch }
-        ensures free { IsFree self.new.search self.new.batch }
         ensures config { self.new.batch.config ≡ self.old.batch.config }
-        ensures holds { (handed : ℕ) (bits more : List Bool) → HoldsMore self.old.search self.old.batch handed bits more
-            → Holds self.new.search self.new.batch handed (bits ++ more) }
+        ensures agree { Agree self.new.search self.new.room.items self.new.batch }
+        ensures most { length self.new.batch.kept ≤ self.new.batch.config.batch }
+        ensures left { IsTrue result → waiting_of self.new.search < waiting_of self.old.search }
+        ensures ready { result ≡ false → IsReady self.new.search self.new.room.items self.new.batch }
+        ensures none { result ≡ false → (handed : ℕ) (bits : List Bool) (told : List Found)
+            → HoldsTold self.old.search self.old.room.items self.old.batch handed bits told
+            → HoldsTold self.new.search self.new.room.items self.new.batch handed bits told
+            × (places (rules_of self.old.batch.config) bits ≡ told) }
+        ensures kept { IsTrue result → (f : Found) × ((handed : ℕ) (bits : List Bool) (told : List Found)
+            → length bits < 2 ^ 63 → HoldsTold self.old.search self.old.room.items self.old.batch handed bits told
+            → HoldsTold self.new.search self.new.room.items self.new.batch handed bits (told ++ f ∷ [])) }
     {
-        match self.search.next() {
-            None => {}
-            Some(found) => self.batch.keep(found),
+        match self.search.next(self.room.as_slice()) {
+            None => false,
+            Some(found) => {
+                self.complete(found.place);
+                self.batch.keep(found);
+                true
+            }
         }
+    }
+
+    // Takes the codeblock after the marker at `place` out of the room, where it was not gathered.
+    fn complete(&mut self, place: u64)
+        requires most { length self.old.batch.part ≤ 8 * codeblock_length self.old.batch.config }
+        requires none { length self.old.batch.part < 8 * codeblock_length self.old.batch.config
+            → (self.old.batch.part ≡ []) × (0 < length self.old.room.items) }
+        ensures search { self.new.search ≡ self.old.search }
+        ensures room { self.new.room.items ≡ self.old.room.items }
+        ensures config { self.new.batch.config ≡ self.old.batch.config }
+        ensures kept { self.new.batch.kept ≡ self.old.batch.kept }
+        ensures part { ((length self.old.batch.part ≡ 8 * codeblock_length self.old.batch.config)
+            × (self.new.batch.part ≡ self.old.batch.part))
+            ⊎ ((length self.old.batch.part < 8 * codeblock_length self.old.batch.config)
+            × (self.new.batch.part ≡ room_bits self.old.room.items ((place + 32) % 2 ^ 64)
+            (8 * codeblock_length self.old.batch.config))) }
+    {
+        if self.batch.lacking() == 0 {
+            return;
+        }
+        self.batch
+            .recall(self.room.as_slice(), place.wrapping_add(32));
     }
 
     // Hands over the items of a batch that is full, and keeps none of its codeblocks.
     fn hand_full<P: Workers, T: ItemTaker>(&mut self, by: &P, taker: &mut T) -> Result<(), Failed>
         requires workers { P.is_ready by.now }
-        requires free { IsFree self.old.search self.old.batch }
-        ensures ready { IsReady self.new.search self.new.batch }
+        requires most { length self.old.batch.kept ≤ self.old.batch.config.batch }
         ensures search { self.new.search ≡ self.old.search }
+        ensures room { self.new.room.items ≡ self.old.room.items }
         ensures config { self.new.batch.config ≡ self.old.batch.config }
         ensures part { self.new.batch.part ≡ self.old.batch.part }
+        ensures few { length self.new.batch.kept < self.new.batch.config.batch }
         ensures all { OnOk result ((items : List ItemValue)
             × IsHanded self.old.batch.config self.old.batch.kept self.new.batch.kept items
             × HandedOver T.took taker.old items taker.new) }
@@ -238,6 +296,7 @@ impl BitReceiver {
     ) -> Result<(), Failed>
         requires workers { P.is_ready by.now }
         ensures search { self.new.search ≡ self.old.search }
+        ensures room { self.new.room.items ≡ self.old.room.items }
         ensures config { self.new.batch.config ≡ self.old.batch.config }
         ensures part { self.new.batch.part ≡ self.old.batch.part }
         ensures kept { self.new.batch.kept ≡ [] }
@@ -255,12 +314,16 @@ impl BitReceiver {
         result
     }
 
-    // Whether no codeblock is under way, and one has eight bits or more.
+    // Whether no codeblock is under way, one has eight bits or more, and no further markers verify a place.
     fn is_outside(&self) -> bool
-        requires ready { IsReady self.now.search self.now.batch }
+        requires ready { IsReady self.now.search self.now.room.items self.now.batch }
         ensures outside { IsTrue result → inside_of self.now.search ≡ None }
+        ensures alone { IsTrue result → self.now.search.rules.verify ≡ 0 }
         ensures fits { IsTrue result → 8 ≤ self.now.search.rules.block_bits }
     {
+        if !self.room.as_slice().is_empty() {
+            return false;
+        }
         match self.search.inside() {
             Some(_) => false,
             None => self.batch.lacking() >= 8,
@@ -269,7 +332,7 @@ impl BitReceiver {
 
     // How many whole octets the codeblock under way lacks; none where none is under way.
     fn whole_octets(&self) -> usize
-        requires ready { IsReady self.now.search self.now.batch }
+        requires ready { IsReady self.now.search self.now.room.items self.now.batch }
         ensures under_way { 0 < result → IsSome (inside_of self.now.search) }
         ensures lacks { IsSome (inside_of self.now.search)
             → result ≡ (self.now.search.rules.block_bits - unwrap_or (inside_of self.now.search) 0) / 8 }

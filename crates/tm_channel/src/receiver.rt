@@ -1,11 +1,14 @@
 // The receiver: octets in, items out.
-ghost use Rattle.std.specs.Prelude.{◌≡◌, ◌≢◌, ◌↔◌, ◌⊎◌, ◌++◌, ℕ, ◌+◌, ◌^◌, ◌<◌, ◌≤◌, true, false, List, [], length, IfOk, OnOk, IsErrOf, Err, IsTrue};
+ghost use Rattle.std.specs.Prelude.{◌≡◌, ◌≢◌, ◌↔◌, ◌⊎◌, ◌++◌, ℕ, ◌+◌, ◌^◌, ◌<◌, ◌≤◌, true, false, List, [], length, None, IfOk, OnOk, IsErrOf, Err, IsTrue};
 ghost use Rattle.std.specs.Thread.{IsSync};
 ghost use Rattle.tm_base.specs.Handed.{Handed, on_handed};
 ghost use Rattle.tm_base.specs.Outside.{Rose};
 ghost use Rattle.tm_base.specs.Takers.{HandedOver, HandedPart};
 ghost use Rattle.tm_inner.specs.InnerDecoding.{HasWorkers};
 ghost use Rattle.tm_inner.specs.Phase.{IsChosen, IsChosenSoFar};
+ghost use Rattle.tm_sync.specs.Places.{verify_bits};
+ghost use Rattle.tm_sync.specs.Searching.{StandsFor as SearchStandsFor, inside_of};
+ghost use Rattle.tm_codeblock.specs.ReceivedCodeblock.{rules_of};
 ghost use Rattle.tm_workers.specs.Batch.{EachBecomes};
 ghost use Rattle.tm_workers.specs.Words.{Decodes};
 ghost use Rattle.tm_channel.specs.Items.{ItemValue};
@@ -110,26 +113,22 @@ impl Receiver {
         let Ok(kept) = KeptBits::open(alloc, room) else {
             return Err(NoMemory);
         };
-        let search = Search::new(
-            config.tolerance() as u8,
-            config.fly() as u8,
-            finds_polarity(&config),
-            8 * codeblock_size(&config) as u32,
-        );
+        let Ok((search, recent)) = open_search(alloc, &config) else {
+            return Err(NoMemory);
+        };
         Ok(Receiver {
             config,
             inner,
             kept,
-            stream: BitStream::new(search, batch),
+            stream: BitStream::new(search, recent, batch),
             has_stopped: false,
         })
     }
 
-    /// Takes the next octets, and hands over the items that are due: those of the codeblocks that lie whole in the bits
-    /// received, in whole batches as large as the configuration says. With an inner code these are the bits of all
-    /// windows that are closed. Where the symbol phase is to be found nothing is due until it is chosen: once all steps
-    /// of a window can be compared, or with no inner code at the first octet. Then it is handed over, once, before any
-    /// item.
+    /// Takes the next octets, and hands over the items that are due: those of the places in the bits received, in whole
+    /// batches as large as the configuration says. With an inner code these are the bits of all windows that are
+    /// closed. Where the symbol phase is to be found nothing is due until it is chosen: once all steps of a window can
+    /// be compared, or with no inner code at the first octet. Then it is handed over, once, before any item.
     ///
     /// `Taker` comes where `taker` fails; a prefix of what is due was then handed over. `Stopped` comes where an
     /// earlier call answered `Taker` or the receiver was finished; nothing is handed over then.
@@ -276,6 +275,26 @@ impl Receiver {
     {
         self.inner.chosen()
     }
+}
+
+// The search for the codeblocks of a configuration, and its room.
+fn open_search(alloc: Global, config: &Config) -> Result<(Search, Vec<u8>), NoMemory>
+    ensures rules { IfOk result (λ opened. opened.0.rules ≡ rules_of config.now) }
+    ensures inside { IfOk result (λ opened. inside_of opened.0 ≡ None) }
+    ensures sized { IfOk result (λ opened. length opened.1.items ≡ verify_bits opened.0.rules) }
+    ensures stands { IfOk result (λ opened. SearchStandsFor opened.0 opened.1.items [] []) }
+{
+    let search = Search::new(
+        config.tolerance() as u8,
+        config.fly() as u8,
+        finds_polarity(config),
+        8 * codeblock_size(config) as u32,
+        config.verify() as u8,
+    );
+    let Ok(room) = vec![in alloc; 0; search.room()] else {
+        return Err(NoMemory);
+    };
+    Ok((search, room))
 }
 
 /// Hands over the symbol phase of octets, fewer than 2^60, where it is to be found, and all their items. Answers how

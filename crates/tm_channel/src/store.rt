@@ -3,7 +3,7 @@ ghost use Rattle.std.specs.Prelude.{◌≡◌, ◌<◌, ◌≤◌, ◌+◌, ◌-
 ghost use Rattle.tm_base.specs.Bits.{bits_of, low_bits};
 ghost use Rattle.tm_config.specs.Bounds.{longest_codeblock, most_batch};
 ghost use Rattle.tm_config.specs.Configuration.{codeblock_length};
-ghost use Rattle.tm_channel.specs.Receiving.{AreItemsFor, IsItemAt, kept_of, waiting_bits};
+ghost use Rattle.tm_channel.specs.Receiving.{AreItemsFor, IsItemAt, kept_of, room_bits, waiting_bits};
 
 use crate::item::Item;
 use crate::repair::repair;
@@ -106,6 +106,18 @@ impl Codeblocks {
         self.gathering.push_octets(octets);
     }
 
+    /// Takes the codeblock under way, of which nothing was gathered, out of a room that holds the bits given, bit i as
+    /// 0 or 1 in octet i % size: those from bit `from` on.
+    pub fn recall(&mut self, room: &[u8], from: u64)
+        requires none { self.old.part ≡ [] }
+        requires some { 0 < length room.now }
+        ensures config { self.new.config ≡ self.old.config }
+        ensures part { self.new.part ≡ room_bits room.now from (8 * codeblock_length self.old.config) }
+        ensures kept { self.new.kept ≡ self.old.kept }
+    {
+        recall(&mut self.gathering, 8 * self.size, room, from);
+    }
+
     /// Keeps the codeblock under way, which is whole, as that of this place.
     pub fn keep(&mut self, found: Found)
         requires room { length self.old.kept < self.old.config.batch }
@@ -190,5 +202,21 @@ impl Codeblocks {
         ensures kept { self.new.kept ≡ [] }
     {
         self.count = 0;
+    }
+}
+
+// Gathers so many bits out of a room, from bit `from` on.
+fn recall(gathering: &mut Gathering, count: usize, room: &[u8], from: u64)
+    requires none { gathering.old ≡ [] }
+    requires some { 0 < length room.now }
+    requires few { count ≤ 16320 }
+    ensures { gathering.new ≡ room_bits room.now from count }
+{
+    let mut at = (from % room.len() as u64) as usize;
+    let mut done = 0;
+    while done < count {
+        gathering.push_bit(room[at] == 1);
+        at = (at + 1) % room.len();
+        done += 1;
     }
 }

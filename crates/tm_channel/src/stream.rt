@@ -2,6 +2,7 @@
 ghost use Rattle.std.specs.Prelude.{◌≡◌, ◌*◌, ◌<◌, ◌≤◌, ◌^◌, [], drop, length, None, OnOk, OnErr};
 ghost use Rattle.tm_base.specs.Bits.{bits_of};
 ghost use Rattle.tm_base.specs.Outside.{HasCause};
+ghost use Rattle.tm_sync.specs.Places.{verify_bits};
 ghost use Rattle.tm_sync.specs.Searching.{StandsFor as SearchStandsFor, inside_of};
 ghost use Rattle.tm_codeblock.specs.ReceivedCodeblock.{rules_of};
 ghost use Rattle.tm_channel.specs.Receiving.{waiting_bits};
@@ -27,17 +28,22 @@ impl Model for BitStream {
 
     ghost Value = { BitReceiving };
 
-    ghost view = { λ s. record { search = s.receiver.search; batch = s.receiver.batch } };
+    ghost view = { λ s. record {
+      search = s.receiver.search;
+      room = s.receiver.room.items;
+      batch = s.receiver.batch;
+    } };
 
-    ghost invariant = { λ s. IsReady s.receiver.search s.receiver.batch };
+    ghost invariant = { λ s. IsReady s.receiver.search s.receiver.room.items s.receiver.batch };
 }
 
 impl BitStream {
-    /// A receiver that was given no bits.
-    pub fn new(search: Search, batch: Codeblocks) -> BitStream
+    /// A receiver that was given no bits. `room` is the search's own.
+    pub fn new(search: Search, room: Vec<u8>, batch: Codeblocks) -> BitStream
         requires rules { search.rules ≡ rules_of batch.config }
         requires inside { inside_of search ≡ None }
-        requires stands { SearchStandsFor search [] [] }
+        requires sized { length room.items ≡ verify_bits search.rules }
+        requires stands { SearchStandsFor search room.items [] [] }
         requires part { batch.part ≡ [] }
         requires kept { batch.kept ≡ [] }
         requires some { 0 < batch.config.batch }
@@ -45,7 +51,11 @@ impl BitStream {
         ensures stands { StandsForBits result [] }
     {
         BitStream {
-            receiver: BitReceiver { search, batch },
+            receiver: BitReceiver {
+                search,
+                room,
+                batch,
+            },
         }
     }
 
@@ -75,7 +85,7 @@ impl BitStream {
     }
 
     /// How many further bits make no item due, whatever they are: one fewer than the codeblocks that the batch lacks
-    /// have with their markers, less those that were given of the first of them; none with one worker.
+    /// have with their markers, less those given that may be part of the first of them; none with one worker.
     pub fn spare(&self) -> u64
         ensures value { AreSpare self.now result }
         ensures most { result ≤ waiting_bits self.now.batch.config self.now.batch.config.batch }
@@ -83,7 +93,10 @@ impl BitStream {
         let lacking = self.receiver.batch.bits_lacking();
         match self.receiver.search.inside() {
             Some(count) => lacking.saturating_sub(33).saturating_sub(count),
-            None => lacking.saturating_sub(32),
+            None => {
+                let left = lacking.saturating_sub(32);
+                left.saturating_sub(self.receiver.room.as_slice().len() as u64)
+            }
         }
     }
 

@@ -13,7 +13,7 @@ returns-then-count-gt0-clause-holds c = λ handed bits few h.
     let is : bits_of (take ((at / 8 + count) - at / 8) (drop (at / 8) octets)) ≡ bits_between at (at + 8 * count) octets
     =
     between-octets at count octets c.if-at-eq0.true in
-    subst (λ (l : List Bool). HoldsMore now.search now.batch handed bits l) is
+    subst (λ (l : List Bool). HoldsMore now.search now.room.items now.batch handed bits l) is
     (c.push_octets.ensures.holds handed bits (subst (λ (l : List Bool). length (bits ++ l) < 2 ^ 63) (sym is) few) h)
 
 pub returns-then-is_outside-clause-holds : goal.returns-then-is_outside-clause-holds
@@ -23,7 +23,7 @@ returns-then-is_outside-clause-holds c = λ handed bits few h.
     let now = c.push_octet.new.self in
     let is : bits_of_octet (get_or octets (at / 8) 0) ≡ bits_between at (at + 8) octets =
     between-octet at octets c.if-at-eq0.true c.requires.at in
-    subst (λ (l : List Bool). HoldsMore now.search now.batch handed bits l) is
+    subst (λ (l : List Bool). HoldsMore now.search now.room.items now.batch handed bits l) is
     (c.push_octet.ensures.holds handed bits (subst (λ (l : List Bool). length (bits ++ l) < 2 ^ 63) (sym is) few) h)
 
 pub returns-clause-holds : goal.returns-clause-holds
@@ -33,5 +33,5 @@ returns-clause-holds c = λ handed bits few h.
     let now = c.push_bit.new.self in
     let is : (get_or c.bits_of_octet.result (at % 8) 0 == 1) ∷ [] ≡ bits_between at (at + 1) octets =
     between-bit at octets c.bits_of_octet.result c.requires.at c.bits_of_octet.ensures in
-    subst (λ (l : List Bool). HoldsMore now.search now.batch handed bits l) is
+    subst (λ (l : List Bool). HoldsMore now.search now.room.items now.batch handed bits l) is
     (c.push_bit.ensures.holds handed bits (subst (λ (l : List Bool). length (bits ++ l) < 2 ^ 63) (sym is) few) h)

@@ -7,10 +7,11 @@ abbrev pub invariant-loop-at : goal.invariant-loop-at
 invariant-loop-at g l = record {
   first : l.from ≤ l.at;
   within : l.at ≤ 8 * length l.octets;
-  ready : IsReady l.self.search l.self.batch;
+  ready : IsReady l.self.search l.self.room.items l.self.batch;
   faults : g.T.ItemTaker.faults l.taker ≡ g.T.ItemTaker.faults l.initial.taker;
-  received : Received g.T.ItemTaker.took (record { search = l.initial.self.search; batch = l.initial.self.batch })
-      (record { search = l.self.search; batch = l.self.batch }) l.initial.taker l.taker
+  received : Received g.T.ItemTaker.took
+      (record { search = l.initial.self.search; room = l.initial.self.room.items; batch = l.initial.self.batch })
+      (record { search = l.self.search; room = l.self.room.items; batch = l.self.batch }) l.initial.taker l.taker
       (bits_between l.from l.at l.octets);
 }
 

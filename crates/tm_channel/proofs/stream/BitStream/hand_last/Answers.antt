@@ -9,7 +9,7 @@ use Rattle.tm_channel.proofs.stream.BitStream.hand_last.Goals.{in-Ok, in-Err}
 pub returns-clause-handed : goal.returns-clause-handed
 returns-clause-handed g c =
     let r = c.self.inside.receiver in
-    let before : BitReceiving = record { search = r.search; batch = r.batch } in
+    let before : BitReceiving = record { search = r.search; room = r.room.items; batch = r.batch } in
     let b = r.batch in
     let Said : BitReceiving → Result (Unit {0}) Failed → Type 0 = λ s result. OnOk result (ReceivedLast g.T.ItemTaker.took s c.args.taker.now c.hand_all.new.taker) in
     subst (λ (s : BitReceiving). Said s c.match-hand_all.result) c.self.view_is (elim c.match-hand_all.branch as (λ _. Said before c.match-hand_all.result) [
@@ -18,7 +18,7 @@ returns-clause-handed g c =
           let said : Said before (Ok tt) = record {
             items = some.0;
             handed = some.2;
-            last = λ bits h. items-last b.config (StandsFor r.search) b.part b.kept bits some.0 h some.1;
+            last = λ bits h. items-last b.config (StandsFor r.search r.room.items) b.part b.kept bits some.0 h some.1;
           } in
           subst (Said before) (sym w.result-is) said
           )
@@ -28,7 +28,7 @@ returns-clause-handed g c =
 pub returns-clause-part : goal.returns-clause-part
 returns-clause-part g c =
     let r = c.self.inside.receiver in
-    let before : BitReceiving = record { search = r.search; batch = r.batch } in
+    let before : BitReceiving = record { search = r.search; room = r.room.items; batch = r.batch } in
     let b = r.batch in
     let Said : BitReceiving → Result (Unit {0}) Failed → Type 0 = λ s result. OnErr result (ReceivedLastPart g.T.ItemTaker.took g.T.ItemTaker.broke s c.args.taker.now c.hand_all.new.taker) in
     subst (λ (s : BitReceiving). Said s c.match-hand_all.result) c.self.view_is (elim c.match-hand_all.branch as (λ _. Said before c.match-hand_all.result) [
@@ -38,7 +38,7 @@ returns-clause-part g c =
           let said : Said before (Err w.in-Err.field-0) = record {
             tried = some.1;
             handed = some.3;
-            first = λ bits h. first-last b.config (StandsFor r.search) b.part b.kept bits some.0 some.1 h some.2;
+            first = λ bits h. first-last b.config (StandsFor r.search r.room.items) b.part b.kept bits some.0 some.1 h some.2;
           } in
           subst (Said before) (sym w.result-is) said
           )
