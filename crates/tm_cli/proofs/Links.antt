@@ -30,7 +30,7 @@ use Rattle.tm_channel.specs.Sent.{cadus, sent, sent_phase}
 use Rattle.tm_channel.specs.Items.{ItemValue, are_fixed, frames_of, complemented_item}
 use Rattle.tm_channel.specs.Handing.{AreReceived}
 use Rattle.tm_channel.specs.Receive.{Receive}
-use Rattle.tm_channel.specs.SentStream.{SentUnit, IsSent, AreRepaired, AreWithin, AreAsSent, AreNear, sent_columns, unit_codeblock, unit_frames, unit_places, clean_answers, clean_items}
+use Rattle.tm_channel.specs.SentStream.{SentUnit, IsSent, AreRepaired, AreWithin, AreAsSent, AreNear, sent_columns, unit_codeblock, unit_frames, unit_places, clean_answers, clean_items, found_frames}
 use Rattle.tm_channel.proofs.SentPhase.{sent-skip}
 use Rattle.tm_driver.specs.Meaning.{Ends, WroteOutput, taken_by}
 use Rattle.tm_driver.specs.Statuses.{status_of}
@@ -70,7 +70,7 @@ CleanBits = (c : Configuration) (octets : List ℕ) (bits : List Bool) → IsAcc
 
 abbrev CleanItems : Type 0
 CleanItems = (c : Configuration) (octets : List ℕ) (items : List ItemValue) → IsAccepted c → c.skip ≡ 0 → IsStartKnown c → AreOctets octets
-    → Receive c 0 (sent c octets) items → items ≡ clean_items c 0 (whole_frames c.frame_length octets)
+    → Receive c 0 (sent c octets) items → items ≡ clean_items c 0 (found_frames c (whole_frames c.frame_length octets))
 
 abbrev CleanFrames : Type 0
 CleanFrames = (c : Configuration) (at : ℕ) (frames : List (List ℕ)) → frames_of (clean_items c at frames) ≡ concat frames
@@ -94,7 +94,7 @@ ComplementedItems = (c : Configuration) (phase : ℕ) (octets : List ℕ) (items
 abbrev ComplementedSymbols : Type 0
 ComplementedSymbols = (c : Configuration) (octets : List ℕ) (items : List ItemValue) → IsAccepted c → c.inner ≡ Some R12
     → c.polarity ≡ Find → c.start ≡ Any → c.skip ≡ 0 → AreOctets octets
-    → Receive c 0 (complemented_octets (sent c octets)) items → items ≡ map complemented_item (clean_items c 0 (whole_frames c.frame_length octets))
+    → Receive c 0 (complemented_octets (sent c octets)) items → items ≡ map complemented_item (clean_items c 0 (found_frames c (whole_frames c.frame_length octets)))
 
 -- ---- no column is uncorrectable
 
@@ -265,7 +265,7 @@ pub keeps-clean : SentPhase → OnePhase → OneHanded → CleanBits → CleanIt
 keeps-clean sent_phases one_phase one clean_bits clean frames e status c octets taken taken_now noted noted_now ok told ends read = λ input skip start small is.
     let r = came-free one_phase one e status c octets taken taken_now noted noted_now ok told ends read
     (λ chosen choice. sent_phases c input chosen skip (subst (λ (l : List ℕ). IsChosen c l chosen) is choice)) in
-    let sent_frames = whole_frames c.frame_length input in
+    let sent_frames = found_frames c (whole_frames c.frame_length input) in
     let inner : Inner c 0 (sent c input) r.bits = subst (λ (n : ℕ). Inner c n (sent c input) r.bits) (sent-skip c) (subst (λ (l : List ℕ). Inner c (skip_of (sent_phase c)) l r.bits) is r.inner) in
     let receive : Receive c 0 (sent c input) r.items =
     subst (λ (n : ℕ). Receive c n (sent c input) r.items) (sent-skip c) (subst (λ (l : List ℕ). Receive c (skip_of (sent_phase c)) l r.items) is r.receive) in
@@ -312,7 +312,8 @@ pub keeps-complemented_symbols : ComplementedPhase → OnePhase → OneHanded �
 keeps-complemented_symbols complemented_phases one_phase one has_bits clean_bits frames complemented e status c octets taken taken_now noted noted_now ok told ends read = λ input half find any skip small is.
     let r = came-free one_phase one e status c octets taken taken_now noted noted_now ok told ends read
     (λ chosen choice. complemented_phases c input chosen skip (subst (λ (l : List ℕ). IsChosen c l chosen) is choice)) in
-    let clean = clean_items c 0 (whole_frames c.frame_length input) in
+    let sent_frames = found_frames c (whole_frames c.frame_length input) in
+    let clean = clean_items c 0 sent_frames in
     let inner : Inner c 0 octets r.bits = subst (λ (n : ℕ). Inner c n octets r.bits) (sent-skip c) r.inner in
     let receive : Receive c 0 (complemented_octets (sent c input)) r.items =
     subst (λ (n : ℕ). Receive c n (complemented_octets (sent c input)) r.items) (sent-skip c) (subst (λ (l : List ℕ). Receive c (skip_of (sent_phase c)) l r.items) is r.receive) in
@@ -321,7 +322,7 @@ keeps-complemented_symbols complemented_phases one_phase one has_bits clean_bits
     let count : length r.bits ≡ 8 * length (cadus c input) =
     same-count c 0 octets (sent c input) r.bits upright.0 (ap length is ∙ length-map (sent c input) (λ octet. 255 - octet)) inner upright.1
     ∙ ap length (clean_bits c (cadus c input) upright.0 ok skip (inr (inr half)) upright.1) ∙ length-bits_of (cadus c input) in (
-      r.good (ap bad items ∙ bad-complemented clean ∙ clean-good c 0 (whole_frames c.frame_length input)),
-      subst (Wrote taken taken_now) (ap frames_of items ∙ frames-complemented clean ∙ frames c 0 (whole_frames c.frame_length input)) r.out,
+      r.good (ap bad items ∙ bad-complemented clean ∙ clean-good c 0 sent_frames),
+      subst (Wrote taken taken_now) (ap frames_of items ∙ frames-complemented clean ∙ frames c 0 sent_frames) r.out,
       subst (Wrote noted noted_now) (λ i. report_text (with_phase (sent_phase c) (items i)) (count i)) r.notes,
     )

@@ -14,20 +14,22 @@ use Rattle.tm_codeblock.specs.Frames.{whole_frames}
 use Rattle.tm_channel.specs.Sent.{cadus, sent, sent_phase}
 use Rattle.tm_viterbi.specs.Clean.{complemented_octets}
 use Rattle.tm_channel.specs.Items.{ItemValue, AreItems, frames_of, complemented_item}
-use Rattle.tm_channel.specs.SentStream.{SentUnit, IsSent, AreAsSent, AreNear, unit_frames, unit_places, clean_items}
+use Rattle.tm_channel.specs.SentStream.{SentUnit, IsSent, AreAsSent, AreNear, unit_frames, unit_places, clean_items, found_frames}
 use Rattle.tm_cli.specs.Report.{report_text}
 
 -- Octets that `encode` sends for an input come back as its whole frames, where nothing was
--- disturbed, none is skipped and it is known where the first path starts. The report says so of the
--- phase, where it is to be found, and of each frame that nothing was wrong, and the status is 0.
+-- disturbed, none is skipped and it is known where the first path starts; but of no more frames
+-- than further markers are to verify the first none comes. The report says so of the phase, where it
+-- is to be found, and of each frame that nothing was wrong, and the status is 0.
 abbrev pub KeepsCleanLink : ℕ → Configuration → List ℕ
     → (taken taken_now noted noted_now : Option (List ℕ)) → Type 0
 KeepsCleanLink status c octets taken taken_now noted noted_now =
     (input : List ℕ) → c.skip ≡ 0 → IsStartKnown c → AreOctets input → octets ≡ sent c input
-    → (status ≡ 0) × Wrote taken taken_now (concat (whole_frames c.frame_length input))
+    → (status ≡ 0)
+    × Wrote taken taken_now (concat (found_frames c (whole_frames c.frame_length input)))
     × Wrote noted noted_now (report_text
-    (with_phase (sent_phase c) (clean_items c 0 (whole_frames c.frame_length input))) (8 * length
-    (cadus c input)))
+    (with_phase (sent_phase c) (clean_items c 0 (found_frames c (whole_frames c.frame_length input))))
+    (8 * length (cadus c input)))
 
 -- Where the octets after the phase come to the bits of units, however disturbed and with gaps
 -- between them, the output is the frames, and the notes are the report, of items that stand exactly
@@ -56,14 +58,16 @@ KeepsComplementedInput c octets taken taken_now noted noted_now =
     × Wrote noted noted_now (report_text (with_phase chosen (map complemented_item items)) (length bits))
 
 -- At rate 1/2 with inverted markers, where paths start from any register and none is skipped, the
--- symbols that `encode` sends for an input, each complemented, come back as its whole frames, each
--- in the other polarity and with nothing wrong, and the status is 0.
+-- symbols that `encode` sends for an input, each complemented, come back as its whole frames, as
+-- above, each in the other polarity and with nothing wrong, and the status is 0.
 abbrev pub KeepsComplementedSymbols : ℕ → Configuration → List ℕ
     → (taken taken_now noted noted_now : Option (List ℕ)) → Type 0
 KeepsComplementedSymbols status c octets taken taken_now noted noted_now =
     (input : List ℕ) → c.inner ≡ Some R12 → c.polarity ≡ Find → c.start ≡ Any → c.skip ≡ 0
     → AreOctets input → octets ≡ complemented_octets (sent c input)
-    → (status ≡ 0) × Wrote taken taken_now (concat (whole_frames c.frame_length input))
+    → (status ≡ 0)
+    × Wrote taken taken_now (concat (found_frames c (whole_frames c.frame_length input)))
     × Wrote noted noted_now (report_text
     (with_phase (sent_phase c) (map complemented_item
-    (clean_items c 0 (whole_frames c.frame_length input)))) (8 * length (cadus c input)))
+    (clean_items c 0 (found_frames c (whole_frames c.frame_length input)))))
+    (8 * length (cadus c input)))
