@@ -1,8 +1,8 @@
--- Bits that a search takes up to the end of a codeblock.
-use Rattle.std.specs.Prelude.{◌≡◌, ℕ, ◌-◌, ◌==◌, Bool, not, List, [], ◌∷◌, ◌++◌, map, take, drop, Option, Some, None}
+-- Bits that a search takes up to the one with which a place is found.
+use Rattle.std.specs.Prelude.{◌≡◌, ℕ, ◌-◌, ◌==◌, Bool, not, List, [], ◌∷◌, ◌++◌, length, map, take, drop, Option, Some, None}
 use Rattle.tm_sync.specs.declared.found.Found.{Found}
 use Rattle.tm_sync.specs.Places.{places}
-use Rattle.tm_sync.specs.Searching.{Searching, StandsFor}
+use Rattle.tm_sync.specs.Searching.{Searching, StandsFor, waiting_of}
 
 -- bits that are passed as numbers, 0 and others
 abbrev pub bits_in : List ℕ → List Bool
@@ -12,8 +12,12 @@ bits_in numbers = map (λ number. not (number == 0)) numbers
 abbrev pub span : {T : Type 0} → ℕ → ℕ → List T → List T
 span from to items = take (to - from) (drop from items)
 
--- the search was given these bits, and has found these places and no others, or these and one more
-abbrev pub Finds : Searching → List Bool → List Found → Option Found → Type 0
-Finds search bits found None = StandsFor search bits found × (places search.rules bits ≡ found)
-Finds search bits found (Some f) = StandsFor search bits (found ++ f ∷ [])
-    × (places search.rules bits ≡ found ++ f ∷ [])
+-- The search was given these bits, of which the room holds those that it may look at again, and has
+-- found these places and no others; or these and one more, after which the places are left that
+-- came with the same bit.
+abbrev pub Finds : Searching → List ℕ → List Bool → List Found → Option Found → Type 0
+Finds search room bits found None = StandsFor search room bits found
+    × (places search.rules bits ≡ found)
+Finds search room bits found (Some f) = StandsFor search room bits (found ++ f ∷ [])
+    × ((rest : List Found) × (places search.rules bits ≡ found ++ f ∷ rest)
+    × (length rest ≡ waiting_of search))

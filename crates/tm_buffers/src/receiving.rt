@@ -134,10 +134,11 @@ pub fn items_room(config: &Config, count: usize) -> Option<usize>
     ensures accepted { IsAccepted config.now }
 {
     let batch = config.batch();
+    let verify = config.verify();
     if count > MOST {
         return None;
     }
-    Some((most_bits(config, count as u64) / unit_bits(config) + batch) as usize)
+    Some((most_bits(config, count as u64) / unit_bits(config) + batch + verify) as usize)
 }
 
 // How many bits come of so many octets at most.

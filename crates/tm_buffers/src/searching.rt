@@ -7,26 +7,32 @@ ghost use Rattle.tm_buffers.specs.Searching.{Finds, bits_in, span};
 
 use tm_sync::{Found, Search};
 
-/// Takes bits from index `from` on, each 0 or any other number for 1, up to the end of the first codeblock that is
-/// whole, or all of them. Answers how many of the array are taken then, and the place of that codeblock's marker.
+/// Takes bits from index `from` on, each 0 or any other number for 1, up to the one with which the next place is found,
+/// or all of them; none where a place is left that came with the bit before. Answers how many of the array are taken
+/// then, and the place. `room` is the search's own.
 ///
 /// The bits given in all are to be below 2^63.
-pub fn find_in_bits(search: &mut Search, bits: &[u8], from: usize) -> (usize, Option<Found>)
+pub fn find_in_bits(
+    search: &mut Search,
+    room: &mut [u8],
+    bits: &[u8],
+    from: usize,
+) -> (usize, Option<Found>)
     requires { from ≤ length bits.now }
     ensures rules { search.new.rules ≡ search.old.rules }
     ensures within { (from ≤ result.0) × (result.0 ≤ length bits.now) }
     ensures all { IfNone result.1 (result.0 ≡ length bits.now) }
-    ensures free { is_pending search.new ≡ false }
+    ensures free { IfNone result.1 (is_pending search.new ≡ false) }
     ensures finds { (given : List Bool) (found : List Found) → length given + length bits.now ≤ 2 ^ 63
-        → StandsFor search.old given found
-        → Finds search.new (given ++ span from result.0 (bits_in bits.now)) found result.1 }
+        → StandsFor search.old room.old given found
+        → Finds search.new room.new (given ++ span from result.0 (bits_in bits.now)) found result.1 }
 {
     let mut end = from;
-    let mut place = search.next();
+    let mut place = search.next(room);
     while place.is_none() && end < bits.len() {
-        search.push_bit(bits[end] != 0);
+        search.push_bit(room, bits[end] != 0);
         end += 1;
-        place = search.next();
+        place = search.next(room);
     }
     (end, place)
 }
@@ -34,6 +40,7 @@ pub fn find_in_bits(search: &mut Search, bits: &[u8], from: usize) -> (usize, Op
 /// The same of the bits of octets, the most significant bit of each octet first: from bit `from` on.
 pub fn find_in_octets(
     search: &mut Search,
+    room: &mut [u8],
     block_bits: u32,
     octets: &[u8],
     from: u64,
@@ -44,24 +51,24 @@ pub fn find_in_octets(
     ensures rules { search.new.rules ≡ search.old.rules }
     ensures within { (from ≤ result.0) × (result.0 ≤ 8 * length octets.now) }
     ensures all { IfNone result.1 (result.0 ≡ 8 * length octets.now) }
-    ensures free { is_pending search.new ≡ false }
+    ensures free { IfNone result.1 (is_pending search.new ≡ false) }
     ensures finds { (given : List Bool) (found : List Found) → length given + 8 * length octets.now ≤ 2 ^ 63
-        → StandsFor search.old given found
-        → Finds search.new (given ++ span from result.0 (bits_of octets.now)) found result.1 }
+        → StandsFor search.old room.old given found
+        → Finds search.new room.new (given ++ span from result.0 (bits_of octets.now)) found result.1 }
 {
     let size = 8 * octets.len() as u64;
     let mut end = from;
-    let mut place = search.next();
+    let mut place = search.next(room);
     while place.is_none() && end < size {
-        end += take_some(search, block_bits, octets, end);
-        place = search.next();
+        end += take_some(search, room, block_bits, octets, end);
+        place = search.next(room);
     }
     (end, place)
 }
 
 // Takes some of the bits of octets from bit `from` on: whole octets inside a codeblock, which has `block_bits` bits,
 // and else one bit. Answers how many bits.
-fn take_some(search: &mut Search, block_bits: u32, octets: &[u8], from: u64) -> u64
+fn take_some(search: &mut Search, room: &mut [u8], block_bits: u32, octets: &[u8], from: u64) -> u64
     requires block { search.old.rules.block_bits ≡ block_bits }
     requires few { length octets.now ≤ 2 ^ 40 }
     requires from { from < 8 * length octets.now }
@@ -70,8 +77,8 @@ fn take_some(search: &mut Search, block_bits: u32, octets: &[u8], from: u64) -> 
     ensures some { 0 < result }
     ensures within { from + result ≤ 8 * length octets.now }
     ensures takes { (given : List Bool) (found : List Found) → length given + result ≤ 2 ^ 63
-        → StandsFor search.old given found
-        → StandsFor search.new (given ++ span from (from + result) (bits_of octets.now)) found }
+        → StandsFor search.old room.old given found
+        → StandsFor search.new room.new (given ++ span from (from + result) (bits_of octets.now)) found }
 {
     let first = (from / 8) as usize;
     let whole = whole_octets(search.inside(), block_bits, from % 8).min(octets.len() - first);
@@ -79,7 +86,7 @@ fn take_some(search: &mut Search, block_bits: u32, octets: &[u8], from: u64) -> 
         search.push_octets(&octets[first..first + whole]);
         return 8 * whole as u64;
     }
-    search.push_bit(octets[first] >> (7 - from % 8) & 1 == 1);
+    search.push_bit(room, octets[first] >> (7 - from % 8) & 1 == 1);
     1
 }
 
