@@ -280,11 +280,12 @@ int64_t tmchan_receiver_finish(tmchan_stream *stream, uint8_t *frames, size_t fr
                                uint64_t *bits, tmchan_phase *phase);
 
 /* The search for sync markers: in bits, or in octets, which marker has a whole codeblock after it. It takes no memory: what it keeps stands in
- * the caller's struct, which begins as {0} and only calls change. Searches may be copied. */
+ * the caller's struct, which begins as {0}, and in a room of the caller's, and only calls change them. The room has verify * (32 + block_bits)
+ * octets, one for each bit; none where verify is 0. What it holds at first does not matter. A search may be copied with its room. */
 typedef struct {
-    uint64_t is_open, pushed, start, place;
-    uint32_t block_bits, word, after;
-    uint8_t tolerance, fly, either, has_before, before_inverted, before_bridged, has_place, distance, bridged, inverted, next_inverted,
+    uint64_t is_open, pushed, start, place, after;
+    uint32_t block_bits, word;
+    uint8_t tolerance, fly, either, verify, has_before, before_inverted, before_bridged, has_place, distance, bridged, inverted, next_inverted,
         next_bridged;
 } tmchan_search;
 
@@ -296,20 +297,25 @@ typedef struct {
 } tmchan_place;
 
 /* Begins a search: of markers with at most `tolerance` wrong bits, 0 to 8; where at most `fly` in a row may be missing, 0 to 15; inverted ones
- * too where either is 1, and not where it is 0; with codeblocks of block_bits bits. Answers 0; TMCHAN_BAD_TOLERANCE, TMCHAN_BAD_FLY,
- * TMCHAN_BAD_POLARITY (of either). */
-int32_t tmchan_search_open(tmchan_search *search, uint32_t tolerance, uint32_t fly, uint32_t either, uint32_t block_bits);
+ * too where either is 1, and not where it is 0; with codeblocks of block_bits bits. A marker that does not directly follow a codeblock is taken
+ * where `verify` further ones, 0 to 7, each right after the codeblock of the one before, match in the same polarity. Answers 0;
+ * TMCHAN_BAD_TOLERANCE, TMCHAN_BAD_FLY, TMCHAN_BAD_POLARITY (of either), TMCHAN_BAD_VERIFY. */
+int32_t tmchan_search_open(tmchan_search *search, uint32_t tolerance, uint32_t fly, uint32_t either, uint32_t block_bits, uint32_t verify);
 
-/* Takes bits of an array, each 0, or any other number for 1, from number *at on, up to the end of the first codeblock that is whole, or all;
- * *at is how many of the array are taken then. Answers 1 where a codeblock is whole, whose place it gives; 0 where all are taken;
- * TMCHAN_CLOSED, TMCHAN_ROOM (*at is beyond the array, or that has more than 2^40 elements): nothing was taken then. So this takes an array:
+/* Takes bits of an array, each 0, or any other number for 1, from number *at on, up to the one with which the next place is found, or all; *at is
+ * how many of the array are taken then. A place is found with the last bit of its codeblock, and where further markers verify it with the last
+ * bit of these: several places may be found with one bit, and come one a call. Answers 1 where a place is found, and gives it; 0 where all are
+ * taken; TMCHAN_CLOSED, TMCHAN_ROOM (the room has another length, *at is beyond the array, or that has more than 2^40 elements): nothing was
+ * taken then. So this takes an array:
  *
  *     uint64_t at = 0;
- *     while (tmchan_search_bits(&search, bits, bits_length, &at, &place) == 1) use(place); */
-int32_t tmchan_search_bits(tmchan_search *search, const uint8_t *bits, size_t bits_length, uint64_t *at, tmchan_place *place);
+ *     while (tmchan_search_bits(&search, room, room_length, bits, bits_length, &at, &place) == 1) use(place); */
+int32_t tmchan_search_bits(tmchan_search *search, uint8_t *room, size_t room_length, const uint8_t *bits, size_t bits_length, uint64_t *at,
+                           tmchan_place *place);
 
 /* The same of the bits of octets: *at is a number of bits. */
-int32_t tmchan_search_octets(tmchan_search *search, const uint8_t *octets, size_t octets_length, uint64_t *at, tmchan_place *place);
+int32_t tmchan_search_octets(tmchan_search *search, uint8_t *room, size_t room_length, const uint8_t *octets, size_t octets_length, uint64_t *at,
+                             tmchan_place *place);
 
 #ifdef __cplusplus
 }

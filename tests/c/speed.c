@@ -52,7 +52,7 @@ static void open_streams(void) {
     tmchan_config_defaults(&config);
     config.depth = 5;
     bad += tmchan_sender_open(&sender, &config) + tmchan_decoder_open(&decoder, &config) + tmchan_receiver_open(&receiver, &config) != 0;
-    bad += tmchan_search_open(&search, 0, 0, 0, 8 * 1275) != 0;
+    bad += tmchan_search_open(&search, 0, 0, 0, 8 * 1275, 0) != 0;
     bad += tmchan_sender_push(&sender, block, FRAMES, symbols, sizeof symbols) != UNIT;
     memcpy(soft, symbols, UNIT);
 }
@@ -62,7 +62,7 @@ static void receive(void) { bad += tmchan_receiver_push(&receiver, soft, UNIT, f
 static void find(void) {
     tmchan_place place;
     uint64_t at = 0;
-    while (tmchan_search_octets(&search, unit, 1279, &at, &place) == 1) continue;
+    while (tmchan_search_octets(&search, bits, 0, unit, 1279, &at, &place) == 1) continue;
 }
 
 #ifdef WITH_LIBFEC

@@ -147,7 +147,9 @@ static void make_refusals(void) {
     expect(tmchan_config_check(&config) == 0 && tmchan_frame_length(&config) == 223, "the defaults");
     /* 3 * 8448 + 7 + 1000 bits are 12 units of 2,072 bits and a part, and a batch has 32; with four workers the bits of a batch may wait. */
     expect(tmchan_receiver_room(&config, 1000, &bits) == 44 && bits == 44 * 223, "the room of the defaults");
-    config.workers = 4;
+    config.verify = 3; /* a marker may verify the places of three more codeblocks at once */
+    expect(tmchan_receiver_room(&config, 1000, &bits) == 47 && bits == 47 * 223, "with further markers");
+    config.verify = 0, config.workers = 4;
     expect(tmchan_receiver_room(&config, 1000, &bits) == 76 && tmchan_receiver_room(&config, 0, &bits) == 76 && bits == 76 * 223, "with workers");
     expect(tmchan_receiver_room(&config, ((size_t)1 << 40) + 1, &bits) == TMCHAN_ROOM && bits == 76 * 223, "too many octets");
     config.workers = 1, config.inner = 0;
@@ -175,37 +177,65 @@ static void make_refusals(void) {
     expect(tmchan_decoder_phase(&s, &phase) == 0 && phase.is_chosen == 0 && tmchan_close(&s) == 0, "still open");
     tmchan_search search = {0};
     tmchan_place place;
-    expect(tmchan_search_bits(&search, some, 1, &at, &place) == TMCHAN_CLOSED && tmchan_search_octets(&search, some, 1, &at, &place) == TMCHAN_CLOSED, "closed");
-    expect(tmchan_search_open(&search, 9, 99, 9, 8) == TMCHAN_BAD_TOLERANCE && tmchan_search_open(&search, 8, 16, 9, 8) == TMCHAN_BAD_FLY, "bad rules");
-    expect(tmchan_search_open(&search, 8, 15, 2, 8) == TMCHAN_BAD_POLARITY && tmchan_search_open(&search, 0, 0, 1, 20) == 0, "rules");
+    uint8_t bits_room[105];
+    expect(tmchan_search_bits(&search, bits_room, 0, some, 1, &at, &place) == TMCHAN_CLOSED, "closed for bits");
+    expect(tmchan_search_octets(&search, bits_room, 0, some, 1, &at, &place) == TMCHAN_CLOSED, "closed for octets");
+    expect(tmchan_search_open(&search, 9, 99, 9, 8, 8) == TMCHAN_BAD_TOLERANCE && tmchan_search_open(&search, 8, 16, 9, 8, 8) == TMCHAN_BAD_FLY, "bad rules");
+    expect(tmchan_search_open(&search, 8, 15, 2, 8, 8) == TMCHAN_BAD_POLARITY && tmchan_search_open(&search, 8, 15, 1, 8, 8) == TMCHAN_BAD_VERIFY, "bad numbers");
+    expect(tmchan_search_open(&search, 0, 0, 1, 20, 2) == 0, "rules");
+    expect(tmchan_search_bits(&search, bits_room, 103, some, 8, &at, &place) == TMCHAN_ROOM && at == 0, "too small a room");
+    expect(tmchan_search_octets(&search, bits_room, 105, some, 8, &at, &place) == TMCHAN_ROOM && at == 0, "too large a room");
+    expect(tmchan_search_bits(&search, bits_room, 104, some, 8, &at, &place) == 0 && at == 8, "its room");
     at = 9;
-    expect(tmchan_search_bits(&search, some, 8, &at, &place) == TMCHAN_ROOM && at == 9, "beyond the array");
+    expect(tmchan_search_bits(&search, bits_room, 104, some, 8, &at, &place) == TMCHAN_ROOM && at == 9, "beyond the array");
 }
 
-/* Two markers, the second inverted, each before a codeblock of 20 bits and after 5 bits: found alike in bits and in octets, cut at any place. */
-static void make_searches(void) {
-    static const char marker[] = "00011010110011111111110000011101";
-    uint8_t bits[120] = {0}, packed[15] = {0};
-    for (int i = 0; i < 32; i++) bits[5 + i] = marker[i] - '0', bits[5 + 32 + 20 + 5 + i] = 1 - (marker[i] - '0');
-    for (int i = 0; i < 120; i++) packed[i / 8] |= bits[i] << (7 - i % 8);
-    for (int cut = 0; cut <= 15; cut++)
+/* Searches with codeblocks of 20 bits, in bits or in octets that are cut at any place, which find these places. */
+static void search_each(const uint8_t *bits, int octets_length, uint32_t verify, int wanted, const tmchan_place *places) {
+    uint8_t packed[32] = {0};
+    size_t room_length = verify * (32 + 20);
+    for (int i = 0; i < 8 * octets_length; i++) packed[i / 8] |= bits[i] << (7 - i % 8);
+    for (int cut = 0; cut <= octets_length; cut++)
         for (int in_octets = 0; in_octets < 2; in_octets++) {
             tmchan_search search = {0};
-            tmchan_place place, found[3];
+            tmchan_place place;
+            uint8_t *its_room = room(room_length);
             int count = 0;
-            expect(tmchan_search_open(&search, 0, 0, 1, 20) == 0, "the search does not open");
+            expect(tmchan_search_open(&search, 0, 0, 1, 20, verify) == 0, "the search does not open");
             for (int part = 0; part < 2; part++) {
-                int first = part ? cut : 0, size = part ? 15 - cut : cut;
+                int first = part ? cut : 0, size = part ? octets_length - cut : cut;
                 uint8_t *array = room(in_octets ? size : 8 * size);
                 memcpy(array, in_octets ? packed + first : bits + 8 * first, in_octets ? size : 8 * size);
                 uint64_t at = 0;
-                while ((in_octets ? tmchan_search_octets(&search, array, size, &at, &place) : tmchan_search_bits(&search, array, 8 * size, &at, &place)) == 1)
-                    if (count < 3) found[count++] = place;
+                while ((in_octets ? tmchan_search_octets(&search, its_room, room_length, array, size, &at, &place)
+                                  : tmchan_search_bits(&search, its_room, room_length, array, 8 * size, &at, &place)) == 1) {
+                    expect(count < wanted && place.place == places[count].place && place.inverted == places[count].inverted, "another place was found");
+                    count++;
+                }
                 expect(at == (uint64_t)8 * size, "not all was taken");
                 free(array);
             }
-            expect(count == 2 && found[0].place == 5 && found[1].place == 62 && !found[0].inverted && found[1].inverted, "other places were found");
+            expect(count == wanted, "places were not found");
+            free(its_room);
         }
+}
+
+/* Two markers, the second inverted, each before a codeblock and after 5 bits; and one that no other verifies, before three that follow each other,
+ * the last of them inverted. */
+static void make_searches(void) {
+    static const char marker[] = "00011010110011111111110000011101";
+    static const tmchan_place two[] = {{.place = 5}, {.place = 62, .inverted = 1}};
+    static const tmchan_place four[] = {{.place = 3}, {.place = 59}, {.place = 111}, {.place = 163, .inverted = 1}};
+    uint8_t bits[120] = {0}, more_bits[216] = {0};
+    for (int i = 0; i < 32; i++) {
+        for (int k = 0; k < 2; k++) bits[two[k].place + i] = (marker[i] - '0') ^ two[k].inverted;
+        for (int k = 0; k < 4; k++) more_bits[four[k].place + i] = (marker[i] - '0') ^ four[k].inverted;
+    }
+    search_each(bits, 15, 0, 2, two);
+    search_each(bits, 15, 1, 0, two);
+    search_each(more_bits, 27, 0, 4, four);
+    search_each(more_bits, 27, 1, 3, four + 1);
+    search_each(more_bits, 27, 2, 0, four);
 }
 
 int main(void) {

@@ -1,13 +1,13 @@
 -- A search for markers, as a program in C keeps it.
 use Rattle.std.specs.Int.{from_bool}
-use Rattle.std.specs.Prelude.{◌≡◌, ℕ, ◌+◌, ◌^◌, ◌≤◌, ◌==◌, ◌&&◌, nat_le, ℤ, pos, Bool, true, List, ◌++◌, length, Option, Some, None, if◌then◌else◌}
-use Rattle.tm_config.specs.declared.error.ConfigError.TheVariants.{Tolerance, Fly, Polarity}
+use Rattle.std.specs.Prelude.{◌≡◌, ℕ, ◌+◌, ◌^◌, ◌≤◌, ◌==◌, ◌&&◌, nat_le, ℤ, pos, Bool, true, List, [], ◌++◌, length, Option, Some, None, if◌then◌else◌}
+use Rattle.tm_config.specs.declared.error.ConfigError.TheVariants.{Tolerance, Fly, Polarity, Verify}
 use Rattle.tm_sync.specs.declared.found.Found.{Found}
 use Rattle.tm_sync.specs.declared.found.Before.{Before}
 use Rattle.tm_sync.specs.declared.found.Awaited.{Awaited}
 use Rattle.tm_sync.specs.declared.found.Paused.{Paused}
 use Rattle.tm_sync.specs.Paused.{is_resumable, resumed}
-use Rattle.tm_sync.specs.Places.{Rules}
+use Rattle.tm_sync.specs.Places.{Rules, verify_bits}
 use Rattle.tm_sync.specs.Searching.{Searching, StandsFor}
 use Rattle.tm_buffers.specs.Searching.{Finds, span}
 use Rattle.tmchan_c.specs.declared.refusal.Refusal.{Refusal}
@@ -39,6 +39,7 @@ paused_of s = record {
   fly = s.fly;
   either = s.either == 1;
   block_bits = s.block_bits;
+  verify = s.verify;
   word = s.word;
   pushed = s.pushed;
   start = s.start;
@@ -51,26 +52,47 @@ abbrev pub search_of : SearchState → Searching
 search_of s = resumed (paused_of s)
 
 -- the rules that numbers give
-abbrev pub rules_with : ℕ → ℕ → ℕ → ℕ → Rules
-rules_with tolerance fly either block_bits =
-    record { tolerance = tolerance; fly = fly; either = either == 1; block_bits = block_bits }
+abbrev pub rules_with : ℕ → ℕ → ℕ → ℕ → ℕ → Rules
+rules_with tolerance fly either block_bits verify = record {
+  tolerance = tolerance;
+  fly = fly;
+  either = either == 1;
+  block_bits = block_bits;
+  verify = verify;
+}
 
 -- the first reason to refuse them, or none
-abbrev pub rules_refusal : ℕ → ℕ → ℕ → Option Refusal
-rules_refusal tolerance fly either =
-    if nat_le tolerance 8 then if nat_le fly 15 then if nat_le either 1 then None else Some (Value Polarity) else Some (Value Fly) else Some (Value Tolerance)
+abbrev pub rules_refusal : ℕ → ℕ → ℕ → ℕ → Option Refusal
+rules_refusal tolerance fly either verify =
+    if nat_le tolerance 8 then
+    if nat_le fly 15 then
+    if nat_le either 1 then
+    if nat_le verify 7 then None
+    else Some (Value Verify)
+    else Some (Value Polarity)
+    else Some (Value Fly)
+    else Some (Value Tolerance)
 
--- the first reason to refuse an array of so many elements that has `size` bits, from bit `at` on,
--- or none: the search is not open, or no search is kept in this way
-abbrev pub span_refusal : SearchState → ℕ → ℕ → ℕ → Option Refusal
-span_refusal s at count size =
-    if (s.is_open == 1) && is_resumable (paused_of s) then if nat_le count (2 ^ 40) && nat_le at size then None else Some Room else Some Closed
+-- the first reason to refuse a room of so many octets, and an array of so many elements that has
+-- `size` bits, from bit `at` on, or none: the search is not open, or no search is kept in this way
+abbrev pub span_refusal : SearchState → ℕ → ℕ → ℕ → ℕ → Option Refusal
+span_refusal s room at count size =
+    if (s.is_open == 1) && is_resumable (paused_of s) then
+    if (room == verify_bits (search_of s).rules) && nat_le count (2 ^ 40) && nat_le at size then None
+    else Some Room
+    else Some Closed
 
--- a search that is open, was given these bits, and has found these places
-pub record IsSearching (s : SearchState) (bits : List Bool) (found : List Found) : Type 0 where
+-- a search that is open, was given these bits, of which its room holds the last, and has found
+-- these places
+pub record IsSearching (s : SearchState) (room : List ℕ) (bits : List Bool) (found : List Found) : Type 0 where
   pub is_open : s.is_open ≡ 1
   pub valid : is_resumable (paused_of s) ≡ true
-  pub stands : StandsFor (search_of s) bits found
+  pub stands : StandsFor (search_of s) room bits found
+
+-- a search that is open and was given nothing yet, whatever its room holds
+abbrev pub Begins : SearchState → Type 0
+Begins s = (room : List ℕ) → length room ≡ verify_bits (search_of s).rules
+    → IsSearching s room [] []
 
 abbrev pub found_answer : Option Found → ℤ
 found_answer None = pos 0
@@ -86,9 +108,9 @@ place_after (Some f) place = record {
   inverted = from_bool f.inverted;
 }
 
--- a search has taken bits of a list of `size` from one index on up to another, after which the
--- first codeblock ends that is whole
-pub record FindsInto (was now : SearchState) (at end size : ℕ) (bits : List Bool) (place place_now : PlaceState) (answer : ℤ) : Type 0 where
+-- A search has taken bits of a list of `size` from one index on up to another: those with which it
+-- finds the next place, or all.
+pub record FindsInto (was now : SearchState) (room room_now : List ℕ) (at end size : ℕ) (bits : List Bool) (place place_now : PlaceState) (answer : ℤ) : Type 0 where
   pub found : Option Found
   pub answers : answer ≡ found_answer found
   pub tells : place_now ≡ place_after found place
@@ -98,5 +120,5 @@ pub record FindsInto (was now : SearchState) (at end size : ℕ) (bits : List Bo
   pub is_open : now.is_open ≡ 1
   pub valid : is_resumable (paused_of now) ≡ true
   pub finds : (given : List Bool) (before : List Found) → length given + size ≤ 2 ^ 63
-      → StandsFor (search_of was) given before
-      → Finds (search_of now) (given ++ span at end bits) before found
+      → StandsFor (search_of was) room given before
+      → Finds (search_of now) room_now (given ++ span at end bits) before found

@@ -1,9 +1,9 @@
 // The search for sync markers: bits or octets in, places out.
-ghost use Rattle.std.specs.Prelude.{◌≡◌, ◌*◌, ◌^◌, ◌≤◌, [], None, Some, IfOk, IfErr, OnOk, length, pos};
+ghost use Rattle.std.specs.Prelude.{◌≡◌, ◌*◌, ◌^◌, ◌≤◌, None, Some, IfOk, IfErr, OnOk, length, pos};
 ghost use Rattle.tm_base.specs.Bits.{bits_of};
 ghost use Rattle.tm_buffers.specs.Searching.{bits_in};
 ghost use Rattle.tmchan_c.specs.Refusal.{Refuses};
-ghost use Rattle.tmchan_c.specs.Searches.{FindsInto, IsSearching, awaited_of, before_of, found_answer, paused_of, place_after, rules_refusal, rules_with, search_of, span_refusal};
+ghost use Rattle.tmchan_c.specs.Searches.{Begins, FindsInto, awaited_of, before_of, found_answer, paused_of, place_after, rules_refusal, rules_with, search_of, span_refusal};
 
 use crate::refusal::Refusal;
 use tm_buffers::{find_in_bits, find_in_octets};
@@ -21,12 +21,13 @@ pub struct SearchState {
     pub pushed: u64,
     pub start: u64,
     pub place: u64,
+    pub after: u64,
     pub block_bits: u32,
     pub word: u32,
-    pub after: u32,
     pub tolerance: u8,
     pub fly: u8,
     pub either: u8,
+    pub verify: u8,
     pub has_before: u8,
     pub before_inverted: u8,
     pub before_bridged: u8,
@@ -56,42 +57,51 @@ pub extern "C" fn tmchan_search_open(
     fly: u32,
     either: u32,
     block_bits: u32,
+    verify: u32,
 ) -> i32
-    ensures refused { Refuses (rules_refusal tolerance fly either) result (search.new ≡ search.old) }
-    ensures opened { rules_refusal tolerance fly either ≡ None → (result ≡ pos 0) × IsSearching search.new [] []
-        × ((search_of search.new).rules ≡ rules_with tolerance fly either block_bits) }
+    ensures refused { Refuses (rules_refusal tolerance fly either verify) result (search.new ≡ search.old) }
+    ensures opened { rules_refusal tolerance fly either verify ≡ None → (result ≡ pos 0) × Begins search.new
+        × ((search_of search.new).rules ≡ rules_with tolerance fly either block_bits verify) }
 {
-    match rules_refusal(tolerance, fly, either) {
+    match rules_refusal(tolerance, fly, either, verify) {
         Some(refusal) => refusal.answer(),
         None => {
-            let begun = Search::new(tolerance as u8, fly as u8, either == 1, block_bits);
+            let begun = Search::new(
+                tolerance as u8,
+                fly as u8,
+                either == 1,
+                block_bits,
+                verify as u8,
+            );
             *search = state(&begun.pause());
             0
         }
     }
 }
 
-/// Takes bits from number `at` of an array on, each 0 or another number for 1, up to the end of the first codeblock
-/// that is whole, or all, and says how far it came. Answers 1 where a codeblock is whole, whose place it gives, and
-/// else 0; or why it is refused.
+/// Takes bits from number `at` of an array on, each 0 or another number for 1, up to the one with which the next place
+/// is found, or all, and says how far it came. `room` is the search's own. Answers 1 where a place is found, whose
+/// codeblock is whole, and gives it, and else 0; or why it is refused.
 #[unsafe(no_mangle)]
 pub extern "C" fn tmchan_search_bits(
     search: &mut SearchState,
+    room: &mut [u8],
     bits: &[u8],
     at: &mut u64,
     place: &mut PlaceState,
 ) -> i32
-    ensures refused { Refuses (span_refusal search.old at.old (length bits.now) (length bits.now)) result
-        ((search.new ≡ search.old) × (at.new ≡ at.old) × (place.new ≡ place.old)) }
-    ensures found { span_refusal search.old at.old (length bits.now) (length bits.now) ≡ None
-        → FindsInto search.old search.new at.old at.new (length bits.now)
+    ensures refused { Refuses (span_refusal search.old (length room.old) at.old (length bits.now) (length bits.now))
+        result
+        ((search.new ≡ search.old) × (room.new ≡ room.old) × (at.new ≡ at.old) × (place.new ≡ place.old)) }
+    ensures found { span_refusal search.old (length room.old) at.old (length bits.now) (length bits.now) ≡ None
+        → FindsInto search.old search.new room.old room.new at.old at.new (length bits.now)
         (bits_in bits.now) place.old place.new result }
 {
     let size = bits.len() as u64;
-    match resumed(search, *at, bits.len(), size) {
+    match resumed(search, room.len(), *at, bits.len(), size) {
         Err(refusal) => refusal.answer(),
         Ok(mut resumed) => {
-            let (end, found) = find_in_bits(&mut resumed, bits, *at as usize);
+            let (end, found) = find_in_bits(&mut resumed, room, bits, *at as usize);
             *search = state(&resumed.pause());
             *at = end as u64;
             tell(found, place)
@@ -103,21 +113,24 @@ pub extern "C" fn tmchan_search_bits(
 #[unsafe(no_mangle)]
 pub extern "C" fn tmchan_search_octets(
     search: &mut SearchState,
+    room: &mut [u8],
     octets: &[u8],
     at: &mut u64,
     place: &mut PlaceState,
 ) -> i32
-    ensures refused { Refuses (span_refusal search.old at.old (length octets.now) (8 * length octets.now)) result
-        ((search.new ≡ search.old) × (at.new ≡ at.old) × (place.new ≡ place.old)) }
-    ensures found { span_refusal search.old at.old (length octets.now) (8 * length octets.now) ≡ None
-        → FindsInto search.old search.new at.old at.new (8 * length octets.now)
+    ensures refused { Refuses
+        (span_refusal search.old (length room.old) at.old (length octets.now) (8 * length octets.now)) result
+        ((search.new ≡ search.old) × (room.new ≡ room.old) × (at.new ≡ at.old) × (place.new ≡ place.old)) }
+    ensures found { span_refusal search.old (length room.old) at.old (length octets.now) (8 * length octets.now)
+        ≡ None
+        → FindsInto search.old search.new room.old room.new at.old at.new (8 * length octets.now)
         (bits_of octets.now) place.old place.new result }
 {
     let size = 8 * octets.len().min(MOST) as u64;
-    match resumed(search, *at, octets.len(), size) {
+    match resumed(search, room.len(), *at, octets.len(), size) {
         Err(refusal) => refusal.answer(),
         Ok(mut resumed) => {
-            let (end, found) = find_in_octets(&mut resumed, search.block_bits, octets, *at);
+            let (end, found) = find_in_octets(&mut resumed, room, search.block_bits, octets, *at);
             *search = state(&resumed.pause());
             *at = end;
             tell(found, place)
@@ -126,9 +139,9 @@ pub extern "C" fn tmchan_search_octets(
 }
 
 // The first reason to refuse the rules of a search, or none.
-fn rules_refusal(tolerance: u32, fly: u32, either: u32) -> Option<Refusal>
-    ensures value { result ≡ rules_refusal tolerance fly either }
-    ensures fit { result ≡ None → (tolerance ≤ 8) × (fly ≤ 15) × (either ≤ 1) }
+fn rules_refusal(tolerance: u32, fly: u32, either: u32, verify: u32) -> Option<Refusal>
+    ensures value { result ≡ rules_refusal tolerance fly either verify }
+    ensures fit { result ≡ None → (tolerance ≤ 8) × (fly ≤ 15) × (either ≤ 1) × (verify ≤ 7) }
 {
     if tolerance > 8 {
         return Some(Refusal::Value(ConfigError::Tolerance));
@@ -139,17 +152,26 @@ fn rules_refusal(tolerance: u32, fly: u32, either: u32) -> Option<Refusal>
     if either > 1 {
         return Some(Refusal::Value(ConfigError::Polarity));
     }
+    if verify > 7 {
+        return Some(Refusal::Value(ConfigError::Verify));
+    }
     None
 }
 
-// The search that goes on with an array of so many elements that has `size` bits, from bit `at` on; or the first reason
-// to refuse it.
-fn resumed(search: &SearchState, at: u64, count: usize, size: u64) -> Result<Search, Refusal>
-    ensures ok { IfOk result (λ resumed. (span_refusal search.now at count size ≡ None)
+// The search that goes on with a room of so many octets and an array of so many elements that has `size` bits, from bit
+// `at` on; or the first reason to refuse it.
+fn resumed(
+    search: &SearchState,
+    room: usize,
+    at: u64,
+    count: usize,
+    size: u64,
+) -> Result<Search, Refusal>
+    ensures ok { IfOk result (λ resumed. (span_refusal search.now room at count size ≡ None)
         × (resumed ≡ search_of search.now)) }
     ensures few { OnOk result (count ≤ 2 ^ 40) }
     ensures at { OnOk result (at ≤ size) }
-    ensures err { IfErr result (λ refusal. span_refusal search.now at count size ≡ Some refusal) }
+    ensures err { IfErr result (λ refusal. span_refusal search.now room at count size ≡ Some refusal) }
 {
     if search.is_open != 1 {
         return Err(Refusal::Closed);
@@ -157,7 +179,7 @@ fn resumed(search: &SearchState, at: u64, count: usize, size: u64) -> Result<Sea
     let Some(resumed) = Search::resume(&paused(search)) else {
         return Err(Refusal::Closed);
     };
-    if count > MOST || at > size {
+    if room != resumed.room() || count > MOST || at > size {
         return Err(Refusal::Room);
     }
     Ok(resumed)
@@ -208,12 +230,13 @@ fn state(paused: &Paused) -> SearchState
         pushed: paused.pushed,
         start: paused.start,
         place: awaited.found.place,
+        after: paused.after,
         block_bits: paused.block_bits,
         word: paused.word,
-        after: paused.after,
         tolerance: paused.tolerance,
         fly: paused.fly,
         either: u8::from(paused.either),
+        verify: paused.verify,
         has_before: u8::from(paused.before.is_some()),
         before_inverted: u8::from(before.inverted),
         before_bridged: before.bridged,
@@ -235,6 +258,7 @@ fn paused(search: &SearchState) -> Paused
         fly: search.fly,
         either: search.either == 1,
         block_bits: search.block_bits,
+        verify: search.verify,
         word: search.word,
         pushed: search.pushed,
         start: search.start,
