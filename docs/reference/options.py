@@ -5,7 +5,7 @@ from inner import PATTERNS
 
 COMMANDS = "encode decode report trace bits certify check erased word soak".split()
 OPTIONS = """code depth length inner invert soft randomize basis limit tolerance fly polarity repair
-             start skip phase keep ahead workers batch pack""".split()
+             start skip phase keep ahead workers batch pack verify""".split()
 SOAK_OPTIONS = "seed frames hits".split()
 
 class Refused(Exception):
@@ -77,6 +77,7 @@ def configuration(given):
     c.find_polarity = chosen(given, "polarity", ("given", "find"), "given") == "find"
     c.batch = number(given, "batch", 1, 32, 32)
     pack = chosen(given, "pack", ("on", "off"), "on") == "on"
+    c.verify = number(given, "verify", 0, 7, 0)
     c.packed = pack and c.inner == "none"       # octets have eight bits, and are no symbols
     c.codeword = c.length // c.depth + 2 * c.E  # symbols of a codeword, as they are sent
     c.codeblock = c.codeword * c.depth          # octets of a codeblock

@@ -6,18 +6,29 @@ MARKER_BITS = bits_of(MARKER)
 def places(bits, c):
     """Of each codeblock its place, the wrong bits of its marker, whether it was bridged, and
     whether it is inverted."""
+    unit = 32 + 8 * c.codeblock
+
+    def wrong_bits(at, inverted):
+        return sum((x != y) != inverted for x, y in zip(MARKER_BITS, bits[at:at + 32]))
+
+    def matches(at, inverted):
+        return at + 32 <= len(bits) and wrong_bits(at, inverted) <= c.tolerance
+
+    def verified(at, inverted):
+        return all(matches(at + k * unit, inverted) for k in range(1, c.verify + 1))
+
     found, at, bridged, inverted, follows = [], 0, 0, False, False  # follows: a codeblock ends here
-    while at + 32 + 8 * c.codeblock <= len(bits):
-        wrong = sum(x != y for x, y in zip(MARKER_BITS, bits[at:at + 32]))
-        if wrong <= c.tolerance or (c.find_polarity and 32 - wrong <= c.tolerance):
-            bridged, inverted = 0, wrong > c.tolerance
-        elif follows and bridged < c.fly:
+    while at + unit <= len(bits):
+        ways = [way for way in [False] + [True] * c.find_polarity if matches(at, way)]
+        if ways and (follows or verified(at, ways[0])):
+            bridged, inverted = 0, ways[0]
+        elif follows and not ways and bridged < c.fly:
             bridged += 1
         else:
             at, follows = at + 1, False
             continue
-        found.append((at, 32 - wrong if inverted else wrong, bridged > 0, inverted))
-        at, follows = at + 32 + 8 * c.codeblock, True
+        found.append((at, wrong_bits(at, inverted), bridged > 0, inverted))
+        at, follows = at + unit, True
     return found
 
 def repaired(block, c):
