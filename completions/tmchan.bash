@@ -24,7 +24,7 @@ _tmchan() {
         --*) ;;
         *)
             words=(--code --depth --length --inner --invert --randomize --basis --tolerance --repair --soft --start --skip --workers
-                --limit --fly --keep --ahead --phase --polarity --batch --pack)
+                --limit --fly --keep --ahead --phase --polarity --batch --pack --verify)
             if [ "${COMP_WORDS[1]}" = soak ]; then
                 words+=(--seed --frames --hits)
             fi

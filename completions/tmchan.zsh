@@ -38,6 +38,7 @@ options=(
     '--polarity=[inverted markers]:polarity:(given find)'
     '--batch=[codeblocks that are repaired and handed over at once]:codeblocks 1 to 32: '
     '--pack=[eight bits an octet without an inner code]:switch:(on off)'
+    '--verify=[further markers that verify a place]:markers 0 to 7: '
 )
 
 soak_options=(
