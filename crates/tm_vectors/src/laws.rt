@@ -11,6 +11,8 @@ fn laws(_rt: HostRuntime) {
     tm_sync::marked_law();
     tm_sync::clean_law();
     tm_sync::longer_law();
+    tm_sync::few_places_law();
+    tm_sync::no_verify_law();
     tm_viterbi::one_list_law();
     tm_viterbi::due_law();
     tm_viterbi::closed_windows_law();
