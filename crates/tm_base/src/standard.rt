@@ -38,18 +38,14 @@ impl<R: Read> Source for StdSource<R> {
     ghost is_last = { λ s. s.faults ≡ 2 ^ 64 - 1 };
 
     fn read(&mut self, buf: &mut [u8]) -> Result<usize, Failed> {
-        match self.reader.read(buf) {
-            Ok(count) => {
-                if count == 0 && !buf.is_empty() {
-                    self.ended = true;
-                }
-                Ok(count)
-            }
-            Err(_) => {
-                self.faults = self.faults.saturating_add(1);
-                Err(Failed)
-            }
+        let Ok(count) = self.reader.read(buf) else {
+            self.faults = self.faults.saturating_add(1);
+            return Err(Failed);
+        };
+        if count == 0 && !buf.is_empty() {
+            self.ended = true;
         }
+        Ok(count)
     }
 }
 
@@ -77,17 +73,13 @@ impl<W: Write> Sink for StdSink<W> {
     ghost is_last = { λ s. s.faults ≡ 2 ^ 64 - 1 };
 
     fn write(&mut self, piece: &[u8]) -> Result<usize, Failed> {
-        match self.writer.write(piece) {
-            Ok(count) => {
-                if count == 0 && !piece.is_empty() {
-                    self.faults = self.faults.saturating_add(1);
-                }
-                Ok(count)
-            }
-            Err(_) => {
-                self.faults = self.faults.saturating_add(1);
-                Err(Failed)
-            }
+        let Ok(count) = self.writer.write(piece) else {
+            self.faults = self.faults.saturating_add(1);
+            return Err(Failed);
+        };
+        if count == 0 && !piece.is_empty() {
+            self.faults = self.faults.saturating_add(1);
         }
+        Ok(count)
     }
 }
