@@ -1,59 +1,18 @@
 -- The generator polynomial of a code: the product of the x + r over its roots r.
-use Rattle.std.proofs.Common.{◌≡◌, ◌<◌, ◌*◌, ℕ, zero, suc, List, [], ◌∷◌, length, refl, ap, sym, ◌∙◌, arith, inl, inr}
+use Rattle.std.proofs.Common.{◌≡◌, ◌<◌, ◌*◌, ℕ, zero, suc, List, [], ◌∷◌, length, refl, ap, ◌∙◌, arith, inl, inr}
 use Rattle.std.specs.Prelude.{bit_xor}
-use Rattle.std.specs.Int.Bits.{xor_assoc, xor_comm, xor_self}
+use Rattle.std.specs.Int.Bits.{xor_self}
 use Rattle.std.proofs.lemmas.Bool.{cases_eq}
-use Rattle.tm_gf256.specs.Field.{times, power}
+use Rattle.tm_gf256.specs.Field.{times}
 use Rattle.tm_gf256.specs.Poly.{value_at}
-use Rattle.tm_gf256.proofs.Ring.{times-lt, times-comm, times-assoc, times-plus, plus-times, times-zero, zero-times, plus-lt}
+use Rattle.tm_gf256.proofs.Ring.{times-lt, times-zero, zero-times, plus-lt}
 use Rattle.tm_rs_code.specs.Code.{AreElements, root}
-use Rattle.tm_rs_code.proofs.Vanish.{swap_factors}
-
--- what follows the first coefficient a in the product of a ∷ qs and x + r
-abbrev pub carry : ℕ → ℕ → List ℕ → List ℕ
-carry r a [] = times r a ∷ []
-carry r a (q ∷ qs) = bit_xor q (times r a) ∷ carry r q qs
-
-pub length-carry : (r a : ℕ) (qs : List ℕ) → length (carry r a qs) ≡ suc (length qs)
-length-carry r a [] = refl
-length-carry r a (q ∷ qs) = ap suc (length-carry r q qs)
+use Rattle.tm_rs_code.specs.Pattern.{carry}
+use Rattle.tm_rs_code.proofs.Factor.{value_at-carry, product_of, length-product_of}
 
 pub AreElements-carry : (r a : ℕ) (qs : List ℕ) → AreElements qs → AreElements (carry r a qs)
 AreElements-carry r a [] h = (times-lt r a, tt)
 AreElements-carry r a (q ∷ qs) h = (plus-lt q (times r a) h.0 (times-lt r a), AreElements-carry r q qs h.1)
-
--- (x + r) (a p + v) is a (p x) + ((r a) p + (x + r) v)
-linear_step : (x r a p v : ℕ) → times (bit_xor x r) (bit_xor (times a p) v)
-    ≡ bit_xor (times a (times p x)) (bit_xor (times (times r a) p) (times (bit_xor x r) v))
-linear_step x r a p v =
-    times-plus (bit_xor x r) (times a p) v
-    ∙ ap (λ (y : ℕ). bit_xor y (times (bit_xor x r) v)) (plus-times x r (times a p))
-    ∙ xor_assoc (times x (times a p)) (times r (times a p)) (times (bit_xor x r) v)
-    ∙ ap (λ (y : ℕ). bit_xor y (bit_xor (times r (times a p)) (times (bit_xor x r) v))) (swap_factors x a p ∙ ap (times a) (times-comm x p))
-    ∙ ap (λ (y : ℕ). bit_xor (times a (times p x)) (bit_xor y (times (bit_xor x r) v))) (sym (times-assoc r a p))
-
-pub value_at-carry : (r a : ℕ) (qs : List ℕ) (x : ℕ) → value_at (a ∷ carry r a qs) x ≡ times (bit_xor x r) (value_at (a ∷ qs) x)
-unfolding power
-value_at-carry r a [] x =
-    ap (bit_xor (times a (times 1 x))) (ap (bit_xor (times (times r a) 1)) (sym (times-zero (bit_xor x r))))
-    ∙ sym (linear_step x r a 1 0)
-value_at-carry r a (q ∷ qs) x =
-    ap (λ (n : ℕ). bit_xor (times a (power x (suc n))) (bit_xor (times (bit_xor q (times r a)) (power x n)) (value_at (carry r q qs) x))) (length-carry r q qs)
-    ∙ ap (λ (y : ℕ). bit_xor (times a (times (power x (suc (length qs))) x)) y)
-    (ap (λ (y : ℕ). bit_xor y (value_at (carry r q qs) x)) (plus-times q (times r a) (power x (suc (length qs))) ∙ xor_comm (times q (power x (suc (length qs)))) (times (times r a) (power x (suc (length qs)))))
-    ∙ xor_assoc (times (times r a) (power x (suc (length qs)))) (times q (power x (suc (length qs)))) (value_at (carry r q qs) x)
-    ∙ ap (bit_xor (times (times r a) (power x (suc (length qs)))))
-    (ap (λ (n : ℕ). bit_xor (times q (power x n)) (value_at (carry r q qs) x)) (sym (length-carry r q qs)) ∙ value_at-carry r q qs x))
-    ∙ sym (linear_step x r a (power x (suc (length qs))) (value_at (q ∷ qs) x))
-
--- the product of the x + r, without its first coefficient, which is 1
-abbrev pub product_of : List ℕ → List ℕ
-product_of [] = []
-product_of (r ∷ rs) = carry r 1 (product_of rs)
-
-pub length-product_of : (rs : List ℕ) → length (product_of rs) ≡ length rs
-length-product_of [] = refl
-length-product_of (r ∷ rs) = length-carry r 1 (product_of rs) ∙ ap suc (length-product_of rs)
 
 pub AreElements-product_of : (rs : List ℕ) → AreElements (product_of rs)
 AreElements-product_of [] = tt

@@ -1,50 +1,17 @@
 -- Products by the halves of an octet.
-use Rattle.std.proofs.Common.{◌≡◌, ◌<◌, ◌+◌, ◌*◌, ◌/◌, ◌%◌, ◌∙◌, ℕ, suc, zero, List, [], ◌∷◌, get_or, length, refl, sym, ap, eqb, true, false, Bool, ◌&&◌, arith, w8}
+use Rattle.std.proofs.Common.{◌≡◌, ◌<◌, ◌+◌, ◌*◌, ◌/◌, ◌%◌, ◌∙◌, ℕ, suc, zero, List, [], ◌∷◌, get_or, length, refl, sym, ap, eqb, true, arith, w8}
 use Rattle.std.specs.Prelude.{bit_xor}
-use Rattle.std.proofs.lemmas.Bool.{eqb-true}
 use Rattle.std.proofs.lemmas.Simd.{swz_l, SwzOk, length-swz_l, get_or-swz_l_below, SwzOk-from_below, get_or-zip2, length-zip2, Each1-from_get_or}
 use lib.Lanes.{zip2}
 use Rattle.tm_gf256.specs.Field.{times, bit_product, remainder}
 use Rattle.tm_gf256.proofs.Below.{all_below, same_below}
 use Rattle.tm_gf256.proofs.Ring.{times-plus}
 use Rattle.tm_rs_code.specs.Register.{multiple}
+use Rattle.tm_rs_code.proofs.ProductRows.{are_products, are_rows, row_at}
 use Rattle.tm_rs_code.specs.declared.lanes.TheConstants.{LOW_PLACES, HIGH_PLACES}
 use Rattle.tm_rs_code.specs.declared.lanes.products.TheConstants.{LOW, HIGH}
 
 -- ---- the tables
-
-unfoldable pub are_products : ℕ → List ℕ → List ℕ → Bool
-are_products f [] [] = true
-are_products f [] (c ∷ cs) = false
-are_products f (x ∷ xs) [] = false
-are_products f (x ∷ xs) (c ∷ cs) = eqb x (times f c) && are_products f xs cs
-
-unfoldable pub are_rows : ℕ → List ℕ → List (List ℕ) → Bool
-are_rows f g [] = true
-are_rows f g (r ∷ rs) = are_products f r g && are_rows (suc f) g rs
-
-and_parts : (a b : Bool) → (a && b) ≡ true → (a ≡ true) × (b ≡ true)
-and_parts true b e = (refl, e)
-and_parts false b e = absurd cc
-
-products_are : (f : ℕ) (xs g : List ℕ) → are_products f xs g ≡ true → xs ≡ multiple f g
-unfolding are_products
-products_are f [] [] e = refl
-products_are f [] (c ∷ cs) e = absurd cc
-products_are f (x ∷ xs) [] e = absurd cc
-products_are f (x ∷ xs) (c ∷ cs) e =
-    let both = and_parts (eqb x (times f c)) (are_products f xs cs) e in
-    ap (λ (v : ℕ). v ∷ xs) (eqb-true x (times f c) both.0) ∙ ap (λ (vs : List ℕ). times f c ∷ vs) (products_are f xs cs both.1)
-
-row_at : (f : ℕ) (g : List ℕ) (rs : List (List ℕ)) (i : ℕ) → are_rows f g rs ≡ true → i < length rs → get_or rs i [] ≡ multiple (f + i) g
-unfolding are_rows
-row_at f g [] i e lt = absurd (omega arith)
-row_at f g (r ∷ rs) zero e lt =
-    let same : f ≡ f + 0 = omega arith in
-    products_are f r g (and_parts (are_products f r g) (are_rows (suc f) g rs) e).0 ∙ ap (λ (v : ℕ). multiple v g) same
-row_at f g (r ∷ rs) (suc i) e lt =
-    let same : suc f + i ≡ f + suc i = omega arith in
-    row_at (suc f) g rs i (and_parts (are_products f r g) (are_rows (suc f) g rs) e).1 (omega arith) ∙ ap (λ (v : ℕ). multiple v g) same
 
 low_pass : are_rows 0 LOW_PLACES LOW ≡ true
 unfolding are_rows are_products times bit_product remainder

@@ -2,10 +2,10 @@ pub mod Vanish
 pub mod DistanceLaw
 pub mod Nearest
 pub mod Numbers
+pub mod Factor
 pub mod Generator
 pub mod Register
 pub mod Systematic
-pub mod Factor
 pub mod Windows
 pub mod Values
 pub mod Recurrence
@@ -21,5 +21,6 @@ pub mod ErasedPlaces
 pub mod ErasedPatterns
 pub mod ErasedWords
 pub mod Writes
+pub mod ProductRows
 pub mod Halves
 pub mod PowerRows

@@ -10,7 +10,7 @@ use Rattle.tm_rs_encode.specs.declared.rs16.TheConstants.{GENERATOR as GENERATOR
 use Rattle.tm_rs_encode.specs.declared.rs16.rows.TheConstants.{ROWS as ROWS_16}
 use Rattle.tm_rs_encode.specs.declared.rs8.TheConstants.{GENERATOR as GENERATOR_8}
 use Rattle.tm_rs_encode.specs.declared.rs8.rows.TheConstants.{ROWS as ROWS_8}
-use Rattle.tm_rs_encode.proofs.Rows.{are_products, are_rows, row_at}
+use Rattle.tm_rs_code.proofs.ProductRows.{are_products, are_rows, row_at}
 
 roots_pass_16 : all_below 32 (λ k. eqb (value_at (1 ∷ GENERATOR_16) (root 16 k)) 0) ≡ true
 unfolding times power bit_product remainder
