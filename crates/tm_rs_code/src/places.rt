@@ -1,7 +1,7 @@
 // The values of a polynomial at the places of a word, by lanes and in plain form.
-ghost use Rattle.std.specs.Prelude.{◌≡◌, ◌≤◌, length};
+ghost use Rattle.std.specs.Prelude.{◌≤◌, length};
 ghost use Rattle.tm_gf256.specs.Poly.{numbers};
-ghost use Rattle.tm_rs_code.specs.PlaceValues.{AreValues};
+ghost use Rattle.tm_rs_code.specs.PlaceValues.{ArePlaceValues};
 
 use crate::lanes::store_values;
 use tm_gf256::{Gf, eval};
@@ -11,8 +11,7 @@ use tm_gf256::{Gf, eval};
 pub fn values_at_places(poly: &[Gf], n: usize) -> [u8; 256]
     requires few { length poly.now ≤ 33 }
     requires places { n ≤ 256 }
-    ensures size { length result ≡ 256 }
-    ensures values { AreValues (numbers poly.now) n result }
+    ensures { ArePlaceValues (numbers poly.now) n result }
 {
     let mut values = [0; 256];
     store_values(poly, 0, n.div_ceil(32), &mut values);
@@ -23,8 +22,7 @@ pub fn values_at_places(poly: &[Gf], n: usize) -> [u8; 256]
 pub fn plain_values_at_places(poly: &[Gf], n: usize) -> [u8; 256]
     requires few { length poly.now ≤ 33 }
     requires places { n ≤ 256 }
-    ensures size { length result ≡ 256 }
-    ensures values { AreValues (numbers poly.now) n result }
+    ensures { ArePlaceValues (numbers poly.now) n result }
 {
     let mut values = [0; 256];
     for p in 0..n {
