@@ -9,7 +9,6 @@ ghost use Rattle.tm_driver.specs.Courses.{SinkWent, sink_call};
 ghost use Rattle.tm_driver.specs.Meaning.{Ends, taken_by};
 ghost use Rattle.tm_driver.specs.Statuses.{is_sink_fault};
 ghost use Rattle.tm_dual.specs.Octet.{sent_octet, element_of};
-ghost use Rattle.tm_gf256.specs.Poly.{numbers};
 ghost use Rattle.tm_rs_code.specs.Nearest.{IsNearest};
 ghost use Rattle.tm_rs_solve.specs.Answers.{found};
 ghost use Rattle.tm_records.specs.Word.{octets_of_hex, word_meaning, word_refusal, word_reason, word_text};
@@ -17,15 +16,12 @@ ghost use Rattle.tm_records.specs.Word.{octets_of_hex, word_meaning, word_refusa
 use crate::coding::LONGEST_WORD;
 use crate::hexadecimal::add_octets;
 use hex::decode_to_slice;
-use std::marker::Brand;
-use std::sync::ledger::{Blank, Ledger};
 use tm_base::{Failed, Sink};
 use tm_config::{Config, OuterCode};
 use tm_driver::{Ending, Line};
 use tm_gf256::Gf;
 use tm_rs_code::Params;
-use tm_rs_locator::Steps;
-use tm_rs_solve::{Answer, decode_word};
+use tm_rs_solve::{Answer, decode_uncounted};
 
 /// Why the text of a word is refused.
 #[derive(Clone, Copy, Debug, PartialEq, Eq)]
@@ -83,20 +79,6 @@ pub fn test_word(config: &Config, text: &[u8]) -> Option<WordRefusal>
     None
 }
 
-// Makes a word the nearest codeword, with a count of steps that ends with it.
-fn decode_counted<L: Ledger>(blank: Blank, params: &Params, repair: u8, word: &mut [Gf]) -> Answer
-    requires name { blank.name ≡ L.name }
-    requires parts { blank.parts ≡ L.parts }
-    requires share { 0 < blank.parts }
-    requires bound { repair ≤ params.now.e }
-    requires size { length word.old ≡ params.now.n }
-    ensures nearest { IsNearest params.now.e repair (numbers word.old) (found result (numbers word.new)) }
-    ensures size { length word.new ≡ length word.old }
-{
-    let mut steps = Steps::<L>::open(blank);
-    decode_word(params, repair, word, &mut steps)
-}
-
 // Makes the octets of a word those of the nearest codeword, where one is within the repair bound.
 fn repair(config: &Config, octets: &mut [u8]) -> Answer
     requires code { config.now.code ≢ OuterCode.Uncoded }
@@ -113,7 +95,7 @@ fn repair(config: &Config, octets: &mut [u8]) -> Answer
     let mut room = [Gf(0); LONGEST_WORD];
     let word = &mut room[..octets.len()];
     basis.octets_to_elements(octets, word);
-    let answer = decode_counted::<Brand>(Blank::new(1), &params, config.repair() as u8, word);
+    let answer = decode_uncounted(&params, config.repair() as u8, word);
     basis.elements_to_octets(word, octets);
     answer
 }

@@ -7,9 +7,11 @@
 mod answers;
 mod dividing;
 mod erasing;
+mod uncounted;
 mod values;
 mod word;
 
 pub use answers::{Answer, ErasedAnswer};
 pub use erasing::{decode_erased, plain_decode_erased};
+pub use uncounted::{decode_erased_uncounted, decode_uncounted};
 pub use word::{decode_word, plain_decode_word};

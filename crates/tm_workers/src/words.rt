@@ -1,14 +1,11 @@
 // Words that are decoded in place.
-ghost use Rattle.std.specs.Prelude.{◌≡◌, ◌<◌, ◌≤◌, ℕ};
+ghost use Rattle.std.specs.Prelude.{◌≤◌, ℕ};
 ghost use Rattle.tm_rs_code.specs.Code.{Code};
 ghost use Rattle.tm_workers.specs.Words.{Decodes, DecodesErased};
 
-use std::marker::Brand;
-use std::sync::ledger::{Blank, Ledger};
 use tm_gf256::Gf;
 use tm_rs_code::Params;
-use tm_rs_locator::Steps;
-use tm_rs_solve::{Answer, ErasedAnswer, decode_erased, decode_word};
+use tm_rs_solve::{Answer, ErasedAnswer, decode_erased_uncounted, decode_uncounted};
 
 /// A word, of which the first n symbols count, and what became of it.
 #[derive(Clone, Copy, Debug, PartialEq, Eq)]
@@ -40,7 +37,9 @@ impl InPlace for Word {
     ghost becomes = { Decodes };
 
     fn decode(&mut self, params: &Params, repair: u8) {
-        decode_counted::<Brand>(Blank::new(1), params, repair, self);
+        let n = params.n() as usize;
+        let answer = decode_uncounted(params, repair, &mut self.symbols[..n]);
+        self.answer = Some(answer);
     }
 }
 
@@ -48,46 +47,9 @@ impl InPlace for ErasedWord {
     ghost becomes = { DecodesErased };
 
     fn decode(&mut self, params: &Params, repair: u8) {
-        decode_erased_counted::<Brand>(Blank::new(1), params, repair, self);
+        let n = params.n() as usize;
+        let erased = self.erased;
+        let answer = decode_erased_uncounted(params, repair, &erased[..n], &mut self.symbols[..n]);
+        self.answer = Some(answer);
     }
-}
-
-// Decodes a word, with a count of steps that ends with it.
-fn decode_counted<L: Ledger>(blank: Blank, params: &Params, repair: u8, word: &mut Word)
-    requires name { blank.name ≡ L.name }
-    requires parts { blank.parts ≡ L.parts }
-    requires share { 0 < blank.parts }
-    requires bound { repair ≤ params.now.e }
-    ensures { Decodes params.now repair word.old word.new }
-{
-    let mut steps = Steps::<L>::open(blank);
-    let n = params.n() as usize;
-    let answer = decode_word(params, repair, &mut word.symbols[..n], &mut steps);
-    word.answer = Some(answer);
-}
-
-// Decodes a word with erased places, with a count of steps that ends with it.
-fn decode_erased_counted<L: Ledger>(
-    blank: Blank,
-    params: &Params,
-    repair: u8,
-    word: &mut ErasedWord,
-)
-    requires name { blank.name ≡ L.name }
-    requires parts { blank.parts ≡ L.parts }
-    requires share { 0 < blank.parts }
-    requires bound { repair ≤ params.now.e }
-    ensures { DecodesErased params.now repair word.old word.new }
-{
-    let mut steps = Steps::<L>::open(blank);
-    let n = params.n() as usize;
-    let erased = word.erased;
-    let answer = decode_erased(
-        params,
-        repair,
-        &erased[..n],
-        &mut word.symbols[..n],
-        &mut steps,
-    );
-    word.answer = Some(answer);
 }

@@ -1,24 +1,17 @@
 // Words of the Reed-Solomon codes.
-ghost use Rattle.std.specs.Prelude.{◌≡◌, ◌≢◌, ◌+◌, ◌*◌, ◌<◌, ◌≤◌, ◌++◌, None, Some, length, pos};
+ghost use Rattle.std.specs.Prelude.{◌≡◌, ◌≢◌, ◌+◌, ◌*◌, ◌≤◌, ◌++◌, None, Some, length, pos};
 ghost use Rattle.tm_codeblock.specs.Cadu.{coded_octets};
 ghost use Rattle.tm_dual.specs.Octet.{basis_of};
-ghost use Rattle.tm_gf256.specs.Poly.{numbers};
 ghost use Rattle.tm_rs_code.specs.Code.{IsLength, IsStrength};
-ghost use Rattle.tm_rs_code.specs.Erasures.{IsNearestErased};
-ghost use Rattle.tm_rs_code.specs.Nearest.{IsNearest};
-ghost use Rattle.tm_rs_solve.specs.Answers.{found, found_erased};
 ghost use Rattle.tmchan_c.specs.Refusal.{Refuses, answered, decode_refusal, encode_refusal, erased_refusal};
 ghost use Rattle.tmchan_c.specs.Repaired.{IsRepaired, IsRepairedErased, erased_by};
 
 use crate::refusal::{Refusal, checks_refusal, flags_refusal, word_refusal};
-use std::marker::Brand;
-use std::sync::ledger::{Blank, Ledger};
 use tm_dual::Basis;
 use tm_gf256::Gf;
 use tm_rs_code::Params;
 use tm_rs_encode::checks;
-use tm_rs_locator::Steps;
-use tm_rs_solve::{Answer, ErasedAnswer, decode_erased, decode_word};
+use tm_rs_solve::{Answer, ErasedAnswer, decode_erased_uncounted, decode_uncounted};
 
 // The most symbols of a word.
 const MOST: usize = 255;
@@ -123,27 +116,13 @@ fn repair_word(code: u32, basis: Basis, repair: u8, word: &mut [u8]) -> i32
     let mut room = [Gf(0); MOST];
     let elements = &mut room[..word.len()];
     basis.octets_to_elements(word, elements);
-    match decode_counted::<Brand>(Blank::new(1), &params, repair, elements) {
+    match decode_uncounted(&params, repair, elements) {
         Answer::Fixed(count) => {
             basis.elements_to_octets(elements, word);
             i32::from(count)
         }
         Answer::Beyond => -1,
     }
-}
-
-// Makes a word the nearest codeword, with a count of steps that ends with it.
-fn decode_counted<L: Ledger>(blank: Blank, params: &Params, repair: u8, word: &mut [Gf]) -> Answer
-    requires name { blank.name ≡ L.name }
-    requires parts { blank.parts ≡ L.parts }
-    requires share { 0 < blank.parts }
-    requires bound { repair ≤ params.now.e }
-    requires size { length word.old ≡ params.now.n }
-    ensures nearest { IsNearest params.now.e repair (numbers word.old) (found result (numbers word.new)) }
-    ensures size { length word.new ≡ length word.old }
-{
-    let mut steps = Steps::<L>::open(blank);
-    decode_word(params, repair, word, &mut steps)
 }
 
 // Makes a word of octets with flags of erased symbols the nearest codeword.
@@ -160,7 +139,7 @@ fn repair_erased(code: u32, basis: Basis, repair: u8, word: &mut [u8], flags: &[
     let mut flags_room = [false; MOST];
     let erased = &mut flags_room[..word.len()];
     read_flags(flags, erased);
-    match erased_counted::<Brand>(Blank::new(1), &params, repair, erased, elements) {
+    match decode_erased_uncounted(&params, repair, erased, elements) {
         ErasedAnswer::Fixed(others, inside) => {
             basis.elements_to_octets(elements, word);
             i32::from(others) + i32::from(inside)
@@ -177,26 +156,4 @@ fn read_flags(flags: &[u8], erased: &mut [bool])
     for i in 0..erased.len() {
         erased[i] = flags[i] != 0;
     }
-}
-
-// Makes a word with erased symbols the nearest codeword, with a count of steps that ends with it.
-fn erased_counted<L: Ledger>(
-    blank: Blank,
-    params: &Params,
-    repair: u8,
-    erased: &[bool],
-    word: &mut [Gf],
-) -> ErasedAnswer
-    requires name { blank.name ≡ L.name }
-    requires parts { blank.parts ≡ L.parts }
-    requires share { 0 < blank.parts }
-    requires bound { repair ≤ params.now.e }
-    requires flags { length erased.now ≡ params.now.n }
-    requires size { length word.old ≡ params.now.n }
-    ensures nearest { IsNearestErased params.now.e repair erased.now (numbers word.old)
-        (found_erased result (numbers word.new)) }
-    ensures size { length word.new ≡ length word.old }
-{
-    let mut steps = Steps::<L>::open(blank);
-    decode_erased(params, repair, erased, word, &mut steps)
 }
