@@ -1,13 +1,14 @@
 // The nearest codeword of a word with erased places.
 ghost use Rattle.std.specs.Prelude.{◌≡◌, ◌<◌, ◌≤◌, ◌+◌, ◌-◌, ◌*◌, ◌==◌, ◌&&◌, ℕ, suc, not, List, length, if◌then◌else◌, slice_index_or, false};
 ghost use Rattle.tm_gf256.specs.Poly.{entry, numbers, value_at};
-ghost use Rattle.tm_rs_code.specs.Code.{place_of, root, weight};
+ghost use Rattle.tm_rs_code.specs.Code.{root, weight};
 ghost use Rattle.tm_rs_code.specs.Erasures.{IsNearestErased, count_erased as count_of_erased, inside, marks, places_named};
 ghost use Rattle.tm_rs_code.specs.ErrorValues.{IsLocated, symbol_at};
 ghost use Rattle.tm_rs_code.specs.Pattern.{locator_of};
 ghost use Rattle.tm_rs_code.specs.PlaceValues.{AreValues};
 ghost use Rattle.tm_rs_code.specs.Recurrence.{listing};
 ghost use Rattle.tm_rs_solve.specs.Answers.{found_erased};
+ghost use Rattle.tm_rs_solve.specs.Naming.{NamesSymbol};
 
 use crate::answers::ErasedAnswer;
 use crate::dividing::{is_zero, remainder};
@@ -73,12 +74,7 @@ fn erased_error(
     e: usize,
     p: usize,
 ) -> usize
-    requires most { e ≤ 16 }
-    requires some { 1 ≤ length locator.now }
-    requires few { length locator.now ≤ 33 }
-    requires inside { p < 255 }
-    requires value { value ≡ value_at (numbers locator.now) (place_of p) }
-    requires located { (u : List ℕ) × (w : List ℕ) × IsLocated e (entry syndromes.now) (numbers locator.now) u w }
+    requires { NamesSymbol e locator.now (entry syndromes.now) p value }
     ensures { (u w : List ℕ) → IsLocated e (entry syndromes.now) (numbers locator.now) u w
         → result ≡ (if (if erased then symbol_at w p else 0) == 0 then 0 else 1) }
 {

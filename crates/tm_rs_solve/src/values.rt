@@ -6,6 +6,7 @@ ghost use Rattle.tm_rs_code.specs.ErrorValues.{IsLocated, quotient_at, symbol_at
 ghost use Rattle.tm_rs_code.specs.PlaceValues.{AreValues};
 ghost use Rattle.tm_rs_code.specs.Recurrence.{discrepancy, listing};
 ghost use Rattle.tm_rs_code.specs.Register.{sums};
+ghost use Rattle.tm_rs_solve.specs.Naming.{NamesSymbol};
 
 use tm_gf256::{Gf, see_range};
 
@@ -63,12 +64,7 @@ fn value_at_root(locator: &[Gf], syndromes: &[Gf; 32], e: usize, p: usize) -> Gf
 // The symbol at place p of that error pattern, given the locator's value there.
 #[inline(always)]
 pub fn error_at(locator: &[Gf], value: u8, syndromes: &[Gf; 32], e: usize, p: usize) -> Gf
-    requires most { e ≤ 16 }
-    requires some { 1 ≤ length locator.now }
-    requires few { length locator.now ≤ 33 }
-    requires inside { p < 255 }
-    requires value { value ≡ value_at (numbers locator.now) (place_of p) }
-    requires located { (u : List ℕ) × (w : List ℕ) × IsLocated e (entry syndromes.now) (numbers locator.now) u w }
+    requires { NamesSymbol e locator.now (entry syndromes.now) p value }
     ensures { (u w : List ℕ) → IsLocated e (entry syndromes.now) (numbers locator.now) u w
         → result.0 ≡ symbol_at w p }
 {
