@@ -1,5 +1,5 @@
 -- Batches: lists of words, each of which changes in its place.
-use Rattle.std.specs.Prelude.{List, [], ◌∷◌}
+use Rattle.std.specs.Prelude.{ℕ, ◌+◌, ◌^◌, ◌<◌, ◌≤◌, List, [], ◌∷◌}
 
 -- the lists are as long as each other, and each word of the first becomes the word in its place in
 -- the second
@@ -8,3 +8,14 @@ EachBecomes becomes [] [] = Unit {0}
 EachBecomes becomes [] (w' ∷ ws') = ⊥
 EachBecomes becomes (w ∷ ws) [] = ⊥
 EachBecomes becomes (w ∷ ws) (w' ∷ ws') = becomes w w' × EachBecomes becomes ws ws'
+
+-- a batch of so many words that workers are to decode: the repair bound is at most that of the code
+pub record IsBatch (e repair words workers : ℕ) : Type 0 where
+  pub bound : repair ≤ e
+  pub count : words < 2 ^ 32
+  pub some : (0 < workers) × (workers ≤ 64)
+
+-- so many words of a batch, of which this is the first one's number
+pub record IsPart (e repair first words : ℕ) : Type 0 where
+  pub bound : repair ≤ e
+  pub count : first + words < 2 ^ 32

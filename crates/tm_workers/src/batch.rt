@@ -1,6 +1,6 @@
 // Batches of words.
 ghost use Rattle.std.specs.Prelude.{All, ◌≡◌, ◌<◌, ◌≤◌, ◌^◌, length, OnOk, OnErr, slice_index_or};
-ghost use Rattle.tm_workers.specs.Batch.{EachBecomes};
+ghost use Rattle.tm_workers.specs.Batch.{EachBecomes, IsBatch};
 ghost use Rattle.tm_workers.specs.Words.{Decodes, DecodesErased};
 ghost use Rattle.tm_workers.specs.Working.{all_drawn, put_all};
 
@@ -43,9 +43,7 @@ fn decode_drawn<R: Threads + Sync, G: Gate + Sync, W: InPlace + Send + Sync>(
     workers: usize,
     words: &mut [W],
 ) -> Result<(), AllocError>
-    requires bound { repair ≤ params.now.e }
-    requires count { length words.old < 2 ^ 32 }
-    requires workers { (0 < workers) × (workers ≤ 64) }
+    requires { IsBatch params.now.e repair (length words.old) workers }
     ensures ok { OnOk result (EachBecomes (W.becomes params.now repair) words.old words.new) }
     ensures err { OnErr result (words.new ≡ words.old) }
 {
@@ -75,9 +73,7 @@ pub fn decode_all<R: Threads + Sync, G: Gate + Sync, W: InPlace + Send + Sync>(
     workers: u8,
     gate: &G,
 )
-    requires bound { repair ≤ params.now.e }
-    requires count { length words.old < 2 ^ 32 }
-    requires workers { (0 < workers) × (workers ≤ 64) }
+    requires { IsBatch params.now.e repair (length words.old) workers }
     ensures { EachBecomes (W.becomes params.now repair) words.old words.new }
 {
     // No more workers than words.
@@ -101,9 +97,7 @@ pub fn decode_batch<R: Threads + Sync, G: Gate + Sync>(
     workers: u8,
     gate: &G,
 )
-    requires bound { repair ≤ params.now.e }
-    requires count { length words.old < 2 ^ 32 }
-    requires workers { (0 < workers) × (workers ≤ 64) }
+    requires { IsBatch params.now.e repair (length words.old) workers }
     ensures { EachBecomes (Decodes params.now repair) words.old words.new }
 {
     decode_all(rt, alloc, params, repair, words, workers, gate);
@@ -119,9 +113,7 @@ pub fn decode_erased_batch<R: Threads + Sync, G: Gate + Sync>(
     workers: u8,
     gate: &G,
 )
-    requires bound { repair ≤ params.now.e }
-    requires count { length words.old < 2 ^ 32 }
-    requires workers { (0 < workers) × (workers ≤ 64) }
+    requires { IsBatch params.now.e repair (length words.old) workers }
     ensures { EachBecomes (DecodesErased params.now repair) words.old words.new }
 {
     decode_all(rt, alloc, params, repair, words, workers, gate);

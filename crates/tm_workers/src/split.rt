@@ -1,7 +1,7 @@
 // The words in nearly equal parts, one for each worker.
 ghost use Rattle.std.specs.Prelude.{◌≡◌, ◌+◌, ◌<◌, ◌≤◌, ◌^◌, length};
 ghost use Rattle.std.specs.Thread.{IsSend, IsSync};
-ghost use Rattle.tm_workers.specs.Batch.{EachBecomes};
+ghost use Rattle.tm_workers.specs.Batch.{EachBecomes, IsPart};
 
 use crate::words::InPlace;
 use std::thread::{Threads, join_mut};
@@ -16,8 +16,7 @@ pub fn decode_part<G: Gate, W: InPlace>(
     first: u32,
     words: &mut [W],
 )
-    requires bound { repair ≤ params.now.e }
-    requires count { first + length words.old < 2 ^ 32 }
+    requires { IsPart params.now.e repair first (length words.old) }
     ensures { EachBecomes (W.becomes params.now repair) words.old words.new }
 {
     let mut number = first;
@@ -40,8 +39,7 @@ pub fn split_evenly<R: Threads + Sync, G: Gate + Sync, W: InPlace + Send>(
     workers: u8,
     words: &mut [W],
 )
-    requires bound { repair ≤ params.now.e }
-    requires count { first + length words.old < 2 ^ 32 }
+    requires { IsPart params.now.e repair first (length words.old) }
     ensures { EachBecomes (W.becomes params.now repair) words.old words.new }
 {
     if workers < 2 || words.len() < 2 {
