@@ -159,14 +159,6 @@ items-are c [] (s ∷ slots) long each = absurd (omega arith)
 items-are c (o ∷ olds) [] long each = absurd (omega arith)
 items-are c (o ∷ olds) (s ∷ slots) long each = (each 0 o (omega arith), items-are c olds slots (omega arith) (λ j slot below. each (suc j) slot (omega arith)))
 
--- whether no answer is Beyond, from a place on
-pub fixed-from : (answers : List Answer) (i : ℕ) (d : Answer) → i < length answers → are_fixed (drop i answers) ≡ are_fixed (get_or answers i d ∷ drop (i + 1) answers)
-fixed-from [] i d below = absurd (omega arith)
-fixed-from (a ∷ answers) zero d below = refl
-fixed-from (a ∷ answers) (suc i) d below =
-    let next : suc (i + 1) ≡ suc i + 1 = omega arith in
-    fixed-from answers i d (omega arith) ∙ ap (λ n. are_fixed (get_or answers i d ∷ drop n (a ∷ answers))) next
-
 -- the item of one codeblock
 pub item-in-slot : (c : Configuration) (size count : ℕ) (slots : List Slot) (index : ℕ) (d : Slot) → AreItemsFor c (map (kept_in size) (take count slots)) (map (item_in c) (take count slots))
     → index < length (map (kept_in size) (take count slots)) → IsItemAt c (map (kept_in size) (take count slots)) index (item_in c (get_or slots index d))

@@ -1,7 +1,7 @@
 // What the receiver hands over, and to whom.
-ghost use Rattle.std.specs.Prelude.{ℕ, OnErr, OnOk};
+ghost use Rattle.std.specs.Prelude.{◌≡◌, ℕ, OnErr, OnOk};
 ghost use Rattle.tm_base.specs.Outside.{HasCause};
-ghost use Rattle.tm_channel.specs.Items.{ItemValue};
+ghost use Rattle.tm_channel.specs.Items.{ItemValue, are_fixed};
 
 use std::marker::Model;
 use tm_base::Failed;
@@ -73,4 +73,17 @@ pub trait ItemTaker {
         ensures ok { OnOk result (took_phase self.old skip cost self.new) }
         ensures err { OnErr result (broke_phase self.old skip cost self.new) }
         ensures cause { HasCause (faults self.old) (faults self.new) (is_last self.new) result };
+}
+
+/// Whether no answer is `Beyond`.
+pub fn are_fixed(answers: &[Answer]) -> bool
+    ensures { result ≡ are_fixed answers.now }
+{
+    for answer in answers {
+        match answer {
+            Answer::Fixed(_) => {}
+            Answer::Beyond => return false,
+        }
+    }
+    true
 }

@@ -18,7 +18,7 @@ mod stream;
 mod taking;
 mod workers;
 
-pub use item::{Item, ItemTaker};
+pub use item::{Item, ItemTaker, are_fixed};
 pub use laws::{
     clean_law, disturbed_law, disturbed_octets_law, due_items_law, first_items_law, items_law,
     polarity_law, received_law,

@@ -2,12 +2,12 @@
 ghost use Rattle.std.specs.Prelude.{◌≡◌, ◌<◌, ◌≤◌, length, take};
 ghost use Rattle.tm_base.specs.Bits.{bits_of};
 ghost use Rattle.tm_config.specs.Configuration.{codeblock_length};
-ghost use Rattle.tm_channel.specs.Items.{IsItem, are_fixed};
+ghost use Rattle.tm_channel.specs.Items.{IsItem};
 ghost use Rattle.tm_channel.specs.Receiving.{kept_of};
 ghost use Rattle.tm_channel.specs.Storing.{IsDecoded, answers_of, column_count, item_in, kept_in};
 
 use crate::columns::write_frame;
-use crate::item::Item;
+use crate::item::{Item, are_fixed};
 use tm_codeblock::{has_code, read_codeblock};
 use tm_config::{Config, OuterCode};
 use tm_rs_solve::Answer;
@@ -108,17 +108,4 @@ fn write_answers(words: &[Word], answers: &mut [Answer])
     for i in 0..words.len() {
         answers[i] = words[i].answer.unwrap_or(Answer::Beyond);
     }
-}
-
-// Whether no answer is `Beyond`.
-fn are_fixed(answers: &[Answer]) -> bool
-    ensures { result ≡ are_fixed answers.now }
-{
-    for answer in answers {
-        match answer {
-            Answer::Fixed(_) => {}
-            Answer::Beyond => return false,
-        }
-    }
-    true
 }

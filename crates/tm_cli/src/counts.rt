@@ -1,11 +1,10 @@
 // What a report counts.
 ghost use Rattle.std.specs.Prelude.{◌≡◌, ◌≤◌, length};
-ghost use Rattle.tm_channel.specs.Items.{are_fixed};
 ghost use Rattle.tm_config.specs.Bounds.{longest_codeblock};
 ghost use Rattle.tm_cli.specs.Report.{fixed_of};
 ghost use Rattle.tm_cli.specs.Taken.{no_counts, number_of, counts_after};
 
-use tm_channel::Answer;
+use tm_channel::{Answer, are_fixed};
 
 /// What a report counts. Each count stops at 2^64-1.
 #[derive(Clone, Copy, Debug, PartialEq, Eq)]
@@ -48,18 +47,6 @@ impl Counts {
         self.bad = self.bad.saturating_add(!is_good as u64);
         self.fixed = self.fixed.saturating_add(fixed_of(answers));
     }
-}
-
-// Whether no answer is that its column is uncorrectable.
-fn are_fixed(answers: &[Answer]) -> bool
-    ensures { result ≡ are_fixed answers.now }
-{
-    for answer in answers {
-        if let Answer::Beyond = *answer {
-            return false;
-        }
-    }
-    true
 }
 
 // The sum of the symbols repaired.
