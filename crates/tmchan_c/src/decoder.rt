@@ -72,8 +72,7 @@ pub extern "C" fn tmchan_decoder_push(
         Stream::Decoder(decoder) => number_answer(decoder.feed(octets, bits)),
         _ => Refusal::Closed.long_answer(),
     };
-    put(handle, stream);
-    answer
+    put(handle, stream, answer)
 }
 
 /// Writes the bits that are left to the start of `bits`, gives the symbol phase, and closes the decoder. Answers how
@@ -102,15 +101,9 @@ pub extern "C" fn tmchan_decoder_finish(
                 drop(stream);
                 count as i64
             }
-            None => {
-                put(handle, stream);
-                Refusal::Room.long_answer()
-            }
+            None => put(handle, stream, Refusal::Room.long_answer()),
         },
-        _ => {
-            put(handle, stream);
-            Refusal::Closed.long_answer()
-        }
+        _ => put(handle, stream, Refusal::Closed.long_answer()),
     }
 }
 
@@ -137,6 +130,5 @@ pub extern "C" fn tmchan_decoder_phase(
         }
         _ => Refusal::Closed.answer(),
     };
-    put(handle, stream);
-    answer
+    put(handle, stream, answer)
 }

@@ -41,15 +41,17 @@ pub fn take(alloc: Global, handle: &mut Handle) -> Option<Box<Stream>>
     Some(kept.into_parts().into_box())
 }
 
-/// Puts a stream into a handle that is closed.
-pub fn put(handle: &mut Handle, stream: Box<Stream>)
+/// Puts a stream into a handle that is closed, and hands the answer of the call through.
+pub fn put<A>(handle: &mut Handle, stream: Box<Stream>, answer: A) -> A
     requires { handle.old.kept.value ≡ None }
-    ensures { handle.new.kept.value ≡ Some stream.value }
+    ensures handle { handle.new.kept.value ≡ Some stream.value }
+    ensures answer { result ≡ answer }
 {
     *handle = Handle {
         is_open: 1,
         kept: Kept::of(Parts::of(stream)),
     };
+    answer
 }
 
 /// Opens a handle that is closed. Answers 0, or that there is not enough memory.
@@ -58,10 +60,7 @@ pub fn open(alloc: Global, handle: &mut Handle, stream: Stream) -> i32
     ensures { Opens result handle.new.kept.value (λ held. held ≡ Some stream) }
 {
     match Box::new(alloc, stream) {
-        Ok(stream) => {
-            put(handle, stream);
-            0
-        }
+        Ok(stream) => put(handle, stream, 0),
         Err(_) => Refusal::Memory.answer(),
     }
 }

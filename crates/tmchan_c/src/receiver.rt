@@ -86,8 +86,7 @@ pub extern "C" fn tmchan_receiver_push(
         Stream::Receiver(receiver) => number_answer(receiver.feed(octets, frames, reports)),
         _ => Refusal::Closed.long_answer(),
     };
-    put(handle, stream);
-    answer
+    put(handle, stream, answer)
 }
 
 /// Writes what is left, gives the symbol phase and how many bits were received, and closes the receiver. Answers how
@@ -119,10 +118,7 @@ pub extern "C" fn tmchan_receiver_finish(
             drop(stream);
             number_answer(count)
         }
-        _ => {
-            put(handle, stream);
-            Refusal::Closed.long_answer()
-        }
+        _ => put(handle, stream, Refusal::Closed.long_answer()),
     }
 }
 
@@ -149,6 +145,5 @@ pub extern "C" fn tmchan_receiver_phase(
         }
         _ => Refusal::Closed.answer(),
     };
-    put(handle, stream);
-    answer
+    put(handle, stream, answer)
 }

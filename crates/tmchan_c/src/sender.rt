@@ -65,8 +65,7 @@ pub extern "C" fn tmchan_sender_push(
         Stream::Sender(sender) => number_answer(sender.push(octets, symbols)),
         _ => Refusal::Closed.long_answer(),
     };
-    put(handle, stream);
-    answer
+    put(handle, stream, answer)
 }
 
 /// Answers how many octets follow the last whole frame, and closes the sender; or why it is refused.
@@ -86,9 +85,6 @@ pub extern "C" fn tmchan_sender_finish(alloc: Global, handle: &mut Handle) -> i6
             drop(stream);
             i64::from(count)
         }
-        _ => {
-            put(handle, stream);
-            Refusal::Closed.long_answer()
-        }
+        _ => put(handle, stream, Refusal::Closed.long_answer()),
     }
 }

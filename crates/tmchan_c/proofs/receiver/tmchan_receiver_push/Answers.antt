@@ -1,4 +1,4 @@
-use Rattle.std.proofs.Common.{rules, ◌≡◌, ◌++◌, ◌∙◌, Option, Some, None, sym, subst, w64, to_z}
+use Rattle.std.proofs.Common.{rules, ◌≡◌, ◌++◌, ◌∙◌, Option, Some, None, sym, subst, w64, to_z, of_z}
 use Rattle.tm_base.specs.Handed.{items_of}
 use Rattle.tm_config.specs.Configuration.{Configuration}
 use Rattle.tm_channel.specs.Handing.{AreReceivedDue}
@@ -17,7 +17,9 @@ returns-clause-pushed c = λ config given done is few.
       | in-Receiver w ↦
           let held : c.args.handle.now.kept.value ≡ Some (Receiver w.in-Receiver.receiver) = search rules in
           let now : c.put.new.handle.kept.value ≡ Some (Receiver w.feed.new.self) = search rules in
-          let answers : to_z w64 c.match-deref_mut.answer-bits ≡ number_answer None w.feed.result = search rules in
+          let told : to_z w64 c.match-deref_mut.answer-bits ≡ number_answer None w.feed.result = search rules in
+          let same : c.put.result ≡ to_z w64 (of_z w64 c.put.result) = search rules in
+          let answers : to_z w64 (of_z w64 c.put.result) ≡ number_answer None w.feed.result = sym same ∙ c.put.ensures.answer ∙ told in
           let receiver = subst (λ (o : Option Stream). IsReceiver o config given done) held is in
           let there = w.feed.ensures.received given done few receiver.1 in
           let tells : Tells w.feed.result c.match-deref_mut.frames c.match-deref_mut.reports (items_of there.more) =
