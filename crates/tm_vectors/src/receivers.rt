@@ -145,6 +145,17 @@ fn check_pieces(
     Ok(())
 }
 
+// A receiver that has stopped takes no octets, and has no end.
+fn check_stopped(
+    rt: &(impl Abort + Threads + Sync),
+    receiver: &mut Receiver,
+    taker: &mut Collector,
+) -> Result<(), Fail> {
+    assert_eq!(rt; feed(rt, receiver, &M, taker), Err(RecvError::Stopped));
+    assert_eq!(rt; finish(rt, receiver, taker), Err(RecvError::Stopped));
+    Ok(())
+}
+
 #[test]
 fn a_receiver_takes_any_pieces(rt: HostRuntime) -> Result<(), Fail> {
     let octets = joined(rt.alloc(), &[&M, &A])?;
@@ -160,15 +171,7 @@ fn a_receiver_stops_at_its_end(rt: HostRuntime) -> Result<(), Fail> {
     let mut receiver = Receiver::open(rt.alloc(), config)?;
     let mut taker = Collector::new(rt.alloc(), 9);
     assert_eq!(rt; finish(&rt, &mut receiver, &mut taker), Ok(0));
-    assert_eq!(rt;
-        feed(&rt, &mut receiver, &M, &mut taker),
-        Err(RecvError::Stopped)
-    );
-    assert_eq!(rt;
-        finish(&rt, &mut receiver, &mut taker),
-        Err(RecvError::Stopped)
-    );
-    Ok(())
+    check_stopped(&rt, &mut receiver, &mut taker)
 }
 
 #[test]
@@ -182,15 +185,7 @@ fn a_taker_that_fails_at_the_end(rt: HostRuntime) -> Result<(), Fail> {
         finish(&rt, &mut receiver, &mut taker),
         Err(RecvError::Taker)
     );
-    assert_eq!(rt;
-        feed(&rt, &mut receiver, &M, &mut taker),
-        Err(RecvError::Stopped)
-    );
-    assert_eq!(rt;
-        finish(&rt, &mut receiver, &mut taker),
-        Err(RecvError::Stopped)
-    );
-    Ok(())
+    check_stopped(&rt, &mut receiver, &mut taker)
 }
 
 // Items are handed over before the end where there are 32 of them.
@@ -205,15 +200,7 @@ fn a_taker_that_fails_before_the_end(rt: HostRuntime) -> Result<(), Fail> {
     }
     let last = feed(&rt, &mut receiver, octets.as_slice(), &mut taker);
     assert_eq!(rt; last, Err(RecvError::Taker));
-    assert_eq!(rt;
-        feed(&rt, &mut receiver, &M, &mut taker),
-        Err(RecvError::Stopped)
-    );
-    assert_eq!(rt;
-        finish(&rt, &mut receiver, &mut taker),
-        Err(RecvError::Stopped)
-    );
-    Ok(())
+    check_stopped(&rt, &mut receiver, &mut taker)
 }
 
 #[test]
