@@ -50,7 +50,7 @@ closed-longer rate invert keep ahead from to (block ∷ blocks) more closed =
     let place : List ℕ → Place = λ v. record { starts = (after_block rate from block).starts; t = from.t + block.kept; octets = v } in (
       record {
         room = omega (arith, closed.0.room, length-append from.octets more);
-        is_block = record { steps = is.steps; kept = is.kept; best = best.0; metric = best.1; end_state = is.end_state };
+        is_block = record { steps = is.steps; kept = is.kept; best = best.0; metric = best.1; end_state = is.end_state; dropped = is.dropped };
       },
       subst (λ (v : List ℕ). Closed rate invert keep ahead (place v) blocks (longer to more)) back (closed-longer rate invert keep ahead (after_block rate from block) to blocks more closed.1),
     )

@@ -27,4 +27,5 @@ block_of w = record {
   metric = w.metric;
   bits = w.bits;
   end_state = register_after w.start (take w.kept w.bits);
+  dropped = 0;
 }

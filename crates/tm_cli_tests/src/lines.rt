@@ -157,6 +157,7 @@ fn block_of<'a>(steps: u32, kept: u32, metric: u64) -> Block<'a> {
         metric,
         bits: &[],
         end_state: 0,
+        dropped: 0,
     }
 }
 

@@ -31,7 +31,7 @@ row_upright : settings_of (record signed { inner = Some R23; start = Zero }) R23
 row_upright = refl
 
 -- of a block the first bits are kept
-row_kept : bits_at (Some R12) signed [] (record { start = 0; steps = 3; kept = 2; metric = 9; bits = 1 ∷ 0 ∷ 1 ∷ []; end_state = 16 } ∷ []) ≡ true ∷ false ∷ []
+row_kept : bits_at (Some R12) signed [] (record { start = 0; steps = 3; kept = 2; metric = 9; bits = 1 ∷ 0 ∷ 1 ∷ []; end_state = 16; dropped = 0 } ∷ []) ≡ true ∷ false ∷ []
 row_kept = refl
 
 -- with no inner code bits are skipped, not octets

@@ -25,6 +25,7 @@ fn certificate(rt: &impl Abort, alloc: Global) -> MemSink {
         metric: 127,
         bits: &[1],
         end_state: 32,
+        dropped: 0,
     });
     taken.expect(rt, "room");
     out

@@ -38,7 +38,7 @@ Closes-append rate invert keep ahead at b octets h =
     let k = subst P (sym same) (h.is_block.best, h.is_block.metric) in
     record {
       room = omega (arith, h.room, length-append at.octets octets);
-      is_block = record { steps = h.is_block.steps; kept = h.is_block.kept; best = k.0; metric = k.1; end_state = h.is_block.end_state };
+      is_block = record { steps = h.is_block.steps; kept = h.is_block.kept; best = k.0; metric = k.1; end_state = h.is_block.end_state; dropped = h.is_block.dropped };
     }
 
 after-append : (rate : Rate) (invert : Bool) (keep ahead : ℕ) (at : Place) (b : WindowBlock) (octets : List ℕ)

@@ -71,8 +71,9 @@ block_of rate invert keep ahead starts t n octets register bits best = record {
     metric = cost (path rate invert t register bits) (take (steps_size rate t (window_steps keep ahead n)) octets);
     bits = bits;
     end_state = register_after register (take (kept_steps keep ahead n) bits);
+    dropped = 0;
   };
-  is = record { steps = refl; kept = refl; best = best; metric = refl; end_state = refl };
+  is = record { steps = refl; kept = refl; best = best; metric = refl; end_state = refl; dropped = refl };
   small = register-small register (take (kept_steps keep ahead n) bits) best.candidate.register (digits-take (kept_steps keep ahead n) bits (digits bits best.candidate.each));
 }
 

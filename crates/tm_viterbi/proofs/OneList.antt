@@ -21,12 +21,14 @@ abbrev pub OneBest : Type 0
 OneBest = (starts : ℕ → Bool) (rate : Rate) (invert : Bool) (t : ℕ) (octets : List ℕ) (register other : ℕ) (bits others : List ℕ)
     → IsBest starts rate invert t octets register bits → IsBest starts rate invert t octets other others → (register ≡ other) × (bits ≡ others)
 
-same_block : (b d : WindowBlock) → b.start ≡ d.start → b.steps ≡ d.steps → b.kept ≡ d.kept → b.metric ≡ d.metric → b.bits ≡ d.bits → b.end_state ≡ d.end_state → b ≡ d
-same_block b d e1 e2 e3 e4 e5 e6 =
-    let make : ℕ → ℕ → ℕ → ℕ → List ℕ → ℕ → WindowBlock = λ start steps kept metric bits end_state. record { start = start; steps = steps; kept = kept; metric = metric; bits = bits; end_state = end_state } in
-    ap (λ (v : ℕ). make v b.steps b.kept b.metric b.bits b.end_state) e1 ∙ ap (λ (v : ℕ). make d.start v b.kept b.metric b.bits b.end_state) e2
-    ∙ ap (λ (v : ℕ). make d.start d.steps v b.metric b.bits b.end_state) e3 ∙ ap (λ (v : ℕ). make d.start d.steps d.kept v b.bits b.end_state) e4
-    ∙ ap (λ (v : List ℕ). make d.start d.steps d.kept d.metric v b.end_state) e5 ∙ ap (λ (v : ℕ). make d.start d.steps d.kept d.metric d.bits v) e6
+same_block : (b d : WindowBlock) → b.start ≡ d.start → b.steps ≡ d.steps → b.kept ≡ d.kept → b.metric ≡ d.metric → b.bits ≡ d.bits → b.end_state ≡ d.end_state → b.dropped ≡ d.dropped → b ≡ d
+same_block b d e1 e2 e3 e4 e5 e6 e7 =
+    let make : ℕ → ℕ → ℕ → ℕ → List ℕ → ℕ → ℕ → WindowBlock = λ start steps kept metric bits end_state dropped.
+    record { start = start; steps = steps; kept = kept; metric = metric; bits = bits; end_state = end_state; dropped = dropped } in
+    ap (λ (v : ℕ). make v b.steps b.kept b.metric b.bits b.end_state b.dropped) e1 ∙ ap (λ (v : ℕ). make d.start v b.kept b.metric b.bits b.end_state b.dropped) e2
+    ∙ ap (λ (v : ℕ). make d.start d.steps v b.metric b.bits b.end_state b.dropped) e3 ∙ ap (λ (v : ℕ). make d.start d.steps d.kept v b.bits b.end_state b.dropped) e4
+    ∙ ap (λ (v : List ℕ). make d.start d.steps d.kept d.metric v b.end_state b.dropped) e5 ∙ ap (λ (v : ℕ). make d.start d.steps d.kept d.metric d.bits v b.dropped) e6
+    ∙ ap (λ (v : ℕ). make d.start d.steps d.kept d.metric d.bits d.end_state v) e7
 
 one_block : OneBest → (rate : Rate) (invert : Bool) (keep ahead : ℕ) (starts : Option ℕ) (t n : ℕ) (octets : List ℕ) (b d : WindowBlock)
     → IsBlock rate invert keep ahead starts t n octets b → IsBlock rate invert keep ahead starts t n octets d → b ≡ d
@@ -43,7 +45,7 @@ one_block one rate invert keep ahead starts t n octets b d h k =
     let end_state : b.end_state ≡ d.end_state = h.end_state
     ∙ ap (λ (v : ℕ). register_after v (take b.kept b.bits)) u.0 ∙ ap (λ (v : ℕ). register_after d.start (take v b.bits)) kept
     ∙ ap (λ (v : List ℕ). register_after d.start (take d.kept v)) u.1 ∙ sym k.end_state in
-    same_block b d u.0 steps kept metric u.1 end_state
+    same_block b d u.0 steps kept metric u.1 end_state (h.dropped ∙ sym k.dropped)
 
 -- the octets are no fewer than those of n steps, so a window is closed only where more than keep+ahead of them are there
 many : (rate : Rate) (t n m : ℕ) (size : ℕ) → size < steps_size rate t (n + 1) → steps_size rate t m ≤ size → m ≤ n

@@ -71,6 +71,7 @@ closed_block rate invert keep ahead from b m closes big =
       best = is.best;
       metric = is.metric;
       end_state = is.end_state;
+      dropped = is.dropped;
     }
 
 pub AreBlocks-closed : (rate : Rate) (invert : Bool) (keep ahead : ℕ) (from to : Place) (blocks last : List WindowBlock) (n m : ℕ)

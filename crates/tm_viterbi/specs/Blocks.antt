@@ -28,6 +28,7 @@ pub record IsBlock (rate : Rate) (invert : Bool) (keep ahead : ℕ) (starts : Op
   pub best : IsBest (starts_from starts) rate invert t (take (steps_size rate t block.steps) octets) block.start block.bits
   pub metric : block.metric ≡ cost (path rate invert t block.start block.bits) (take (steps_size rate t block.steps) octets)
   pub end_state : block.end_state ≡ register_after block.start (take block.kept block.bits)
+  pub dropped : block.dropped ≡ 0
 
 -- all blocks of the remaining steps: each next window begins after the kept steps, from the register after them alone
 abbrev pub AreBlocks : Rate → Bool → ℕ → ℕ → Option ℕ → ℕ → ℕ → List ℕ → List WindowBlock → Type 0

@@ -43,12 +43,14 @@ pub struct Block<'a> {
     pub bits: &'a [u8],
     /// The register after the kept bits, from which the next window starts.
     pub end_state: u8,
+    /// How many octets were dropped before the window: none but where the symbol phase is followed.
+    pub dropped: u8,
 }
 
 impl<'a> Model for Block<'a> {
     ghost Value = { WindowBlock };
 
-    ghost view = { λ b. record { start = b.start; steps = b.steps; kept = b.kept; metric = b.metric; bits = b.bits.now; end_state = b.end_state } };
+    ghost view = { λ b. record { start = b.start; steps = b.steps; kept = b.kept; metric = b.metric; bits = b.bits.now; end_state = b.end_state; dropped = b.dropped } };
 }
 
 /// What takes the symbol phase, where it is to be found, and then blocks, one after another. It counts its faults, and the count never falls.

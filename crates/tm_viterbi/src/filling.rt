@@ -127,7 +127,7 @@ impl Window {
         ensures block { (given after : List ℕ) (remaining : ℕ) → Holds self.now given → self.now.filled ≡ window_steps self.now.keep self.now.ahead remaining
             → kept ≡ kept_steps self.now.keep self.now.ahead remaining
             → IsBlock self.now.rate self.now.invert self.now.keep self.now.ahead self.now.starts self.now.t remaining (given ++ after)
-            (record { start = result.start; steps = self.now.filled; kept = kept; metric = result.metric; bits = bits.new; end_state = result.end_state }) }
+            (record { start = result.start; steps = self.now.filled; kept = kept; metric = result.metric; bits = bits.new; end_state = result.end_state; dropped = 0 }) }
         ensures register { result.end_state < 64 }
     {
         let last = least_register(&self.sums);

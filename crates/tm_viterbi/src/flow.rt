@@ -87,7 +87,7 @@ impl Flow {
             → steps_size self.old.window.rate self.old.window.t (self.old.window.keep + self.old.window.ahead + 1) ≤ length (given ++ after)
             → Closes self.old.window.rate self.old.window.invert self.old.window.keep self.old.window.ahead
             (record { starts = self.old.window.starts; t = self.old.window.t; octets = given ++ after })
-            (record { start = result.start; steps = self.old.window.keep + self.old.window.ahead; kept = self.old.window.keep; metric = result.metric; bits = bits.new; end_state = result.end_state }) }
+            (record { start = result.start; steps = self.old.window.keep + self.old.window.ahead; kept = self.old.window.keep; metric = result.metric; bits = bits.new; end_state = result.end_state; dropped = 0 }) }
         ensures keeps { (given : List ℕ) → Keeps self.old given → Keeps self.new (drop (steps_size self.old.window.rate self.old.window.t self.old.window.keep) given) }
         ensures place { (self.new.window.t ≡ self.old.window.t + self.old.window.keep) × (self.new.window.filled ≡ self.old.window.ahead) × (self.new.window.starts ≡ Option.Some result.end_state) }
         ensures same { (self.new.window.rate ≡ self.old.window.rate) × (self.new.window.invert ≡ self.old.window.invert) × (self.new.window.keep ≡ self.old.window.keep) × (self.new.window.ahead ≡ self.old.window.ahead) }
@@ -104,7 +104,7 @@ impl Flow {
         requires start { (register : ℕ) × (register < 64) × IsTrue (starts_from self.now.window.starts register) }
         ensures block { (given after : List ℕ) → Keeps self.now given
             → IsBlock self.now.window.rate self.now.window.invert self.now.window.keep self.now.window.ahead self.now.window.starts self.now.window.t self.now.window.filled (given ++ after)
-            (record { start = result.start; steps = self.now.window.filled; kept = self.now.window.filled; metric = result.metric; bits = take self.now.window.filled bits.new; end_state = result.end_state }) }
+            (record { start = result.start; steps = self.now.window.filled; kept = self.now.window.filled; metric = result.metric; bits = take self.now.window.filled bits.new; end_state = result.end_state; dropped = 0 }) }
         ensures long { length bits.new ≡ length bits.old }
     {
         let filled = self.window.filled;

@@ -83,8 +83,8 @@ fn hand_over<B: BlockTaker>(
 ) -> Result<(), Failed>
     requires bits { steps ≤ length bits.now }
     requires few { (steps < 2 ^ 32) × (kept < 2 ^ 32) }
-    ensures ok { OnOk result (B.took blocks.old (record { start = found.now.start; steps = steps; kept = kept; metric = found.now.metric; bits = take steps bits.now; end_state = found.now.end_state }) blocks.new) }
-    ensures err { OnErr result (B.broke blocks.old (record { start = found.now.start; steps = steps; kept = kept; metric = found.now.metric; bits = take steps bits.now; end_state = found.now.end_state }) blocks.new) }
+    ensures ok { OnOk result (B.took blocks.old (record { start = found.now.start; steps = steps; kept = kept; metric = found.now.metric; bits = take steps bits.now; end_state = found.now.end_state; dropped = 0 }) blocks.new) }
+    ensures err { OnErr result (B.broke blocks.old (record { start = found.now.start; steps = steps; kept = kept; metric = found.now.metric; bits = take steps bits.now; end_state = found.now.end_state; dropped = 0 }) blocks.new) }
     ensures cause { HasCause (B.faults blocks.old) (B.faults blocks.new) (B.is_last blocks.new) result }
 {
     let block = Block {
@@ -94,6 +94,7 @@ fn hand_over<B: BlockTaker>(
         metric: found.metric,
         bits: &bits[..steps],
         end_state: found.end_state,
+        dropped: 0,
     };
     blocks.block(&block)
 }
@@ -158,6 +159,7 @@ impl Stream {
             metric: found.metric,
             bits,
             end_state: found.end_state,
+            dropped: 0,
         };
         blocks.block(&block)
     }

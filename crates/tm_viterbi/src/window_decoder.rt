@@ -78,7 +78,7 @@ impl WindowDecoder {
         requires few { t < 2 ^ 61 }
         ensures block { (remaining : ℕ) → length bits.old ≡ window_steps self.old.keep self.old.ahead remaining → kept ≡ kept_steps self.old.keep self.old.ahead remaining
             → IsBlock self.old.rate self.old.invert self.old.keep self.old.ahead starts t remaining octets.now
-            (record { start = result.start; steps = length bits.old; kept = kept; metric = result.metric; bits = bits.new; end_state = result.end_state }) }
+            (record { start = result.start; steps = length bits.old; kept = kept; metric = result.metric; bits = bits.new; end_state = result.end_state; dropped = 0 }) }
         ensures same { self.new ≡ self.old }
     {
         let steps = bits.len();

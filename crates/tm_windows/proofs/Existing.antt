@@ -34,6 +34,7 @@ block_of s at register bits = record {
   metric = cost (path s.rate s.invert at.t register bits) (take (steps_size s.rate at.t (s.keep + s.ahead)) at.octets);
   bits = bits;
   end_state = register_after register (take s.keep bits);
+  dropped = 0;
 }
 
 is_block : (s : WindowShape) (at : Place) (register : ℕ) (bits : List ℕ)
@@ -48,6 +49,7 @@ is_block s at register bits best =
       best = best;
       metric = refl;
       end_state = refl;
+      dropped = refl;
     }
 
 -- a window closes with some block, after which a path may go on

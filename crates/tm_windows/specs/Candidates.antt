@@ -25,6 +25,7 @@ block_of shape c =
       metric = c.path.metric;
       bits = c.bits.items;
       end_state = c.path.end_state;
+      dropped = 0;
     }
 
 -- it is the block of the window from step t on with the octets, from the registers that were taken

@@ -45,6 +45,7 @@ fn hand_block<B: BlockTaker>(
         metric: candidate.path.metric,
         bits: candidate.bits.as_slice(),
         end_state: candidate.path.end_state,
+        dropped: 0,
     };
     match blocks.block(&block) {
         Ok(()) => Ok(candidate.path.end_state),
@@ -171,6 +172,7 @@ pub(crate) fn hand_last<B: BlockTaker>(
         metric: path.metric,
         bits,
         end_state: path.end_state,
+        dropped: 0,
     };
     blocks.block(&block)
 }

@@ -27,7 +27,7 @@ returns-clause-candidate c =
     let long : n ≡ s.keep + s.ahead = omega (arith, c.as_mut_slice-bits.ensures.len, c.requires.bits) in
     let all = s.keep + s.ahead + 1 in
     let P : WindowShape → ℕ → List ℕ → Type 0 = λ w m v. IsBlock w.rate w.invert w.keep w.ahead c.args.starts c.args.t all c.args.octets.now
-    (record { start = path.start; steps = m; kept = s.keep; metric = path.metric; bits = v; end_state = path.end_state }) in
+    (record { start = path.start; steps = m; kept = s.keep; metric = path.metric; bits = v; end_state = path.end_state; dropped = 0 }) in
     let steps : n ≡ window_steps d.keep d.ahead all = omega (arith, long, ap (λ (w : WindowShape). w.keep) c.requires.shape, ap (λ (w : WindowShape). w.ahead) c.requires.shape) in
     let kept : s.keep ≡ kept_steps d.keep d.ahead all = full_kept s.keep s.ahead ∙ ap (λ (w : WindowShape). kept_steps w.keep w.ahead all) (sym c.requires.shape) in
     let written = with_items_is bits new (c.decode-candidate.auto.bits ∙ ap length c.as_mut_slice-bits.ensures.value ∙ sym bits.ok.0) in

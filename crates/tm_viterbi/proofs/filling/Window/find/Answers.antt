@@ -1,4 +1,4 @@
-use Rattle.std.proofs.Common.{◌≡◌, ◌<◌, ◌++◌, ◌∙◌, ℕ, List, sym, ap, subst, arith, get_or, take, reverse}
+use Rattle.std.proofs.Common.{◌≡◌, ◌<◌, ◌++◌, ◌∙◌, ℕ, List, refl, sym, ap, subst, arith, get_or, take, reverse}
 use Rattle.std.specs.List.{All}
 use Rattle.std.proofs.lemmas.List.{take_at}
 use Rattle.std.proofs.lemmas.List.Elements.{All-same, All-take}
@@ -41,4 +41,5 @@ returns-clause-block c h after remaining holds filled_is kept_is =
       best = found.0;
       metric = c.from-metric.ensures ∙ found.1;
       end_state = c.end_register-end_state.ensures.value;
+      dropped = refl;
     }

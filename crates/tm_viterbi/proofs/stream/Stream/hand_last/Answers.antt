@@ -13,7 +13,7 @@ returns-clause-ok g c =
     let s = c.args.self.now in
     let w = s.flow.window in
     let found = c.find_last-found.result in
-    let block : WindowBlock = record { start = found.start; steps = w.filled; kept = w.filled; metric = found.metric; bits = take w.filled c.find_last-found.new.bits; end_state = found.end_state } in
+    let block : WindowBlock = record { start = found.start; steps = w.filled; kept = w.filled; metric = found.metric; bits = take w.filled c.find_last-found.new.bits; end_state = found.end_state; dropped = 0 } in
     on_ok c.hand_over.result _ _ (λ taken. (
       block,
       taken,
@@ -27,7 +27,7 @@ returns-clause-err g c =
     let s = c.args.self.now in
     let w = s.flow.window in
     let found = c.find_last-found.result in
-    let block : WindowBlock = record { start = found.start; steps = w.filled; kept = w.filled; metric = found.metric; bits = take w.filled c.find_last-found.new.bits; end_state = found.end_state } in
+    let block : WindowBlock = record { start = found.start; steps = w.filled; kept = w.filled; metric = found.metric; bits = take w.filled c.find_last-found.new.bits; end_state = found.end_state; dropped = 0 } in
     on_err c.hand_over.result _ _ (λ failed. (
       block,
       failed,

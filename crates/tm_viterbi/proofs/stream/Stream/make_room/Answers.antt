@@ -23,7 +23,7 @@ pub returns-clause-ok : goal.returns-clause-ok
 returns-clause-ok g c =
     let w = c.args.self.now.flow.window in
     let full : w.filled ≡ w.keep + w.ahead = omega (arith, w.within, c.if-self-steps.false) in
-    let block : WindowBlock = record { start = c.close-found.result.start; steps = w.keep + w.ahead; kept = w.keep; metric = c.close-found.result.metric; bits = c.close-found.new.bits; end_state = c.close-found.result.end_state } in
+    let block : WindowBlock = record { start = c.close-found.result.start; steps = w.keep + w.ahead; kept = w.keep; metric = c.close-found.result.metric; bits = c.close-found.new.bits; end_state = c.close-found.result.end_state; dropped = 0 } in
     on_ok c.block.result _ _ (λ taken. (
       block ∷ [],
       HandedOver-one g.B.BlockTaker.took c.args.blocks.now c.block.new.self block taken,
@@ -43,7 +43,7 @@ pub returns-clause-err : goal.returns-clause-err
 returns-clause-err g c =
     let w = c.args.self.now.flow.window in
     let full : w.filled ≡ w.keep + w.ahead = omega (arith, w.within, c.if-self-steps.false) in
-    let block : WindowBlock = record { start = c.close-found.result.start; steps = w.keep + w.ahead; kept = w.keep; metric = c.close-found.result.metric; bits = c.close-found.new.bits; end_state = c.close-found.result.end_state } in
+    let block : WindowBlock = record { start = c.close-found.result.start; steps = w.keep + w.ahead; kept = w.keep; metric = c.close-found.result.metric; bits = c.close-found.new.bits; end_state = c.close-found.result.end_state; dropped = 0 } in
     on_err c.block.result _ _ (λ failed. (
       block,
       failed,

@@ -45,6 +45,6 @@ returns-clause-block c remaining steps kept =
     let kept_here : kept_steps s.keep s.ahead remaining ≡ kept_steps v.keep v.ahead remaining
     = ap (λ (k : ℕ). kept_steps k s.ahead remaining) (sym ek) ∙ ap (λ (a : ℕ). kept_steps v.keep a remaining) (sym ea) in
     block_of_shape s.rate v.rate s.invert v.invert s.keep v.keep s.ahead v.ahead c.args.t v.t remaining bits v.filled c.args.starts v.starts octets (take size octets ++ drop size octets)
-    (λ (n : ℕ). record { start = c.find.result.start; steps = n; kept = c.args.kept; metric = c.find.result.metric; bits = c.find.new.bits; end_state = c.find.result.end_state })
+    (λ (n : ℕ). record { start = c.find.result.start; steps = n; kept = c.args.kept; metric = c.find.result.metric; bits = c.find.new.bits; end_state = c.find.result.end_state; dropped = 0 })
     er ei ek ea (same.5 ∙ c.begin.ensures.place.0) (same.4 ∙ c.begin.ensures.place.2) (take-append-drop size octets) filled
     (c.find.ensures.block (take size octets) (drop size octets) remaining (c.take_steps.ensures.holds [] c.begin.ensures.holds) (filled ∙ steps ∙ limit) (kept ∙ kept_here))
