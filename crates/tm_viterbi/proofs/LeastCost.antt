@@ -1,4 +1,4 @@
--- The steps from step 0 on.
+-- The steps from a step on.
 use Rattle.std.proofs.Common.{◌≡◌, ℕ, ◌+◌, ◌-◌, ◌<◌, ◌≤◌, ◌∙◌, sym, ap, arith, List, ◌++◌, take, drop, inl, inr}
 use Rattle.std.proofs.lemmas.Bool.{cases_lt}
 use Rattle.std.proofs.Math.Seq.{take-add}
@@ -7,23 +7,18 @@ use Rattle.tm_conv.specs.Path.{steps_size, step_size}
 use Rattle.tm_conv.proofs.Paths.{steps_size-more}
 use Rattle.tm_conv.proofs.Sizes.{step_size_pos, steps_size-le}
 
-next_step : (rate : Rate) (n : ℕ) → steps_size rate 0 (n + 1) ≡ steps_size rate 0 n + step_size rate n
-next_step rate n =
-    let e : 0 + n ≡ n = omega arith in
-    steps_size-more rate 0 n ∙ ap (λ (t : ℕ). steps_size rate 0 n + step_size rate t) e
-
 -- fewer symbols are fewer steps
-pub steps_le : (rate : Rate) (a b : ℕ) → steps_size rate 0 a ≤ steps_size rate 0 b → a ≤ b
-steps_le rate a b le = elim (cases_lt b a) as (λ _. a ≤ b) [
+pub steps_le : (rate : Rate) (t a b : ℕ) → steps_size rate t a ≤ steps_size rate t b → a ≤ b
+steps_le rate t a b le = elim (cases_lt b a) as (λ _. a ≤ b) [
   | inr there ↦ there
-  | inl lt ↦ absurd (omega (arith, le, next_step rate b, step_size_pos rate b, steps_size-le rate 0 (b + 1) a (omega arith)))
+  | inl lt ↦ absurd (omega (arith, le, steps_size-more rate t b, step_size_pos rate (t + b), steps_size-le rate t (b + 1) a (omega arith)))
 ]
 
 -- where octets are left of whole steps, the next step is whole
-pub step_left : (rate : Rate) (done n at size : ℕ) → size ≡ steps_size rate 0 n → at ≡ steps_size rate 0 done → at < size → step_size rate done ≤ size - at
-step_left rate done n at size is place less = elim (cases_lt done n) as (λ _. step_size rate done ≤ size - at) [
-  | inl lt ↦ omega (arith, is, place, next_step rate done, steps_size-le rate 0 (done + 1) n (omega arith))
-  | inr le ↦ absurd (omega (arith, is, place, less, steps_size-le rate 0 n done le))
+pub step_left : (rate : Rate) (t done n at size : ℕ) → size ≡ steps_size rate t n → at ≡ steps_size rate t done → at < size → step_size rate (t + done) ≤ size - at
+step_left rate t done n at size is place less = elim (cases_lt done n) as (λ _. step_size rate (t + done) ≤ size - at) [
+  | inl lt ↦ omega (arith, is, place, steps_size-more rate t done, steps_size-le rate t (done + 1) n (omega arith))
+  | inr le ↦ absurd (omega (arith, is, place, less, steps_size-le rate t n done le))
 ]
 
 -- a piece after the octets before it

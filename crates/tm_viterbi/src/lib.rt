@@ -31,5 +31,5 @@ pub use filling::BestPath;
 pub use lanes::lane_column;
 pub use laws::{due_law, one_list_law};
 pub use sums::Sums;
-pub use whole::{AllError, decode_all, least_cost};
+pub use whole::{AllError, decode_all, least_cost, least_cost_from};
 pub use window_decoder::{WindowDecoder, WindowShape};

@@ -77,16 +77,28 @@ pub fn least_cost(rate: Rate, invert: bool, start: Start, soft: &[u8]) -> u64
     ensures { (initial : ℕ) × (bits : List ℕ) × IsBest (starts_from (first_start start)) rate invert 0 soft.now initial bits
         × (result ≡ cost (path rate invert 0 initial bits) soft.now) }
 {
+    least_cost_from(rate, invert, start, 0, soft)
+}
+
+/// The same from step `t` on, below 2^60.
+pub fn least_cost_from(rate: Rate, invert: bool, start: Start, t: u64, soft: &[u8]) -> u64
+    requires steps { (steps : ℕ) × (steps ≤ 69632) × (length soft.now ≡ steps_size rate t steps) }
+    requires few { t < 2 ^ 60 }
+    ensures cost { (initial : ℕ) × (bits : List ℕ) × IsBest (starts_from (first_start start)) rate invert t soft.now initial bits
+        × (result ≡ cost (path rate invert t initial bits) soft.now) }
+    ensures small { result < 2 ^ 32 }
+{
     let mut sums = first_sums(first_start(start));
     let mut survivors = [0u64; 120];
     let mut done = 0usize;
     let mut at = 0usize;
     while at < soft.len() {
-        let (count, size) = whole_steps(rate, done as u64, survivors.len(), soft.len() - at);
+        let now = t + done as u64;
+        let (count, size) = whole_steps(rate, now, survivors.len(), soft.len() - at);
         run(
             rate,
             invert,
-            done as u64,
+            now,
             &soft[at..at + size],
             &mut sums,
             &mut survivors[..count],
