@@ -66,8 +66,8 @@ sent-prefix rate invert register steps bits le =
     ap (take (steps_size rate 0 steps)) whole ∙ take_at (sure first) (sure rest) (steps_size rate 0 steps) size
 
 -- the first candidate costs nothing where its best path does
-free-at : (rate : Rate) (invert : Bool) (steps : ℕ) (octets others : List ℕ) (register : ℕ) (bits : List ℕ) → octets_at rate steps octets 0 ≡ others
-    → IsBest (starts_from None) rate invert 0 others register bits → cost (path rate invert 0 register bits) others ≡ 0 → IsCostAt rate invert steps octets 0 0
+free-at : (rate : Rate) (invert : Bool) (steps : ℕ) (octets others : List ℕ) (register : ℕ) (bits : List ℕ) → octets_at rate 0 steps octets 0 ≡ others
+    → IsBest (starts_from None) rate invert 0 others register bits → cost (path rate invert 0 register bits) others ≡ 0 → IsCostAt rate invert 0 steps octets 0 0
 free-at rate invert steps octets others register bits same best free = record {
   initial = register;
   bits = bits;

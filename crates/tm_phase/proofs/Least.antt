@@ -8,8 +8,8 @@ use Rattle.tm_phase.specs.Phase.{IsCostAt, IsFirstLeast}
 abbrev pub HasOne : (ℕ → ℕ → Type 0) → Type 0
 HasOne IsCost = (number amount more : ℕ) → IsCost number amount → IsCost number more → amount ≡ more
 
-pub IsCostAt-one : (rate : Rate) (invert : Bool) (steps : ℕ) (octets : List ℕ) → HasOne (IsCostAt rate invert steps octets)
-IsCostAt-one rate invert steps octets number amount more a b =
+pub IsCostAt-one : (rate : Rate) (invert : Bool) (t steps : ℕ) (octets : List ℕ) → HasOne (IsCostAt rate invert t steps octets)
+IsCostAt-one rate invert t steps octets number amount more a b =
     omega (arith, a.is, b.is, a.best.least b.initial b.bits b.best.candidate, b.best.least a.initial a.bits a.best.candidate)
 
 pub IsFirstLeast-alone : (IsCost : ℕ → ℕ → Type 0) → HasOne IsCost → (amount : ℕ) → IsCost 0 amount → IsFirstLeast IsCost 1 0 amount

@@ -69,61 +69,89 @@ pub compared_fit : (rate : Rate) (window : ℕ) (octets : List ℕ) (steps : ℕ
 compared_fit rate window octets steps h =
     omega (arith, h.lesser, h.whole.whole, length-drop (period_size rate - 1) octets, steps-mono rate 0 steps h.most (omega (arith, h.lesser)))
 
-pub length-octets_at : (rate : Rate) (steps : ℕ) (octets : List ℕ) (skip : ℕ) → steps_size rate 0 steps ≤ length octets - (period_size rate - 1) → skip < period_size rate
-    → length (octets_at rate steps octets skip) ≡ steps_size rate 0 steps
-length-octets_at rate steps octets skip fits lt = length-take-le (steps_size rate 0 steps) (drop skip octets) (omega (arith, fits, length-drop skip octets))
+pub length-octets_at : (rate : Rate) (t steps : ℕ) (octets : List ℕ) (skip : ℕ) → steps_size rate t steps ≤ length octets - (period_size rate - 1) → skip < period_size rate
+    → length (octets_at rate t steps octets skip) ≡ steps_size rate t steps
+length-octets_at rate t steps octets skip fits lt = length-take-le (steps_size rate t steps) (drop skip octets) (omega (arith, fits, length-drop skip octets))
 
--- what the best path over octets costs, from any register at step 0
-abbrev pub Costs : Rate → Bool → ℕ → List ℕ → Type 0
-Costs rate invert amount soft =
-    (initial : ℕ) × (bits : List ℕ) × IsBest (starts_from None) rate invert 0 soft initial bits × (amount ≡ cost (path rate invert 0 initial bits) soft)
+-- what the best path over octets costs, from any register at step t
+abbrev pub Costs : Rate → Bool → ℕ → ℕ → List ℕ → Type 0
+Costs rate invert t amount soft =
+    (initial : ℕ) × (bits : List ℕ) × IsBest (starts_from None) rate invert t soft initial bits × (amount ≡ cost (path rate invert t initial bits) soft)
 
-pub IsCostAt-from : (rate : Rate) (invert : Bool) (steps : ℕ) (octets : List ℕ) (skip amount : ℕ) (soft : List ℕ) → soft ≡ octets_at rate steps octets skip
-    → Costs rate invert amount soft → IsCostAt rate invert steps octets skip amount
-IsCostAt-from rate invert steps octets skip amount soft same h =
-    let moved = subst (Costs rate invert amount) same h in
+pub IsCostAt-from : (rate : Rate) (invert : Bool) (t steps : ℕ) (octets : List ℕ) (skip amount : ℕ) (soft : List ℕ) → soft ≡ octets_at rate t steps octets skip
+    → Costs rate invert t amount soft → IsCostAt rate invert t steps octets skip amount
+IsCostAt-from rate invert t steps octets skip amount soft same h =
+    let moved = subst (Costs rate invert t amount) same h in
     record { initial = moved.0; bits = moved.1; best = moved.2; is = moved.3 }
 
 -- a cost is that of the octets, wherever they stand
-IsCostAt-at : (rate : Rate) (invert : Bool) (steps : ℕ) (octets others : List ℕ) (skip other amount : ℕ) → octets_at rate steps octets skip ≡ octets_at rate steps others other
-    → IsCostAt rate invert steps octets skip amount → IsCostAt rate invert steps others other amount
-IsCostAt-at rate invert steps octets others skip other amount same h =
-    IsCostAt-from rate invert steps others other amount (octets_at rate steps octets skip) same (h.initial, h.bits, h.best, h.is)
+IsCostAt-at : (rate : Rate) (invert : Bool) (t steps : ℕ) (octets others : List ℕ) (skip other amount : ℕ) → octets_at rate t steps octets skip ≡ octets_at rate t steps others other
+    → IsCostAt rate invert t steps octets skip amount → IsCostAt rate invert t steps others other amount
+IsCostAt-at rate invert t steps octets others skip other amount same h =
+    IsCostAt-from rate invert t steps others other amount (octets_at rate t steps octets skip) same (h.initial, h.bits, h.best, h.is)
 
-octets_at-none : (rate : Rate) (steps : ℕ) (octets : List ℕ) (skip : ℕ) → steps_size rate 0 steps ≡ 0 → octets_at rate steps octets skip ≡ []
+octets_at-none : (rate : Rate) (steps : ℕ) (octets : List ℕ) (skip : ℕ) → steps_size rate 0 steps ≡ 0 → octets_at rate 0 steps octets skip ≡ []
 octets_at-none rate steps octets skip none = ap (λ (n : ℕ). take n (drop skip octets)) none
 
 -- where nothing is compared, the first candidate costs as little as any
-pub IsFirstLeast-nothing : (rate : Rate) (invert : Bool) (steps : ℕ) (octets : List ℕ) (amount : ℕ) → steps_size rate 0 steps ≡ 0 → IsCostAt rate invert steps octets 0 amount
-    → IsFirstLeast (IsCostAt rate invert steps octets) (period_size rate) 0 amount
+pub IsFirstLeast-nothing : (rate : Rate) (invert : Bool) (steps : ℕ) (octets : List ℕ) (amount : ℕ) → steps_size rate 0 steps ≡ 0 → IsCostAt rate invert 0 steps octets 0 amount
+    → IsFirstLeast (IsCostAt rate invert 0 steps octets) (period_size rate) 0 amount
 IsFirstLeast-nothing rate invert steps octets amount none is = record {
   below = omega (arith, period_size-is rate);
   is = is;
   least = λ other more lt cost.
       let same = octets_at-none rate steps octets other none ∙ sym (octets_at-none rate steps octets 0 none) in
-      omega (arith, IsCostAt-one rate invert steps octets 0 amount more is (IsCostAt-at rate invert steps octets octets other 0 more same cost));
+      omega (arith, IsCostAt-one rate invert 0 steps octets 0 amount more is (IsCostAt-at rate invert 0 steps octets octets other 0 more same cost));
   first = λ other more lt cost. absurd (omega arith);
 }
+
+octets_at-prefix : (rate : Rate) (t steps : ℕ) (octets more : List ℕ) (skip : ℕ) → steps_size rate t steps + (period_size rate - 1) ≤ length octets → skip < period_size rate
+    → octets_at rate t steps (octets ++ more) skip ≡ octets_at rate t steps octets skip
+octets_at-prefix rate t steps octets more skip many lt =
+    ap (take (steps_size rate t steps)) (drop-append-le skip octets more (omega (arith, many, lt)))
+    ∙ take-append-le (steps_size rate t steps) (drop skip octets) more (omega (arith, many, lt, length-drop skip octets))
+
+pub IsCostAt-prefix : (rate : Rate) (invert : Bool) (t steps : ℕ) (octets more : List ℕ) (skip amount : ℕ) → steps_size rate t steps + (period_size rate - 1) ≤ length octets
+    → skip < period_size rate → IsCostAt rate invert t steps octets skip amount → IsCostAt rate invert t steps (octets ++ more) skip amount
+IsCostAt-prefix rate invert t steps octets more skip amount many lt =
+    IsCostAt-at rate invert t steps octets (octets ++ more) skip skip amount (sym (octets_at-prefix rate t steps octets more skip many lt))
+
+-- where all are inside, one candidate is the first of least cost
+pub FirstLeast-exists : HasBest → (rate : Rate) (invert : Bool) (t steps : ℕ) (octets : List ℕ) → steps_size rate t steps ≤ length octets - (period_size rate - 1)
+    → (number : ℕ) × (amount : ℕ) × IsFirstLeast (IsCostAt rate invert t steps octets) (period_size rate) number amount
+FirstLeast-exists best rate invert t steps octets fits =
+    let Cost : ℕ → ℕ → Type 0 = IsCostAt rate invert t steps octets in
+    let each : (skip : ℕ) → skip < period rate + 1 → (amount : ℕ) × IsCostAt rate invert t steps octets skip amount = λ skip lt.
+    (let there = best (starts_from None) rate invert t steps 0 (octets_at rate t steps octets skip) refl (omega arith)
+    (length-octets_at rate t steps octets skip fits (omega (arith, lt, period_size-is rate))) in
+    (cost (path rate invert t there.0 there.1) (octets_at rate t steps octets skip), record { initial = there.0; bits = there.1; best = there.2; is = refl })) in
+    let first = IsFirstLeast-exists Cost (IsCostAt-one rate invert t steps octets) (period rate) (λ skip lt. each skip (omega (arith, lt))) in
+    (first.0, first.1, subst (λ (n : ℕ). IsFirstLeast Cost n first.0 first.1) (omega (arith, period_size-is rate)) first.2)
+
+-- octets that follow change no candidate
+pub IsFirstLeast-prefix : (rate : Rate) (invert : Bool) (t steps : ℕ) (octets more : List ℕ) (number amount : ℕ)
+    → steps_size rate t steps + (period_size rate - 1) ≤ length octets
+    → IsFirstLeast (IsCostAt rate invert t steps octets) (period_size rate) number amount
+    → IsFirstLeast (IsCostAt rate invert t steps (octets ++ more)) (period_size rate) number amount
+IsFirstLeast-prefix rate invert t steps octets more number amount many least =
+    IsFirstLeast-same (IsCostAt rate invert t steps octets) (IsCostAt rate invert t steps (octets ++ more)) (period_size rate) number amount
+    (λ other cost lt. IsCostAt-prefix rate invert t steps octets more other cost many lt)
+    (λ other cost lt. IsCostAt-at rate invert t steps (octets ++ more) octets other other cost (octets_at-prefix rate t steps octets more other many lt)) least
 
 -- ---- one phase
 
 pub IsPhase-exists : HasBest → (rate : Rate) (invert : Bool) (window : ℕ) (octets : List ℕ) → (chosen : Chosen) × IsPhase rate invert window octets chosen
 IsPhase-exists best rate invert window octets =
     let found = AreCompared-exists rate window octets in
-    let steps = found.0 in
-    let each : (skip : ℕ) → skip < period rate + 1 → (amount : ℕ) × IsCostAt rate invert steps octets skip amount = λ skip lt.
-    (let there = best (starts_from None) rate invert 0 steps 0 (octets_at rate steps octets skip) refl (omega arith)
-    (length-octets_at rate steps octets skip (compared_fit rate window octets steps found.1) (omega (arith, period_size-is rate))) in
-    (cost (path rate invert 0 there.0 there.1) (octets_at rate steps octets skip), record { initial = there.0; bits = there.1; best = there.2; is = refl })) in
-    let first = IsFirstLeast-exists (IsCostAt rate invert steps octets) (IsCostAt-one rate invert steps octets) (period rate) (λ skip lt. each skip (omega arith)) in
-    (record { skip = first.0; cost = first.1 }, record { steps = steps; compared = found.1; least = subst (λ (n : ℕ). IsFirstLeast (IsCostAt rate invert steps octets) n first.0 first.1) (omega (arith, period_size-is rate)) first.2 })
+    let first = FirstLeast-exists best rate invert 0 found.0 octets (compared_fit rate window octets found.0 found.1) in
+    (record { skip = first.0; cost = first.1 }, record { steps = found.0; compared = found.1; least = first.2 })
 
 pub IsPhase-one : (rate : Rate) (invert : Bool) (window : ℕ) (octets : List ℕ) (chosen other : Chosen) → IsPhase rate invert window octets chosen
     → IsPhase rate invert window octets other → chosen ≡ other
 IsPhase-one rate invert window octets chosen other a b =
     let same = AreCompared-one rate window octets b.steps a.steps b.compared a.compared in
-    let found = IsFirstLeast-one (IsCostAt rate invert a.steps octets) (IsCostAt-one rate invert a.steps octets) (period_size rate) chosen.skip other.skip chosen.cost other.cost a.least
-    (subst (λ (n : ℕ). IsFirstLeast (IsCostAt rate invert n octets) (period_size rate) other.skip other.cost) same b.least) in
+    let found = IsFirstLeast-one (IsCostAt rate invert 0 a.steps octets) (IsCostAt-one rate invert 0 a.steps octets) (period_size rate) chosen.skip other.skip chosen.cost other.cost a.least
+    (subst (λ (n : ℕ). IsFirstLeast (IsCostAt rate invert 0 n octets) (period_size rate) other.skip other.cost) same b.least) in
     let make : ℕ → ℕ → Chosen = λ skip cost. record { skip = skip; cost = cost } in
     ap (λ (v : ℕ). make v chosen.cost) found.0 ∙ ap (λ (v : ℕ). make other.skip v) found.1
 
@@ -136,7 +164,7 @@ IsPhase-within rate invert window octets chosen h =
       | inr none ↦ elim (cases_lt 0 chosen.skip) as (λ _. chosen.skip ≤ length octets) [
         | inl skips ↦ absurd
             (let zero : steps_size rate 0 h.steps ≡ 0 = omega (arith, none) in
-            let first = IsCostAt-at rate invert h.steps octets octets chosen.skip 0 chosen.cost (octets_at-none rate h.steps octets chosen.skip zero ∙ sym (octets_at-none rate h.steps octets 0 zero)) h.least.is in
+            let first = IsCostAt-at rate invert 0 h.steps octets octets chosen.skip 0 chosen.cost (octets_at-none rate h.steps octets chosen.skip zero ∙ sym (octets_at-none rate h.steps octets 0 zero)) h.least.is in
             omega (arith, h.least.first 0 chosen.cost skips first))
         | inr first ↦ omega (arith, first)
       ]
@@ -160,16 +188,9 @@ pub IsPhase-prefix : (rate : Rate) (invert : Bool) (window : ℕ) (octets more :
 IsPhase-prefix rate invert window octets more chosen many h =
     let there = compared-if_needed rate window octets many in
     let same : h.steps ≡ window = AreCompared-one rate window octets h.steps window h.compared there in
-    let least = subst (λ (n : ℕ). IsFirstLeast (IsCostAt rate invert n octets) (period_size rate) chosen.skip chosen.cost) same h.least in
-    let prefix : (skip : ℕ) → skip < period_size rate → octets_at rate window (octets ++ more) skip ≡ octets_at rate window octets skip = λ skip lt.
-    (ap (take (steps_size rate 0 window)) (drop-append-le skip octets more (omega (arith, many, lt)))
-    ∙ take-append-le (steps_size rate 0 window) (drop skip octets) more (omega (arith, many, lt, length-drop skip octets))) in
-    let to : (skip amount : ℕ) → skip < period_size rate → IsCostAt rate invert window octets skip amount → IsCostAt rate invert window (octets ++ more) skip amount = λ skip amount lt.
-    IsCostAt-at rate invert window octets (octets ++ more) skip skip amount (sym (prefix skip lt)) in
-    let from : (skip amount : ℕ) → skip < period_size rate → IsCostAt rate invert window (octets ++ more) skip amount → IsCostAt rate invert window octets skip amount = λ skip amount lt.
-    IsCostAt-at rate invert window (octets ++ more) octets skip skip amount (prefix skip lt) in
+    let least = subst (λ (n : ℕ). IsFirstLeast (IsCostAt rate invert 0 n octets) (period_size rate) chosen.skip chosen.cost) same h.least in
     record {
       steps = window;
       compared = compared-if_needed rate window (octets ++ more) (omega (arith, many, length-append octets more));
-      least = IsFirstLeast-same (IsCostAt rate invert window octets) (IsCostAt rate invert window (octets ++ more)) (period_size rate) chosen.skip chosen.cost to from least;
+      least = IsFirstLeast-prefix rate invert 0 window octets more chosen.skip chosen.cost many least;
     }

@@ -22,16 +22,16 @@ pub record AreCompared (rate : Rate) (window : ℕ) (octets : List ℕ) (steps :
 abbrev pub octets_needed : Rate → ℕ → ℕ
 octets_needed rate window = steps_size rate 0 window + (period_size rate - 1)
 
--- the octets of so many steps from octet `skip` on
-abbrev pub octets_at : Rate → ℕ → List ℕ → ℕ → List ℕ
-octets_at rate steps octets skip = take (steps_size rate 0 steps) (drop skip octets)
+-- the octets of so many steps from step t on, where octet `skip` is the first of them
+abbrev pub octets_at : Rate → ℕ → ℕ → List ℕ → ℕ → List ℕ
+octets_at rate t steps octets skip = take (steps_size rate t steps) (drop skip octets)
 
 -- the best path over them, from any of the 64 registers, costs this
-pub record IsCostAt (rate : Rate) (invert : Bool) (steps : ℕ) (octets : List ℕ) (skip amount : ℕ) : Type 0 where
+pub record IsCostAt (rate : Rate) (invert : Bool) (t steps : ℕ) (octets : List ℕ) (skip amount : ℕ) : Type 0 where
   pub initial : ℕ
   pub bits : List ℕ
-  pub best : IsBest (starts_from None) rate invert 0 (octets_at rate steps octets skip) initial bits
-  pub is : amount ≡ cost (path rate invert 0 initial bits) (octets_at rate steps octets skip)
+  pub best : IsBest (starts_from None) rate invert t (octets_at rate t steps octets skip) initial bits
+  pub is : amount ≡ cost (path rate invert t initial bits) (octets_at rate t steps octets skip)
 
 -- the first of least cost of the numbers below `count`: none of them costs less, and none before it as little
 pub record IsFirstLeast (IsCost : ℕ → ℕ → Type 0) (count number amount : ℕ) : Type 0 where
@@ -44,4 +44,4 @@ pub record IsFirstLeast (IsCost : ℕ → ℕ → Type 0) (count number amount :
 pub record IsPhase (rate : Rate) (invert : Bool) (window : ℕ) (octets : List ℕ) (chosen : Chosen) : Type 0 where
   pub steps : ℕ
   pub compared : AreCompared rate window octets steps
-  pub least : IsFirstLeast (IsCostAt rate invert steps octets) (period_size rate) chosen.skip chosen.cost
+  pub least : IsFirstLeast (IsCostAt rate invert 0 steps octets) (period_size rate) chosen.skip chosen.cost

@@ -1,10 +1,10 @@
 // The choice of the symbol phase.
-ghost use Rattle.std.specs.Prelude.{◌≡◌, ℕ, ◌+◌, ◌*◌, ◌≤◌, length};
+ghost use Rattle.std.specs.Prelude.{◌≡◌, ℕ, ◌+◌, ◌-◌, ◌*◌, ◌^◌, ◌<◌, ◌≤◌, length};
 ghost use Rattle.tm_conv.specs.Path.{steps_size};
-ghost use Rattle.tm_phase.specs.Phase.{period_size, octets_needed, AreCompared, IsCostAt, IsPhase};
+ghost use Rattle.tm_phase.specs.Phase.{period_size, octets_needed, AreCompared, IsCostAt, IsFirstLeast, IsPhase};
 
 use tm_conv::{Rate, symbols_of};
-use tm_viterbi::{Start, least_cost};
+use tm_viterbi::{Start, least_cost_from};
 
 /// A symbol phase.
 #[derive(Clone, Copy, Debug, PartialEq, Eq)]
@@ -23,21 +23,15 @@ pub fn choose(rate: Rate, invert: bool, window: u32, soft: &[u8]) -> Chosen
     ensures { IsPhase rate invert window soft.now result }
 {
     let size = compared(rate, window, soft);
-    let mut chosen = Chosen {
-        skip: 0,
-        cost: cost_at(rate, invert, size, soft, 0),
-    };
+    let first = cost_at(rate, invert, 0, size, soft, 0);
     // Where no step is compared, all cost as little.
     if size == 0 {
-        return chosen;
+        return Chosen {
+            skip: 0,
+            cost: first,
+        };
     }
-    for skip in 1..period_size(rate) {
-        let cost = cost_at(rate, invert, size, soft, skip);
-        if cost < chosen.cost {
-            chosen = Chosen { skip, cost };
-        }
-    }
-    chosen
+    first_least(rate, invert, 0, size, soft, first)
 }
 
 /// With how many soft octets, or more, all `window` steps are compared; at most twice as many, and 7.
@@ -60,19 +54,53 @@ fn compared(rate: Rate, window: u32, soft: &[u8]) -> usize
     whole.min(symbols_of(rate, u64::from(window)) as usize)
 }
 
-// What the best path costs over `size` octets, those of whole steps, from octet `skip` on.
-fn cost_at(rate: Rate, invert: bool, size: usize, soft: &[u8], skip: u8) -> u64
+// Of as many candidates as a period sends symbols, the first whose best path costs least over `size` octets: those of whole
+// steps from step `t` on. That of the first candidate costs `first`.
+pub(crate) fn first_least(
+    rate: Rate,
+    invert: bool,
+    t: u64,
+    size: usize,
+    soft: &[u8],
+    first: u64,
+) -> Chosen
+    requires inside { size + (period_size rate - 1) ≤ length soft.now }
+    requires whole { (steps : ℕ) × (steps ≤ 69632) × (size ≡ steps_size rate t steps) }
+    requires few { t < 2 ^ 60 }
+    requires first { (steps : ℕ) → size ≡ steps_size rate t steps → IsCostAt rate invert t steps soft.now 0 first }
+    requires small { first < 2 ^ 32 }
+    ensures least { (steps : ℕ) → size ≡ steps_size rate t steps
+        → IsFirstLeast (IsCostAt rate invert t steps soft.now) (period_size rate) result.skip result.cost }
+    ensures small { result.cost < 2 ^ 32 }
+{
+    let mut chosen = Chosen {
+        skip: 0,
+        cost: first,
+    };
+    for skip in 1..period_size(rate) {
+        let cost = cost_at(rate, invert, t, size, soft, skip);
+        if cost < chosen.cost {
+            chosen = Chosen { skip, cost };
+        }
+    }
+    chosen
+}
+
+// What the best path costs over them from octet `skip` on.
+pub(crate) fn cost_at(rate: Rate, invert: bool, t: u64, size: usize, soft: &[u8], skip: u8) -> u64
     requires inside { skip + size ≤ length soft.now }
-    requires whole { (steps : ℕ) × (steps ≤ 69632) × (size ≡ steps_size rate 0 steps) }
-    ensures { (steps : ℕ) → size ≡ steps_size rate 0 steps → IsCostAt rate invert steps soft.now skip result }
+    requires whole { (steps : ℕ) × (steps ≤ 69632) × (size ≡ steps_size rate t steps) }
+    requires few { t < 2 ^ 60 }
+    ensures cost { (steps : ℕ) → size ≡ steps_size rate t steps → IsCostAt rate invert t steps soft.now skip result }
+    ensures small { result < 2 ^ 32 }
 {
     let from = usize::from(skip);
-    least_cost(rate, invert, Start::Any, &soft[from..from + size])
+    least_cost_from(rate, invert, Start::Any, t, &soft[from..from + size])
 }
 
 // How many symbols a period sends.
 #[tactic(auto, unfolding(tm_conv::specs::Path::steps_size))]
-fn period_size(rate: Rate) -> u8
+pub(crate) fn period_size(rate: Rate) -> u8
     ensures value { result ≡ period_size rate }
     ensures small { (2 ≤ result) × (result ≤ 8) }
 {
