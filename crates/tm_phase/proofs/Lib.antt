@@ -1,3 +1,4 @@
 mod Steps
 mod Least
 mod Phases
+mod Slips

@@ -73,6 +73,13 @@ pub length-octets_at : (rate : Rate) (t steps : ℕ) (octets : List ℕ) (skip :
     → length (octets_at rate t steps octets skip) ≡ steps_size rate t steps
 length-octets_at rate t steps octets skip fits lt = length-take-le (steps_size rate t steps) (drop skip octets) (omega (arith, fits, length-drop skip octets))
 
+-- a slice of as many octets as these steps send
+pub slice-octets_at : (rate : Rate) (t steps : ℕ) (octets : List ℕ) (skip from size : ℕ) → from ≡ skip → size ≡ steps_size rate t steps
+    → take (from + size - from) (drop from octets) ≡ octets_at rate t steps octets skip
+slice-octets_at rate t steps octets skip from size same is =
+    let whole : from + size - from ≡ steps_size rate t steps = omega (arith, is) in
+    ap (λ (n : ℕ). take n (drop from octets)) whole ∙ ap (λ (k : ℕ). take (steps_size rate t steps) (drop k octets)) same
+
 -- what the best path over octets costs, from any register at step t
 abbrev pub Costs : Rate → Bool → ℕ → ℕ → List ℕ → Type 0
 Costs rate invert t amount soft =
@@ -105,7 +112,7 @@ IsFirstLeast-nothing rate invert steps octets amount none is = record {
   first = λ other more lt cost. absurd (omega arith);
 }
 
-octets_at-prefix : (rate : Rate) (t steps : ℕ) (octets more : List ℕ) (skip : ℕ) → steps_size rate t steps + (period_size rate - 1) ≤ length octets → skip < period_size rate
+pub octets_at-prefix : (rate : Rate) (t steps : ℕ) (octets more : List ℕ) (skip : ℕ) → steps_size rate t steps + (period_size rate - 1) ≤ length octets → skip < period_size rate
     → octets_at rate t steps (octets ++ more) skip ≡ octets_at rate t steps octets skip
 octets_at-prefix rate t steps octets more skip many lt =
     ap (take (steps_size rate t steps)) (drop-append-le skip octets more (omega (arith, many, lt)))
@@ -116,16 +123,19 @@ pub IsCostAt-prefix : (rate : Rate) (invert : Bool) (t steps : ℕ) (octets more
 IsCostAt-prefix rate invert t steps octets more skip amount many lt =
     IsCostAt-at rate invert t steps octets (octets ++ more) skip skip amount (sym (octets_at-prefix rate t steps octets more skip many lt))
 
+pub IsCostAt-exists : HasBest → (rate : Rate) (invert : Bool) (t steps : ℕ) (octets : List ℕ) (skip : ℕ) → steps_size rate t steps ≤ length octets - (period_size rate - 1)
+    → skip < period_size rate → (amount : ℕ) × IsCostAt rate invert t steps octets skip amount
+IsCostAt-exists best rate invert t steps octets skip fits lt =
+    let there = best (starts_from None) rate invert t steps 0 (octets_at rate t steps octets skip) refl (omega arith) (length-octets_at rate t steps octets skip fits lt) in
+    (cost (path rate invert t there.0 there.1) (octets_at rate t steps octets skip), record { initial = there.0; bits = there.1; best = there.2; is = refl })
+
 -- where all are inside, one candidate is the first of least cost
 pub FirstLeast-exists : HasBest → (rate : Rate) (invert : Bool) (t steps : ℕ) (octets : List ℕ) → steps_size rate t steps ≤ length octets - (period_size rate - 1)
     → (number : ℕ) × (amount : ℕ) × IsFirstLeast (IsCostAt rate invert t steps octets) (period_size rate) number amount
 FirstLeast-exists best rate invert t steps octets fits =
     let Cost : ℕ → ℕ → Type 0 = IsCostAt rate invert t steps octets in
-    let each : (skip : ℕ) → skip < period rate + 1 → (amount : ℕ) × IsCostAt rate invert t steps octets skip amount = λ skip lt.
-    (let there = best (starts_from None) rate invert t steps 0 (octets_at rate t steps octets skip) refl (omega arith)
-    (length-octets_at rate t steps octets skip fits (omega (arith, lt, period_size-is rate))) in
-    (cost (path rate invert t there.0 there.1) (octets_at rate t steps octets skip), record { initial = there.0; bits = there.1; best = there.2; is = refl })) in
-    let first = IsFirstLeast-exists Cost (IsCostAt-one rate invert t steps octets) (period rate) (λ skip lt. each skip (omega (arith, lt))) in
+    let first = IsFirstLeast-exists Cost (IsCostAt-one rate invert t steps octets) (period rate)
+    (λ skip lt. IsCostAt-exists best rate invert t steps octets skip fits (omega (arith, lt, period_size-is rate))) in
     (first.0, first.1, subst (λ (n : ℕ). IsFirstLeast Cost n first.0 first.1) (omega (arith, period_size-is rate)) first.2)
 
 -- octets that follow change no candidate

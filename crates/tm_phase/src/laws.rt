@@ -1,8 +1,11 @@
-// What holds of the symbol phase, over the definitions alone.
-ghost use Rattle.std.specs.Prelude.{◌≡◌, ◌↔◌, ◌++◌, ℕ, ◌≤◌, Bool, List, length};
+// What holds of the symbol phase and of slips, over the definitions alone.
+ghost use Rattle.std.specs.Prelude.{◌≡◌, ◌↔◌, ◌++◌, ℕ, ◌<◌, ◌≤◌, Bool, List, length};
 ghost use Rattle.tm_conv.specs.declared.rates.Rate.{Rate};
+ghost use Rattle.tm_conv.specs.Path.{AreBits, path};
+ghost use Rattle.tm_conv.specs.Cost.{sure};
 ghost use Rattle.tm_phase.specs.declared.choosing.Chosen.{Chosen};
-ghost use Rattle.tm_phase.specs.Phase.{octets_needed, AreCompared, IsPhase};
+ghost use Rattle.tm_phase.specs.Phase.{period_size, octets_needed, AreCompared, IsPhase};
+ghost use Rattle.tm_phase.specs.Slip.{octets_seen, IsSlip};
 
 use tm_conv::best_path_law;
 
@@ -23,3 +26,20 @@ pub fn whole_window_law()
     ensures prefix { (rate : Rate) (invert : Bool) (window : ℕ) (octets more : List ℕ) (chosen : Chosen) → octets_needed rate window ≤ length octets
         → IsPhase rate invert window octets chosen → IsPhase rate invert window (octets ++ more) chosen }
 {}
+
+/// Where enough octets are there they have one slip, below the symbols of a period, and whatever octets come after these it stays
+/// the same. Symbols that were not disturbed have none. It does nothing.
+pub fn slip_law()
+    ensures exists { (rate : Rate) (invert : Bool) (t steps : ℕ) (octets : List ℕ) → octets_seen rate t steps ≤ length octets
+        → (slip : ℕ) × IsSlip rate invert t steps octets slip }
+    ensures one { (rate : Rate) (invert : Bool) (t steps : ℕ) (octets : List ℕ) (slip other : ℕ)
+        → IsSlip rate invert t steps octets slip → IsSlip rate invert t steps octets other → slip ≡ other }
+    ensures within { (rate : Rate) (invert : Bool) (t steps : ℕ) (octets : List ℕ) (slip : ℕ)
+        → IsSlip rate invert t steps octets slip → slip < period_size rate }
+    ensures prefix { (rate : Rate) (invert : Bool) (t steps : ℕ) (octets more : List ℕ) (slip : ℕ) → octets_seen rate t steps ≤ length octets
+        → IsSlip rate invert t steps octets slip → IsSlip rate invert t steps (octets ++ more) slip }
+    ensures sure { (rate : Rate) (invert : Bool) (t steps register : ℕ) (bits : List ℕ) (slip : ℕ) → AreBits bits → register < 64 → steps ≤ length bits
+        → IsSlip rate invert t steps (sure (path rate invert t register bits)) slip → slip ≡ 0 }
+{
+    best_path_law();
+}

@@ -65,7 +65,7 @@ length-sent : (rate : Rate) (invert : Bool) (t r : ℕ) (bits : List ℕ) → le
 length-sent rate invert t r bits = length-sure (path rate invert t r bits) ∙ length-path rate invert t r bits
 
 -- the octets of the first steps, and of the rest
-prefix-octets : (rate : Rate) (invert : Bool) (t r w : ℕ) (bits : List ℕ) → w ≤ length bits
+pub prefix-octets : (rate : Rate) (invert : Bool) (t r w : ℕ) (bits : List ℕ) → w ≤ length bits
     → (take (steps_size rate t w) (sure (path rate invert t r bits)) ≡ sure (path rate invert t r (take w bits)))
     × (drop (steps_size rate t w) (sure (path rate invert t r bits)) ≡ sure (path rate invert (t + w) (register_after r (take w bits)) (drop w bits)))
 prefix-octets rate invert t r w bits le =
