@@ -6,7 +6,7 @@ mod HasBest
 pub mod LeastColumns
 pub mod Clean
 mod Starts
-mod Complement
+pub mod Complement
 mod Encoded
 mod OctetTables
 mod KeptSymbols

@@ -1,4 +1,4 @@
 mod Steps
 mod Least
-mod Phases
-mod Slips
+pub mod Phases
+pub mod Slips

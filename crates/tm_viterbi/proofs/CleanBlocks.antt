@@ -22,7 +22,7 @@ use Rattle.tm_viterbi.specs.Clean.{kept_bits, CostNothing, sure_symbols, IsFixed
 
 -- ---- bits
 
-bits_of-digits : (xs : List ℕ) → AreDigits xs → AreBits xs
+pub bits_of-digits : (xs : List ℕ) → AreDigits xs → AreBits xs
 bits_of-digits [] p = All-nil (λ b. b < 2)
 bits_of-digits (x ∷ xs) p = All-cons (λ b. b < 2) x xs p.0 (bits_of-digits xs p.1)
 
@@ -249,11 +249,11 @@ Complements = (rate : Rate) (invert : Bool) (t register : ℕ) (bits : List ℕ)
 one-complemented : (symbol : ℕ) → symbol < 2 → 255 - cond (symbol == 0) 0 255 ≡ cond (1 - symbol == 0) 0 255
 one-complemented symbol small = grind (arith, nat_tests)
 
-complemented-sure : (symbols : List ℕ) → AreDigits symbols → complemented_octets (sure symbols) ≡ sure (complement symbols)
+pub complemented-sure : (symbols : List ℕ) → AreDigits symbols → complemented_octets (sure symbols) ≡ sure (complement symbols)
 complemented-sure [] are = refl
 complemented-sure (symbol ∷ symbols) are = (λ i. one-complemented symbol are.0 i ∷ complemented-sure symbols are.1 i)
 
-digits-complement : (bits : List ℕ) → AreDigits (complement bits)
+pub digits-complement : (bits : List ℕ) → AreDigits (complement bits)
 digits-complement [] = tt
 digits-complement (b ∷ bits) = (omega arith, digits-complement bits)
 

@@ -27,7 +27,7 @@ kept_is keep ahead = grind (arith, nat_tests)
 pub kept_at : (keep ahead n : ℕ) → keep + ahead + 1 ≤ n → kept_steps keep ahead n ≡ keep
 kept_at keep ahead n le = grind (arith, nat_tests)
 
-Closes-append : (rate : Rate) (invert : Bool) (keep ahead : ℕ) (at : Place) (b : WindowBlock) (octets : List ℕ)
+pub Closes-append : (rate : Rate) (invert : Bool) (keep ahead : ℕ) (at : Place) (b : WindowBlock) (octets : List ℕ)
     → Closes rate invert keep ahead at b → Closes rate invert keep ahead (more_octets at octets) b
 unfolding more_octets
 Closes-append rate invert keep ahead at b octets h =
@@ -41,7 +41,7 @@ Closes-append rate invert keep ahead at b octets h =
       is_block = record { steps = h.is_block.steps; kept = h.is_block.kept; best = k.0; metric = k.1; end_state = h.is_block.end_state; dropped = h.is_block.dropped };
     }
 
-after-append : (rate : Rate) (invert : Bool) (keep ahead : ℕ) (at : Place) (b : WindowBlock) (octets : List ℕ)
+pub after-append : (rate : Rate) (invert : Bool) (keep ahead : ℕ) (at : Place) (b : WindowBlock) (octets : List ℕ)
     → Closes rate invert keep ahead at b → after_block rate (more_octets at octets) b ≡ more_octets (after_block rate at b) octets
 unfolding more_octets
 after-append rate invert keep ahead at b octets h =

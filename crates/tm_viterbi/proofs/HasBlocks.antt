@@ -35,16 +35,16 @@ steps_below rate t octets (suc n) most = elim (cases_lt (length octets) (steps_s
   | inr there ↦ (let next : suc n + 1 ≡ n + 1 + 1 = omega arith in (n + 1, record { whole = there; most = omega (arith, most, ap (steps_size rate t) next) }))
 ]
 
-whole_steps : (rate : Rate) (t : ℕ) (octets : List ℕ) → (count : ℕ) × AreSteps rate t octets count
+pub whole_steps : (rate : Rate) (t : ℕ) (octets : List ℕ) → (count : ℕ) × AreSteps rate t octets count
 whole_steps rate t octets = steps_below rate t octets (length octets) (omega (arith, steps_size_ge rate t (length octets + 1)))
 
 -- ---- one block
 
 -- a path may start from this register
-record HasStart (starts : Option ℕ) : Type 0 where
-  register : ℕ
-  is : IsTrue (starts_from starts register)
-  small : register < 64
+pub record HasStart (starts : Option ℕ) : Type 0 where
+  pub register : ℕ
+  pub is : IsTrue (starts_from starts register)
+  pub small : register < 64
 
 start_at : (register : ℕ) → register < 64 → HasStart (Some register)
 start_at register small = record { register = register; is = grind (arith, nat_tests); small = small }
@@ -54,10 +54,10 @@ start_first Zero = start_at 0 (omega arith)
 start_first Any = record { register = 0; is = refl; small = omega arith }
 
 -- a block, after which a path may go on
-record HasBlock (rate : Rate) (invert : Bool) (keep ahead : ℕ) (starts : Option ℕ) (t remaining : ℕ) (octets : List ℕ) : Type 0 where
-  block : WindowBlock
-  is : IsBlock rate invert keep ahead starts t remaining octets block
-  small : block.end_state < 64
+pub record HasBlock (rate : Rate) (invert : Bool) (keep ahead : ℕ) (starts : Option ℕ) (t remaining : ℕ) (octets : List ℕ) : Type 0 where
+  pub block : WindowBlock
+  pub is : IsBlock rate invert keep ahead starts t remaining octets block
+  pub small : block.end_state < 64
 
 -- the block of a best path
 block_of : (rate : Rate) (invert : Bool) (keep ahead : ℕ) (starts : Option ℕ) (t n : ℕ) (octets : List ℕ) (register : ℕ) (bits : List ℕ)
@@ -77,7 +77,7 @@ block_of rate invert keep ahead starts t n octets register bits best = record {
   small = register-small register (take (kept_steps keep ahead n) bits) best.candidate.register (digits-take (kept_steps keep ahead n) bits (digits bits best.candidate.each));
 }
 
-has_block : HasBest → (rate : Rate) (invert : Bool) (keep ahead : ℕ) (starts : Option ℕ) (t n : ℕ) (octets : List ℕ)
+pub has_block : HasBest → (rate : Rate) (invert : Bool) (keep ahead : ℕ) (starts : Option ℕ) (t n : ℕ) (octets : List ℕ)
     → HasStart starts → AreSteps rate t octets n → HasBlock rate invert keep ahead starts t n octets
 has_block exists rate invert keep ahead starts t n octets start are =
     let steps : ℕ = window_steps keep ahead n in

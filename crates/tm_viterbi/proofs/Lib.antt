@@ -20,8 +20,8 @@ pub mod Handing
 pub mod WholeBlocks
 mod LastWindow
 pub mod Feeding
-mod LeastCost
-mod OneList
+pub mod LeastCost
+pub mod OneList
 pub mod CleanBlocks
 pub mod HasBlocks
-mod ClosedPrefix
+pub mod ClosedPrefix

@@ -30,7 +30,7 @@ same_block b d e1 e2 e3 e4 e5 e6 e7 =
     ∙ ap (λ (v : List ℕ). make d.start d.steps d.kept d.metric v b.end_state b.dropped) e5 ∙ ap (λ (v : ℕ). make d.start d.steps d.kept d.metric d.bits v b.dropped) e6
     ∙ ap (λ (v : ℕ). make d.start d.steps d.kept d.metric d.bits d.end_state v) e7
 
-one_block : OneBest → (rate : Rate) (invert : Bool) (keep ahead : ℕ) (starts : Option ℕ) (t n : ℕ) (octets : List ℕ) (b d : WindowBlock)
+pub one_block : OneBest → (rate : Rate) (invert : Bool) (keep ahead : ℕ) (starts : Option ℕ) (t n : ℕ) (octets : List ℕ) (b d : WindowBlock)
     → IsBlock rate invert keep ahead starts t n octets b → IsBlock rate invert keep ahead starts t n octets d → b ≡ d
 one_block one rate invert keep ahead starts t n octets b d h k =
     let steps : b.steps ≡ d.steps = h.steps ∙ sym k.steps in
@@ -48,7 +48,7 @@ one_block one rate invert keep ahead starts t n octets b d h k =
     same_block b d u.0 steps kept metric u.1 end_state (h.dropped ∙ sym k.dropped)
 
 -- the octets are no fewer than those of n steps, so a window is closed only where more than keep+ahead of them are there
-many : (rate : Rate) (t n m : ℕ) (size : ℕ) → size < steps_size rate t (n + 1) → steps_size rate t m ≤ size → m ≤ n
+pub many : (rate : Rate) (t n m : ℕ) (size : ℕ) → size < steps_size rate t (n + 1) → steps_size rate t m ≤ size → m ≤ n
 many rate t n m size most le = elim (cases_lt n m) as (λ _. m ≤ n) [
   | inr there ↦ there
   | inl lt ↦ absurd (omega (arith, most, le, steps_size-le rate t (n + 1) m (omega arith)))

@@ -20,7 +20,7 @@ use Rattle.tm_viterbi.proofs.HasBlocks.{HasBest}
 use Rattle.tm_windows.specs.Candidates.{ClosesWith, ClosedWith}
 use Rattle.tm_windows.proofs.Runs.{more_times, small_some}
 
-some_start : (starts : Option ℕ) → ForSome starts (λ register. register < 64)
+pub some_start : (starts : Option ℕ) → ForSome starts (λ register. register < 64)
     → (register : ℕ) × (register < 64) × IsTrue (starts_from starts register)
 some_start None are = (0, omega arith, refl)
 some_start (Some register) are = (register, are register refl, grind (arith, nat_tests))
@@ -53,11 +53,11 @@ is_block s at register bits best =
     }
 
 -- a window closes with some block, after which a path may go on
-record HasBlock (s : WindowShape) (at : Place) : Type 0 where
-  block : WindowBlock
-  closes : ClosesWith s at block
-  kept : block.kept ≡ s.keep
-  small : block.end_state < 64
+pub record HasBlock (s : WindowShape) (at : Place) : Type 0 where
+  pub block : WindowBlock
+  pub closes : ClosesWith s at block
+  pub kept : block.kept ≡ s.keep
+  pub small : block.end_state < 64
 
 closes_with : (s : WindowShape) (at : Place) (register : ℕ) (bits : List ℕ)
     → steps_size s.rate at.t (s.keep + s.ahead + 1) ≤ length at.octets
@@ -71,7 +71,7 @@ closes_with s at register bits room best = record {
       (digits-take s.keep bits (digits bits best.candidate.each));
 }
 
-has_block : HasBest → (s : WindowShape) (at : Place) → ForSome at.starts (λ register. register < 64)
+pub has_block : HasBest → (s : WindowShape) (at : Place) → ForSome at.starts (λ register. register < 64)
     → steps_size s.rate at.t (s.keep + s.ahead + 1) ≤ length at.octets → HasBlock s at
 has_block exists s at some room =
     let steps : ℕ = s.keep + s.ahead in

@@ -1,4 +1,9 @@
 mod Runs
 mod Endings
 mod Existing
+mod Beginnings
+mod FollowedOnce
+mod FollowedExists
+mod Undisturbed
+mod WindowLaws
 pub mod Gatherings

@@ -8,6 +8,7 @@ mod closing;
 mod decoding;
 mod gathering;
 mod guessing;
+mod laws;
 mod parallel_decoder;
 mod settling;
 mod sharing;
@@ -15,5 +16,6 @@ mod window_workers;
 #[cfg(test)]
 mod wrong_registers;
 
+pub use laws::{closed_prefix_law, due_windows_law, one_windows_law, undisturbed_law};
 pub use parallel_decoder::ParallelDecoder;
 pub use window_workers::WindowWorkers;
