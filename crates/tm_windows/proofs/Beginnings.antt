@@ -1,12 +1,11 @@
 -- A spot has one beginning, whatever octets come.
-use Rattle.std.proofs.Common.{◌≡◌, ℕ, zero, suc, ◌+◌, ◌-◌, ◌<◌, ◌≤◌, ◌∙◌, ◌++◌, refl, sym, ap, subst, arith, List, Option, Some, None, length, length-append, length-drop, drop, inl, inr}
+use Rattle.std.proofs.Common.{◌≡◌, ℕ, ◌-◌, ◌≤◌, ◌∙◌, refl, sym, ap, subst, arith, List, Option, Some, None, length, length-append, length-drop, inl, inr}
 use Rattle.std.proofs.lemmas.List.{drop-append-le}
 use Rattle.tm_viterbi.specs.Settings.{Settings}
 use Rattle.tm_viterbi.specs.Due.{Place}
 use Rattle.tm_viterbi.proofs.Closing.{more_octets}
-use Rattle.tm_phase.specs.Slip.{octets_seen}
 use Rattle.tm_phase.proofs.Slips.{IsSlip-one, IsSlip-within, IsSlip-prefix}
-use Rattle.tm_windows.specs.Followed.{Windows, Beginning, Spot, moved, DropsBy, BeginsBy, Begins, IsUnseen, BeginsLast}
+use Rattle.tm_windows.specs.Followed.{Windows, Beginning, Spot, starts_after, moved, DropsBy, BeginsBy, Begins, IsUnseen, BeginsLast}
 
 -- ---- the only one
 
@@ -40,8 +39,7 @@ begins_last-one w spot b d (inr h) (inr k) = h.1 ∙ sym k.1
 -- ---- its place
 
 pub moved-place : (k : ℕ) (at : Place) → ((moved k at).t ≡ at.t) × (length (moved k at).octets ≡ length at.octets - k)
-moved-place zero at = (refl, omega arith)
-moved-place (suc k) at = (refl, length-drop (suc k) at.octets)
+moved-place k at = (refl, length-drop k at.octets)
 
 -- at the spot's step, with no more octets
 abbrev IsWithin : Place → Beginning → Type 0
@@ -74,10 +72,9 @@ longer_spot spot more = record { place = more_octets spot.place more; decided = 
 
 moved-more : (k : ℕ) (at : Place) (more : List ℕ) → k ≤ length at.octets → more_octets (moved k at) more ≡ moved k (more_octets at more)
 unfolding more_octets
-moved-more zero at more le = refl
-moved-more (suc k) at more le =
-    let make : List ℕ → Place = λ octets. record { starts = None; t = at.t; octets = octets } in
-    ap make (sym (drop-append-le (suc k) at.octets more le))
+moved-more k at more le =
+    let make : List ℕ → Place = λ octets. record { starts = starts_after k at.starts; t = at.t; octets = octets } in
+    ap make (sym (drop-append-le k at.octets more le))
 
 drops-more : (s : Settings) (seen : Option ℕ) (at : Place) (b : Beginning) (more : List ℕ) → DropsBy s seen at b
     → DropsBy s seen (more_octets at more) (longer_beginning b more)

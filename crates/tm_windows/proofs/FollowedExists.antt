@@ -24,7 +24,7 @@ use Rattle.tm_windows.proofs.Existing.{some_start, has_block}
 use Rattle.tm_windows.proofs.Runs.{small_some}
 
 -- a path may start there
-abbrev MayStart : Place → Type 0
+abbrev pub MayStart : Place → Type 0
 MayStart at = ForSome at.starts (λ register. register < 64)
 
 moved-start : (k : ℕ) (at : Place) → MayStart at → MayStart (moved k at)
@@ -72,14 +72,14 @@ abbrev shape_of : Settings → WindowShape
 shape_of s = record { rate = s.rate; invert = s.invert; keep = s.keep; ahead = s.ahead }
 
 -- the closed windows behind a spot, and where the last one begins
-record Ends (w : Windows) (from : Spot) : Type 0 where
-  done : List WindowBlock
-  to : Spot
-  closed : Followed w from done to
-  window : Beginning
-  begins : BeginsLast w to window
-  start : MayStart window.place
-  few : length window.place.octets < closing_size w.settings window.place.t
+pub record Ends (w : Windows) (from : Spot) : Type 0 where
+  pub done : List WindowBlock
+  pub to : Spot
+  pub closed : Followed w from done to
+  pub window : Beginning
+  pub begins : BeginsLast w to window
+  pub start : MayStart window.place
+  pub few : length window.place.octets < closing_size w.settings window.place.t
 
 pub undropped-same : (x : WindowBlock) → x.dropped ≡ 0 → undropped x ≡ x
 undropped-same x is = λ i. record x { dropped = sym is i }
@@ -112,7 +112,7 @@ seen-first s t steps few =
     let long : 9 ≤ more = omega (arith, few) in
     omega (arith, steps_size-add s.rate t steps more, ap (steps_size s.rate t) sum, steps_size-least s.rate (t + steps) more, long, period_size-most s.rate)
 
-unseen-open : (w : Windows) (spot : Spot) → IsSeen w → IsUnseen w spot → length spot.place.octets < closing_size w.settings spot.place.t
+pub unseen-open : (w : Windows) (spot : Spot) → IsSeen w → IsUnseen w spot → length spot.place.octets < closing_size w.settings spot.place.t
 unseen-open w spot seen unseen =
     let found = unseen.1 in
     omega (arith, found.2, seen-first w.settings spot.place.t found.0 ((seen found.0 found.1).1))
@@ -162,12 +162,23 @@ ends_by best w seen wide from may further =
     ]
 
 -- by no more octets than `bound`
-ends : HasBest → (w : Windows) → IsSeen w → 0 < w.settings.keep → (bound : ℕ) (from : Spot) → MayStart from.place
+pub ends : HasBest → (w : Windows) → IsSeen w → 0 < w.settings.keep → (bound : ℕ) (from : Spot) → MayStart from.place
     → length from.place.octets ≤ bound → Ends w from
 ends best w seen wide zero from may within =
     ends_by best w seen wide from may (λ next start less. absurd (omega (arith, less, within)))
 ends best w seen wide (suc bound) from may within =
     ends_by best w seen wide from may (λ next start less. ends best w seen wide bound next start (omega (arith, less, within)))
+
+-- the same behind a spot at which a window begins
+pub ends_from : HasBest → (w : Windows) → IsSeen w → 0 < w.settings.keep → (spot : Spot) (b : Beginning) → Begins w spot b → MayStart b.place → Ends w spot
+ends_from best w seen wide spot b begins may =
+    let s = w.settings in
+    elim (cases_lt (length b.place.octets) (closing_size s b.place.t)) as (λ _. Ends w spot) [
+      | inl few ↦ record { done = []; to = spot; closed = refl; window = b; begins = inl begins; start = may; few = few }
+      | inr room ↦ ends_after w spot
+          (λ next start less. ends best w seen wide (length spot.place.octets) next start (omega (arith, less))) wide b begins
+          (closed-exists best s b may room) room
+    ]
 
 -- ---- the last window
 

@@ -115,7 +115,7 @@ first-longer : (w : Windows) (octets more : List ℕ) → longer_spot (first_spo
 unfolding more_octets
 first-longer w octets more = refl
 
-closed-more : (w : Windows) (octets more : List ℕ) (first : List WindowBlock) (to : Spot) → Followed w (first_spot w octets) first to
+pub closed-more : (w : Windows) (octets more : List ℕ) (first : List WindowBlock) (to : Spot) → Followed w (first_spot w octets) first to
     → Followed w (first_spot w (octets ++ more)) first (longer_spot to more)
 closed-more w octets more first to h =
     subst (λ (v : Spot). Followed w v first (longer_spot to more)) (first-longer w octets more) (followed-more w (first_spot w octets) to first more h)

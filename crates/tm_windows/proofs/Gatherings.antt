@@ -1,5 +1,5 @@
 -- Octets that are held, and windows that they close.
-use Rattle.std.proofs.Common.{◌≡◌, ℕ, ◌+◌, ◌-◌, ◌*◌, ◌/◌, ◌%◌, ◌<◌, ◌≤◌, ◌∙◌, ◌++◌, ◌∷◌, [], sym, ap, subst, arith, append_assoc, List, Option, take, drop, length, mul-le-mul_right, inl, inr, refl}
+use Rattle.std.proofs.Common.{◌≡◌, ℕ, ◌+◌, ◌-◌, ◌*◌, ◌/◌, ◌%◌, ◌<◌, ◌≤◌, ◌∙◌, ◌++◌, ◌∷◌, [], sym, ap, subst, arith, append_assoc, List, Option, Some, None, take, drop, length, mul-le-mul_right, inl, inr, refl, unwrap_or}
 use Rattle.std.specs.Option.{ForSome}
 use Rattle.std.proofs.lemmas.Bool.{cases_lt}
 use Rattle.std.proofs.lemmas.List.{append-nil, take_rest, drop-drop}
@@ -7,20 +7,25 @@ use Rattle.std.proofs.lemmas.Nat.{div-add-mod', mod_below}
 use Rattle.tm_conv.specs.Path.{steps_size}
 use Rattle.tm_conv.proofs.Paths.{steps_size-more}
 use Rattle.tm_conv.proofs.Sizes.{step_size_pos, steps_size-le, steps_size-add, steps_size-least, steps_size-most}
-use Rattle.tm_viterbi.specs.Settings.{Settings}
 use Rattle.tm_viterbi.specs.WindowBlock.{WindowBlock}
-use Rattle.tm_viterbi.specs.Blocks.{IsBlock, AreBlocks, AreBlocksOf}
-use Rattle.tm_viterbi.specs.Due.{Place, AreDue, AreFirst, after_block, first_place}
+use Rattle.tm_viterbi.specs.Blocks.{IsBlock}
+use Rattle.tm_viterbi.specs.Due.{Place, after_block}
 use Rattle.tm_viterbi.specs.declared.window_decoder.WindowShape.{WindowShape}
 use Rattle.tm_viterbi.proofs.Closing.{Closed-append, more_octets}
 use Rattle.tm_viterbi.proofs.HasBlocks.{HasBest}
+use Rattle.tm_phase.specs.Slip.{octets_seen}
 use Rattle.tm_windows.specs.Candidates.{ClosedWith, after_windows}
-use Rattle.tm_windows.specs.Gathered.{settings_of, room_of, HasRoom, IsOpen, Reaches}
+use Rattle.tm_windows.specs.Followed.{Windows, Beginning, Spot, first_spot, Begins, BeginsLast, dropped_at, Followed, AreFollowedFirst, closing_size, IsOpenAt, AreFollowedDue, IsLast, AreFollowedOf}
+use Rattle.tm_windows.specs.Windows.{AreBlocksBy, AreDueBy, AreFirstBy, IsSeen}
+use Rattle.tm_windows.specs.Gathered.{settings_of, windows_of, room_of, HasRoom, IsOpen, IsDecided, IsAt, Reaches}
 use Rattle.tm_windows.specs.declared.gathering.Gathering.{Gathering}
-use Rattle.tm_viterbi.proofs.WholeBlocks.{all_blocks}
-use Rattle.tm_windows.proofs.Endings.{one_block}
+use Rattle.tm_windows.proofs.Beginnings.{longer_spot}
 use Rattle.tm_windows.proofs.Existing.{has_windows}
+use Rattle.tm_windows.proofs.FollowedExists.{MayStart, Ends, ends, ends_from, unseen-open}
+use Rattle.tm_windows.proofs.FollowedOnce.{closed-more}
+use Rattle.tm_windows.proofs.FollowedRuns.{place_of, followed-both, runs-to, at-more, at-within, last-begins, is-last, followed-long}
 use Rattle.tm_windows.proofs.Runs.{more_times}
+use Rattle.tm_windows.proofs.Undisturbed.{unseen-first, unseen-due, unseen-blocks}
 
 -- ---- how many windows are closed
 
@@ -141,22 +146,20 @@ has_room g less = omega (arith, open_room g less)
 
 -- ---- a stream that is given some octets more
 
-further : (s : WindowShape) (from to : Place) (done : List WindowBlock) (held piece : List ℕ) → to.octets ≡ held
-    → ClosedWith s from done to
-    → ClosedWith s (record { starts = from.starts; t = from.t; octets = from.octets ++ piece }) done
-    (record { starts = to.starts; t = to.t; octets = held ++ piece })
-unfolding more_octets
-further s from to done held piece is h =
-    subst (λ (o : List ℕ). ClosedWith s (record { starts = from.starts; t = from.t; octets = from.octets ++ piece })
-    done (record { starts = to.starts; t = to.t; octets = o ++ piece })) is
-    (Closed-append s.rate s.invert s.keep s.ahead from to done piece h)
-
 -- a piece that follows is still to be taken
 pub Reaches-append : (g : Gathering) (all piece : List ℕ) (done : List WindowBlock) → Reaches g all [] done
     → Reaches g (all ++ piece) piece done
 Reaches-append g all piece done r =
-    further g.shape (first_place (settings_of g) all) (record
-    { starts = g.starts; t = g.t; octets = g.held.octets ++ [] }) done g.held.octets piece (append-nil g.held.octets) r
+    let w = windows_of g in
+    let held = g.held.octets in
+    record {
+      to = longer_spot r.to piece;
+      closed = closed-more w all piece done r.to r.closed;
+      at = subst (λ (o : List ℕ). IsAt w (longer_spot r.to piece) g.dropped (place_of g.starts g.t (o ++ piece))) (append-nil held)
+          (at-more w r.to g.dropped g.starts g.t (held ++ []) piece r.at);
+      kept = r.kept;
+      slips = r.slips;
+    }
 
 -- more octets of a piece, after those that were taken before
 pub Reaches-later : (h : Gathering) (all piece : List ℕ) (at n : ℕ) (done more next : List WindowBlock)
@@ -174,58 +177,140 @@ Reaches-rest g all piece at done r = subst (λ (v : List ℕ). Reaches g all v d
 
 -- ---- what is due
 
-pub due_with : (s v : Settings) (all : List ℕ) (done : List WindowBlock) → s ≡ v → AreDue s all done → AreDue v all done
-due_with s v all done e due = subst (λ (u : Settings). AreDue u all done) e due
+pub first_with : (w v : Windows) (all : List ℕ) (done : List WindowBlock) → w ≡ v → AreFollowedFirst w all done
+    → AreFollowedFirst v all done
+first_with w v all done e first = subst (λ (u : Windows). AreFollowedFirst u all done) e first
 
-pub first_with : (s v : Settings) (all : List ℕ) (done : List WindowBlock) → s ≡ v → AreFirst s all done
-    → AreFirst v all done
-first_with s v all done e first = subst (λ (u : Settings). AreFirst u all done) e first
+pub first_after : (w v : Windows) (all : List ℕ) (done more tried : List WindowBlock) → w ≡ v
+    → AreFollowedFirst w all ((done ++ more) ++ tried) → AreFollowedFirst v all (done ++ (more ++ tried))
+first_after w v all done more tried e first =
+    subst (λ (b : List WindowBlock). AreFollowedFirst v all b) (append_assoc done more tried)
+    (first_with w v all ((done ++ more) ++ tried) e first)
 
-pub first_longer : (s : Settings) (octets more : List ℕ) (first : List WindowBlock) → AreFirst s octets first → AreFirst s (octets ++ more) first
-unfolding more_octets
-first_longer s octets more first h =
-    (more_octets h.0 more, Closed-append s.rate s.invert s.keep s.ahead (first_place s octets) h.0 first more h.1)
-
-pub first_after : (s v : Settings) (all : List ℕ) (done more tried : List WindowBlock) → s ≡ v
-    → AreFirst s all ((done ++ more) ++ tried) → AreFirst v all (done ++ (more ++ tried))
-first_after s v all done more tried e first =
-    subst (λ (b : List WindowBlock). AreFirst v all b) (append_assoc done more tried)
-    (first_with s v all ((done ++ more) ++ tried) e first)
+-- where it was decided how many octets are dropped the next window begins there, and else it is looked for there; in either case it
+-- is not closed
+open-at : (w : Windows) (spot : Spot) (dropped : Option ℕ) (at : Place) → IsAt w spot dropped at → length at.octets < closing_size w.settings at.t
+    → IsOpenAt w spot
+open-at w spot None at h less = inl (subst (λ (v : Spot). length v.place.octets < closing_size w.settings v.place.t) (sym h) less)
+open-at w spot (Some k) at h less = inr (record { dropped = k; place = at }, h, less)
 
 -- all windows but the last are closed
 pub AreDue-reached : (g : Gathering) (all : List ℕ) (done : List WindowBlock) → Reaches g all [] done → IsOpen g
-    → AreDue (settings_of g) all done
+    → AreFollowedDue (windows_of g) all done
 AreDue-reached g all done r less =
     record {
-      to = record { starts = g.starts; t = g.t; octets = g.held.octets ++ [] };
-      closed = r;
-      few = omega
-          (arith, less, ap length (append-nil g.held.octets));
+      to = r.to;
+      closed = r.closed;
+      is_open = open-at (windows_of g) r.to g.dropped (place_of g.starts g.t (g.held.octets ++ [])) r.at
+          (omega (arith, less, ap length (append-nil g.held.octets)));
     }
+
+-- the same by whether the phase is followed
+pub due-in : (seen : Option ℕ) (w : Windows) (octets : List ℕ) (blocks : List WindowBlock) → w.seen ≡ seen → AreFollowedDue w octets blocks
+    → AreDueBy seen w octets blocks
+due-in None w octets blocks is h = unseen-due w is octets blocks h
+due-in (Some steps) w octets blocks is h = h
+
+pub first-in : (seen : Option ℕ) (w : Windows) (octets : List ℕ) (blocks : List WindowBlock) → w.seen ≡ seen → AreFollowedFirst w octets blocks
+    → AreFirstBy seen w octets blocks
+first-in None w octets blocks is h = unseen-first w is octets blocks h
+first-in (Some steps) w octets blocks is h = h
+
+pub blocks-in : (seen : Option ℕ) (w : Windows) (octets : List ℕ) (blocks : List WindowBlock) (left : ℕ) → w.seen ≡ seen → AreFollowedOf w octets blocks left
+    → AreBlocksBy seen w octets blocks left
+blocks-in None w octets blocks left is h = unseen-blocks w is octets blocks left h
+blocks-in (Some steps) w octets blocks left is h = h
+
+-- the closed windows behind a spot whose octets go on there
+ends_at : HasBest → (w : Windows) → IsSeen w → 0 < w.settings.keep → (spot : Spot) (dropped : Option ℕ) (at : Place) → IsAt w spot dropped at
+    → MayStart at → Ends w spot
+ends_at best w seen wide spot None at h may =
+    subst (λ (v : Spot). Ends w v) (sym h) (ends best w seen wide (length at.octets) (record { place = at; decided = None }) may (omega arith))
+ends_at best w seen wide spot (Some k) at h may = ends_from best w seen wide spot (record { dropped = k; place = at }) h may
+
+-- where they end no window is closed
+ends-open : (w : Windows) → IsSeen w → (spot : Spot) (e : Ends w spot) → IsOpenAt w e.to
+ends-open w seen spot e = go e.begins
+  where
+    go : BeginsLast w e.to e.window → IsOpenAt w e.to
+    go (inl begins) = inr (e.window, begins, e.few)
+    go (inr unseen) = inl (unseen-open w e.to seen unseen.0)
+
+ends-few : (w : Windows) (spot to : Spot) (dropped : Option ℕ) (at : Place) (blocks : List WindowBlock) (count : ℕ) → IsAt w spot dropped at
+    → length at.octets < steps_size w.settings.rate at.t ((count + 1) * w.settings.keep + w.settings.ahead + 1) → Followed w spot blocks to
+    → length blocks ≤ count
+ends-few w spot to dropped at [] count h most closed = omega arith
+ends-few w spot to dropped at (x ∷ xs) count h most closed =
+    let s = w.settings in
+    let n : ℕ = length (x ∷ xs) in
+    let within = at-within w spot dropped at h closed.0 closed.1 in
+    elim (cases_lt count n) as (λ _. length (x ∷ xs) ≤ count) [
+      | inl less ↦ absurd
+          (let wide : (count + 1) * s.keep ≤ n * s.keep = mul-le-mul_right s.keep (let le : count + 1 ≤ n = omega (arith, less) in le) in
+          omega (
+            arith,
+            followed-long w spot to x xs closed,
+            within.1,
+            ap (λ (t : ℕ). steps_size s.rate t (n * s.keep + s.ahead + 1)) within.0,
+            most,
+            steps_size-le s.rate at.t ((count + 1) * s.keep + s.ahead + 1) (n * s.keep + s.ahead + 1) (omega (arith, wide)),
+          ))
+      | inr le ↦ le
+    ]
+
+-- what is due behind the blocks that were handed over
+abbrev DueAfter : Gathering → List ℕ → List WindowBlock → ℕ → Type 0
+DueAfter g all done count = (more : List WindowBlock) × (length more ≤ count) × (g.seen ≡ None → length more ≡ count)
+    × AreFollowedDue (windows_of g) all (done ++ more)
 
 -- the windows that the octets held close are due
 pub due_after : HasBest → (g : Gathering) (all : List ℕ) (done : List WindowBlock) (count : ℕ)
-    → ForSome g.starts (λ register. register < 64)
+    → ForSome g.starts (λ register. register < 64) → IsSeen (windows_of g)
     → (0 < count → steps_size g.shape.rate g.t (count * g.shape.keep + g.shape.ahead + 1) ≤ length g.held.octets)
     → length g.held.octets < steps_size g.shape.rate g.t ((count + 1) * g.shape.keep + g.shape.ahead + 1)
     → Reaches g all [] done
-    → (more : List WindowBlock) × (length more ≡ count) × AreDue (settings_of g) all (done ++ more)
-due_after exists g all done count some room most r =
-    let s = g.shape in
-    let at : Place = record { starts = g.starts; t = g.t; octets = g.held.octets ++ [] } in
-    let same : length at.octets ≡ length g.held.octets = ap length (append-nil g.held.octets) in
-    let w = has_windows exists s count at some (λ lt. omega (arith, same, room lt)) in
-    let size : ℕ = steps_size s.rate g.t (count * s.keep) in
-    let there : steps_size s.rate w.to.t (s.keep + s.ahead + 1) ≡ steps_size s.rate (g.t + count * s.keep)
-    (s.keep + s.ahead + 1) = ap (λ (u : ℕ). steps_size s.rate u (s.keep + s.ahead + 1)) w.place in (
-      w.blocks,
-      w.long,
-      record {
-        to = w.to;
-        closed = closed_both s (first_place (settings_of g) all) at w.to done w.blocks r w.closed;
-        few = omega (arith, w.octets, same, there, still_open s g.t count (length g.held.octets) size refl most);
-      },
-    )
+    → (more : List WindowBlock) × (length more ≤ count) × (g.seen ≡ None → length more ≡ count)
+    × AreFollowedDue (windows_of g) all (done ++ more)
+due_after exists g all done count some looks room most r = go g.seen refl
+  where
+    s : WindowShape
+    s = g.shape
+
+    w : Windows
+    w = windows_of g
+
+    at : Place
+    at = place_of g.starts g.t (g.held.octets ++ [])
+
+    same : length (g.held.octets ++ []) ≡ length g.held.octets
+    same = ap length (append-nil g.held.octets)
+
+    go : (seen : Option ℕ) → g.seen ≡ seen → DueAfter g all done count
+    go None none =
+        let size : ℕ = steps_size s.rate g.t (count * s.keep) in
+        let run = has_windows exists s count at some (λ lt. omega (arith, same, room lt)) in
+        let there : steps_size s.rate run.to.t (s.keep + s.ahead + 1) ≡ steps_size s.rate (g.t + count * s.keep) (s.keep + s.ahead + 1)
+        = ap (λ (u : ℕ). steps_size s.rate u (s.keep + s.ahead + 1)) run.place in
+        let begins = subst (λ (o : Option ℕ). IsAt w r.to o at) (g.unfollowed none) r.at in
+        let runs = runs-to w none (first_spot w all) r.to done run.blocks at run.to r.closed begins run.closed in
+        let few : length run.to.octets < steps_size s.rate run.to.t (s.keep + s.ahead + 1) =
+        omega (arith, run.octets, same, there, still_open s g.t count (length g.held.octets) size refl most) in (
+          run.blocks,
+          omega (arith, run.long),
+          λ _. run.long,
+          record { to = runs.to; closed = runs.closed; is_open = inr (record { dropped = 0; place = run.to }, runs.begins, few) },
+        )
+    go (Some steps) is =
+        let e = ends_at exists w looks (omega (arith, g.sizes)) r.to g.dropped at r.at some in (
+          e.done,
+          ends-few w r.to e.to g.dropped at e.done count r.at (omega (arith, same, most)) e.closed,
+          λ none. absurd (let both = sym is ∙ none in cc),
+          record {
+            to = e.to;
+            closed = followed-both w (first_spot w all) r.to e.to done e.done r.closed e.closed;
+            is_open = ends-open w looks r.to e;
+          },
+        )
 
 -- ---- the last window
 
@@ -249,33 +334,51 @@ pub few_left : (s : WindowShape) (t len n size : ℕ) → size ≡ steps_size s.
     → len < steps_size s.rate t (n + 1) → len - size ≤ 1
 few_left s t len n size is most = omega (arith, is, most, steps_size-add s.rate t n 1, steps_size-most s.rate (t + n) 1)
 
-pub last_block : (s s' : WindowShape) (starts : Option ℕ) (t n : ℕ) (held slice : List ℕ) (last : WindowBlock)
-    → s' ≡ s → slice ≡ held
-    → 0 < n → n ≤ s.keep + s.ahead → IsBlock s'.rate s'.invert s'.keep s'.ahead starts t n slice last
-    → AreBlocks s.rate s.invert s.keep s.ahead starts t n (held ++ []) (last ∷ [])
-last_block s s' starts t n held slice last es eo some few is =
-    let octets : slice ≡ held ++ [] = eo ∙ sym (append-nil held) in
-    one_block s.rate s.invert s.keep s.ahead starts t n (held ++ []) last some few
-    (subst (λ (o : List ℕ). IsBlock s.rate s.invert s.keep s.ahead starts t n o last) octets
-    (subst (λ (w : WindowShape). IsBlock w.rate w.invert w.keep w.ahead starts t n slice last) es is))
+-- the last block, as the call that hands it over tells it
+pub last_block : (w : Windows) (s' : WindowShape) (b : Beginning) (n : ℕ) (slice : List ℕ) (last : WindowBlock)
+    → s' ≡ record { rate = w.settings.rate; invert = w.settings.invert; keep = w.settings.keep; ahead = w.settings.ahead }
+    → slice ≡ b.place.octets → 0 < n → IsBlock s'.rate s'.invert s'.keep s'.ahead b.place.starts b.place.t n slice last
+    → IsLast w.settings b n (dropped_at b.dropped last ∷ [])
+last_block w s' b n slice last es eo some is =
+    is-last w.settings b n last some
+    (subst (λ (o : List ℕ). IsBlock w.settings.rate w.settings.invert w.settings.keep w.settings.ahead b.place.starts b.place.t n o last) eo
+    (subst (λ (v : WindowShape). IsBlock v.rate v.invert v.keep v.ahead b.place.starts b.place.t n slice last) es is))
 
 -- the blocks after those that were closed before
-pub blocks_after : (s v : Settings) (all : List ℕ) (done more last : List WindowBlock) (left : ℕ) → s ≡ v
-    → AreBlocksOf s all ((done ++ more) ++ last) left
-    → AreBlocksOf v all (done ++ (more ++ last)) left
-blocks_after s v all done more last left e are =
-    subst (λ (b : List WindowBlock). AreBlocksOf v all b left) (append_assoc done more last)
-    (subst (λ (u : Settings). AreBlocksOf u all ((done ++ more) ++ last) left) e are)
+pub blocks_after : (w v : Windows) (all : List ℕ) (done more last : List WindowBlock) (left : ℕ) → w ≡ v
+    → AreFollowedOf w all ((done ++ more) ++ last) left
+    → AreFollowedOf v all (done ++ (more ++ last)) left
+blocks_after w v all done more last left e are =
+    subst (λ (b : List WindowBlock). AreFollowedOf v all b left) (append_assoc done more last)
+    (subst (λ (u : Windows). AreFollowedOf u all ((done ++ more) ++ last) left) e are)
+
+-- where the last window begins
+abbrev pub last_beginning : Gathering → Beginning
+last_beginning g = record { dropped = unwrap_or g.dropped 0; place = place_of g.starts g.t (g.held.octets ++ []) }
 
 -- the blocks of all octets, once the last window is decoded
 pub ended : (g : Gathering) (all slice : List ℕ) (done last : List WindowBlock) (n size : ℕ) → slice ≡ g.held.octets
     → size ≡ steps_size g.shape.rate g.t n → steps_size g.shape.rate g.t n ≤ length slice
-    → length slice < steps_size g.shape.rate g.t (n + 1)
-    → Reaches g all [] done
-    → AreBlocks g.shape.rate g.shape.invert g.shape.keep g.shape.ahead g.starts g.t n (g.held.octets ++ []) last
-    → AreBlocksOf (settings_of g) all (done ++ last) (length slice - size)
-ended g all slice done last n size es is whole most r are =
+    → length slice < steps_size g.shape.rate g.t (n + 1) → n ≤ g.shape.keep + g.shape.ahead → IsDecided g
+    → Reaches g all [] done → IsLast (settings_of g) (last_beginning g) n last
+    → AreFollowedOf (windows_of g) all (done ++ last) (length slice - size)
+ended g all slice done last n size es is whole most few decided r are =
     let same : length (g.held.octets ++ []) ≡ length slice = ap length (append-nil g.held.octets ∙ sym es) in
-    all_blocks (settings_of g) all done last (record { starts = g.starts; t = g.t; octets = g.held.octets ++ [] }) n
-    (length slice - size) r
-    (omega (arith, same, is, whole)) (omega (arith, is, whole, most, steps_size-more g.shape.rate g.t n)) are
+    let w = windows_of g in
+    let at = place_of g.starts g.t (g.held.octets ++ []) in
+    let unseen : g.dropped ≡ None → (steps : ℕ) × (w.seen ≡ Some steps) × (length at.octets < octets_seen w.settings.rate at.t steps) = λ none.
+    (let found = decided none in (found.0, found.1, omega (arith, found.2, ap length (append-nil g.held.octets)))) in
+    record {
+      done = done;
+      to = r.to;
+      closed = r.closed;
+      window = last_beginning g;
+      begins = last-begins w r.to g.dropped at r.at unseen;
+      count = n;
+      steps = record { whole = omega (arith, same, whole); most = omega (arith, same, most) };
+      few = few;
+      last = last;
+      is_last = are;
+      are = refl;
+      rest = omega (arith, same, is, whole);
+    }

@@ -6,4 +6,5 @@ mod FollowedOnce
 mod FollowedExists
 mod Undisturbed
 mod WindowLaws
+mod FollowedRuns
 pub mod Gatherings

@@ -27,10 +27,14 @@ pub record Spot : Type 0 where
 abbrev pub first_spot : Windows → List ℕ → Spot
 first_spot w octets = record { place = first_place w.settings octets; decided = Some 0 }
 
--- behind octets that are dropped: from any register, at the same step
+-- behind octets that are dropped a window starts from any register
+abbrev pub starts_after : ℕ → Option ℕ → Option ℕ
+starts_after zero starts = starts
+starts_after (suc k) starts = None
+
+-- behind so many octets, at the same step
 abbrev pub moved : ℕ → Place → Place
-moved zero at = at
-moved (suc k) at = record { starts = None; t = at.t; octets = drop (suc k) at.octets }
+moved k at = record { starts = starts_after k at.starts; t = at.t; octets = drop k at.octets }
 
 -- where a slip is looked for, enough octets are there, and as many are dropped as it says
 abbrev pub DropsBy : Settings → Option ℕ → Place → Beginning → Type 0
@@ -58,9 +62,12 @@ abbrev pub BeginsLast : Windows → Spot → Beginning → Type 0
 BeginsLast w spot b =
     Begins w spot b ⊎ (IsUnseen w spot × (b ≡ record { dropped = 0; place = spot.place }))
 
--- the same block, with no octets dropped before its window
+-- the same block, with so many octets dropped before its window
+abbrev pub dropped_at : ℕ → WindowBlock → WindowBlock
+dropped_at k block = record block { dropped = k }
+
 abbrev pub undropped : WindowBlock → WindowBlock
-undropped block = record block { dropped = 0 }
+undropped block = dropped_at 0 block
 
 -- the window is closed, and this is its block
 abbrev pub ClosesAt : Settings → Beginning → WindowBlock → Type 0
@@ -124,7 +131,16 @@ pub record AreFollowedOf (w : Windows) (octets : List ℕ) (blocks : List Window
   pub rest : length window.place.octets
       ≡ steps_size w.settings.rate window.place.t count + left
 
+-- 1 where octets were dropped, and else 0
+abbrev pub slip_at : ℕ → ℕ
+slip_at dropped = if dropped == 0 then 0 else 1
+
 -- how many of these blocks have octets dropped before them
 abbrev pub slips_of : List WindowBlock → ℕ
 slips_of [] = 0
-slips_of (block ∷ blocks) = (if block.dropped == 0 then 0 else 1) + slips_of blocks
+slips_of (block ∷ blocks) = slip_at block.dropped + slips_of blocks
+
+-- how many steps they keep
+abbrev pub kept_of : List WindowBlock → ℕ
+kept_of [] = 0
+kept_of (block ∷ blocks) = block.kept + kept_of blocks

@@ -1,10 +1,11 @@
 -- How far a stream of soft octets has come, and with which blocks.
-use Rattle.std.specs.Prelude.{ℕ, ◌+◌, ◌*◌, ◌<◌, ◌≤◌, List, ◌++◌, length}
+use Rattle.std.specs.Prelude.{ℕ, ◌≡◌, ◌+◌, ◌*◌, ◌<◌, ◌≤◌, List, ◌++◌, Option, Some, None, length}
 use Rattle.tm_conv.specs.Path.{steps_size}
+use Rattle.tm_phase.specs.Slip.{octets_seen}
 use Rattle.tm_viterbi.specs.Settings.{Settings}
 use Rattle.tm_viterbi.specs.WindowBlock.{WindowBlock}
-use Rattle.tm_viterbi.specs.Due.{first_place}
-use Rattle.tm_windows.specs.Candidates.{ClosedWith}
+use Rattle.tm_viterbi.specs.Due.{Place}
+use Rattle.tm_windows.specs.Followed.{Windows, Spot, first_spot, Begins, Followed, slips_of, kept_of}
 use Rattle.tm_windows.specs.declared.gathering.Gathering.{Gathering}
 
 -- how the octets are decoded
@@ -16,6 +17,9 @@ settings_of g = record {
   keep = g.shape.keep;
   ahead = g.shape.ahead;
 }
+
+abbrev pub windows_of : Gathering → Windows
+windows_of g = record { settings = settings_of g; seen = g.seen }
 
 -- how many octets there is room for: those that close all windows of a batch
 abbrev pub room_of : Gathering → ℕ
@@ -29,14 +33,28 @@ HasRoom g = length g.held.octets ≤ room_of g
 abbrev pub IsOpen : Gathering → Type 0
 IsOpen g = length g.held.octets < steps_size g.shape.rate g.t (g.shape.keep + g.shape.ahead + 1)
 
--- the steps of the windows whose blocks were handed over, and the octets after them: at most the
--- octets given
+-- where it was not decided yet how many octets are dropped before the next window, they are too few
+-- to look for a slip
+abbrev pub IsDecided : Gathering → Type 0
+IsDecided g = g.dropped ≡ None
+    → (steps : ℕ) × (g.seen ≡ Some steps) × (length g.held.octets < octets_seen g.shape.rate g.t steps)
+
+-- the steps that blocks which were handed over keep, and the octets after them: at most the octets
+-- given
 abbrev pub reached : Gathering → ℕ
 reached g = g.t + length g.held.octets
 
+-- a spot whose octets go on there, and where it was decided how many octets are dropped, they were
+abbrev pub IsAt : Windows → Spot → Option ℕ → Place → Type 0
+IsAt w spot None place = spot ≡ record { place = place; decided = None }
+IsAt w spot (Some dropped) place = Begins w spot (record { dropped = dropped; place = place })
+
 -- of all octets those of `rest` are still to be taken; the windows before the octets that are held
 -- are closed, with these blocks
-abbrev pub Reaches : Gathering → List ℕ → List ℕ → List WindowBlock → Type 0
-Reaches g all rest done =
-    ClosedWith g.shape (first_place (settings_of g) all) done
-    (record { starts = g.starts; t = g.t; octets = g.held.octets ++ rest })
+pub record Reaches (g : Gathering) (all rest : List ℕ) (done : List WindowBlock) : Type 0 where
+  pub to : Spot
+  pub closed : Followed (windows_of g) (first_spot (windows_of g) all) done to
+  pub at : IsAt (windows_of g) to g.dropped
+      (record { starts = g.starts; t = g.t; octets = g.held.octets ++ rest })
+  pub kept : kept_of done ≡ g.t
+  pub slips : slips_of done ≡ g.slips

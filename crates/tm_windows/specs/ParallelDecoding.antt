@@ -2,18 +2,18 @@
 -- blocks, handed over so far, it stands.
 use Rattle.std.specs.Prelude.{ℕ, ◌≡◌, ◌↔◌, ◌⊎◌, ◌+◌, ◌^◌, ◌<◌, ◌≤◌, ◌++◌, Bool, true, List, [], length, Result, IfOk, OnOk, IsErrOf, IsTrue}
 use Rattle.tm_base.specs.Calls.{CallAnswers, TakerCall}
-use Rattle.tm_viterbi.specs.Settings.{Settings}
 use Rattle.tm_viterbi.specs.WindowBlock.{WindowBlock}
-use Rattle.tm_viterbi.specs.Blocks.{AreBlocksOf}
-use Rattle.tm_viterbi.specs.Due.{AreDue, AreFirst}
 use Rattle.tm_viterbi.specs.declared.decoder.FeedError.{FeedError}
 use Rattle.tm_viterbi.specs.declared.decoder.FeedError.TheVariants.{Stopped, Taker}
-use Rattle.tm_windows.specs.Gathered.{settings_of, IsOpen, Reaches}
+use Rattle.tm_windows.specs.Followed.{Windows, slips_of, kept_of}
+use Rattle.tm_windows.specs.Windows.{AreBlocksIn, AreDueIn, AreFirstIn}
+use Rattle.tm_windows.specs.Gathered.{windows_of, IsOpen, Reaches}
 use Rattle.tm_windows.specs.declared.gathering.Gathering.{Gathering}
 
 -- what contracts see of a decoder with workers
 pub record ParallelDecoding : Type 0 where
-  pub settings : Settings
+  -- how octets are cut into windows
+  pub windows : Windows
   -- an earlier call answered Taker, or `finish` was called
   pub has_stopped : Bool
   -- how many octets were given
@@ -25,7 +25,7 @@ pub record ParallelDecoding : Type 0 where
 -- of those that are due
 pub record StandsFor (d : ParallelDecoding) (given : List ℕ) (done : List WindowBlock)
     : Type 0 where
-  pub settings : settings_of d.gathering ≡ d.settings
+  pub windows : windows_of d.gathering ≡ d.windows
   pub count : length given ≡ d.count
   pub reaches : Reaches d.gathering given [] done
 
@@ -43,16 +43,16 @@ pub record Feeds {R : Type 0} (before now : ParallelDecoding) (octets : List ℕ
     (taker : TakerCall WindowBlock) (result : Result R FeedError) : Type 0 where
   pub call : Calls before now taker result
   pub stops : IsTrue now.has_stopped ↔ OnOk result ⊥
-  pub settings : now.settings ≡ before.settings
+  pub windows : now.windows ≡ before.windows
   pub handed : OnOk result ((more : List WindowBlock) × taker.took more
       × ((given : List ℕ) (done : List WindowBlock) → length given + length octets < 2 ^ 60
       → StandsFor before given done
       → StandsFor now (given ++ octets) (done ++ more)
-      × AreDue before.settings (given ++ octets) (done ++ more)))
+      × AreDueIn before.windows (given ++ octets) (done ++ more)))
   pub is_open : OnOk result (IsOpen now.gathering)
   pub prefix : IsErrOf result Taker → (tried : List WindowBlock) × taker.broke tried
       × ((given : List ℕ) (done : List WindowBlock) → StandsFor before given done
-      → AreFirst before.settings (given ++ octets) (done ++ tried))
+      → AreFirstIn before.windows (given ++ octets) (done ++ tried))
 
 -- at the end what is left was handed over, the last block among it, and so many octets are left
 -- over; or the first of it until the taker failed
@@ -60,12 +60,13 @@ pub record Finishes (before now : ParallelDecoding) (taker : TakerCall WindowBlo
     (result : Result ℕ FeedError) : Type 0 where
   pub call : Calls before now taker result
   pub stops : now.has_stopped ≡ true
-  pub settings : now.settings ≡ before.settings
+  pub windows : now.windows ≡ before.windows
   pub handed : IfOk result (λ left. (last : List WindowBlock) × taker.took last
       × ((given : List ℕ) (done : List WindowBlock) → StandsFor before given done
-      → AreBlocksOf before.settings given (done ++ last) left))
+      → AreBlocksIn before.windows given (done ++ last) left
+      × (kept_of (done ++ last) ≡ now.gathering.t) × (slips_of (done ++ last) ≡ now.gathering.slips)))
   pub prefix : IsErrOf result Taker → (tried : List WindowBlock) × taker.broke tried
       × ((given : List ℕ) (done : List WindowBlock) → StandsFor before given done
-      → AreFirst before.settings given (done ++ tried)
-      ⊎ ((left : ℕ) × AreBlocksOf before.settings given (done ++ tried) left))
+      → AreFirstIn before.windows given (done ++ tried)
+      ⊎ ((left : ℕ) × AreBlocksIn before.windows given (done ++ tried) left))
   pub left : IfOk result (λ left. left ≤ 1)

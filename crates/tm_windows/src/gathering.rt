@@ -1,27 +1,36 @@
 // The octets of windows whose blocks were not handed over yet, and the workers that decode them.
-ghost use Rattle.std.specs.Prelude.{◌≡◌, ◌↔◌, ◌++◌, ◌∷◌, ◌⊎◌, ℕ, ◌+◌, ◌-◌, ◌*◌, ◌^◌, ◌<◌, ◌≤◌, IsTrue, List, [], false, IfOk, OnOk, OnErr, drop, length, min};
+ghost use Rattle.std.specs.Prelude.{◌≡◌, ◌↔◌, ◌++◌, ◌∷◌, ◌⊎◌, ℕ, ◌+◌, ◌-◌, ◌*◌, ◌^◌, ◌<◌, ◌≤◌, IsTrue, List, [], false, IfOk, OnOk, OnErr, Option, None, drop, length, min};
 ghost use Rattle.std.specs.Option.{ForSome};
 ghost use Rattle.tm_base.specs.Outside.{HasCause};
 ghost use Rattle.tm_base.specs.Takers.{HandedOver, HandedPart};
 ghost use Rattle.tm_conv.specs.Path.{steps_size};
 ghost use Rattle.tm_viterbi.specs.Starts.{first_start};
 ghost use Rattle.tm_viterbi.specs.WindowBlock.{WindowBlock};
+ghost use Rattle.tm_phase.specs.Slip.{octets_seen};
+ghost use Rattle.tm_windows.specs.Followed.{slip_at, starts_after};
 
 use crate::closing::Closing;
 use crate::window_workers::WindowWorkers;
 use std::alloc::Global;
 use tm_base::{Failed, Held, NoMemory};
 use tm_conv::{Rate, best_path_law, steps_len};
+use tm_phase::{octets_seen, slip};
 use tm_viterbi::{BlockTaker, Start, WindowShape, first_start};
 
-/// A stream whose windows before step `t` are closed, and the octets from there on.
+/// A stream whose windows before step `t` are closed, and the octets from there on, before which `dropped` octets were dropped,
+/// where this was decided.
 #[derive(Drop)]
 pub(crate) struct Gathering {
     pub(crate) start: Start,
     pub(crate) shape: WindowShape,
+    // Over how many steps a slip is looked for before each window but the first, where the phase is followed.
+    pub(crate) seen: Option<usize>,
     pub(crate) most: usize,
     pub(crate) starts: Option<u8>,
     pub(crate) t: u64,
+    pub(crate) dropped: Option<u8>,
+    // How many blocks were handed over before whose windows octets were dropped.
+    pub(crate) slips: u64,
     pub(crate) held: Held,
     pub(crate) workers: WindowWorkers,
     ghost workers_shape: { workers.shape ≡ shape },
@@ -29,6 +38,9 @@ pub(crate) struct Gathering {
     ghost sizes: { (64 ≤ shape.keep) × (shape.keep ≤ 65536) × (shape.ahead ≤ 4096) },
     ghost some: { (0 < most) × (most ≤ 2 ^ 17) },
     ghost register: { ForSome starts (λ register. register < 64) },
+    ghost looks: { ForSome seen (λ steps. (1 ≤ steps) × (steps ≤ 1024) × (steps + 8 ≤ shape.keep + shape.ahead)) },
+    ghost unfollowed: { seen ≡ None → dropped ≡ Option.Some 0 },
+    ghost counted: { slips ≤ t },
     ghost room: { (2 * (most * shape.keep + shape.ahead + 1) ≤ held.room) × (held.room ≤ 2 ^ 40) },
 }
 
@@ -67,10 +79,29 @@ fn closed_windows(shape: WindowShape, t: u64, len: usize, most: usize) -> usize
     steps.saturating_sub(shape.ahead + 1) / shape.keep
 }
 
+// From which registers a window may start behind so many dropped octets: from any, where octets are dropped.
+fn starts_after(starts: Option<u8>, dropped: u8) -> Option<u8>
+    requires { ForSome starts (λ register. register < 64) }
+    ensures value { result ≡ starts_after dropped starts }
+    ensures small { ForSome result (λ register. register < 64) }
+{
+    match dropped {
+        0 => starts,
+        _ => None,
+    }
+}
+
+// 1 where octets were dropped, and else 0.
+fn slip_at(dropped: u8) -> u64
+    ensures value { result ≡ slip_at dropped }
+    ensures small { result ≤ 1 }
+{
+    if dropped == 0 { 0 } else { 1 }
+}
+
 impl Gathering {
-    ghost use Rattle.tm_viterbi.specs.Blocks.{AreBlocksOf};
-    ghost use Rattle.tm_viterbi.specs.Due.{AreDue, AreFirst};
-    ghost use Rattle.tm_windows.specs.Gathered.{settings_of, room_of, reached, HasRoom, IsOpen, Reaches};
+    ghost use Rattle.tm_windows.specs.Followed.{AreFollowedOf, AreFollowedDue, AreFollowedFirst, slips_of, kept_of};
+    ghost use Rattle.tm_windows.specs.Gathered.{windows_of, room_of, reached, HasRoom, IsOpen, IsDecided, Reaches};
 
     /// A stream of which no octet was given yet, and so many workers with room for `most` windows at a time. All
     /// memory is taken here.
@@ -78,13 +109,15 @@ impl Gathering {
         alloc: Global,
         start: Start,
         shape: WindowShape,
+        seen: Option<usize>,
         workers: u8,
         most: usize,
     ) -> Result<Gathering, NoMemory>
+        requires looks { ForSome seen (λ steps. (1 ≤ steps) × (steps ≤ 1024) × (steps + 8 ≤ shape.keep + shape.ahead)) }
         requires sizes { (64 ≤ shape.keep) × (shape.keep ≤ 65536) × (shape.ahead ≤ 4096) }
         requires workers { (0 < workers) × (workers ≤ 64) }
         requires most { (0 < most) × (most ≤ 2 ^ 17) }
-        ensures shape { IfOk result (λ g. (g.shape ≡ shape) × (g.start ≡ start)) }
+        ensures shape { IfOk result (λ g. (g.shape ≡ shape) × (g.start ≡ start) × (g.seen ≡ seen)) }
         ensures workers { IfOk result (λ g. g.workers ≡ record { shape = shape; most = most; workers = workers }) }
         ensures began { IfOk result (λ g. (reached g ≡ 0) × HasRoom g × Reaches g [] [] []) }
     {
@@ -96,9 +129,12 @@ impl Gathering {
         Ok(Gathering {
             start,
             shape,
+            seen,
             most,
             starts: first_start(start),
             t: 0,
+            dropped: Some(0),
+            slips: 0,
             held,
             workers,
         })
@@ -122,7 +158,7 @@ impl Gathering {
             → Reaches self.new all (drop result rest.now) done }
         ensures room { HasRoom self.new }
         ensures counted { reached self.new ≡ reached self.old + result }
-        ensures same { (settings_of self.new ≡ settings_of self.old) × (self.new.t ≡ self.old.t) }
+        ensures same { (windows_of self.new ≡ windows_of self.old) × (self.new.t ≡ self.old.t) }
     {
         let count = rest.len().min(self.room_left());
         self.held.append(&rest[..count]);
@@ -137,16 +173,51 @@ impl Gathering {
     ) -> Result<(), Failed>
         requires ready { (count : ℕ) → count ≤ 2 ^ 62 → C.is_ready closing.now count }
         requires room { HasRoom self.old }
+        requires few { reached self.old < 2 ^ 60 }
+        ensures ok { OnOk result ((more : List WindowBlock) × HandedOver B.took blocks.old more blocks.new
+            × ((all rest : List ℕ) (done : List WindowBlock) → Reaches self.old all rest done
+            → Reaches self.new all rest (done ++ more))) }
+        ensures err { OnErr result ((tried : List WindowBlock) × HandedPart B.took B.broke blocks.old tried blocks.new
+            × ((all rest : List ℕ) (done : List WindowBlock) → Reaches self.old all rest done
+            → AreFollowedFirst (windows_of self.old) all (done ++ tried))) }
+        ensures is_open { IsOpen self.new }
+        ensures decided { IsDecided self.new }
+        ensures counted { reached self.new ≤ reached self.old }
+        ensures windows { windows_of self.new ≡ windows_of self.old }
+        ensures cause { HasCause (B.faults blocks.old) (B.faults blocks.new) (B.is_last blocks.new) result }
+    {
+        match self.seen {
+            None => match self.close_run(closing, blocks) {
+                Ok(()) => Ok(()),
+                Err(Failed) => Err(Failed),
+            },
+            Some(steps) => match self.close_each(steps, blocks) {
+                Ok(()) => Ok(()),
+                Err(Failed) => Err(Failed),
+            },
+        }
+    }
+
+    // The same where the phase is not followed: all at once.
+    fn close_run<C: Closing, B: BlockTaker>(
+        &mut self,
+        closing: &C,
+        blocks: &mut B,
+    ) -> Result<(), Failed>
+        requires ready { (count : ℕ) → count ≤ 2 ^ 62 → C.is_ready closing.now count }
+        requires unfollowed { self.old.seen ≡ None }
+        requires room { HasRoom self.old }
         requires few { self.old.t < 2 ^ 60 }
         ensures ok { OnOk result ((more : List WindowBlock) × HandedOver B.took blocks.old more blocks.new
             × ((all rest : List ℕ) (done : List WindowBlock) → Reaches self.old all rest done
             → Reaches self.new all rest (done ++ more))) }
         ensures err { OnErr result ((tried : List WindowBlock) × HandedPart B.took B.broke blocks.old tried blocks.new
             × ((all rest : List ℕ) (done : List WindowBlock) → Reaches self.old all rest done
-            → AreFirst (settings_of self.old) all (done ++ tried))) }
+            → AreFollowedFirst (windows_of self.old) all (done ++ tried))) }
         ensures is_open { IsOpen self.new }
+        ensures decided { IsDecided self.new }
         ensures counted { reached self.new ≤ reached self.old }
-        ensures settings { settings_of self.new ≡ settings_of self.old }
+        ensures windows { windows_of self.new ≡ windows_of self.old }
         ensures cause { HasCause (B.faults blocks.old) (B.faults blocks.new) (B.is_last blocks.new) result }
     {
         let octets = self.held.as_slice();
@@ -173,6 +244,120 @@ impl Gathering {
         }
     }
 
+    // The same where it is followed, with a slip over so many steps: one window after another, since where one begins hangs on
+    // what was dropped before it.
+    fn close_each<B: BlockTaker>(&mut self, steps: usize, blocks: &mut B) -> Result<(), Failed>
+        requires followed { self.old.seen ≡ Option.Some steps }
+        requires few { reached self.old < 2 ^ 60 }
+        ensures ok { OnOk result ((more : List WindowBlock) × HandedOver B.took blocks.old more blocks.new
+            × ((all rest : List ℕ) (done : List WindowBlock) → Reaches self.old all rest done
+            → Reaches self.new all rest (done ++ more))) }
+        ensures err { OnErr result ((tried : List WindowBlock) × HandedPart B.took B.broke blocks.old tried blocks.new
+            × ((all rest : List ℕ) (done : List WindowBlock) → Reaches self.old all rest done
+            → AreFollowedFirst (windows_of self.old) all (done ++ tried))) }
+        ensures is_open { IsOpen self.new }
+        ensures decided { IsDecided self.new }
+        ensures counted { reached self.new ≤ reached self.old }
+        ensures windows { windows_of self.new ≡ windows_of self.old }
+        ensures cause { HasCause (B.faults blocks.old) (B.faults blocks.new) (B.is_last blocks.new) result }
+    {
+        let mut closed = self.is_closed(steps);
+        while closed {
+            match self.close_next(blocks) {
+                Ok(()) => closed = self.is_closed(steps),
+                Err(Failed) => return Err(Failed),
+            }
+        }
+        Ok(())
+    }
+
+    // Whether the octets held close the next window, once it was decided how many are dropped before it.
+    fn is_closed(&mut self, steps: usize) -> bool
+        requires followed { self.old.seen ≡ Option.Some steps }
+        requires few { self.old.t < 2 ^ 60 }
+        ensures reaches { (all rest : List ℕ) (done : List WindowBlock) → Reaches self.old all rest done
+            → Reaches self.new all rest done }
+        ensures closed { IsTrue result → ((dropped : ℕ) × (self.new.dropped ≡ Option.Some dropped))
+            × (steps_size self.new.shape.rate self.new.t (self.new.shape.keep + self.new.shape.ahead + 1) ≤ length self.new.held.octets) }
+        ensures left_open { result ≡ false → IsOpen self.new × IsDecided self.new }
+        ensures shorter { length self.new.held.octets ≤ length self.old.held.octets }
+        ensures same { (windows_of self.new ≡ windows_of self.old) × (self.new.t ≡ self.old.t) }
+    {
+        if !self.decide(steps) {
+            return false;
+        }
+        let limit = self.shape.keep + self.shape.ahead + 1;
+        self.held.as_slice().len() >= steps_len(self.shape.rate, self.t, limit)
+    }
+
+    // Decides how many octets are dropped before the next window, and drops them, where enough are there to look for a slip over
+    // so many steps. Answers whether it is decided.
+    fn decide(&mut self, steps: usize) -> bool
+        requires followed { self.old.seen ≡ Option.Some steps }
+        requires few { self.old.t < 2 ^ 60 }
+        ensures reaches { (all rest : List ℕ) (done : List WindowBlock) → Reaches self.old all rest done
+            → Reaches self.new all rest done }
+        ensures decided { IsTrue result → (dropped : ℕ) × (self.new.dropped ≡ Option.Some dropped) }
+        ensures undecided { result ≡ false → (self.new.dropped ≡ None) × (length self.new.held.octets < octets_seen self.new.shape.rate self.new.t steps) }
+        ensures shorter { length self.new.held.octets ≤ length self.old.held.octets }
+        ensures same { (windows_of self.new ≡ windows_of self.old) × (self.new.t ≡ self.old.t) }
+    {
+        if let Some(_) = self.dropped {
+            return true;
+        }
+        let octets = self.held.as_slice();
+        let enough = octets_seen(self.shape.rate, self.t, steps);
+        if octets.len() < enough {
+            return false;
+        }
+        let count = slip(self.shape.rate, self.shape.invert, self.t, steps, octets);
+        self.starts = starts_after(self.starts, count);
+        self.held.drop_front(usize::from(count));
+        self.dropped = Some(count);
+        true
+    }
+
+    // Hands over the block of the next window, which the octets held close.
+    fn close_next<B: BlockTaker>(&mut self, blocks: &mut B) -> Result<(), Failed>
+        requires followed { (steps : ℕ) × (self.old.seen ≡ Option.Some steps) }
+        requires decided { (dropped : ℕ) × (self.old.dropped ≡ Option.Some dropped) }
+        requires room { steps_size self.old.shape.rate self.old.t (self.old.shape.keep + self.old.shape.ahead + 1) ≤ length self.old.held.octets }
+        requires few { self.old.t < 2 ^ 60 }
+        ensures ok { OnOk result ((block : WindowBlock) × B.took blocks.old block blocks.new
+            × ((all rest : List ℕ) (done : List WindowBlock) → Reaches self.old all rest done
+            → Reaches self.new all rest (done ++ block ∷ []))) }
+        ensures err { OnErr result ((block : WindowBlock) × B.broke blocks.old block blocks.new
+            × ((all rest : List ℕ) (done : List WindowBlock) → Reaches self.old all rest done
+            → AreFollowedFirst (windows_of self.old) all (done ++ block ∷ []))) }
+        ensures left_open { OnErr result (IsOpen self.new × IsDecided self.new) }
+        ensures shorter { length self.new.held.octets < length self.old.held.octets }
+        ensures counted { reached self.new ≤ reached self.old }
+        ensures windows { windows_of self.new ≡ windows_of self.old }
+        ensures cause { HasCause (B.faults blocks.old) (B.faults blocks.new) (B.is_last blocks.new) result }
+    {
+        let dropped = self.dropped.unwrap_or(0);
+        let octets = self.held.as_slice();
+        match self
+            .workers
+            .close_one(self.starts, self.t, octets, dropped, blocks)
+        {
+            Ok(next) => {
+                let steps = self.shape.keep;
+                self.held
+                    .drop_front(steps_len(self.shape.rate, self.t, steps));
+                self.starts = Some(next);
+                self.t += steps as u64;
+                self.dropped = None;
+                self.slips += slip_at(dropped);
+                Ok(())
+            }
+            Err(Failed) => {
+                self.held.clear();
+                Err(Failed)
+            }
+        }
+    }
+
     // Takes the next octets of a piece, until a batch of windows is closed, and hands over the blocks. Answers how many
     // octets these are.
     fn take_next<C: Closing, B: BlockTaker>(
@@ -183,7 +368,7 @@ impl Gathering {
     ) -> Result<usize, Failed>
         requires ready { (count : ℕ) → count ≤ 2 ^ 62 → C.is_ready closing.now count }
         requires room { HasRoom self.old }
-        requires few { self.old.t < 2 ^ 60 }
+        requires few { reached self.old + length rest.now < 2 ^ 60 }
         ensures ok { IfOk result (λ n. (n ≤ length rest.now) × (more : List WindowBlock)
             × HandedOver B.took blocks.old more blocks.new
             × ((all : List ℕ) (done : List WindowBlock) → Reaches self.old all rest.now done
@@ -191,11 +376,11 @@ impl Gathering {
         ensures some { IfOk result (λ n. IsOpen self.old → 0 < length rest.now → 0 < n) }
         ensures err { OnErr result ((tried : List WindowBlock) × HandedPart B.took B.broke blocks.old tried blocks.new
             × ((all : List ℕ) (done : List WindowBlock) → Reaches self.old all rest.now done
-            → AreFirst (settings_of self.old) all (done ++ tried))) }
+            → AreFollowedFirst (windows_of self.old) all (done ++ tried))) }
         ensures is_open { IsOpen self.new }
         ensures counted { IfOk result (λ n. reached self.new ≤ reached self.old + n) }
         ensures stays { OnErr result (reached self.new ≤ reached self.old + length rest.now) }
-        ensures settings { settings_of self.new ≡ settings_of self.old }
+        ensures windows { windows_of self.new ≡ windows_of self.old }
         ensures cause { HasCause (B.faults blocks.old) (B.faults blocks.new) (B.is_last blocks.new) result }
     {
         let count = self.fill(rest);
@@ -220,8 +405,8 @@ impl Gathering {
             → Reaches self.new all [] (done ++ more))) }
         ensures err { OnErr result ((tried : List WindowBlock) × HandedPart B.took B.broke blocks.old tried blocks.new
             × ((all : List ℕ) (done : List WindowBlock) → Reaches self.old all piece.now done
-            → AreFirst (settings_of self.old) all (done ++ tried))) }
-        ensures settings { settings_of self.new ≡ settings_of self.old }
+            → AreFollowedFirst (windows_of self.old) all (done ++ tried))) }
+        ensures windows { windows_of self.new ≡ windows_of self.old }
         ensures counted { reached self.new ≤ reached self.old + length piece.now }
         ensures is_open { IsOpen self.new }
         ensures cause { HasCause (B.faults blocks.old) (B.faults blocks.new) (B.is_last blocks.new) result }
@@ -249,7 +434,7 @@ impl Gathering {
         ensures counted { IsTrue result → reached self.new ≡ reached self.old + length piece.now }
         ensures unchanged { result ≡ false → self.new ≡ self.old }
         ensures room { HasRoom self.new }
-        ensures settings { settings_of self.new ≡ settings_of self.old }
+        ensures windows { windows_of self.new ≡ windows_of self.old }
     {
         if piece.len() > self.room_left() {
             return false;
@@ -258,13 +443,14 @@ impl Gathering {
         true
     }
 
-    /// How many windows the octets held close.
+    /// How many windows the octets held close, or more where the phase is followed, since octets may be dropped.
     pub(crate) fn count_closed(&self) -> usize
         requires room { HasRoom self.now }
         requires few { self.now.t < 2 ^ 60 }
         ensures most { result ≤ self.now.most }
         ensures due { (all : List ℕ) (done : List WindowBlock) → Reaches self.now all [] done
-            → (more : List WindowBlock) × (length more ≡ result) × AreDue (settings_of self.now) all (done ++ more) }
+            → (more : List WindowBlock) × (length more ≤ result) × (self.now.seen ≡ None → length more ≡ result)
+            × AreFollowedDue (windows_of self.now) all (done ++ more) }
     {
         best_path_law();
         closed_windows(self.shape, self.t, self.held.as_slice().len(), self.most)
@@ -282,13 +468,14 @@ impl Gathering {
         requires few { self.old.t + length self.old.held.octets < 2 ^ 60 }
         ensures ok { IfOk result (λ left. (last : List WindowBlock) × HandedOver B.took blocks.old last blocks.new
             × ((all : List ℕ) (done : List WindowBlock) → Reaches self.old all [] done
-            → AreBlocksOf (settings_of self.old) all (done ++ last) left)) }
+            → AreFollowedOf (windows_of self.old) all (done ++ last) left
+            × (kept_of (done ++ last) ≡ self.new.t) × (slips_of (done ++ last) ≡ self.new.slips))) }
         ensures err { OnErr result ((tried : List WindowBlock) × HandedPart B.took B.broke blocks.old tried blocks.new
             × ((all : List ℕ) (done : List WindowBlock) → Reaches self.old all [] done
-            → AreFirst (settings_of self.old) all (done ++ tried) ⊎ ((left : ℕ)
-            × AreBlocksOf (settings_of self.old) all (done ++ tried) left))) }
+            → AreFollowedFirst (windows_of self.old) all (done ++ tried) ⊎ ((left : ℕ)
+            × AreFollowedOf (windows_of self.old) all (done ++ tried) left))) }
         ensures left { IfOk result (λ left. left ≤ 1) }
-        ensures settings { settings_of self.new ≡ settings_of self.old }
+        ensures windows { windows_of self.new ≡ windows_of self.old }
         ensures counted { reached self.new ≤ reached self.old }
         ensures is_open { IsOpen self.new }
         ensures cause { HasCause (B.faults blocks.old) (B.faults blocks.new) (B.is_last blocks.new) result }
@@ -303,22 +490,26 @@ impl Gathering {
         }
     }
 
-    // The same where no window is closed.
+    // The same where no window is closed: nothing is dropped where too few octets are there to look for a slip. The steps of the
+    // last window are counted with those before it, and no octet is held any more.
     fn end_open<B: BlockTaker>(&mut self, blocks: &mut B) -> Result<u8, Failed>
         requires is_open { IsOpen self.old }
+        requires decided { IsDecided self.old }
         requires few { self.old.t < 2 ^ 60 }
         ensures ok { IfOk result (λ left. (last : List WindowBlock) × HandedOver B.took blocks.old last blocks.new
             × ((all : List ℕ) (done : List WindowBlock) → Reaches self.old all [] done
-            → AreBlocksOf (settings_of self.old) all (done ++ last) left)) }
+            → AreFollowedOf (windows_of self.old) all (done ++ last) left
+            × (kept_of (done ++ last) ≡ self.new.t) × (slips_of (done ++ last) ≡ self.new.slips))) }
         ensures err { OnErr result ((last : WindowBlock) × B.broke blocks.old last blocks.new
             × ((all : List ℕ) (done : List WindowBlock) → Reaches self.old all [] done → (left : ℕ)
-            × AreBlocksOf (settings_of self.old) all (done ++ last ∷ []) left)) }
+            × AreFollowedOf (windows_of self.old) all (done ++ last ∷ []) left)) }
         ensures left { IfOk result (λ left. left ≤ 1) }
-        ensures settings { settings_of self.new ≡ settings_of self.old }
-        ensures counted { reached self.new ≡ reached self.old }
+        ensures windows { windows_of self.new ≡ windows_of self.old }
+        ensures counted { reached self.new ≤ reached self.old }
         ensures is_open { IsOpen self.new }
         ensures cause { HasCause (B.faults blocks.old) (B.faults blocks.new) (B.is_last blocks.new) result }
     {
+        let dropped = self.dropped.unwrap_or(0);
         let octets = self.held.as_slice();
         let limit = self.shape.keep + self.shape.ahead;
         let steps = whole_steps(self.shape.rate, self.t, octets.len(), limit);
@@ -326,11 +517,16 @@ impl Gathering {
         if steps == 0 {
             return Ok(left);
         }
-        match self
+        let closed = self
             .workers
-            .close_last(self.starts, self.t, octets, steps, blocks)
-        {
-            Ok(()) => Ok(left),
+            .close_last(self.starts, self.t, octets, steps, dropped, blocks);
+        self.held.clear();
+        match closed {
+            Ok(()) => {
+                self.t += steps as u64;
+                self.slips += slip_at(dropped);
+                Ok(left)
+            }
             Err(Failed) => Err(Failed),
         }
     }

@@ -1,11 +1,12 @@
 // The decoder of a stream, with workers.
-ghost use Rattle.std.specs.Prelude.{◌≡◌, ◌↔◌, ◌++◌, ◌⊎◌, ℕ, ◌+◌, ◌*◌, ◌^◌, ◌<◌, ◌≤◌, IsTrue, List, [], true, false, IfOk, OnOk, IsErrOf, length};
+ghost use Rattle.std.specs.Prelude.{◌≡◌, ◌↔◌, ◌++◌, ◌⊎◌, ℕ, ◌+◌, ◌*◌, ◌^◌, ◌<◌, ◌≤◌, IsTrue, List, [], true, false, Option, Some, None, if◌then◌else◌, IfOk, OnOk, IsErrOf, length};
+ghost use Rattle.std.specs.Option.{ForSome};
 ghost use Rattle.tm_base.specs.Calls.{taker_call};
 ghost use Rattle.tm_base.specs.Takers.{HandedOver, HandedPart};
 ghost use Rattle.tm_viterbi.specs.WindowBlock.{WindowBlock};
-ghost use Rattle.tm_viterbi.specs.Settings.{Settings};
-ghost use Rattle.tm_viterbi.specs.Blocks.{AreBlocksOf};
-ghost use Rattle.tm_viterbi.specs.Due.{AreDue, AreFirst};
+ghost use Rattle.tm_phase.specs.Slip.{steps_seen};
+ghost use Rattle.tm_windows.specs.Followed.{slips_of, kept_of};
+ghost use Rattle.tm_windows.specs.Windows.{AreBlocksIn, AreDueIn, AreFirstIn};
 ghost use Rattle.tm_windows.specs.Gathered.{IsOpen, room_of};
 ghost use Rattle.tm_windows.specs.Sharing.{workers_for, windows_for};
 ghost use Rattle.tm_windows.specs.ParallelDecoding.{Calls, Feeds, Finishes, StandsFor};
@@ -17,6 +18,7 @@ use std::marker::Model;
 use std::thread::Threads;
 use tm_base::{Failed, NoMemory};
 use tm_conv::Rate;
+use tm_phase::steps_seen;
 use tm_viterbi::{BlockTaker, FeedError, Start, WindowShape};
 
 // The steps of the windows that a worker has at a time: so many that making a thread costs little beside them.
@@ -41,13 +43,13 @@ pub struct ParallelDecoder {
 
 impl Model for ParallelDecoder {
     ghost use Rattle.std.specs.Prelude.{◌≤◌, ◌<◌, ◌^◌};
-    ghost use Rattle.tm_windows.specs.Gathered.{settings_of, reached, HasRoom};
+    ghost use Rattle.tm_windows.specs.Gathered.{windows_of, reached, HasRoom};
     ghost use Rattle.tm_windows.specs.ParallelDecoding.{ParallelDecoding};
 
     ghost Value = { ParallelDecoding };
 
     ghost view = { λ d. record {
-      settings = settings_of d.gathering;
+      windows = windows_of d.gathering;
       has_stopped = d.has_stopped;
       count = d.count;
       gathering = d.gathering;
@@ -81,6 +83,20 @@ fn window_count(workers: u8, keep: u32) -> usize
     }
 }
 
+// Over how many steps a slip is looked for, where the phase is followed.
+fn seen_of(follow: bool, keep: u32, ahead: u32) -> Option<usize>
+    requires keep { (64 ≤ keep) × (keep ≤ 65536) }
+    requires ahead { ahead ≤ 4096 }
+    ensures value { result ≡ (if follow then Some (steps_seen keep ahead) else None) }
+    ensures looks { ForSome result (λ steps. (1 ≤ steps) × (steps ≤ 1024) × (steps + 8 ≤ keep + ahead)) }
+{
+    if follow {
+        Some(steps_seen(keep as usize, ahead as usize))
+    } else {
+        None
+    }
+}
+
 // The octets of a piece, or none of them where more would be given in all than are counted.
 fn counted(count: u64, piece: &[u8]) -> &[u8]
     requires { count < 2 ^ 60 }
@@ -99,7 +115,8 @@ impl ParallelDecoder {
     /// A decoder that was given nothing yet, with 1 to 64 workers, for windows of `keep` steps, 64 to 65,536, and
     /// `ahead` more, at most 4,096. Where `invert` is set each second sum was sent inverted. Of each window but the
     /// last `keep` steps are kept. Where fewer than 1,024 steps are kept or fewer than 64 stand ahead, one worker
-    /// decodes all windows.
+    /// decodes all windows. Where `follow` is set a slip is looked for before each window but the first, and as many octets
+    /// are dropped; one worker decodes all windows then, too.
     ///
     /// It fails only where there isn't enough memory.
     pub fn open(
@@ -110,12 +127,15 @@ impl ParallelDecoder {
         keep: u32,
         ahead: u32,
         workers: u8,
+        follow: bool,
     ) -> Result<ParallelDecoder, NoMemory>
         requires keep { (64 ≤ keep) × (keep ≤ 65536) }
         requires ahead { ahead ≤ 4096 }
         requires workers { (0 < workers) × (workers ≤ 64) }
-        ensures settings { IfOk result (λ d.
-            d.settings ≡ record { rate = rate; invert = invert; start = start; keep = keep; ahead = ahead }) }
+        ensures windows { IfOk result (λ d. d.windows ≡ record {
+          settings = record { rate = rate; invert = invert; start = start; keep = keep; ahead = ahead };
+          seen = if follow then Some (steps_seen keep ahead) else None;
+        }) }
         ensures workers { IfOk result (λ d. d.gathering.workers.workers ≡ workers_for workers keep ahead) }
         ensures most { IfOk result (λ d. d.gathering.workers.most ≡ windows_for (workers_for workers keep ahead) keep) }
         ensures fresh { IfOk result (λ d. d.has_stopped ≡ false) }
@@ -129,7 +149,8 @@ impl ParallelDecoder {
             keep: keep as usize,
             ahead: ahead as usize,
         };
-        let gathering = Gathering::new(alloc, start, shape, workers, most)?;
+        let seen = seen_of(follow, keep, ahead);
+        let gathering = Gathering::new(alloc, start, shape, seen, workers, most)?;
         Ok(ParallelDecoder {
             gathering,
             count: 0,
@@ -178,17 +199,17 @@ impl ParallelDecoder {
         ensures call { Calls self.old self.new
             (taker_call B.took B.broke B.faults B.is_last blocks.old blocks.new) result }
         ensures stops { IsTrue self.new.has_stopped ↔ OnOk result ⊥ }
-        ensures settings { self.new.settings ≡ self.old.settings }
+        ensures windows { self.new.windows ≡ self.old.windows }
         ensures handed { OnOk result ((more : List WindowBlock) × HandedOver B.took blocks.old more blocks.new
             × ((given : List ℕ) (done : List WindowBlock) → length given + length piece.now < 2 ^ 60
             → StandsFor self.old given done
             → StandsFor self.new (given ++ piece.now) (done ++ more)
-            × AreDue self.old.settings (given ++ piece.now) (done ++ more))) }
+            × AreDueIn self.old.windows (given ++ piece.now) (done ++ more))) }
         ensures is_open { OnOk result (IsOpen self.new.gathering) }
         ensures prefix { IsErrOf result FeedError.Taker → (tried : List WindowBlock)
             × HandedPart B.took B.broke blocks.old tried blocks.new
             × ((given : List ℕ) (done : List WindowBlock) → StandsFor self.old given done
-            → AreFirst self.old.settings (given ++ piece.now) (done ++ tried)) }
+            → AreFirstIn self.old.windows (given ++ piece.now) (done ++ tried)) }
     {
         if self.has_stopped {
             return Err(FeedError::Stopped);
@@ -214,7 +235,7 @@ impl ParallelDecoder {
         ensures fits { IsTrue result ↔ (self.old.has_stopped ≡ false) × (self.old.count + length piece.now < 2 ^ 60)
             × (length self.old.gathering.held.octets + length piece.now ≤ room_of self.old.gathering) }
         ensures unchanged { result ≡ false → self.new ≡ self.old }
-        ensures settings { (self.new.settings ≡ self.old.settings) × (self.new.has_stopped ≡ self.old.has_stopped) }
+        ensures windows { (self.new.windows ≡ self.old.windows) × (self.new.has_stopped ≡ self.old.has_stopped) }
         ensures gathered { IsTrue result → (given : List ℕ) (done : List WindowBlock) → StandsFor self.old given done
             → StandsFor self.new (given ++ piece.now) done }
     {
@@ -228,12 +249,30 @@ impl ParallelDecoder {
         true
     }
 
-    /// How many blocks are due and were not handed over yet: those of the windows that the octets gathered close.
+    /// How many blocks are due and were not handed over yet: those of the windows that the octets gathered close. Where the phase
+    /// is followed there may be fewer, since octets may be dropped.
     pub fn count_closed(&self) -> usize
         ensures { (given : List ℕ) (done : List WindowBlock) → StandsFor self.now given done
-            → (more : List WindowBlock) × (length more ≡ result) × AreDue self.now.settings given (done ++ more) }
+            → (more : List WindowBlock) × (length more ≤ result) × (self.now.windows.seen ≡ None → length more ≡ result)
+            × AreDueIn self.now.windows given (done ++ more) }
     {
         self.gathering.count_closed()
+    }
+
+    /// How many steps the blocks that were handed over keep.
+    pub fn steps(&self) -> u64
+        ensures value { result ≡ self.now.gathering.t }
+        ensures kept { (given : List ℕ) (done : List WindowBlock) → StandsFor self.now given done → result ≡ kept_of done }
+    {
+        self.gathering.t
+    }
+
+    /// Before how many windows octets were dropped whose blocks were handed over.
+    pub fn slips(&self) -> u64
+        ensures value { result ≡ self.now.gathering.slips }
+        ensures count { (given : List ℕ) (done : List WindowBlock) → StandsFor self.now given done → result ≡ slips_of done }
+    {
+        self.gathering.slips
     }
 
     /// Hands over the blocks that are due and were not handed over yet, and that of the last window, where a step is
@@ -270,15 +309,16 @@ impl ParallelDecoder {
         ensures call { Calls self.old self.new
             (taker_call B.took B.broke B.faults B.is_last blocks.old blocks.new) result }
         ensures stops { self.new.has_stopped ≡ true }
-        ensures settings { self.new.settings ≡ self.old.settings }
+        ensures windows { self.new.windows ≡ self.old.windows }
         ensures handed { IfOk result (λ left. (last : List WindowBlock) × HandedOver B.took blocks.old last blocks.new
             × ((given : List ℕ) (done : List WindowBlock) → StandsFor self.old given done
-            → AreBlocksOf self.old.settings given (done ++ last) left)) }
+            → AreBlocksIn self.old.windows given (done ++ last) left
+            × (kept_of (done ++ last) ≡ self.new.gathering.t) × (slips_of (done ++ last) ≡ self.new.gathering.slips))) }
         ensures prefix { IsErrOf result FeedError.Taker → (tried : List WindowBlock)
             × HandedPart B.took B.broke blocks.old tried blocks.new
             × ((given : List ℕ) (done : List WindowBlock) → StandsFor self.old given done
-            → AreFirst self.old.settings given (done ++ tried) ⊎ ((left : ℕ)
-            × AreBlocksOf self.old.settings given (done ++ tried) left)) }
+            → AreFirstIn self.old.windows given (done ++ tried) ⊎ ((left : ℕ)
+            × AreBlocksIn self.old.windows given (done ++ tried) left)) }
         ensures left { IfOk result (λ left. left ≤ 1) }
     {
         if self.has_stopped {

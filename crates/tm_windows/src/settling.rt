@@ -8,6 +8,7 @@ ghost use Rattle.tm_viterbi.specs.WindowBlock.{WindowBlock};
 ghost use Rattle.tm_viterbi.specs.Blocks.{IsBlock};
 ghost use Rattle.tm_viterbi.specs.Due.{Place};
 ghost use Rattle.tm_windows.specs.Candidates.{IsCandidate, AreCandidates, HaveRoom, ClosesWith, ClosedWith, block_of, after_windows};
+ghost use Rattle.tm_windows.specs.Followed.{dropped_at};
 
 use crate::candidate::Candidate;
 use crate::decoding::decode_window;
@@ -26,16 +27,18 @@ fn is_from(candidate: &Candidate, starts: Option<u8>) -> bool
     }
 }
 
-// Hands over the block that a candidate is, and answers the register after its kept steps.
+// Hands over the block that a candidate is, before whose window so many octets were dropped, and answers the register after
+// its kept steps.
 fn hand_block<B: BlockTaker>(
     candidate: &Candidate,
     shape: WindowShape,
+    dropped: u8,
     blocks: &mut B,
 ) -> Result<u8, Failed>
     requires { shape.keep + shape.ahead ≤ 69632 }
     ensures ok { IfOk result (λ next. (next ≡ candidate.now.path.end_state)
-        × B.took blocks.old (block_of shape candidate.now) blocks.new) }
-    ensures err { OnErr result (B.broke blocks.old (block_of shape candidate.now) blocks.new) }
+        × B.took blocks.old (dropped_at dropped (block_of shape candidate.now)) blocks.new) }
+    ensures err { OnErr result (B.broke blocks.old (dropped_at dropped (block_of shape candidate.now)) blocks.new) }
     ensures cause { HasCause (B.faults blocks.old) (B.faults blocks.new) (B.is_last blocks.new) result }
 {
     let block = Block {
@@ -45,7 +48,7 @@ fn hand_block<B: BlockTaker>(
         metric: candidate.path.metric,
         bits: candidate.bits.as_slice(),
         end_state: candidate.path.end_state,
-        dropped: 0,
+        dropped,
     };
     match blocks.block(&block) {
         Ok(()) => Ok(candidate.path.end_state),
@@ -83,7 +86,39 @@ fn settle<B: BlockTaker>(
     if !is_from(candidate, starts) {
         decode_window(decoder, shape, candidate, starts, t, octets);
     }
-    hand_block(candidate, shape, blocks)
+    hand_block(candidate, shape, 0, blocks)
+}
+
+/// Decodes the window from step t on that starts from these registers, before which so many octets were dropped, and hands
+/// its block over. Answers the register after its kept steps.
+pub(crate) fn hand_window<B: BlockTaker>(
+    candidate: &mut Candidate,
+    decoder: &mut WindowDecoder,
+    shape: WindowShape,
+    starts: Option<u8>,
+    t: u64,
+    octets: &[u8],
+    dropped: u8,
+    blocks: &mut B,
+) -> Result<u8, Failed>
+    requires shape { decoder.old ≡ shape }
+    requires small { shape.keep + shape.ahead ≤ 69632 }
+    requires bits { vec_len candidate.old.bits ≡ shape.keep + shape.ahead }
+    requires start { ForSome starts (λ register. register < 64) }
+    requires room { steps_size shape.rate t (shape.keep + shape.ahead + 1) ≤ length octets.now }
+    requires few { t < 2 ^ 61 }
+    ensures ok { IfOk result (λ next. (block : WindowBlock) × B.took blocks.old (dropped_at dropped block) blocks.new
+        × (block.end_state ≡ next) × (block.kept ≡ shape.keep)
+        × ClosesWith shape (record { starts = starts; t = t; octets = octets.now }) block) }
+    ensures small { IfOk result (λ next. next < 64) }
+    ensures err { OnErr result ((block : WindowBlock) × B.broke blocks.old (dropped_at dropped block) blocks.new
+        × ClosesWith shape (record { starts = starts; t = t; octets = octets.now }) block) }
+    ensures cause { HasCause (B.faults blocks.old) (B.faults blocks.new) (B.is_last blocks.new) result }
+    ensures bits { vec_len candidate.new.bits ≡ vec_len candidate.old.bits }
+    ensures same { decoder.new ≡ shape }
+{
+    decode_window(decoder, shape, candidate, starts, t, octets);
+    hand_block(candidate, shape, dropped, blocks)
 }
 
 /// Hands over the blocks of windows one after another, of which the first starts from these registers, and answers the
@@ -136,7 +171,7 @@ pub(crate) fn settle_run<B: BlockTaker>(
     Ok(starts)
 }
 
-/// Decodes the last window, of so many steps, all of them kept, and hands its block over.
+/// Decodes the last window, of so many steps, all of them kept, and hands its block over, as `hand_window` does.
 pub(crate) fn hand_last<B: BlockTaker>(
     candidate: &mut Candidate,
     decoder: &mut WindowDecoder,
@@ -145,6 +180,7 @@ pub(crate) fn hand_last<B: BlockTaker>(
     t: u64,
     octets: &[u8],
     steps: usize,
+    dropped: u8,
     blocks: &mut B,
 ) -> Result<(), Failed>
     requires shape { decoder.old ≡ shape }
@@ -154,9 +190,9 @@ pub(crate) fn hand_last<B: BlockTaker>(
     requires start { ForSome starts (λ register. register < 64) }
     requires octets { steps_size shape.rate t steps ≤ length octets.now }
     requires few { t < 2 ^ 61 }
-    ensures ok { OnOk result ((last : WindowBlock) × B.took blocks.old last blocks.new
+    ensures ok { OnOk result ((last : WindowBlock) × B.took blocks.old (dropped_at dropped last) blocks.new
         × IsBlock shape.rate shape.invert shape.keep shape.ahead starts t steps octets.now last) }
-    ensures err { OnErr result ((last : WindowBlock) × B.broke blocks.old last blocks.new
+    ensures err { OnErr result ((last : WindowBlock) × B.broke blocks.old (dropped_at dropped last) blocks.new
         × IsBlock shape.rate shape.invert shape.keep shape.ahead starts t steps octets.now last) }
     ensures cause { HasCause (B.faults blocks.old) (B.faults blocks.new) (B.is_last blocks.new) result }
     ensures bits { vec_len candidate.new.bits ≡ vec_len candidate.old.bits }
@@ -172,7 +208,7 @@ pub(crate) fn hand_last<B: BlockTaker>(
         metric: path.metric,
         bits,
         end_state: path.end_state,
-        dropped: 0,
+        dropped,
     };
     blocks.block(&block)
 }

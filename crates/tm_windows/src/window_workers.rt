@@ -7,12 +7,13 @@ ghost use Rattle.tm_base.specs.Outside.{HasCause};
 ghost use Rattle.tm_conv.specs.Path.{steps_size};
 ghost use Rattle.tm_viterbi.specs.WindowBlock.{WindowBlock};
 ghost use Rattle.tm_viterbi.specs.Blocks.{IsBlock};
-ghost use Rattle.tm_windows.specs.Candidates.{HaveRoom};
+ghost use Rattle.tm_windows.specs.Candidates.{HaveRoom, ClosesWith};
 ghost use Rattle.tm_windows.specs.ClosedRun.{CanClose, ClosedRun};
+ghost use Rattle.tm_windows.specs.Followed.{dropped_at};
 
 use crate::candidate::Candidate;
 use crate::closing::{Closing, OneByOne};
-use crate::settling::{hand_last, settle_run};
+use crate::settling::{hand_last, hand_window, settle_run};
 use crate::sharing::decode_evenly;
 use std::alloc::{AllocError, Global};
 use std::marker::Model;
@@ -238,8 +239,48 @@ impl WindowWorkers {
         )
     }
 
+    /// Closes the next window alone, before which `dropped` octets were dropped, and hands over its block. Answers the
+    /// register from which the window after it starts. It begins at step `t`, below 2^61, with `octets`, and starts from the
+    /// register `starts` or from any.
+    ///
+    /// `Failed` comes only where the taker's count of faults rose.
+    pub fn close_one<B: BlockTaker>(
+        &mut self,
+        starts: Option<u8>,
+        t: u64,
+        octets: &[u8],
+        dropped: u8,
+        blocks: &mut B,
+    ) -> Result<u8, Failed>
+        requires some { 0 < self.old.most }
+        requires start { ForSome starts (λ register. register < 64) }
+        requires room { steps_size self.old.shape.rate t (self.old.shape.keep + self.old.shape.ahead + 1) ≤ length octets.now }
+        requires few { t < 2 ^ 61 }
+        ensures ok { IfOk result (λ next. (block : WindowBlock) × B.took blocks.old (dropped_at dropped block) blocks.new
+            × (block.end_state ≡ next) × (block.kept ≡ self.old.shape.keep)
+            × ClosesWith self.old.shape (record { starts = starts; t = t; octets = octets.now }) block) }
+        ensures small { IfOk result (λ next. next < 64) }
+        ensures err { OnErr result ((block : WindowBlock) × B.broke blocks.old (dropped_at dropped block) blocks.new
+            × ClosesWith self.old.shape (record { starts = starts; t = t; octets = octets.now }) block) }
+        ensures cause { HasCause (B.faults blocks.old) (B.faults blocks.new) (B.is_last blocks.new) result }
+        ensures same { self.new ≡ self.old }
+    {
+        let decoders = self.decoders.as_mut_slice();
+        let candidates = self.candidates.as_mut_slice();
+        hand_window(
+            &mut candidates[0],
+            &mut decoders[0],
+            self.shape,
+            starts,
+            t,
+            octets,
+            dropped,
+            blocks,
+        )
+    }
+
     /// Hands over the block of the last window, of `steps` steps, all of them kept: it begins at step `t`, below
-    /// 2^61, with `octets`, and starts from the register `starts` or from any.
+    /// 2^61, with `octets`, before which `dropped` octets were dropped, and starts from the register `starts` or from any.
     ///
     /// `Failed` comes only where the taker's count of faults rose.
     pub fn close_last<B: BlockTaker>(
@@ -248,6 +289,7 @@ impl WindowWorkers {
         t: u64,
         octets: &[u8],
         steps: usize,
+        dropped: u8,
         blocks: &mut B,
     ) -> Result<(), Failed>
         requires some { 0 < self.old.most }
@@ -255,9 +297,9 @@ impl WindowWorkers {
         requires steps { steps ≤ self.old.shape.keep + self.old.shape.ahead }
         requires octets { steps_size self.old.shape.rate t steps ≤ length octets.now }
         requires few { t < 2 ^ 61 }
-        ensures ok { OnOk result ((last : WindowBlock) × B.took blocks.old last blocks.new
+        ensures ok { OnOk result ((last : WindowBlock) × B.took blocks.old (dropped_at dropped last) blocks.new
             × IsBlock self.old.shape.rate self.old.shape.invert self.old.shape.keep self.old.shape.ahead starts t steps octets.now last) }
-        ensures err { OnErr result ((last : WindowBlock) × B.broke blocks.old last blocks.new
+        ensures err { OnErr result ((last : WindowBlock) × B.broke blocks.old (dropped_at dropped last) blocks.new
             × IsBlock self.old.shape.rate self.old.shape.invert self.old.shape.keep self.old.shape.ahead starts t steps octets.now last) }
         ensures cause { HasCause (B.faults blocks.old) (B.faults blocks.new) (B.is_last blocks.new) result }
         ensures same { self.new ≡ self.old }
@@ -272,6 +314,7 @@ impl WindowWorkers {
             t,
             octets,
             steps,
+            dropped,
             blocks,
         )
     }

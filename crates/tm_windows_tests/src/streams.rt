@@ -88,6 +88,7 @@ fn opened(
         keep as u32,
         ahead as u32,
         workers,
+        false,
     )?)
 }
 

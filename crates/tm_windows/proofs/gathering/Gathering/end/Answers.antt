@@ -1,6 +1,7 @@
-use Rattle.std.proofs.Common.{◌++◌, ◌∷◌, [], inr}
+use Rattle.std.proofs.Common.{◌++◌, ◌∷◌, ◌∙◌, [], inl, inr, sym, ap, append_assoc}
 use Rattle.tm_base.proofs.Handing.{HandedOver-append, HandedPart-after, HandedPart-first}
-use Rattle.tm_windows.specs.Gathered.{settings_of}
+use Rattle.tm_windows.specs.Followed.{slips_of, kept_of}
+use Rattle.tm_windows.specs.Gathered.{windows_of}
 use Rattle.tm_windows.proofs.Gatherings.{blocks_after}
 use Rattle.tm_windows.proofs.gathering.Gathering.end.Goals as goal
 
@@ -11,9 +12,13 @@ returns-in-Ok-end_open-clause-ok g c =
       first.0 ++ last.0,
       HandedOver-append _ c.args.blocks.now c.close.new.blocks c.end_open.new.blocks first.0 last.0 first.1 last.1,
       λ all done r.
-          blocks_after (settings_of c.close.new.self) (settings_of c.args.self.now) all done first.0 last.0
-          c.in-Ok-end_open.left c.close.ensures.settings
-          (last.2 all (done ++ first.0) (first.2 all [] done r)),
+          let are = last.2 all (done ++ first.0) (first.2 all [] done r) in
+          let same = append_assoc done first.0 last.0 in (
+            blocks_after (windows_of c.close.new.self) (windows_of c.args.self.now) all done first.0 last.0
+                c.in-Ok-end_open.left c.close.ensures.windows are.0,
+            ap kept_of (sym same) ∙ are.1,
+            ap slips_of (sym same) ∙ are.2,
+          ),
     )
 
 pub returns-in-Err-end_open-clause-err : goal.returns-in-Err-end_open-clause-err
@@ -27,7 +32,11 @@ returns-in-Err-end_open-clause-err g c =
           let are = last.2 all (done ++ first.0) (first.2 all [] done r) in
           inr (
             are.0,
-            blocks_after (settings_of c.close.new.self) (settings_of c.args.self.now) all done first.0
-                (last.0 ∷ []) are.0 c.close.ensures.settings are.1,
+            blocks_after (windows_of c.close.new.self) (windows_of c.args.self.now) all done first.0
+                (last.0 ∷ []) are.0 c.close.ensures.windows are.1,
           ),
     )
+
+pub returns-in-Err-clause-err : goal.returns-in-Err-clause-err
+returns-in-Err-clause-err g c =
+    let err = c.in-Err.ensures.err in (err.0, err.1, λ all done r. inl (err.2 all [] done r))

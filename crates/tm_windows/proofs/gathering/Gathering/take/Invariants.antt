@@ -1,13 +1,13 @@
 use Rattle.std.proofs.Common.{◌≡◌, ◌≤◌, ◌-◌, ◌+◌, ◌++◌, ℕ, List, length, drop}
 use Rattle.tm_base.specs.Takers.{HandedOver}
 use Rattle.tm_viterbi.specs.WindowBlock.{WindowBlock}
-use Rattle.tm_windows.specs.Gathered.{Reaches, IsOpen, reached, settings_of}
+use Rattle.tm_windows.specs.Gathered.{Reaches, IsOpen, reached, windows_of}
 use Rattle.tm_windows.proofs.gathering.Gathering.take.Given as goal
 
 abbrev pub invariant-loop-at : goal.invariant-loop-at
 invariant-loop-at g l = record {
   within : l.at ≤ length l.piece;
-  settings : settings_of l.self ≡ settings_of l.fn.self;
+  windows : windows_of l.self ≡ windows_of l.fn.self;
   counted : reached l.self ≤ reached l.fn.self + l.at;
   is_open : IsOpen l.self;
   faults : g.B.BlockTaker.faults l.blocks ≡ g.B.BlockTaker.faults l.fn.blocks;

@@ -1,8 +1,10 @@
 use Rattle.std.proofs.Common.{◌≡◌, ◌+◌, ◌++◌, ◌∙◌, ℕ, List, sym, subst, ap, arith, append_assoc, refl, length, length-append}
-use Rattle.tm_viterbi.specs.Due.{AreDue, AreFirst}
-use Rattle.tm_windows.specs.Gathered.{settings_of}
+use Rattle.tm_windows.specs.Followed.{Windows, AreFollowedFirst}
+use Rattle.tm_windows.specs.Windows.{AreDueIn, AreFirstIn}
+use Rattle.tm_windows.specs.Gathered.{windows_of}
 use Rattle.tm_windows.specs.ParallelDecoding.{ParallelDecoding, StandsFor}
-use Rattle.tm_windows.proofs.Gatherings.{Reaches-append, AreDue-reached, due_with, first_with, first_longer, has_room}
+use Rattle.tm_windows.proofs.Gatherings.{Reaches-append, AreDue-reached, due-in, first-in, has_room}
+use Rattle.tm_windows.proofs.FollowedOnce.{followed-prefix}
 use Rattle.tm_windows.proofs.parallel_decoder.ParallelDecoder.feed_by.Goals as goal
 
 pub invariant_of-self : goal.invariant_of-self
@@ -26,12 +28,12 @@ returns-in-Ok-clause-handed g c =
     let ok = c.in-Ok.ensures.ok in
     let old = c.args.self.now in
     let now : ParallelDecoding = record {
-      settings = settings_of c.take.new.self;
+      windows = windows_of c.take.new.self;
       has_stopped = c.self.inside.has_stopped;
       count = c.self.inside.count + length taken;
       gathering = c.take.new.self;
     } in
-    let set : settings_of s ≡ old.settings = ap (λ (d : ParallelDecoding). d.settings) c.self.view_is in (
+    let set : windows_of s ≡ old.windows = ap (λ (d : ParallelDecoding). d.windows) c.self.view_is in (
       ok.0,
       ok.1,
       λ given done few stands.
@@ -39,13 +41,14 @@ returns-in-Ok-clause-handed g c =
           let reaches = ok.2 (given ++ taken) done (Reaches-append s given taken done stood.reaches) in
           let due = AreDue-reached c.take.new.self (given ++ taken) (done ++ ok.0) reaches c.take.ensures.is_open in
           let same = c.counted-piece.ensures.all (omega (arith, few, stood.count)) in
-          subst (λ (v : List ℕ). StandsFor now (given ++ v) (done ++ ok.0) × AreDue old.settings (given ++ v) (done ++ ok.0)) same (
+          subst (λ (v : List ℕ). StandsFor now (given ++ v) (done ++ ok.0) × AreDueIn old.windows (given ++ v) (done ++ ok.0)) same (
             record {
-              settings = refl;
+              windows = refl;
               count = omega (arith, stood.count, length-append given taken);
               reaches = reaches;
             },
-            due_with _ _ (given ++ taken) (done ++ ok.0) (c.take.ensures.settings ∙ set) due,
+            subst (λ (w : Windows). AreDueIn w (given ++ taken) (done ++ ok.0)) (c.take.ensures.windows ∙ set)
+                (due-in c.take.new.self.seen (windows_of c.take.new.self) (given ++ taken) (done ++ ok.0) refl due),
           ),
     )
 
@@ -56,12 +59,14 @@ returns-in-Err-clause-prefix g c = λ _.
     let taken = c.counted-piece.result.now in
     let more = c.counted-piece.ensures.prefix in
     let err = c.in-Err.ensures.err in
-    let set : settings_of s ≡ old.settings = ap (λ (d : ParallelDecoding). d.settings) c.self.view_is in (
+    let set : windows_of s ≡ old.windows = ap (λ (d : ParallelDecoding). d.windows) c.self.view_is in (
       err.0,
       err.1,
       λ given done stands.
           let stood = subst (λ (d : ParallelDecoding). StandsFor d given done) (sym c.self.view_is) stands in
           let first = err.2 (given ++ taken) done (Reaches-append s given taken done stood.reaches) in
-          subst (λ (v : List ℕ). AreFirst old.settings v (done ++ err.0)) (append_assoc given taken more.0 ∙ ap (λ (v : List ℕ). given ++ v) more.1)
-          (first_longer old.settings (given ++ taken) more.0 (done ++ err.0) (first_with _ _ (given ++ taken) (done ++ err.0) set first)),
+          subst (λ (w : Windows). AreFirstIn w (given ++ c.args.piece.now) (done ++ err.0)) set
+          (first-in s.seen (windows_of s) (given ++ c.args.piece.now) (done ++ err.0) refl
+          (subst (λ (v : List ℕ). AreFollowedFirst (windows_of s) v (done ++ err.0)) (append_assoc given taken more.0 ∙ ap (λ (v : List ℕ). given ++ v) more.1)
+          (followed-prefix (windows_of s) (given ++ taken) more.0 (done ++ err.0) first))),
     )

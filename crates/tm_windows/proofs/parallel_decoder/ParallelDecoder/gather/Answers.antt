@@ -8,7 +8,7 @@ returns-clause-gathered c = λ yes given done stands.
     let piece = c.args.piece.now in
     let stood = subst (λ (d : ParallelDecoding). StandsFor d given done) (sym c.self.view_is) stands in
     record {
-      settings = refl;
+      windows = refl;
       count = omega (arith, stood.count, length-append given piece);
       reaches = c.if-not-gather.ensures.reaches yes (given ++ piece) done
           (Reaches-append c.self.inside.gathering given piece done stood.reaches);

@@ -1,0 +1,213 @@
+-- Closed windows one behind the other, where octets may be dropped before each.
+use Rattle.std.proofs.Common.{◌≡◌, inl, inr, ℕ, zero, suc, ◌+◌, ◌-◌, ◌*◌, ◌<◌, ◌≤◌, ◌∙◌, ◌++◌, refl, sym, ap, subst, arith, unwrap_or, List, [], ◌∷◌, Option, Some, None, length, length-drop, length-append, drop}
+use Rattle.std.proofs.lemmas.List.{append-nil, drop-append-le}
+use Rattle.tm_conv.specs.Path.{steps_size}
+use Rattle.tm_conv.proofs.Sizes.{steps_size-le, steps_size-add}
+use Rattle.tm_viterbi.specs.Settings.{Settings}
+use Rattle.tm_viterbi.specs.WindowBlock.{WindowBlock}
+use Rattle.tm_viterbi.specs.Blocks.{IsBlock}
+use Rattle.tm_viterbi.specs.Due.{Place, Closes, Closed, after_block}
+use Rattle.tm_viterbi.specs.declared.window_decoder.WindowShape.{WindowShape}
+use Rattle.tm_viterbi.proofs.Closing.{more_octets, kept_is, Closes-append}
+use Rattle.tm_phase.specs.Slip.{octets_seen, IsSlip}
+use Rattle.tm_phase.proofs.Slips.{IsSlip-prefix, IsSlip-within}
+use Rattle.tm_windows.specs.Candidates.{ClosesWith}
+use Rattle.tm_windows.specs.Followed.{Windows, Beginning, Spot, starts_after, moved, DropsBy, Begins, BeginsLast, dropped_at, ClosesAt, spot_after, Followed, IsLast, slip_at, slips_of, kept_of}
+use Rattle.tm_windows.specs.Gathered.{IsAt}
+use Rattle.tm_windows.proofs.Beginnings.{begins-one, begins-within, longer_spot, begins-more}
+use Rattle.tm_windows.proofs.FollowedExists.{undropped-same}
+use Rattle.tm_windows.proofs.Runs.{more_times}
+
+abbrev pub place_of : Option ℕ → ℕ → List ℕ → Place
+place_of starts t octets = record { starts = starts; t = t; octets = octets }
+
+-- ---- one window more
+
+pub followed-push : (w : Windows) (from to : Spot) (blocks : List WindowBlock) (b : Beginning) (x : WindowBlock) → Followed w from blocks to
+    → Begins w to b → ClosesAt w.settings b x → Followed w from (blocks ++ x ∷ []) (spot_after w.settings b x)
+followed-push w from to [] b x h begins closes = (b, subst (λ (v : Spot). Begins w v b) (sym h) begins, closes, refl)
+followed-push w from to (y ∷ ys) b x h begins closes =
+    (h.0, h.1, h.2, followed-push w (spot_after w.settings h.0 y) to ys b x h.3 begins closes)
+
+pub followed-both : (w : Windows) (from middle to : Spot) (xs ys : List WindowBlock) → Followed w from xs middle → Followed w middle ys to
+    → Followed w from (xs ++ ys) to
+followed-both w from middle to [] ys h k = subst (λ (v : Spot). Followed w v ys to) (sym h) k
+followed-both w from middle to (x ∷ xs) ys h k = (h.0, h.1, h.2, followed-both w (spot_after w.settings h.0 x) middle to xs ys h.3 k)
+
+-- a window that closes is closed behind dropped octets as well
+pub closes-dropped : (s : Settings) (b : Beginning) (block : WindowBlock) → Closes s.rate s.invert s.keep s.ahead b.place block
+    → ClosesAt s b (dropped_at b.dropped block)
+closes-dropped s b block closes = (
+  subst (λ (v : WindowBlock). Closes s.rate s.invert s.keep s.ahead b.place v) (sym (undropped-same block closes.is_block.dropped)) closes,
+  refl,
+)
+
+-- the same, as the call that closes it tells it: whatever octets come after those that are held
+pub closes-now : (s s' : WindowShape) (starts : Option ℕ) (t : ℕ) (held slice rest : List ℕ) (block : WindowBlock) → s' ≡ s → slice ≡ held
+    → ClosesWith s' (place_of starts t slice) block → ClosesWith s (place_of starts t (held ++ rest)) block
+unfolding more_octets
+closes-now s s' starts t held slice rest block es eo closes =
+    Closes-append s.rate s.invert s.keep s.ahead (place_of starts t held) block rest
+    (subst (λ (o : List ℕ). ClosesWith s (place_of starts t o) block) eo
+    (subst (λ (v : WindowShape). ClosesWith v (place_of starts t slice) block) es closes))
+
+-- where the next window is looked for
+pub next-spot : (s : Settings) (starts : Option ℕ) (t k next size : ℕ) (held left rest : List ℕ) (block : WindowBlock) → block.end_state ≡ next
+    → block.kept ≡ s.keep → size ≡ steps_size s.rate t s.keep → left ≡ drop size held → size ≤ length held
+    → ◌≡◌ {A = Spot} (spot_after s (record { dropped = k; place = place_of starts t (held ++ rest) }) (dropped_at k block))
+    (record { place = place_of (Some next) (t + s.keep) (left ++ rest); decided = None })
+next-spot s starts t k next size held left rest block ee ek es el le =
+    let same : steps_size s.rate t block.kept ≡ size = ap (steps_size s.rate t) ek ∙ sym es in
+    let octets : drop (steps_size s.rate t block.kept) (held ++ rest) ≡ left ++ rest = ap (λ (n : ℕ). drop n (held ++ rest)) same
+    ∙ drop-append-le size held rest le ∙ ap (λ (o : List ℕ). o ++ rest) (sym el) in
+    λ i. record { place = place_of (Some (ee i)) (t + ek i) (octets i); decided = None }
+
+pub kept-append : (xs ys : List WindowBlock) → kept_of (xs ++ ys) ≡ kept_of xs + kept_of ys
+kept-append [] ys = omega arith
+kept-append (x ∷ xs) ys = omega (arith, kept-append xs ys)
+
+pub slips-append : (xs ys : List WindowBlock) → slips_of (xs ++ ys) ≡ slips_of xs + slips_of ys
+slips-append [] ys = omega arith
+slips-append (x ∷ xs) ys = omega (arith, slips-append xs ys)
+
+-- ---- windows before which nothing is dropped
+
+unfollowed-begins : (w : Windows) → w.seen ≡ None → (at : Place) → Begins w (record { place = at; decided = None }) (record { dropped = 0; place = at })
+unfollowed-begins w none at = subst (λ (o : Option ℕ). DropsBy w.settings o at (record { dropped = 0; place = at })) (sym none) refl
+
+closes-plain : (s : Settings) (at : Place) (x : WindowBlock) → Closes s.rate s.invert s.keep s.ahead at x → ClosesAt s (record { dropped = 0; place = at }) x
+closes-plain s at x h = (
+  subst (λ (v : WindowBlock). Closes s.rate s.invert s.keep s.ahead at v) (sym (undropped-same x h.is_block.dropped)) h,
+  h.is_block.dropped,
+)
+
+run-followed : (w : Windows) → w.seen ≡ None → (spot : Spot) (at to : Place) (x : WindowBlock) (xs : List WindowBlock)
+    → Begins w spot (record { dropped = 0; place = at }) → Closed w.settings.rate w.settings.invert w.settings.keep w.settings.ahead at (x ∷ xs) to
+    → Followed w spot (x ∷ xs) (record { place = to; decided = None })
+run-followed w none spot at to x [] begins h = (
+  record { dropped = 0; place = at },
+  begins,
+  closes-plain w.settings at x h.0,
+  ap (λ (p : Place). let next : Spot = record { place = p; decided = None } in next) h.1,
+)
+run-followed w none spot at to x (y ∷ ys) begins h =
+    let next = after_block w.settings.rate at x in (
+      record { dropped = 0; place = at },
+      begins,
+      closes-plain w.settings at x h.0,
+      run-followed w none (record { place = next; decided = None }) next to y ys (unfollowed-begins w none next) h.1,
+    )
+
+-- windows that are closed at once, behind those before
+pub record RunsTo (w : Windows) (from : Spot) (blocks : List WindowBlock) (at : Place) : Type 0 where
+  pub to : Spot
+  pub closed : Followed w from blocks to
+  pub begins : Begins w to (record { dropped = 0; place = at })
+
+pub runs-to : (w : Windows) → w.seen ≡ None → (from spot : Spot) (done more : List WindowBlock) (at to : Place) → Followed w from done spot
+    → Begins w spot (record { dropped = 0; place = at }) → Closed w.settings.rate w.settings.invert w.settings.keep w.settings.ahead at more to
+    → RunsTo w from (done ++ more) to
+runs-to w none from spot done [] at to h begins closed = record {
+  to = spot;
+  closed = subst (λ (v : List WindowBlock). Followed w from v spot) (sym (append-nil done)) h;
+  begins = subst (λ (p : Place). Begins w spot (record { dropped = 0; place = p })) closed begins;
+}
+runs-to w none from spot done (x ∷ xs) at to h begins closed = record {
+  to = record { place = to; decided = None };
+  closed = followed-both w from spot (record { place = to; decided = None }) done (x ∷ xs) h (run-followed w none spot at to x xs begins closed);
+  begins = unfollowed-begins w none to;
+}
+
+pub closed-kept : (s : Settings) (from to : Place) (blocks : List WindowBlock) → Closed s.rate s.invert s.keep s.ahead from blocks to
+    → to.t ≡ from.t + kept_of blocks
+closed-kept s from to [] h = omega (arith, ap (λ (p : Place). p.t) h)
+closed-kept s from to (x ∷ xs) h = omega (arith, closed-kept s (after_block s.rate from x) to xs h.1)
+
+pub closed-slips : (s : Settings) (from to : Place) (blocks : List WindowBlock) → Closed s.rate s.invert s.keep s.ahead from blocks to → slips_of blocks ≡ 0
+closed-slips s from to [] h = refl
+closed-slips s from to (x ∷ xs) h = omega (arith, ap slip_at h.0.is_block.dropped, closed-slips s (after_block s.rate from x) to xs h.1)
+
+-- ---- how many octets are dropped
+
+pub decided-at : (w : Windows) (steps : ℕ) → w.seen ≡ Some steps → (starts now : Option ℕ) (t k : ℕ) (held left rest : List ℕ)
+    → octets_seen w.settings.rate t steps ≤ length held → IsSlip w.settings.rate w.settings.invert t steps held k → left ≡ drop k held
+    → now ≡ starts_after k starts
+    → Begins w (record { place = place_of starts t (held ++ rest); decided = None }) (record { dropped = k; place = place_of now t (left ++ rest) })
+decided-at w steps seen starts now t k held left rest many slip el es =
+    let s = w.settings in
+    let within : k ≤ length held = omega (arith, many, IsSlip-within s.rate s.invert t steps held k slip) in
+    let octets : left ++ rest ≡ drop k (held ++ rest) = ap (λ (o : List ℕ). o ++ rest) el ∙ sym (drop-append-le k held rest within) in
+    let there : place_of now t (left ++ rest) ≡ moved k (place_of starts t (held ++ rest)) = (λ i. place_of (es i) t (octets i)) in
+    subst (λ (o : Option ℕ). DropsBy s o (place_of starts t (held ++ rest)) (record { dropped = k; place = place_of now t (left ++ rest) })) (sym seen) (
+      omega (arith, many, length-append held rest),
+      IsSlip-prefix s.rate s.invert t steps held rest k many slip,
+      there,
+    )
+
+-- ---- octets that follow
+
+pub at-more : (w : Windows) (spot : Spot) (dropped starts : Option ℕ) (t : ℕ) (held piece : List ℕ) → IsAt w spot dropped (place_of starts t held)
+    → IsAt w (longer_spot spot piece) dropped (place_of starts t (held ++ piece))
+unfolding more_octets
+at-more w spot None starts t held piece h = ap (λ (v : Spot). longer_spot v piece) h
+at-more w spot (Some k) starts t held piece h = begins-more w spot (record { dropped = k; place = place_of starts t held }) piece h
+
+-- ---- the last window
+
+pub last-begins : (w : Windows) (spot : Spot) (dropped : Option ℕ) (at : Place) → IsAt w spot dropped at
+    → (dropped ≡ None → (steps : ℕ) × (w.seen ≡ Some steps) × (length at.octets < octets_seen w.settings.rate at.t steps))
+    → BeginsLast w spot (record { dropped = unwrap_or dropped 0; place = at })
+last-begins w spot (Some k) at h few = inl h
+last-begins w spot None at h few =
+    subst (λ (v : Spot). BeginsLast w v (record { dropped = 0; place = at })) (sym h) (inr ((refl, few refl), refl))
+
+pub is-last : (s : Settings) (b : Beginning) (n : ℕ) (block : WindowBlock) → 0 < n
+    → IsBlock s.rate s.invert s.keep s.ahead b.place.starts b.place.t n b.place.octets block → IsLast s b n (dropped_at b.dropped block ∷ [])
+is-last s b zero block some is = absurd (omega (arith, some))
+is-last s b (suc n) block some is = (
+  dropped_at b.dropped block,
+  refl,
+  refl,
+  subst (λ (v : WindowBlock). IsBlock s.rate s.invert s.keep s.ahead b.place.starts b.place.t (suc n) b.place.octets v)
+      (sym (undropped-same block is.dropped)) is,
+)
+
+-- ---- how many windows are closed
+
+-- so many closed windows have so many octets from where the first begins, or more where octets are dropped between them
+pub followed-long : (w : Windows) (from to : Spot) (x : WindowBlock) (xs : List WindowBlock) (h : Followed w from (x ∷ xs) to)
+    → steps_size w.settings.rate h.0.place.t (length (x ∷ xs) * w.settings.keep + w.settings.ahead + 1) ≤ length h.0.place.octets
+followed-long w from to x [] h =
+    let s = w.settings in
+    let one : 1 * s.keep + s.ahead + 1 ≡ s.keep + s.ahead + 1 = omega arith in
+    omega (arith, h.2.0.room, ap (steps_size s.rate h.0.place.t) one)
+followed-long w from to x (y ∷ ys) h =
+    let s = w.settings in
+    let at = h.0.place in
+    let n : ℕ = length (y ∷ ys) in
+    let size : ℕ = n * s.keep + s.ahead + 1 in
+    let kept : x.kept ≡ s.keep = h.2.0.is_block.kept ∙ kept_is s.keep s.ahead in
+    let sum : s.keep + size ≡ (n + 1) * s.keep + s.ahead + 1 = omega (arith, more_times n s.keep) in
+    let next = h.3 in
+    let within = begins-within w (spot_after s h.0 x) next.0 next.1 in
+    omega (
+      arith,
+      followed-long w (spot_after s h.0 x) to y ys next,
+      ap (λ (t : ℕ). steps_size s.rate t size) within.0,
+      within.1,
+      length-drop (steps_size s.rate at.t x.kept) at.octets,
+      ap (steps_size s.rate at.t) kept,
+      ap (λ (k : ℕ). steps_size s.rate (at.t + k) size) kept,
+      steps_size-add s.rate at.t s.keep size,
+      ap (steps_size s.rate at.t) sum,
+      h.2.0.room,
+      steps_size-le s.rate at.t s.keep (s.keep + s.ahead + 1) (omega arith),
+    )
+
+-- a beginning behind a spot stands there, with no more octets
+pub at-within : (w : Windows) (spot : Spot) (dropped : Option ℕ) (at : Place) → IsAt w spot dropped at → (b : Beginning) → Begins w spot b
+    → (b.place.t ≡ at.t) × (length b.place.octets ≤ length at.octets)
+at-within w spot None at h b begins = begins-within w (record { place = at; decided = None }) b (subst (λ (v : Spot). Begins w v b) h begins)
+at-within w spot (Some k) at h b begins =
+    subst (λ (v : Beginning). (v.place.t ≡ at.t) × (length v.place.octets ≤ length at.octets))
+    (begins-one w spot (record { dropped = k; place = at }) b h begins) (refl, omega arith)

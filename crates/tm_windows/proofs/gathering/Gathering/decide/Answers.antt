@@ -1,0 +1,40 @@
+use Rattle.std.proofs.Common.{◌≡◌, ◌≤◌, ◌∙◌, ◌++◌, ℕ, List, Option, sym, ap, subst, arith, length, length-drop, drop}
+use Rattle.tm_phase.specs.Slip.{octets_seen, IsSlip}
+use Rattle.tm_windows.specs.Followed.{Spot, Begins}
+use Rattle.tm_windows.specs.Gathered.{windows_of, IsAt}
+use Rattle.tm_windows.proofs.FollowedRuns.{place_of, decided-at}
+use Rattle.tm_windows.proofs.gathering.Gathering.decide.Goals as goal
+
+-- enough octets are held to look for a slip
+pub slip-count-requires-clause-octets : goal.slip-count-requires-clause-octets
+slip-count-requires-clause-octets c =
+    omega (arith, c.if-octets-enough.false, c.octets_seen-enough.ensures.value)
+
+pub slip-count-requires-clause-steps : goal.slip-count-requires-clause-steps
+slip-count-requires-clause-steps c = (c.args.self.now.looks c.args.steps c.requires.followed).1
+
+pub returns-clause-reaches : goal.returns-clause-reaches
+returns-clause-reaches c = λ all rest done r.
+    let s = c.args.self.now in
+    let w = windows_of s in
+    let octets = c.as_slice-octets in
+    let k = c.slip-count.result in
+    let left = c.drop_front.new.self.octets in
+    let now = c.starts_after-self.result in
+    let many : octets_seen s.shape.rate s.t c.args.steps ≤ length s.held.octets =
+    omega (arith, c.if-octets-enough.false, c.octets_seen-enough.ensures.value, ap length octets.ensures.octets) in
+    let is_slip = subst (λ (o : List ℕ). IsSlip s.shape.rate s.shape.invert s.t c.args.steps o k) octets.ensures.octets c.slip-count.ensures.slip in
+    let cut : left ≡ drop k s.held.octets = c.drop_front.ensures.octets ∙ ap (λ (n : ℕ). drop n s.held.octets) c.from.ensures in
+    let undecided = subst (λ (o : Option ℕ). IsAt w r.to o (place_of s.starts s.t (s.held.octets ++ rest))) c.in_default.is r.at in
+    record {
+      to = r.to;
+      closed = r.closed;
+      at = subst (λ (v : Spot). Begins w v (record { dropped = k; place = place_of now s.t (left ++ rest) })) (sym undecided)
+          (decided-at w c.args.steps c.requires.followed s.starts now s.t k s.held.octets left rest many is_slip cut c.starts_after-self.ensures.value);
+      kept = r.kept;
+      slips = r.slips;
+    }
+
+pub returns-clause-shorter : goal.returns-clause-shorter
+returns-clause-shorter c =
+    omega (arith, ap length c.drop_front.ensures.octets, length-drop c.from.result c.args.self.now.held.octets)

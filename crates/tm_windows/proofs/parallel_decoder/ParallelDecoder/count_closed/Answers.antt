@@ -1,0 +1,20 @@
+use Rattle.std.proofs.Common.{◌≡◌, ◌∙◌, ◌++◌, sym, ap, subst, refl}
+use Rattle.tm_windows.specs.Followed.{Windows}
+use Rattle.tm_windows.specs.Windows.{AreDueIn}
+use Rattle.tm_windows.specs.Gathered.{windows_of}
+use Rattle.tm_windows.specs.ParallelDecoding.{ParallelDecoding, StandsFor}
+use Rattle.tm_windows.proofs.Gatherings.{due-in}
+use Rattle.tm_windows.proofs.parallel_decoder.ParallelDecoder.count_closed.Goals as goal
+
+pub returns : goal.returns
+returns c = λ given done stands.
+    let s = c.self.inside.gathering in
+    let stood = subst (λ (d : ParallelDecoding). StandsFor d given done) (sym c.self.view_is) stands in
+    let set : windows_of s ≡ c.args.self.now.windows = ap (λ (d : ParallelDecoding). d.windows) c.self.view_is in
+    let due = c.count_closed.ensures.due given done stood.reaches in (
+      due.0,
+      due.1,
+      λ none. due.2 (ap (λ (w : Windows). w.seen) set ∙ none),
+      subst (λ (w : Windows). AreDueIn w given (done ++ due.0)) set
+          (due-in s.seen (windows_of s) given (done ++ due.0) refl due.3),
+    )
