@@ -6,16 +6,15 @@ use Rattle.std.proofs.Math.Seq.{take-add}
 use Rattle.tm_base.proofs.Handing.{HandedOver-append, HandedPart-after}
 use Rattle.tm_config.specs.Configuration.{Configuration, is_signed}
 use Rattle.tm_conv.specs.declared.rates.Rate.{Rate}
-use Rattle.tm_viterbi.specs.Settings.{Settings}
 use Rattle.tm_viterbi.specs.WindowBlock.{WindowBlock}
-use Rattle.tm_viterbi.specs.Blocks.{AreBlocksOf}
-use Rattle.tm_viterbi.specs.Due.{AreDue, AreFirst}
+use Rattle.tm_windows.specs.Followed.{Windows}
+use Rattle.tm_windows.specs.Windows.{AreBlocksIn, AreDueIn, AreFirstIn}
 use Rattle.tm_inner.specs.declared.inner_decoder.InnerDecoder.{InnerDecoder}
 use Rattle.tm_viterbi.specs.declared.decoder.FeedError.{FeedError}
 use Rattle.tm_viterbi.specs.declared.decoder.FeedError.TheVariants.{Taker, Stopped}
 use Rattle.tm_inner.specs.Inner.{soft_value, soft_octets, BlocksAt, DueAt, AreInnerBlocks, AreInnerDue}
 use Rattle.tm_inner.specs.Phase.{skipped_at, phase_octets}
-use Rattle.tm_inner.specs.InnerDecoding.{StandsIn, settings_in}
+use Rattle.tm_inner.specs.InnerDecoding.{StandsIn, windows_in}
 use Rattle.tm_base.specs.HeldOctets.{HeldOctets}
 use Rattle.tm_inner.specs.Receiving.{HasClosedAll, IsDecoderOf, DecodesFor, FindsFirst, FirstAt, AreInnerFirst, Hands, HandsPrefix, InnerReceiving, from_form, soft_form}
 use Rattle.tm_inner.proofs.DueBits.{drop-split}
@@ -74,10 +73,10 @@ hands-longer took broke Stands First a taker now first second stay p = record {
 -- ---- the blocks of a configuration
 
 pub blocks-of : (c : Configuration) (d : InnerDecoder) (phase : ℕ) (given : List ℕ) (blocks : List WindowBlock) (left : ℕ) → IsDecoderOf c (Some d)
-    → AreBlocksOf (settings_in d) (soft_octets c phase given) blocks left → AreInnerBlocks c phase given blocks left
+    → AreBlocksIn (windows_in d) (soft_octets c phase given) blocks left → AreInnerBlocks c phase given blocks left
 blocks-of c d phase given blocks left of are =
     subst (λ (r : Option Rate). BlocksAt r c phase given blocks left) (sym of.1)
-    (subst (λ (s : Settings). AreBlocksOf s (soft_octets c phase given) blocks left) of.2 are)
+    (subst (λ (w : Windows). AreBlocksIn w (soft_octets c phase given) blocks left) of.2 are)
 
 pub blocks-none : (c : Configuration) (phase : ℕ) (given : List ℕ) (blocks : List WindowBlock) → c.inner ≡ None → blocks ≡ [] → AreInnerBlocks c phase given blocks 0
 blocks-none c phase given blocks none is = subst (λ (r : Option Rate). BlocksAt r c phase given blocks 0) (sym none) (is, refl)
@@ -86,17 +85,17 @@ pub due-of : (c : Configuration) (decoder : Option InnerDecoder) (phase : ℕ) (
     → HasClosedAll decoder → DecodesFor decoder (soft_octets c phase given) blocks → AreInnerDue c phase given blocks
 due-of c None phase given blocks of closed is = subst (λ (r : Option Rate). DueAt r c phase given blocks) (sym of) is
 due-of c (Some d) phase given blocks of closed is =
-    subst (λ (r : Option Rate). DueAt r c phase given blocks) (sym of.1) (subst (λ (s : Settings). AreDue s (soft_octets c phase given) blocks) of.2 (due-in d (soft_octets c phase given) blocks closed is))
+    subst (λ (r : Option Rate). DueAt r c phase given blocks) (sym of.1) (subst (λ (w : Windows). AreDueIn w (soft_octets c phase given) blocks) of.2 (due-in d (soft_octets c phase given) blocks closed is))
 
 pub first-of : (c : Configuration) (decoder : Option InnerDecoder) (phase : ℕ) (given : List ℕ) (blocks : List WindowBlock) → IsDecoderOf c decoder
     → FindsFirst decoder (soft_octets c phase given) blocks → AreInnerFirst c phase given blocks
 first-of c None phase given blocks of is = subst (λ (r : Option Rate). FirstAt r c phase given blocks) (sym of) is
 first-of c (Some d) phase given blocks of is =
-    subst (λ (r : Option Rate). FirstAt r c phase given blocks) (sym of.1) (subst (λ (s : Settings). AreFirst s (soft_octets c phase given) blocks) of.2 is)
+    subst (λ (r : Option Rate). FirstAt r c phase given blocks) (sym of.1) (subst (λ (w : Windows). AreFirstIn w (soft_octets c phase given) blocks) of.2 is)
 
 -- first blocks of closed windows, or first ones of all
 pub prefix-of : (c : Configuration) (d : InnerDecoder) (phase : ℕ) (given : List ℕ) (blocks : List WindowBlock) → IsDecoderOf c (Some d)
-    → AreFirst (settings_in d) (soft_octets c phase given) blocks ⊎ ((left : ℕ) × AreBlocksOf (settings_in d) (soft_octets c phase given) blocks left)
+    → AreFirstIn (windows_in d) (soft_octets c phase given) blocks ⊎ ((left : ℕ) × AreBlocksIn (windows_in d) (soft_octets c phase given) blocks left)
     → AreInnerFirst c phase given blocks ⊎ ((left : ℕ) × AreInnerBlocks c phase given blocks left)
 prefix-of c d phase given blocks of (inl first) = inl (first-of c (Some d) phase given blocks of first)
 prefix-of c d phase given blocks of (inr all) = inr (all.0, blocks-of c d phase given blocks all.0 of all.1)
@@ -146,7 +145,7 @@ pub hands-some : {T : Type 0} (took : T → WindowBlock → T → Type 0) (d now
 hands-some took d now taker taker_now soft p = record { more = p.more; handed = p.handed; stands = p.stands }
 
 pub hands_prefix-some : {T : Type 0} (took broke : T → WindowBlock → T → Type 0) (d : InnerDecoder) (taker taker_now : T) (soft : List ℕ)
-    → HandsPrefix took broke StandsIn (AreFirst (settings_in d)) d taker taker_now soft → HandsPrefix took broke DecodesFor (FindsFirst (Some d)) (Some d) taker taker_now soft
+    → HandsPrefix took broke StandsIn (AreFirstIn (windows_in d)) d taker taker_now soft → HandsPrefix took broke DecodesFor (FindsFirst (Some d)) (Some d) taker taker_now soft
 hands_prefix-some took broke d taker taker_now soft p = record { tried = p.tried; handed = p.handed; first = p.first }
 
 pub decoded : {T : Type 0} (took : T → WindowBlock → T → Type 0) (o : Option InnerDecoder) (d now : InnerDecoder) (taker taker_now : T) (soft all : List ℕ) → o ≡ Some d → soft ≡ all
@@ -156,7 +155,7 @@ decoded took o d now taker taker_now soft all is same p =
     (subst (λ (q : Option InnerDecoder). Hands took DecodesFor q (Some now) taker taker_now soft) (sym is) (hands-some took d now taker taker_now soft p))
 
 pub decoded_prefix : {T : Type 0} (took broke : T → WindowBlock → T → Type 0) (o : Option InnerDecoder) (d : InnerDecoder) (taker taker_now : T) (soft all : List ℕ) → o ≡ Some d → soft ≡ all
-    → HandsPrefix took broke StandsIn (AreFirst (settings_in d)) d taker taker_now soft → HandsPrefix took broke DecodesFor (FindsFirst o) o taker taker_now all
+    → HandsPrefix took broke StandsIn (AreFirstIn (windows_in d)) d taker taker_now soft → HandsPrefix took broke DecodesFor (FindsFirst o) o taker taker_now all
 decoded_prefix took broke o d taker taker_now soft all is same p =
     subst (HandsPrefix took broke DecodesFor (FindsFirst o) o taker taker_now) same
     (subst (λ (q : Option InnerDecoder). HandsPrefix took broke DecodesFor (FindsFirst q) q taker taker_now soft) (sym is) (hands_prefix-some took broke d taker taker_now soft p))
@@ -207,7 +206,7 @@ pub finds-after : (c : Configuration) (decoder : Option InnerDecoder) (phase : �
     → FindsFirst decoder (drop phase (phase_octets c given)) blocks → FindsFirst decoder (soft_octets c phase given) blocks
 finds-after c None phase given blocks of is = is
 finds-after c (Some d) phase given blocks of is =
-    subst (λ (l : List ℕ). AreFirst (settings_in d) l blocks) (soft-after c phase (skipped_at c.inner c) given (ap (λ (r : Option Rate). skipped_at r c) of.1)) is
+    subst (λ (l : List ℕ). AreFirstIn (windows_in d) l blocks) (soft-after c phase (skipped_at c.inner c) given (ap (λ (r : Option Rate). skipped_at r c) of.1)) is
 
 -- ---- octets that are held
 

@@ -17,6 +17,8 @@ use Rattle.tm_config.specs.declared.values.Sought.TheVariants.{Find}
 use Rattle.tm_config.proofs.Choices.{never_both}
 use Rattle.tm_inner.specs.Symbols.{is_inverted}
 use Rattle.tm_inner.specs.Phase.{PhaseAt, IsChosenBy, IsSettledBy, IsSoFarBy, needed_at, skip_of, with_phase}
+use Rattle.tm_windows.specs.Followed.{Windows}
+use Rattle.tm_windows.specs.Windows.{AreFirstIn}
 use Rattle.tm_inner.specs.Inner.{settings_of}
 use Rattle.tm_inner.specs.Receiving.{IsDecoderOf, DecodesFor, FindsFirst, FirstFor, Hands, HandsPrefix, Phasing, Waits, Goes, PhasesFor, IsPrefixBy, IsFirstBy}
 
@@ -85,7 +87,7 @@ first-more closed (Some rate) c soft more blocks is = closed (settings_of c rate
 
 first-by : (c : Configuration) (decoder : Option InnerDecoder) (soft : List ℕ) (blocks : List WindowBlock) → IsDecoderOf c decoder → FindsFirst decoder soft blocks → FirstFor c.inner c soft blocks
 first-by c None soft blocks of is = subst (λ (r : Option Rate). FirstFor r c soft blocks) (sym of) is
-first-by c (Some d) soft blocks of is = subst (λ (r : Option Rate). FirstFor r c soft blocks) (sym of.1) (subst (λ (s : Settings). AreFirst s soft blocks) of.2 is)
+first-by c (Some d) soft blocks of is = subst (λ (r : Option Rate). FirstFor r c soft blocks) (sym of.1) (subst (λ (w : Windows). AreFirstIn w soft blocks) of.2 is)
 
 -- ---- nothing waits
 

@@ -4,13 +4,13 @@ use Rattle.tm_base.specs.Calls.{CallAnswers, TakerCall}
 use Rattle.tm_base.specs.Handed.{Handed, items_of}
 use Rattle.tm_base.specs.Outside.{HasCause}
 use Rattle.tm_viterbi.specs.WindowBlock.{WindowBlock}
-use Rattle.tm_viterbi.specs.Due.{AreFirst}
 use Rattle.tm_viterbi.specs.declared.decoder.FeedError.{FeedError}
 use Rattle.tm_viterbi.specs.declared.decoder.FeedError.TheVariants.{Stopped, Taker}
+use Rattle.tm_windows.specs.Windows.{AreFirstIn}
 use Rattle.tm_inner.specs.declared.inner_decoder.InnerDecoder.{InnerDecoder}
 use Rattle.tm_inner.specs.declared.receiver.InnerEnd.{InnerEnd}
 use Rattle.tm_inner.specs.Inner.{inner_bits}
-use Rattle.tm_inner.specs.InnerDecoding.{has_stopped_in, settings_in, StandsIn}
+use Rattle.tm_inner.specs.InnerDecoding.{has_stopped_in, windows_in, StandsIn}
 use Rattle.tm_inner.specs.Phase.{IsChosen, IsChosenSoFar}
 use Rattle.tm_inner.specs.Receiving.{Hands, HandsPrefix, InnerReceiving, StandsFor}
 use Rattle.tm_inner.specs.Handing.{AreHanded, AreHandedDue, AreHandedFirst, AreHandedPrefix}
@@ -22,11 +22,11 @@ use Rattle.tm_inner.specs.Handing.{AreHanded, AreHandedDue, AreHandedFirst, AreH
 pub record GivesSoft {T R E : Type 0} (took broke : T → WindowBlock → T → Type 0) (faults : T → ℕ)
     (is_last : T → Type 0) (before now : InnerDecoder) (taker taker_now : T) (soft : List ℕ)
     (result : Result R E) : Type 0 where
-  pub settings : settings_in now ≡ settings_in before
+  pub windows : windows_in now ≡ windows_in before
   pub fresh : OnOk result (has_stopped_in now ≡ false)
   pub stopped : OnErr result (has_stopped_in now ≡ true)
   pub handed : OnOk result (Hands took StandsIn before now taker taker_now soft)
-  pub prefix : OnErr result (HandsPrefix took broke StandsIn (AreFirst (settings_in before)) before
+  pub prefix : OnErr result (HandsPrefix took broke StandsIn (AreFirstIn (windows_in before)) before
       taker taker_now soft)
   pub cause : HasCause (faults taker) (faults taker_now) (is_last taker_now) result
 

@@ -12,6 +12,7 @@ use Rattle.tm_viterbi.specs.WindowBlock.{WindowBlock}
 use Rattle.tm_viterbi.specs.Blocks.{AreBlocksOf}
 use Rattle.tm_viterbi.specs.Due.{AreDue}
 use Rattle.tm_viterbi.specs.Clean.{kept_bits}
+use Rattle.tm_windows.specs.Followed.{Windows}
 use Rattle.tm_inner.specs.Symbols.{is_inverted}
 
 -- how soft octets of this rate are decoded
@@ -23,6 +24,10 @@ settings_of c rate = record {
   keep = c.keep;
   ahead = c.ahead;
 }
+
+-- the windows in which they are
+abbrev pub windows_of : Configuration → Rate → Windows
+windows_of c rate = record { settings = settings_of c rate; seen = None }
 
 -- a soft octet as one of which 0 is the surest 0 and 255 the surest 1; in the form i8 these are
 -- -128 and 127, in two's complement

@@ -1,8 +1,8 @@
 -- What contracts see of the decoder of the inner code, with one worker or with several.
 use Rattle.std.specs.Prelude.{◌≡◌, ℕ, Bool, List, Option, Some, None}
-use Rattle.tm_viterbi.specs.Settings.{Settings}
 use Rattle.tm_viterbi.specs.WindowBlock.{WindowBlock}
 use Rattle.tm_viterbi.specs.Decoding.{StandsFor as StandsForOne}
+use Rattle.tm_windows.specs.Followed.{Windows}
 use Rattle.tm_windows.specs.Gathered.{IsOpen}
 use Rattle.tm_windows.specs.Sharing.{workers_for, windows_for}
 use Rattle.tm_windows.specs.ParallelDecoding.{StandsFor as StandsForMany}
@@ -10,9 +10,9 @@ use Rattle.tm_inner.specs.declared.inner_decoder.InnerDecoder.{InnerDecoder}
 use Rattle.tm_inner.specs.declared.inner_decoder.InnerDecoder.TheVariants.{One, Many}
 
 -- how it decodes
-abbrev pub settings_in : InnerDecoder → Settings
-settings_in (One decoder) = decoder.settings
-settings_in (Many decoder) = decoder.settings
+abbrev pub windows_in : InnerDecoder → Windows
+windows_in (One decoder) = record { settings = decoder.settings; seen = None }
+windows_in (Many decoder) = decoder.windows
 
 -- an earlier call answered Taker, or `finish` was called
 abbrev pub has_stopped_in : InnerDecoder → Bool

@@ -10,8 +10,9 @@ use Rattle.tm_viterbi.specs.WindowBlock.{WindowBlock}
 use Rattle.tm_viterbi.specs.Due.{AreFirst}
 use Rattle.tm_inner.specs.declared.inner_decoder.InnerDecoder.{InnerDecoder}
 use Rattle.tm_phase.specs.declared.choosing.Chosen.{Chosen}
-use Rattle.tm_inner.specs.Inner.{settings_of, soft_value, soft_octets}
-use Rattle.tm_inner.specs.InnerDecoding.{HasClosed, settings_in, has_stopped_in, StandsIn}
+use Rattle.tm_windows.specs.Windows.{AreFirstIn}
+use Rattle.tm_inner.specs.Inner.{settings_of, windows_of, soft_value, soft_octets}
+use Rattle.tm_inner.specs.InnerDecoding.{HasClosed, windows_in, has_stopped_in, StandsIn}
 use Rattle.tm_inner.specs.Phase.{IsChosenBy, IsSettledBy, phase_octets, skip_of, with_phase}
 
 -- the decoder is that of the configuration's inner code, and there is none where it has no inner
@@ -19,7 +20,7 @@ use Rattle.tm_inner.specs.Phase.{IsChosenBy, IsSettledBy, phase_octets, skip_of,
 abbrev pub IsDecoderOf : Configuration → Option InnerDecoder → Type 0
 IsDecoderOf c None = c.inner ≡ None
 IsDecoderOf c (Some decoder) = (rate : Rate) × (c.inner ≡ Some rate)
-    × (settings_in decoder ≡ settings_of c rate)
+    × (windows_in decoder ≡ windows_of c rate)
 
 -- the decoder, where there is one, has stopped or not
 abbrev pub HasStopped : Bool → Option InnerDecoder → Type 0
@@ -40,7 +41,7 @@ DecodesFor (Some decoder) soft done = StandsIn decoder soft done
 -- the blocks of the first windows that a decoder finds in soft octets
 abbrev pub FindsFirst : Option InnerDecoder → List ℕ → List WindowBlock → Type 0
 FindsFirst None soft blocks = blocks ≡ []
-FindsFirst (Some decoder) soft blocks = AreFirst (settings_in decoder) soft blocks
+FindsFirst (Some decoder) soft blocks = AreFirstIn (windows_in decoder) soft blocks
 
 -- what contracts see of a decoder after the choice of the phase
 pub record Phasing : Type 0 where

@@ -3,11 +3,10 @@ ghost use Rattle.std.specs.Prelude.{◌≡◌, ◌<◌, ◌≤◌, ◌++◌, ◌
 ghost use Rattle.tm_base.specs.Outside.{HasCause};
 ghost use Rattle.tm_base.specs.Takers.{HandedOver, HandedPart};
 ghost use Rattle.tm_config.specs.Configuration.{Configuration};
-ghost use Rattle.tm_viterbi.specs.Due.{AreFirst};
 ghost use Rattle.tm_viterbi.specs.WindowBlock.{WindowBlock};
 ghost use Rattle.tm_inner.specs.Calls.{GivesSoft};
 ghost use Rattle.tm_inner.specs.Inner.{AreInnerBlocks, AreInnerDue, soft_octets};
-ghost use Rattle.tm_inner.specs.InnerDecoding.{HasClosed, HasWorkers, settings_in, has_stopped_in, StandsIn};
+ghost use Rattle.tm_inner.specs.InnerDecoding.{HasClosed, HasWorkers, windows_in, has_stopped_in, StandsIn};
 ghost use Rattle.tm_inner.specs.Receiving.{AreInnerFirst, HasClosedAll, IsDecoderOf, HasStopped, DecodesFor, FindsFirst, Hands, HandsPrefix, from_form};
 
 use crate::code::{is_inverted, rate_of};
@@ -16,8 +15,8 @@ use crate::workers::{Feeding, count_closed, gather};
 use std::alloc::Global;
 use tm_base::{Failed, NoMemory};
 use tm_config::Config;
-use tm_viterbi::{BlockTaker, Decoder, closed_windows_law};
-use tm_windows::ParallelDecoder;
+use tm_viterbi::{BlockTaker, Decoder};
+use tm_windows::{ParallelDecoder, closed_prefix_law};
 
 // How many signed octets are converted to unsigned ones at a time.
 const PIECE: usize = 256;
@@ -47,7 +46,7 @@ pub fn decoder_of(
             Err(_) => Err(NoMemory),
         };
     }
-    match ParallelDecoder::open(alloc, rate, invert, start, keep, ahead, workers) {
+    match ParallelDecoder::open(alloc, rate, invert, start, keep, ahead, workers, false) {
         Ok(decoder) => Ok(Some(InnerDecoder::Many(decoder))),
         Err(_) => Err(NoMemory),
     }
@@ -110,7 +109,7 @@ pub fn gather_octets(decoder: &mut Option<InnerDecoder>, is_signed: bool, octets
 
 // The same of signed octets.
 fn gather_signed(decoder: &mut InnerDecoder, octets: &[u8]) -> usize
-    ensures settings { settings_in decoder.new ≡ settings_in decoder.old }
+    ensures windows { windows_in decoder.new ≡ windows_in decoder.old }
     ensures stopped { has_stopped_in decoder.new ≡ has_stopped_in decoder.old }
     ensures most { result ≤ length octets.now }
     ensures gathered { (soft : List ℕ) (done : List WindowBlock) → StandsIn decoder.old soft done
@@ -222,7 +221,7 @@ fn feed_signed<F: Feeding<B>, B: BlockTaker>(
         (from_form true octets.now) result }
     ensures closed { OnOk result (HasClosed decoder.new) }
 {
-    closed_windows_law();
+    closed_prefix_law();
     let mut room = [0; PIECE];
     let mut done = 0;
     while done < octets.len() {

@@ -1,11 +1,10 @@
 // How the decoder of the inner code is fed: with its workers, or with no thread.
-ghost use Rattle.std.specs.Prelude.{◌≡◌, ◌≢◌, ◌↔◌, ◌++◌, ◌⊎◌, ℕ, ◌+◌, ◌^◌, ◌<◌, ◌≤◌, IsTrue, List, true, false, IfOk, OnOk, IsErrOf, Err, length};
+ghost use Rattle.std.specs.Prelude.{◌≡◌, ◌≢◌, ◌↔◌, ◌++◌, ◌⊎◌, ℕ, ◌+◌, ◌^◌, ◌<◌, ◌≤◌, IsTrue, List, None, true, false, IfOk, OnOk, IsErrOf, Err, length};
 ghost use Rattle.tm_base.specs.Outside.{Rose};
 ghost use Rattle.tm_base.specs.Takers.{HandedOver, HandedPart};
 ghost use Rattle.tm_viterbi.specs.WindowBlock.{WindowBlock};
-ghost use Rattle.tm_viterbi.specs.Blocks.{AreBlocksOf};
-ghost use Rattle.tm_viterbi.specs.Due.{AreDue, AreFirst};
-ghost use Rattle.tm_inner.specs.InnerDecoding.{HasClosed, settings_in, has_stopped_in, StandsIn};
+ghost use Rattle.tm_windows.specs.Windows.{AreBlocksIn, AreDueIn, AreFirstIn};
+ghost use Rattle.tm_inner.specs.InnerDecoding.{HasClosed, windows_in, has_stopped_in, StandsIn};
 
 use crate::inner_decoder::InnerDecoder;
 use std::thread::Threads;
@@ -25,7 +24,7 @@ pub trait Feeding<B: BlockTaker> {
         requires ready { is_ready self.now }
         ensures stopped { IsErrOf result FeedError.Stopped ↔ IsTrue (has_stopped_in decoder.old) }
         ensures stops { IsTrue (has_stopped_in decoder.new) ↔ OnOk result ⊥ }
-        ensures settings { settings_in decoder.new ≡ settings_in decoder.old }
+        ensures windows { windows_in decoder.new ≡ windows_in decoder.old }
         ensures handed { OnOk result ((more : List WindowBlock) × HandedOver B.took blocks.old more blocks.new
             × ((given : List ℕ) (done : List WindowBlock) → length given + length piece.now < 2 ^ 60
             → StandsIn decoder.old given done → StandsIn decoder.new (given ++ piece.now) (done ++ more))) }
@@ -33,7 +32,7 @@ pub trait Feeding<B: BlockTaker> {
         ensures prefix { IsErrOf result FeedError.Taker → (tried : List WindowBlock)
             × HandedPart B.took B.broke blocks.old tried blocks.new
             × ((given : List ℕ) (done : List WindowBlock) → StandsIn decoder.old given done
-            → AreFirst (settings_in decoder.old) (given ++ piece.now) (done ++ tried)) }
+            → AreFirstIn (windows_in decoder.old) (given ++ piece.now) (done ++ tried)) }
         ensures later { B.faults blocks.old ≤ B.faults blocks.new }
         ensures rose { IsErrOf result FeedError.Taker
             → Rose (B.faults blocks.old) (B.faults blocks.new) (B.is_last blocks.new) }
@@ -44,15 +43,15 @@ pub trait Feeding<B: BlockTaker> {
         requires ready { is_ready self.now }
         ensures stopped { IsErrOf result FeedError.Stopped ↔ IsTrue (has_stopped_in decoder.old) }
         ensures stops { has_stopped_in decoder.new ≡ true }
-        ensures settings { settings_in decoder.new ≡ settings_in decoder.old }
+        ensures windows { windows_in decoder.new ≡ windows_in decoder.old }
         ensures handed { IfOk result (λ left. (last : List WindowBlock) × HandedOver B.took blocks.old last blocks.new
             × ((given : List ℕ) (done : List WindowBlock) → StandsIn decoder.old given done
-            → AreBlocksOf (settings_in decoder.old) given (done ++ last) left)) }
+            → AreBlocksIn (windows_in decoder.old) given (done ++ last) left)) }
         ensures prefix { IsErrOf result FeedError.Taker → (tried : List WindowBlock)
             × HandedPart B.took B.broke blocks.old tried blocks.new
             × ((given : List ℕ) (done : List WindowBlock) → StandsIn decoder.old given done
-            → AreFirst (settings_in decoder.old) given (done ++ tried)
-            ⊎ ((left : ℕ) × AreBlocksOf (settings_in decoder.old) given (done ++ tried) left)) }
+            → AreFirstIn (windows_in decoder.old) given (done ++ tried)
+            ⊎ ((left : ℕ) × AreBlocksIn (windows_in decoder.old) given (done ++ tried) left)) }
         ensures left { IfOk result (λ left. left ≤ 1) }
         ensures later { B.faults blocks.old ≤ B.faults blocks.new }
         ensures rose { IsErrOf result FeedError.Taker
@@ -63,7 +62,7 @@ pub trait Feeding<B: BlockTaker> {
 /// Takes the next soft octets, where the decoder can hold them all, and decodes none. Answers whether it took them.
 pub fn gather(decoder: &mut InnerDecoder, piece: &[u8]) -> bool
     ensures unchanged { result ≡ false → decoder.new ≡ decoder.old }
-    ensures settings { (settings_in decoder.new ≡ settings_in decoder.old)
+    ensures windows { (windows_in decoder.new ≡ windows_in decoder.old)
         × (has_stopped_in decoder.new ≡ has_stopped_in decoder.old) }
     ensures gathered { IsTrue result → (given : List ℕ) (done : List WindowBlock) → StandsIn decoder.old given done
         → StandsIn decoder.new (given ++ piece.now) done }
@@ -74,10 +73,11 @@ pub fn gather(decoder: &mut InnerDecoder, piece: &[u8]) -> bool
     }
 }
 
-/// How many blocks are due and were not handed over yet.
+/// How many blocks are due and were not handed over yet, or more where the phase is followed.
 pub fn count_closed(decoder: &InnerDecoder) -> usize
     ensures { (given : List ℕ) (done : List WindowBlock) → StandsIn decoder.now given done
-        → (more : List WindowBlock) × (length more ≡ result) × AreDue (settings_in decoder.now) given (done ++ more) }
+        → (more : List WindowBlock) × (length more ≤ result) × ((windows_in decoder.now).seen ≡ None → length more ≡ result)
+        × AreDueIn (windows_in decoder.now) given (done ++ more) }
 {
     match decoder {
         InnerDecoder::One(_) => 0,

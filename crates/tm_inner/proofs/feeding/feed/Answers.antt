@@ -5,7 +5,7 @@ pub returns-in-Ok-clause-gives : goal.returns-in-Ok-clause-gives
 returns-in-Ok-clause-gives g c =
     let ok = c.in-Ok.ensures.handed in
     record {
-      settings = c.feed.ensures.settings;
+      windows = c.feed.ensures.windows;
       fresh = search rules;
       stopped = search rules;
       handed = record { more = ok.0; handed = ok.1; stands = ok.2 };

@@ -2,10 +2,10 @@ use Rattle.std.proofs.Common.{◌≤◌, ◌++◌, [], ◌≡◌, ◌+◌, ◌-�
 use Rattle.std.proofs.lemmas.List.{append-nil, length-map, take_all}
 use Rattle.std.proofs.lemmas.Result.{on_ok_weaker, on_err_weaker}
 use Rattle.tm_base.specs.Outside.{HasCause, Rose}
-use Rattle.tm_viterbi.specs.Settings.{Settings}
 use Rattle.tm_viterbi.specs.WindowBlock.{WindowBlock}
-use Rattle.tm_viterbi.specs.Due.{AreFirst}
-use Rattle.tm_inner.specs.InnerDecoding.{StandsIn, settings_in}
+use Rattle.tm_windows.specs.Followed.{Windows}
+use Rattle.tm_windows.specs.Windows.{AreFirstIn}
+use Rattle.tm_inner.specs.InnerDecoding.{StandsIn, windows_in}
 use Rattle.tm_inner.specs.Receiving.{Hands, HandsPrefix, from_form}
 use Rattle.tm_inner.proofs.GivenPieces.{hands-none, hands-more, hands-prefix, hands-longer, form-joined, form-split}
 use Rattle.tm_inner.proofs.feeding.feed_signed.Goals as goal
@@ -14,7 +14,7 @@ pub loop-done-init : goal.loop-done-init
 loop-done-init g c = record {
   within = omega arith;
   room = refl;
-  settings = refl;
+  windows = refl;
   fresh = c.requires.fresh;
   faults = refl;
   handed = hands-none g.B.BlockTaker.took StandsIn c.args.decoder.now c.args.blocks.now;
@@ -35,7 +35,7 @@ loop-done-preserved g c =
     record {
       within = omega (arith, c.min.ensures, c.loop-done-test.true);
       room = omega (arith, i.room, long, c.min.ensures, length-append c.to_unsigned.new.octets (drop size c.loop-done.room), length-drop size c.loop-done.room);
-      settings = c.give.ensures.settings ∙ i.settings;
+      windows = c.give.ensures.windows ∙ i.windows;
       fresh = c.in-Ok.ensures.fresh;
       faults = c.in-Ok.ensures.cause.same ∙ i.faults;
       handed = subst (Hands took StandsIn c.args.decoder.now c.give.new.decoder c.args.blocks.now c.give.new.blocks) (form-joined true at c.min.result octets)
@@ -52,19 +52,19 @@ returns-in-Err-clause-gives g c =
     let piece = take (end - at) (drop at octets) in
     let t = g.B.BlockTaker in
     let before = c.args.decoder.now in
-    let First : List ℕ → List WindowBlock → Type 0 = AreFirst (settings_in before) in
+    let First : List ℕ → List WindowBlock → Type 0 = AreFirstIn (windows_in before) in
     let soft : c.to_unsigned.new.octets ≡ from_form true piece = c.to_unsigned.ensures ∙ ap (from_form true) c.copy_from_slice.ensures.after in
     let one =
-    subst (λ (s : Settings). HandsPrefix t.took t.broke StandsIn (AreFirst s) c.loop-done.decoder c.loop-done.blocks c.give.new.blocks (from_form true piece)) i.settings
-    (subst (HandsPrefix t.took t.broke StandsIn (AreFirst (settings_in c.loop-done.decoder)) c.loop-done.decoder c.loop-done.blocks c.give.new.blocks) soft c.in-Err.ensures.prefix) in
+    subst (λ (w : Windows). HandsPrefix t.took t.broke StandsIn (AreFirstIn w) c.loop-done.decoder c.loop-done.blocks c.give.new.blocks (from_form true piece)) i.windows
+    (subst (HandsPrefix t.took t.broke StandsIn (AreFirstIn (windows_in c.loop-done.decoder)) c.loop-done.decoder c.loop-done.blocks c.give.new.blocks) soft c.in-Err.ensures.prefix) in
     let whole = HandsPrefix t.took t.broke StandsIn First before c.args.blocks.now c.give.new.blocks in
     record {
-      settings = c.give.ensures.settings ∙ i.settings;
+      windows = c.give.ensures.windows ∙ i.windows;
       fresh = search rules;
       stopped = c.in-Err.ensures.stopped;
       handed = search rules;
       prefix = subst whole (form-split true end octets)
-          (hands-longer t.took t.broke StandsIn First before c.args.blocks.now c.give.new.blocks (from_form true (take end octets)) (from_form true (drop end octets)) (c.closed_windows_law.ensures (settings_in before))
+          (hands-longer t.took t.broke StandsIn First before c.args.blocks.now c.give.new.blocks (from_form true (take end octets)) (from_form true (drop end octets)) (c.closed_prefix_law.ensures (windows_in before))
           (subst whole (form-joined true at c.min.result octets)
           (hands-prefix t.took t.broke StandsIn First before c.loop-done.decoder c.args.blocks.now c.loop-done.blocks c.give.new.blocks (from_form true (take at octets)) (from_form true piece) i.handed one)));
       cause = record {
@@ -87,11 +87,11 @@ returns-clause-gives g c =
     let start = c.args.blocks.now in
     let now = c.feed.new.blocks in
     let t = g.B.BlockTaker in
-    let First : List ℕ → List WindowBlock → Type 0 = AreFirst (settings_in before) in
+    let First : List ℕ → List WindowBlock → Type 0 = AreFirstIn (windows_in before) in
     let fed = c.feed.ensures.gives in
     let all = all-taken l.done octets c.loop-done-test.false in
     record {
-      settings = fed.settings ∙ i.settings;
+      windows = fed.windows ∙ i.windows;
       fresh = fed.fresh;
       stopped = fed.stopped;
       handed = on_ok_weaker c.feed.result
@@ -101,7 +101,7 @@ returns-clause-gives g c =
       prefix = on_err_weaker c.feed.result
           (λ p. subst (HandsPrefix t.took t.broke StandsIn First before start now) all
           (hands-prefix t.took t.broke StandsIn First before l.decoder start l.blocks now (from_form true (take l.done octets)) [] i.handed
-          (subst (λ (s : Settings). HandsPrefix t.took t.broke StandsIn (AreFirst s) l.decoder l.blocks now []) i.settings p)))
+          (subst (λ (w : Windows). HandsPrefix t.took t.broke StandsIn (AreFirstIn w) l.decoder l.blocks now []) i.windows p)))
           fed.prefix;
       cause = subst (λ (n : ℕ). HasCause n (t.faults now) (t.is_last now) c.feed.result) i.faults fed.cause;
     }

@@ -20,8 +20,8 @@ loop-done-preserved c =
     record {
       within = omega (arith, c.min.ensures, c.loop-done-test.true);
       room = omega (arith, i.room, long, c.min.ensures, length-append turned (drop size l.room), length-drop size l.room);
-      settings = c.gather.ensures.settings.0 ∙ i.settings;
-      stopped = c.gather.ensures.settings.1 ∙ i.stopped;
+      windows = c.gather.ensures.windows.0 ∙ i.windows;
+      stopped = c.gather.ensures.windows.1 ∙ i.stopped;
       gathered = λ given done stood.
           let joined : first ++ turned ≡ from_form true (take (at + c.min.result) octets) = ap (λ (v : List ℕ). first ++ v) soft ∙ form-joined true at c.min.result octets in
           subst (λ (v : List ℕ). StandsIn c.gather.new.decoder v done) (append_assoc given first turned ∙ ap (λ (v : List ℕ). given ++ v) joined)

@@ -6,7 +6,7 @@ use Rattle.tm_inner.proofs.feeding.give.Goals as goal
 
 pub returns-then-gather : goal.returns-then-gather
 returns-then-gather g c = record {
-  settings = c.gather.ensures.settings.0;
+  windows = c.gather.ensures.windows.0;
   fresh = search rules;
   stopped = search rules;
   handed = record {

@@ -1,19 +1,19 @@
 use Rattle.std.proofs.Common.{◌++◌, ◌∷◌, [], ◌⊎◌, inr, ℕ, List, IfOk, IsErrOf, sym, subst}
+use Rattle.std.proofs.lemmas.Result.{IfOk-weaker}
 use Rattle.tm_base.specs.Takers.{HandedOver, HandedPart}
 use Rattle.tm_base.proofs.Handing.{HandedPart-first}
 use Rattle.tm_viterbi.specs.WindowBlock.{WindowBlock}
-use Rattle.tm_viterbi.specs.Blocks.{AreBlocksOf}
-use Rattle.tm_viterbi.specs.Due.{AreFirst}
+use Rattle.tm_windows.specs.Windows.{AreBlocksIn, AreFirstIn}
 use Rattle.tm_viterbi.specs.declared.decoder.FeedError.TheVariants.{Taker}
 use Rattle.tm_inner.specs.declared.inner_decoder.InnerDecoder.{InnerDecoder}
-use Rattle.tm_inner.specs.InnerDecoding.{settings_in, StandsIn}
+use Rattle.tm_inner.specs.InnerDecoding.{windows_in, StandsIn}
 use Rattle.tm_inner.proofs.workers.WithWorkersFeeding.finish.Goals as goal
 
 pub returns-in-One-clause-handed : goal.returns-in-One-clause-handed
 returns-in-One-clause-handed g c =
     subst (λ (d : InnerDecoder). IfOk c.finish.result (λ left. (last : List WindowBlock)
     × HandedOver g.B.BlockTaker.took c.args.blocks.now last c.finish.new.blocks
-    × ((given : List ℕ) (done : List WindowBlock) → StandsIn d given done → AreBlocksOf (settings_in d) given (done ++ last) left)))
+    × ((given : List ℕ) (done : List WindowBlock) → StandsIn d given done → AreBlocksIn (windows_in d) given (done ++ last) left)))
     (sym c.in-One.is) c.finish.ensures.handed
 
 pub returns-in-One-clause-prefix : goal.returns-in-One-clause-prefix
@@ -21,8 +21,8 @@ returns-in-One-clause-prefix g c = λ taker.
     let last = c.finish.ensures.prefix taker in
     subst (λ (d : InnerDecoder). (tried : List WindowBlock)
     × HandedPart g.B.BlockTaker.took g.B.BlockTaker.broke c.args.blocks.now tried c.finish.new.blocks
-    × ((given : List ℕ) (done : List WindowBlock) → StandsIn d given done → AreFirst (settings_in d) given (done ++ tried)
-    ⊎ ((left : ℕ) × AreBlocksOf (settings_in d) given (done ++ tried) left)))
+    × ((given : List ℕ) (done : List WindowBlock) → StandsIn d given done → AreFirstIn (windows_in d) given (done ++ tried)
+    ⊎ ((left : ℕ) × AreBlocksIn (windows_in d) given (done ++ tried) left)))
     (sym c.in-One.is) (
       last.0 ∷ [],
       HandedPart-first _ _ c.args.blocks.now c.finish.new.blocks last.0 [] last.1,
@@ -33,13 +33,13 @@ pub returns-in-Many-clause-handed : goal.returns-in-Many-clause-handed
 returns-in-Many-clause-handed g c =
     subst (λ (d : InnerDecoder). IfOk c.finish-in-Many.result (λ left. (last : List WindowBlock)
     × HandedOver g.B.BlockTaker.took c.args.blocks.now last c.finish-in-Many.new.blocks
-    × ((given : List ℕ) (done : List WindowBlock) → StandsIn d given done → AreBlocksOf (settings_in d) given (done ++ last) left)))
-    (sym c.in-Many.is) c.finish-in-Many.ensures.handed
+    × ((given : List ℕ) (done : List WindowBlock) → StandsIn d given done → AreBlocksIn (windows_in d) given (done ++ last) left)))
+    (sym c.in-Many.is) (IfOk-weaker c.finish-in-Many.result _ _ (λ left h. (h.0, h.1, λ given done stands. (h.2 given done stands).0)) c.finish-in-Many.ensures.handed)
 
 pub returns-in-Many-clause-prefix : goal.returns-in-Many-clause-prefix
 returns-in-Many-clause-prefix g c =
     subst (λ (d : InnerDecoder). IsErrOf c.finish-in-Many.result Taker → (tried : List WindowBlock)
     × HandedPart g.B.BlockTaker.took g.B.BlockTaker.broke c.args.blocks.now tried c.finish-in-Many.new.blocks
-    × ((given : List ℕ) (done : List WindowBlock) → StandsIn d given done → AreFirst (settings_in d) given (done ++ tried)
-    ⊎ ((left : ℕ) × AreBlocksOf (settings_in d) given (done ++ tried) left)))
+    × ((given : List ℕ) (done : List WindowBlock) → StandsIn d given done → AreFirstIn (windows_in d) given (done ++ tried)
+    ⊎ ((left : ℕ) × AreBlocksIn (windows_in d) given (done ++ tried) left)))
     (sym c.in-Many.is) c.finish-in-Many.ensures.prefix
