@@ -5,6 +5,7 @@ pub mod PlainBits
 pub mod InnerBits
 pub mod DueBits
 pub mod ReceivedBits
+pub mod FollowedBits
 pub mod FewBits
 mod Metrics
 pub mod DueBlocks

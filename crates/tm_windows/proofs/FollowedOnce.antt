@@ -28,10 +28,10 @@ closes-one one s b x y h k =
 
 -- ---- one of two lists goes on where the other ends
 
-abbrev GoesOn : Windows → Spot → Spot → List WindowBlock → List WindowBlock → Type 0
+abbrev pub GoesOn : Windows → Spot → Spot → List WindowBlock → List WindowBlock → Type 0
 GoesOn w to at blocks others = (rest : List WindowBlock) × (others ≡ blocks ++ rest) × Followed w to rest at
 
-one-longer : OneBest → (w : Windows) (from to at : Spot) (blocks others : List WindowBlock) → Followed w from blocks to
+pub one-longer : OneBest → (w : Windows) (from to at : Spot) (blocks others : List WindowBlock) → Followed w from blocks to
     → Followed w from others at → GoesOn w to at blocks others ⊎ GoesOn w at to others blocks
 one-longer one w from to at [] others h k = inl (others, refl, subst (λ (v : Spot). Followed w v others at) h k)
 one-longer one w from to at (x ∷ xs) [] h k = inr (x ∷ xs, refl, subst (λ (v : Spot). Followed w v (x ∷ xs) to) k h)
@@ -61,7 +61,7 @@ open-stops w spot (inr few) = λ b x begins closes.
     subst (λ (v : Beginning). length v.place.octets < closing_size w.settings v.place.t) (begins-one w spot few.0 b few.1 begins) few.2 in
     omega (arith, less, closes.0.room))
 
-last-stops : (w : Windows) (to : Spot) (window : Beginning) (count : ℕ) → BeginsLast w to window
+pub last-stops : (w : Windows) (to : Spot) (window : Beginning) (count : ℕ) → BeginsLast w to window
     → AreSteps w.settings.rate window.place.t window.place.octets count → count ≤ w.settings.keep + w.settings.ahead → Stops w to
 last-stops w to window count (inl is) steps few = λ b x begins closes.
     (let s = w.settings in
@@ -74,7 +74,7 @@ stop-none : (w : Windows) (to at : Spot) (rest : List WindowBlock) → Stops w t
 stop-none w to at [] stops h = (refl, h)
 stop-none w to at (x ∷ xs) stops h = absurd (stops h.0 x h.1 h.2)
 
-both-stop : OneBest → (w : Windows) (from to at : Spot) (blocks others : List WindowBlock) → Followed w from blocks to → Followed w from others at
+pub both-stop : OneBest → (w : Windows) (from to at : Spot) (blocks others : List WindowBlock) → Followed w from blocks to → Followed w from others at
     → Stops w to → Stops w at → (blocks ≡ others) × (to ≡ at)
 both-stop one w from to at blocks others h k stops ends = elim (one-longer one w from to at blocks others h k) as (λ _. (blocks ≡ others) × (to ≡ at)) [
   | inl on ↦ (let none = stop-none w to at on.0 stops on.2 in

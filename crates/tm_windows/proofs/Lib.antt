@@ -1,10 +1,10 @@
 mod Runs
 mod Endings
 mod Existing
-mod Beginnings
-mod FollowedOnce
-mod FollowedExists
+pub mod Beginnings
+pub mod FollowedOnce
+pub mod FollowedExists
 mod Undisturbed
-mod WindowLaws
-mod FollowedRuns
+pub mod WindowLaws
+pub mod FollowedRuns
 pub mod Gatherings
