@@ -1,7 +1,7 @@
 pub mod Sizes
 pub mod Paths
 pub mod Words
-mod Unique
+pub mod Unique
 mod HasBest
 pub mod LeastColumns
 pub mod Clean

@@ -10,23 +10,22 @@ use Rattle.tm_config.proofs.Choices.{given_or_find, never_both}
 use Rattle.tm_conv.specs.declared.rates.Rate.{Rate}
 use Rattle.tm_conv.specs.declared.rates.Rate.TheVariants.{R12, R23, R34, R56, R78}
 use Rattle.tm_conv.specs.Path.{steps_size}
-use Rattle.tm_conv.proofs.Sizes.{steps_size-is, steps_size_ge}
+use Rattle.tm_conv.proofs.Sizes.{steps_size-is}
 use Rattle.tm_viterbi.specs.WindowBlock.{WindowBlock}
 use Rattle.tm_viterbi.specs.Clean.{kept_bits}
-use Rattle.tm_viterbi.specs.Due.{first_place}
-use Rattle.tm_viterbi.specs.Starts.{first_start}
 use Rattle.tm_phase.specs.declared.choosing.Chosen.{Chosen}
 use Rattle.tm_phase.specs.Phase.{period_size}
-use Rattle.tm_inner.specs.Inner.{settings_of, soft_value, soft_octets, BlocksAt, AreInnerBlocks, AreInnerDue}
+use Rattle.tm_inner.specs.Inner.{windows_of, soft_value, soft_octets, BlocksAt, AreInnerBlocks, AreInnerDue}
 use Rattle.tm_inner.specs.Phase.{IsChosenBy, IsSettled, needed_at, skipped_at, phase_octets, skip_of, with_phase}
 use Rattle.tm_inner.specs.Receiving.{FirstAt, AreInnerFirst}
 use Rattle.tm_inner.specs.Handing.{AreHanded, AreHandedDue}
 use Rattle.tm_inner.proofs.DueBits.{kept-append}
-use Rattle.tm_inner.proofs.ReceivedBits.{kept-count, length-soft}
+use Rattle.tm_inner.proofs.ReceivedBits.{length-soft}
 use Rattle.tm_inner.proofs.PhasePieces.{items_of-with_phase}
 use Rattle.tm_inner.proofs.WithPhase.{settled-stays}
 use Rattle.tm_inner.proofs.HandedPieces.{needed-some}
-use Rattle.tm_inner.proofs.FewBits.{closed-few, due-kept, due-none, first-of-due, more-few, last-few}
+use Rattle.tm_inner.proofs.WindowBits.{first-keeps, whole-keeps}
+use Rattle.tm_inner.proofs.FewBits.{due-kept, due-none, first-of-due, more-few, last-few}
 
 -- ---- the phase needs few octets
 
@@ -67,17 +66,15 @@ first-bits : (rate : Option Rate) (c : Configuration) (phase : ℕ) (octets : Li
     → length (kept_bits blocks) ≤ length octets - skipped_at rate c
 first-bits None c phase octets blocks are = omega (arith, ap (λ (l : List WindowBlock). length (kept_bits l)) are)
 first-bits (Some rate) c phase octets blocks are =
-    let s = settings_of c rate in
-    let few = closed-few rate s.invert s.keep s.ahead (first_place s (soft_octets c phase octets)) are.0 blocks are.1 in
-    omega (arith, few, length-soft c phase octets)
+    let w = windows_of c rate in
+    omega (arith, first-keeps w.seen w (soft_octets c phase octets) blocks are, length-soft c phase octets)
 
 whole-bits : (rate : Option Rate) (c : Configuration) (phase : ℕ) (octets : List ℕ) (blocks : List WindowBlock) (left : ℕ) → BlocksAt rate c phase octets blocks left
     → length (kept_bits blocks) ≤ length octets - skipped_at rate c
 whole-bits None c phase octets blocks left are = omega (arith, ap (λ (l : List WindowBlock). length (kept_bits l)) are.0)
 whole-bits (Some rate) c phase octets blocks left are =
-    let s = settings_of c rate in
-    let kept = kept-count rate s.invert s.keep s.ahead (first_start s.start) 0 are.count (soft_octets c phase octets) blocks are.steps.whole are.are in
-    omega (arith, kept, are.steps.whole, steps_size_ge rate 0 are.count, length-soft c phase octets)
+    let w = windows_of c rate in
+    omega (arith, whole-keeps w.seen w (soft_octets c phase octets) blocks left are, length-soft c phase octets)
 
 -- what was handed over, and blocks or anything else after it
 items-of : (chosen : Option Chosen) (items : List WindowBlock) (done more : List (Handed WindowBlock)) → done ++ more ≡ with_phase chosen items → items_of done ++ items_of more ≡ items

@@ -9,10 +9,9 @@ use Rattle.tm_conv.specs.declared.rates.Rate.TheVariants.{R12}
 use Rattle.tm_viterbi.specs.declared.block.Start.TheVariants.{Zero}
 use Rattle.tm_viterbi.specs.Settings.{Settings}
 use Rattle.tm_viterbi.specs.WindowBlock.{WindowBlock}
-use Rattle.tm_viterbi.specs.Blocks.{AreBlocksOf}
-use Rattle.tm_viterbi.specs.Due.{AreDue}
 use Rattle.tm_viterbi.specs.Clean.{kept_bits}
 use Rattle.tm_windows.specs.Followed.{Windows}
+use Rattle.tm_windows.specs.Windows.{AreBlocksIn, AreDueIn}
 use Rattle.tm_inner.specs.Symbols.{is_inverted}
 
 -- how soft octets of this rate are decoded
@@ -43,7 +42,7 @@ soft_octets c phase octets = map (soft_value c) (drop phase (drop c.skip octets)
 abbrev pub BlocksAt : Option Rate → Configuration → ℕ → List ℕ → List WindowBlock → ℕ → Type 0
 BlocksAt None c phase octets blocks left = (blocks ≡ []) × (left ≡ 0)
 BlocksAt (Some rate) c phase octets blocks left =
-    AreBlocksOf (settings_of c rate) (soft_octets c phase octets) blocks left
+    AreBlocksIn (windows_of c rate) (soft_octets c phase octets) blocks left
 
 abbrev pub AreInnerBlocks : Configuration → ℕ → List ℕ → List WindowBlock → ℕ → Type 0
 AreInnerBlocks c = BlocksAt c.inner c
@@ -52,7 +51,7 @@ AreInnerBlocks c = BlocksAt c.inner c
 abbrev pub DueAt : Option Rate → Configuration → ℕ → List ℕ → List WindowBlock → Type 0
 DueAt None c phase octets blocks = blocks ≡ []
 DueAt (Some rate) c phase octets blocks =
-    AreDue (settings_of c rate) (soft_octets c phase octets) blocks
+    AreDueIn (windows_of c rate) (soft_octets c phase octets) blocks
 
 abbrev pub AreInnerDue : Configuration → ℕ → List ℕ → List WindowBlock → Type 0
 AreInnerDue c = DueAt c.inner c

@@ -7,11 +7,10 @@ use Rattle.tm_config.specs.Configuration.{Configuration}
 use Rattle.tm_config.specs.declared.values.Sought.TheVariants.{Find}
 use Rattle.tm_conv.specs.declared.rates.Rate.{Rate}
 use Rattle.tm_viterbi.specs.WindowBlock.{WindowBlock}
-use Rattle.tm_viterbi.specs.Due.{AreFirst}
 use Rattle.tm_inner.specs.declared.inner_decoder.InnerDecoder.{InnerDecoder}
 use Rattle.tm_phase.specs.declared.choosing.Chosen.{Chosen}
 use Rattle.tm_windows.specs.Windows.{AreFirstIn}
-use Rattle.tm_inner.specs.Inner.{settings_of, windows_of, soft_value, soft_octets}
+use Rattle.tm_inner.specs.Inner.{windows_of, soft_value, soft_octets}
 use Rattle.tm_inner.specs.InnerDecoding.{HasClosed, windows_in, has_stopped_in, StandsIn}
 use Rattle.tm_inner.specs.Phase.{IsChosenBy, IsSettledBy, phase_octets, skip_of, with_phase}
 
@@ -79,7 +78,7 @@ PhasesFor p soft done = (Waits p soft done × (IsSettledBy p.config soft → ⊥
 -- the blocks of the first windows of soft octets; none where there is no inner code
 abbrev pub FirstFor : Option Rate → Configuration → List ℕ → List WindowBlock → Type 0
 FirstFor None c soft blocks = blocks ≡ []
-FirstFor (Some rate) c soft blocks = AreFirst (settings_of c rate) soft blocks
+FirstFor (Some rate) c soft blocks = AreFirstIn (windows_of c rate) soft blocks
 
 -- the phase of soft octets, and the blocks of first windows after it
 pub record IsPrefixBy (c : Configuration) (soft : List ℕ) (handed : List (Handed WindowBlock)) : Type 0 where
