@@ -16,7 +16,9 @@ use Rattle.tm_conv.specs.Path.{AreBits, complement as complement_numbers}
 use Rattle.tm_conv.specs.Cost.{sure}
 use Rattle.tm_conv.specs.Encoding.{bit_numbers, sent_for, level, levels}
 use Rattle.tm_gf256.proofs.Below.{all_below, same_below}
-use Rattle.tm_inner.specs.Inner.{settings_of, soft_value, soft_octets, BlocksAt, nearest_bit, plain_bits_by, plain_bits, bits_at}
+use Rattle.tm_windows.specs.Windows.{AreBlocksIn}
+use Rattle.tm_windows.proofs.WindowLaws.{blocks-complemented}
+use Rattle.tm_inner.specs.Inner.{settings_of, windows_of, soft_value, soft_octets, BlocksAt, nearest_bit, plain_bits_by, plain_bits, bits_at}
 use Rattle.tm_inner.specs.Symbols.{is_inverted, low_level, symbols_by}
 use Rattle.tm_inner.proofs.InnerBits.{drop-none, AreBits-bit_numbers, half-rate, some-steps}
 use Rattle.tm_sync.specs.Bits.{flip, complement}
@@ -133,13 +135,15 @@ half-complemented : ComplementedBlocks → (c : Configuration) (rate : Option Ra
     → bits_at rate c (complemented_octets (symbols_by rate c (bits_of octets))) blocks ≡ complement (bits_of octets)
 half-complemented complemented c None octets blocks left is ok half any none are = absurd cc
 half-complemented complemented c (Some rate) octets blocks left is ok half any none are =
+    let w = windows_of c rate in
     let bits = bit_numbers (bits_of octets) in
     let symbols = sent_for rate (is_inverted rate c.invert) (bits_of octets) in
     let same : soft_octets c 0 (complemented_octets (symbols_by (Some rate) c (bits_of octets))) ≡ complemented_octets (sure_symbols (settings_of c rate) 0 bits) =
     ap (map (soft_value c)) (drop-none c.skip (complemented_octets (levels (low_level c.soft) symbols)) none) ∙ values-complemented c symbols in
     let it = complemented (settings_of c rate) 0 bits blocks left ok.some_keep (AreBits-bit_numbers (bits_of octets)) any
     (half-rate c rate is half) (omega arith) (some-steps octets)
-    (subst (λ (l : List ℕ). AreBlocksOf (settings_of c rate) l blocks left) same are) in
+    (blocks-complemented w.seen w 0 bits blocks left (AreBits-bit_numbers (bits_of octets)) (omega arith)
+    (subst (λ (l : List ℕ). AreBlocksIn w l blocks left) same are)) in
     ap (map (λ bit. bit == 1)) it.kept ∙ numbers-complemented (bits_of octets)
 
 twice-complemented : (item : ItemValue) → complemented_item (complemented_item item) ≡ item

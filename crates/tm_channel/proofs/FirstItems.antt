@@ -5,9 +5,9 @@ use Rattle.tm_config.specs.Configuration.{Configuration}
 use Rattle.tm_config.specs.Accepted.{IsAccepted}
 use Rattle.tm_conv.specs.declared.rates.Rate.{Rate}
 use Rattle.tm_viterbi.specs.WindowBlock.{WindowBlock}
-use Rattle.tm_viterbi.specs.Blocks.{AreBlocksOf}
+use Rattle.tm_windows.specs.Windows.{AreBlocksIn}
 use Rattle.tm_viterbi.specs.Clean.{kept_bits}
-use Rattle.tm_inner.specs.Inner.{BlocksAt, plain_bits, bits_at, settings_of, soft_octets, Inner, inner_bits}
+use Rattle.tm_inner.specs.Inner.{BlocksAt, plain_bits, bits_at, windows_of, soft_octets, Inner, inner_bits}
 use Rattle.tm_inner.specs.Receiving.{FirstAt}
 use Rattle.tm_inner.proofs.DueBits.{StayClosed, StandFirst, drop-split, kept-append, soft-more}
 use Rattle.tm_inner.proofs.PlainBits.{plain-append}
@@ -31,9 +31,9 @@ bits-first : StayClosed → StandFirst → (rate : Option Rate) (c : Configurati
 bits-first stay stand None c phase octets more first blocks left is all =
     (drop (c.skip - length (plain_bits c octets)) (plain_bits c more), ap (drop c.skip) (plain-append c octets more) ∙ drop-split c.skip (plain_bits c octets) (plain_bits c more))
 bits-first stay stand (Some rate) c phase octets more first blocks left is all =
-    let s = settings_of c rate in
+    let w = windows_of c rate in
     let longer = soft-more c phase octets more in
-    let split = stand s _ first blocks left (stay s (soft_octets c phase octets) _ first is) (subst (λ (l : List ℕ). AreBlocksOf s l blocks left) longer all) in
+    let split = stand w _ first blocks left (stay w (soft_octets c phase octets) _ first is) (subst (λ (l : List ℕ). AreBlocksIn w l blocks left) longer all) in
     let is_one : ℕ → Bool = λ bit. bit == 1 in
     (map is_one (kept_bits split.0), ap (λ l. map is_one (kept_bits l)) split.1 ∙ ap (map is_one) (kept-append first split.0) ∙ map-append is_one (kept_bits first) (kept_bits split.0))
 

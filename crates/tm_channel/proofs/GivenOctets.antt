@@ -11,10 +11,10 @@ use Rattle.tm_config.specs.Configuration.{Configuration}
 use Rattle.tm_config.proofs.Choices.{never_both}
 use Rattle.tm_conv.specs.declared.rates.Rate.{Rate}
 use Rattle.tm_viterbi.specs.WindowBlock.{WindowBlock}
-use Rattle.tm_viterbi.specs.Due.{AreFirst}
+use Rattle.tm_windows.specs.Windows.{AreFirstIn}
 use Rattle.tm_viterbi.specs.Clean.{kept_bits}
 use Rattle.tm_phase.specs.declared.choosing.Chosen.{Chosen}
-use Rattle.tm_inner.specs.Inner.{BlocksAt, plain_bits, plain_count, bits_at, settings_of, soft_value, soft_octets, AreInnerBlocks, AreInnerDue, Inner, inner_bits}
+use Rattle.tm_inner.specs.Inner.{BlocksAt, plain_bits, plain_count, bits_at, windows_of, soft_value, soft_octets, AreInnerBlocks, AreInnerDue, Inner, inner_bits}
 use Rattle.tm_inner.specs.Phase.{IsChosenBy, IsChosen, IsSettled, needed_at, skipped_at, phase_octets, skip_of, with_phase, IsChosenSoFar}
 use Rattle.tm_inner.specs.Handing.{AreHanded, AreHandedDue}
 use Rattle.tm_inner.specs.Receiving.{InnerReceiving, FirstAt, AreInnerFirst, StandsFor as InnerStandsFor, Hands, HandsPrefix}
@@ -598,7 +598,7 @@ stays-at closed None c phase octets more blocks first =
     (first, (drop (c.skip - length (plain_bits c octets)) (plain_bits c more), ap (drop c.skip) (plain-append c octets more) ∙ drop-split c.skip (plain_bits c octets) (plain_bits c more)))
 stays-at closed (Some rate) c phase octets more blocks first =
     let back = map (soft_value c) (drop (phase - length (drop c.skip octets)) (drop (c.skip - length octets) more)) in (
-      subst (λ (l : List ℕ). AreFirst (settings_of c rate) l blocks) (sym (soft-more c phase octets more)) (closed (settings_of c rate) (soft_octets c phase octets) back blocks first),
+      subst (λ (l : List ℕ). AreFirstIn (windows_of c rate) l blocks) (sym (soft-more c phase octets more)) (closed (windows_of c rate) (soft_octets c phase octets) back blocks first),
       ([], sym (append-nil (all_bits blocks))),
     )
 

@@ -24,7 +24,8 @@ ghost use Rattle.tm_channel.specs.Disturbed as disturbed;
 use tm_conv::{best_path_law, complement_law};
 use tm_inner::{clean_inner_law, due_bits_law, inner_law};
 use tm_phase::{phase_law, whole_window_law};
-use tm_viterbi::{closed_windows_law, complemented_blocks_law, due_law};
+use tm_viterbi::complemented_blocks_law;
+use tm_windows::{closed_prefix_law, due_windows_law};
 
 /// Received octets come to one list of items. It does nothing.
 pub fn items_law()
@@ -56,8 +57,8 @@ pub fn first_items_law()
         → ReceivePrefix c phase octets first → Receive c phase octets items
         → (rest : List ItemValue) × (items ≡ first ++ rest) }
 {
-    closed_windows_law();
-    due_law();
+    closed_prefix_law();
+    due_windows_law();
     inner_law();
 }
 

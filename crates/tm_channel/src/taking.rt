@@ -20,7 +20,7 @@ use crate::workers::Workers;
 use tm_base::Failed;
 use tm_inner::InnerReceiver;
 use tm_phase::whole_window_law;
-use tm_viterbi::closed_windows_law;
+use tm_windows::closed_prefix_law;
 
 /// How many octets go through both stages at a time.
 pub const PIECE: usize = 4096;
@@ -45,7 +45,7 @@ pub fn take<P: Workers, T: ItemTaker>(
         (record { inner = inner.old; bits = stream.old }) (record { inner = inner.new; bits = stream.new })
         kept.old.size kept.new.size taker.old taker.new octets.now result }
 {
-    closed_windows_law();
+    closed_prefix_law();
     whole_window_law();
     let mut done = 0;
     while done < octets.len() {

@@ -3,22 +3,22 @@ use Rattle.std.proofs.Common.{◌≡◌, ℕ, zero, suc, ◌-◌, ◌==◌, Bool
 use Rattle.std.proofs.lemmas.List.{map-append}
 use Rattle.tm_config.specs.Configuration.{Configuration}
 use Rattle.tm_conv.specs.declared.rates.Rate.{Rate}
-use Rattle.tm_viterbi.specs.Settings.{Settings}
 use Rattle.tm_viterbi.specs.WindowBlock.{WindowBlock}
-use Rattle.tm_viterbi.specs.Blocks.{AreBlocksOf}
-use Rattle.tm_viterbi.specs.Due.{AreFirst}
 use Rattle.tm_viterbi.specs.Clean.{kept_bits}
-use Rattle.tm_inner.specs.Inner.{settings_of, soft_value, soft_octets, BlocksAt, DueAt, plain_bits, bits_at, AreInnerDue, AreInnerBlocks, inner_bits}
+use Rattle.tm_windows.specs.Followed.{Windows}
+use Rattle.tm_windows.specs.Windows.{AreBlocksIn, AreFirstIn}
+use Rattle.tm_windows.proofs.WindowLaws.{due-is_first}
+use Rattle.tm_inner.specs.Inner.{windows_of, soft_value, soft_octets, BlocksAt, DueAt, plain_bits, bits_at, AreInnerDue, AreInnerBlocks, inner_bits}
 use Rattle.tm_inner.proofs.PlainBits.{plain-append}
 
 -- windows that are closed stay so
 abbrev pub StayClosed : Type 0
-StayClosed = (s : Settings) (octets more : List ℕ) (first : List WindowBlock) → AreFirst s octets first → AreFirst s (octets ++ more) first
+StayClosed = (w : Windows) (octets more : List ℕ) (first : List WindowBlock) → AreFirstIn w octets first → AreFirstIn w (octets ++ more) first
 
 -- their blocks are the first of all
 abbrev pub StandFirst : Type 0
-StandFirst = (s : Settings) (octets : List ℕ) (first blocks : List WindowBlock) (left : ℕ)
-    → AreFirst s octets first → AreBlocksOf s octets blocks left → (rest : List WindowBlock) × (blocks ≡ first ++ rest)
+StandFirst = (w : Windows) (octets : List ℕ) (first blocks : List WindowBlock) (left : ℕ)
+    → AreFirstIn w octets first → AreBlocksIn w octets blocks left → (rest : List WindowBlock) × (blocks ≡ first ++ rest)
 
 pub drop-split : {A : Type 0} (n : ℕ) (xs ys : List A) → drop n (xs ++ ys) ≡ drop n xs ++ drop (n - length xs) ys
 drop-split zero xs ys = (let same : 0 ≡ 0 - length xs = omega arith in ap (λ k. xs ++ drop k ys) same)
@@ -44,10 +44,11 @@ due-first : StayClosed → StandFirst → (rate : Option Rate) (c : Configuratio
 due-first stay first None c phase octets more due blocks left is all =
     (drop (c.skip - length (plain_bits c octets)) (plain_bits c more), ap (drop c.skip) (plain-append c octets more) ∙ drop-split c.skip (plain_bits c octets) (plain_bits c more))
 due-first stay first (Some rate) c phase octets more due blocks left is all =
-    let s = settings_of c rate in
+    let w = windows_of c rate in
+    let soft = soft_octets c phase octets in
     let back = map (soft_value c) (drop (phase - length (drop c.skip octets)) (drop (c.skip - length octets) more)) in
-    let split = first s (soft_octets c phase octets ++ back) due blocks left (stay s (soft_octets c phase octets) back due (is.to, is.closed))
-    (subst (λ (l : List ℕ). AreBlocksOf (settings_of c rate) l blocks left) (soft-more c phase octets more) all) in
+    let split = first w (soft ++ back) due blocks left (stay w soft back due (due-is_first w.seen w soft due is))
+    (subst (λ (l : List ℕ). AreBlocksIn w l blocks left) (soft-more c phase octets more) all) in
     let is_one : ℕ → Bool = λ bit. bit == 1 in
     (map is_one (kept_bits split.0), ap (λ l. map is_one (kept_bits l)) split.1 ∙ ap (map is_one) (kept-append due split.0) ∙ map-append is_one (kept_bits due) (kept_bits split.0))
 

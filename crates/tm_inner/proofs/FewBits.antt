@@ -6,13 +6,13 @@ use Rattle.tm_conv.specs.declared.rates.Rate.{Rate}
 use Rattle.tm_viterbi.specs.WindowBlock.{WindowBlock}
 use Rattle.tm_viterbi.specs.Clean.{kept_bits}
 use Rattle.tm_windows.specs.Windows.{AreDueIn, AreFirstIn}
-use Rattle.tm_windows.proofs.WindowLaws.{due-none as none-of}
+use Rattle.tm_windows.proofs.WindowLaws.{due-none as none-of, due-is_first as due-prefix}
 use Rattle.tm_inner.specs.Inner.{windows_of, soft_value, soft_octets, BlocksAt, DueAt, plain_bits, bits_at, AreInnerBlocks, AreInnerDue, inner_bits}
 use Rattle.tm_inner.specs.Receiving.{FirstAt, AreInnerFirst}
 use Rattle.tm_inner.proofs.DueBits.{soft-more}
 use Rattle.tm_inner.proofs.ReceivedBits.{length-soft}
 use Rattle.tm_inner.proofs.PlainBits.{plain-few}
-use Rattle.tm_inner.proofs.WindowBits.{first-keeps, whole-keeps, due-first, more-keeps, last-keeps, later-keeps}
+use Rattle.tm_inner.proofs.WindowBits.{first-keeps, whole-keeps, more-keeps, last-keeps, later-keeps}
 
 few-first : (rate : Option Rate) (c : Configuration) (phase : ℕ) (octets : List ℕ) (blocks : List WindowBlock) → FirstAt rate c phase octets blocks
     → length (bits_at rate c octets blocks) ≤ 8 * length octets
@@ -39,7 +39,7 @@ whole-few c = few-whole c.inner c
 -- due blocks are first ones
 due-is-first : (rate : Option Rate) (c : Configuration) (phase : ℕ) (octets : List ℕ) (blocks : List WindowBlock) → DueAt rate c phase octets blocks → FirstAt rate c phase octets blocks
 due-is-first None c phase octets blocks are = are
-due-is-first (Some rate) c phase octets blocks are = let w = windows_of c rate in due-first w.seen w (soft_octets c phase octets) blocks are
+due-is-first (Some rate) c phase octets blocks are = let w = windows_of c rate in due-prefix w.seen w (soft_octets c phase octets) blocks are
 
 pub first-of-due : (c : Configuration) (phase : ℕ) (octets : List ℕ) (blocks : List WindowBlock) → AreInnerDue c phase octets blocks → AreInnerFirst c phase octets blocks
 first-of-due c = due-is-first c.inner c

@@ -9,9 +9,9 @@ use Rattle.tm_conv.specs.declared.rates.Rate.{Rate}
 use Rattle.tm_conv.proofs.Sizes.{steps_size_ge}
 use Rattle.tm_viterbi.specs.WindowBlock.{WindowBlock}
 use Rattle.tm_inner.specs.declared.inner_decoder.InnerDecoder.{InnerDecoder}
-use Rattle.tm_viterbi.specs.Due.{AreFirst}
+use Rattle.tm_windows.specs.Windows.{AreFirstIn}
 use Rattle.tm_phase.specs.declared.choosing.Chosen.{Chosen}
-use Rattle.tm_inner.specs.Inner.{settings_of, soft_value, soft_octets, AreInnerBlocks, AreInnerDue, inner_bits}
+use Rattle.tm_inner.specs.Inner.{windows_of, soft_value, soft_octets, AreInnerBlocks, AreInnerDue, inner_bits}
 use Rattle.tm_inner.specs.Phase.{IsChosen, IsChosenSoFar, IsChosenBy, IsChosenSoFar, IsSettledBy, IsSoFarBy, needed_at, skipped_at, phase_octets, skip_of, with_phase}
 use Rattle.tm_inner.specs.Receiving.{AreInnerFirst, HasClosedAll, IsDecoderOf, DecodesFor, FirstFor, FirstAt, Hands, HandsPrefix, InnerReceiving, StandsFor, Phasing, Goes, PhasesFor, IsPrefixBy, IsFirstBy, soft_form}
 use Rattle.tm_inner.specs.Handing.{AreHanded, AreHandedDue, AreHandedFirst, AreHandedPrefix}
@@ -55,7 +55,7 @@ stands-so-far r given done stood =
 first-after : (rate : Option Rate) (c : Configuration) (phase : ℕ) (given : List ℕ) (blocks : List WindowBlock)
     → FirstFor rate c (drop phase (map (soft_value c) (drop (skipped_at rate c) given))) blocks → FirstAt rate c phase given blocks
 first-after None c phase given blocks is = is
-first-after (Some rate) c phase given blocks is = subst (λ (l : List ℕ). AreFirst (settings_of c rate) l blocks) (soft-after c phase c.skip given refl) is
+first-after (Some rate) c phase given blocks is = subst (λ (l : List ℕ). AreFirstIn (windows_of c rate) l blocks) (soft-after c phase c.skip given refl) is
 
 pub handed-prefix : (c : Configuration) (given : List ℕ) (handed : List (Handed WindowBlock)) → IsPrefixBy c (phase_octets c given) handed → AreHandedPrefix c given handed
 handed-prefix c given handed h = record {

@@ -19,20 +19,23 @@ use Rattle.tm_viterbi.specs.Settings.{Settings}
 use Rattle.tm_viterbi.specs.WindowBlock.{WindowBlock}
 use Rattle.tm_viterbi.specs.Blocks.{AreBlocksOf}
 use Rattle.tm_viterbi.specs.Clean.{IsFixed, AreClean, sure_symbols}
-use Rattle.tm_inner.specs.Inner.{IsStartKnown, settings_of, soft_value, soft_octets, BlocksAt, AreInnerBlocks, plain_bits, bits_at, inner_bits, Inner}
+use Rattle.tm_windows.specs.Followed.{Windows}
+use Rattle.tm_windows.specs.Windows.{AreBlocksIn, IsSeen}
+use Rattle.tm_windows.proofs.WindowLaws.{blocks-sent}
+use Rattle.tm_inner.specs.Inner.{IsStartKnown, settings_of, windows_of, soft_value, soft_octets, BlocksAt, AreInnerBlocks, plain_bits, bits_at, inner_bits, Inner}
 use Rattle.tm_inner.specs.Symbols.{is_inverted, low_level, plain_symbols, symbols_by, symbols_of_octets}
 use Rattle.tm_inner.proofs.PlainBits.{plain-sent}
 
 -- ---- one list of bits
 
 abbrev pub OneBlocks : Type 0
-OneBlocks = (s : Settings) (octets : List ℕ) (blocks others : List WindowBlock) (left rest : ℕ)
-    → AreBlocksOf s octets blocks left → AreBlocksOf s octets others rest → (blocks ≡ others) × (left ≡ rest)
+OneBlocks = (w : Windows) (octets : List ℕ) (blocks others : List WindowBlock) (left rest : ℕ)
+    → AreBlocksIn w octets blocks left → AreBlocksIn w octets others rest → (blocks ≡ others) × (left ≡ rest)
 
 same-blocks : OneBlocks → (rate : Option Rate) (c : Configuration) (phase : ℕ) (octets : List ℕ) (blocks others : List WindowBlock) (left rest : ℕ)
     → BlocksAt rate c phase octets blocks left → BlocksAt rate c phase octets others rest → blocks ≡ others
 same-blocks one None c phase octets blocks others left rest p q = p.0 ∙ sym q.0
-same-blocks one (Some rate) c phase octets blocks others left rest p q = (one (settings_of c rate) (soft_octets c phase octets) blocks others left rest p q).0
+same-blocks one (Some rate) c phase octets blocks others left rest p q = (one (windows_of c rate) (soft_octets c phase octets) blocks others left rest p q).0
 
 pub only_bits : OneBlocks → (c : Configuration) (phase : ℕ) (octets : List ℕ) (bits others : List Bool) → Inner c phase octets bits → Inner c phase octets others → bits ≡ others
 only_bits one c phase octets bits others p q =
@@ -42,16 +45,20 @@ only_bits one c phase octets bits others p q =
 
 -- octets have blocks
 abbrev pub HasBlocks : Type 0
-HasBlocks = (s : Settings) (octets : List ℕ) → 0 < s.keep → (blocks : List WindowBlock) × (left : ℕ) × AreBlocksOf s octets blocks left
+HasBlocks = (w : Windows) (octets : List ℕ) → 0 < w.settings.keep → IsSeen w → (blocks : List WindowBlock) × (left : ℕ) × AreBlocksIn w octets blocks left
 
-blocks-at : HasBlocks → (rate : Option Rate) (c : Configuration) (phase : ℕ) (octets : List ℕ) → 0 < c.keep
+-- a window that is closed has been looked at
+pub seen-of : (c : Configuration) (rate : Rate) → 64 ≤ c.keep → IsSeen (windows_of c rate)
+seen-of c rate wide = λ steps is. absurd (cc)
+
+blocks-at : HasBlocks → (rate : Option Rate) (c : Configuration) (phase : ℕ) (octets : List ℕ) → 64 ≤ c.keep
     → (blocks : List WindowBlock) × (left : ℕ) × BlocksAt rate c phase octets blocks left
-blocks-at exists None c phase octets some = ([], 0, (refl, refl))
-blocks-at exists (Some rate) c phase octets some = exists (settings_of c rate) (soft_octets c phase octets) some
+blocks-at exists None c phase octets wide = ([], 0, (refl, refl))
+blocks-at exists (Some rate) c phase octets wide = exists (windows_of c rate) (soft_octets c phase octets) (omega (arith, wide)) (seen-of c rate wide)
 
 pub has_blocks : HasBlocks → (c : Configuration) (phase : ℕ) (octets : List ℕ) → IsAccepted c
     → (blocks : List WindowBlock) × (left : ℕ) × AreInnerBlocks c phase octets blocks left
-has_blocks exists c phase octets ok = blocks-at exists c.inner c phase octets (let keep = ok.some_keep in omega arith)
+has_blocks exists c phase octets ok = blocks-at exists c.inner c phase octets ok.some_keep
 
 pub has_bits : HasBlocks → (c : Configuration) (phase : ℕ) (octets : List ℕ) → IsAccepted c → (bits : List Bool) × Inner c phase octets bits
 has_bits exists c phase octets ok =
@@ -133,8 +140,10 @@ bits-sent clean c None octets blocks left is ok none known are =
     drop-none c.skip (plain_bits c (plain_symbols c.pack c (bits_of octets))) none ∙ plain-sent c octets
 bits-sent clean c (Some rate) octets blocks left is ok none known are =
     let bits = bit_numbers (bits_of octets) in
+    let w = windows_of c rate in
     let it = clean (settings_of c rate) 0 bits blocks left ok.some_keep (AreBits-bit_numbers (bits_of octets)) (fixed c rate octets is known)
-    (subst (λ (l : List ℕ). AreBlocksOf (settings_of c rate) l blocks left) (soft-sent c rate (bits_of octets) none) are) in
+    (blocks-sent w.seen w 0 bits blocks left (AreBits-bit_numbers (bits_of octets)) (omega arith)
+    (subst (λ (l : List ℕ). AreBlocksIn w l blocks left) (soft-sent c rate (bits_of octets) none) are)) in
     ap (map (λ bit. bit == 1)) it.kept ∙ numbers-bits (bits_of octets)
 
 pub bits-clean : CleanBlocks → (c : Configuration) (octets : List ℕ) (bits : List Bool) → IsAccepted c → c.skip ≡ 0 → IsStartKnown c

@@ -9,8 +9,6 @@ use Rattle.tm_config.specs.Configuration.{Configuration}
 use Rattle.tm_conv.specs.declared.rates.Rate.{Rate}
 use Rattle.tm_viterbi.specs.WindowBlock.{WindowBlock}
 use Rattle.tm_inner.specs.declared.inner_decoder.InnerDecoder.{InnerDecoder}
-use Rattle.tm_viterbi.specs.Settings.{Settings}
-use Rattle.tm_viterbi.specs.Due.{AreFirst, first_place}
 use Rattle.tm_phase.specs.declared.choosing.Chosen.{Chosen}
 use Rattle.tm_phase.specs.Phase.{IsPhase, octets_needed}
 use Rattle.tm_config.specs.declared.values.Sought.TheVariants.{Find}
@@ -19,7 +17,8 @@ use Rattle.tm_inner.specs.Symbols.{is_inverted}
 use Rattle.tm_inner.specs.Phase.{PhaseAt, IsChosenBy, IsSettledBy, IsSoFarBy, needed_at, skip_of, with_phase}
 use Rattle.tm_windows.specs.Followed.{Windows}
 use Rattle.tm_windows.specs.Windows.{AreFirstIn}
-use Rattle.tm_inner.specs.Inner.{settings_of}
+use Rattle.tm_windows.proofs.WindowLaws.{none-first}
+use Rattle.tm_inner.specs.Inner.{windows_of}
 use Rattle.tm_inner.specs.Receiving.{IsDecoderOf, DecodesFor, FindsFirst, FirstFor, Hands, HandsPrefix, Phasing, Waits, Goes, PhasesFor, IsPrefixBy, IsFirstBy}
 
 -- ---- the phase and the octets after
@@ -75,15 +74,15 @@ further chosen done items more are = ap (λ l. l ++ map Item more) are ∙ sym (
 
 -- windows that are closed stay so
 abbrev pub StayClosed : Type 0
-StayClosed = (s : Settings) (octets more : List ℕ) (first : List WindowBlock) → AreFirst s octets first → AreFirst s (octets ++ more) first
+StayClosed = (w : Windows) (octets more : List ℕ) (first : List WindowBlock) → AreFirstIn w octets first → AreFirstIn w (octets ++ more) first
 
 first-none : (rate : Option Rate) (c : Configuration) (soft : List ℕ) → FirstFor rate c soft []
 first-none None c soft = refl
-first-none (Some rate) c soft = (first_place (settings_of c rate) soft, refl)
+first-none (Some rate) c soft = let w = windows_of c rate in none-first w.seen w soft
 
 first-more : StayClosed → (rate : Option Rate) (c : Configuration) (soft more : List ℕ) (blocks : List WindowBlock) → FirstFor rate c soft blocks → FirstFor rate c (soft ++ more) blocks
 first-more closed None c soft more blocks is = is
-first-more closed (Some rate) c soft more blocks is = closed (settings_of c rate) soft more blocks is
+first-more closed (Some rate) c soft more blocks is = closed (windows_of c rate) soft more blocks is
 
 first-by : (c : Configuration) (decoder : Option InnerDecoder) (soft : List ℕ) (blocks : List WindowBlock) → IsDecoderOf c decoder → FindsFirst decoder soft blocks → FirstFor c.inner c soft blocks
 first-by c None soft blocks of is = subst (λ (r : Option Rate). FirstFor r c soft blocks) (sym of) is

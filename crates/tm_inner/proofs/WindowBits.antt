@@ -119,11 +119,6 @@ whole-keeps None w octets blocks left h =
     omega (arith, kept-count s.rate s.invert s.keep s.ahead (first_start s.start) 0 h.count octets blocks h.steps.whole h.are, h.steps.whole, steps_size_ge s.rate 0 h.count)
 whole-keeps (Some steps) w octets blocks left h = let k = followed-whole w octets blocks left h in omega (arith, k.bits, k.few)
 
--- due blocks are first ones
-pub due-first : (seen : Option ℕ) (w : Windows) (octets : List ℕ) (blocks : List WindowBlock) → AreDueBy seen w octets blocks → AreFirstBy seen w octets blocks
-due-first None w octets blocks h = (h.to, h.closed)
-due-first (Some steps) w octets blocks h = (h.to, h.closed)
-
 -- the blocks of a window and of so many octets more keep no more bits than these have
 pub more-keeps : (seen : Option ℕ) (w : Windows) (given octets : List ℕ) (done all : List WindowBlock) → AreDueBy seen w given done
     → AreFirstBy seen w (given ++ octets) all → length (kept_bits all) ≤ length (kept_bits done) + w.settings.keep + w.settings.ahead + length octets

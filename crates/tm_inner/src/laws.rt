@@ -8,7 +8,8 @@ ghost use Rattle.tm_inner.specs.Inner.{IsStartKnown, AreInnerBlocks, AreInnerDue
 ghost use Rattle.tm_viterbi.specs.WindowBlock.{WindowBlock};
 ghost use Rattle.tm_inner.specs.Symbols.{symbols_of_octets};
 
-use tm_viterbi::{clean_blocks_law, closed_windows_law, due_law, one_list_law};
+use tm_viterbi::clean_blocks_law;
+use tm_windows::{closed_prefix_law, due_windows_law, one_windows_law};
 
 /// Received octets come to one list of bits. It does nothing.
 pub fn inner_law()
@@ -17,7 +18,7 @@ pub fn inner_law()
     ensures one { (c : Configuration) (phase : ℕ) (octets : List ℕ) (bits others : List Bool)
         → Inner c phase octets bits → Inner c phase octets others → bits ≡ others }
 {
-    one_list_law();
+    one_windows_law();
 }
 
 /// Octets that were sent and not disturbed come to the bits that were sent, where none is skipped and it is known where
@@ -36,8 +37,8 @@ pub fn due_bits_law()
         → AreInnerDue c phase octets due → AreInnerBlocks c phase (octets ++ more) blocks left
         → (rest : List Bool) × (inner_bits c (octets ++ more) blocks ≡ inner_bits c octets due ++ rest) }
 {
-    closed_windows_law();
-    due_law();
+    closed_prefix_law();
+    due_windows_law();
 }
 
 /// A block has at most keep+ahead steps, and costs at most 510 for each of them, since a step sends two symbols at

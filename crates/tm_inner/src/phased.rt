@@ -19,7 +19,8 @@ use std::marker::Model;
 use tm_base::{Failed, Held, NoMemory};
 use tm_config::{Config, Sought};
 use tm_phase::{Chosen, choose, octets_needed, phase_law, whole_window_law};
-use tm_viterbi::{BlockTaker, closed_windows_law};
+use tm_viterbi::BlockTaker;
+use tm_windows::closed_prefix_law;
 
 #[derive(Drop)]
 pub struct Phased {
@@ -102,7 +103,7 @@ impl Phased {
     {
         whole_window_law();
         phase_law();
-        closed_windows_law();
+        closed_prefix_law();
         let signed = is_signed(&self.config);
         if !self.waits() {
             return decode(by, &mut self.decoder, signed, octets, blocks);

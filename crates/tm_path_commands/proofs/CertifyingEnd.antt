@@ -10,12 +10,12 @@ use Rattle.tm_viterbi.specs.WindowBlock.{WindowBlock}
 use Rattle.tm_viterbi.specs.Blocks.{AreBlocksOf}
 use Rattle.tm_viterbi.specs.Due.{Place, Closed, first_place}
 use Rattle.tm_phase.specs.declared.choosing.Chosen.{Chosen}
-use Rattle.tm_inner.specs.Inner.{settings_of, soft_octets, BlocksAt}
+use Rattle.tm_inner.specs.Inner.{settings_of, windows_of, soft_octets, BlocksAt}
 use Rattle.tm_inner.specs.Phase.{IsChosen, phase_octets, skip_of, with_phase}
 use Rattle.tm_inner.specs.Receiving.{InnerReceiving, StandsFor, FirstAt, AreInnerFirst}
 use Rattle.tm_inner.specs.Handing.{AreHanded, AreHandedPrefix}
 use Rattle.tm_inner.proofs.DueBits.{StandFirst}
-use Rattle.tm_inner.proofs.InnerBits.{HasBlocks}
+use Rattle.tm_inner.proofs.InnerBits.{HasBlocks, seen-of}
 use Rattle.tm_inner.proofs.PhasePieces.{items_of-with_phase}
 use Rattle.tm_cert_file.specs.Certificate.{AreCertified, IsCertificate}
 use Rattle.tm_cert_file.specs.Certifying.{Certifying}
@@ -95,8 +95,9 @@ module _ (exists : HasBlocks) (stands : StandFirst) (has : HasCertificate) (one 
       let s = settings_of c rate in
       let soft = soft_octets c phase octets in
       let keep = accepted.some_keep in
-      let all = exists s soft (omega (arith, keep)) in
-      let rest = stands s soft first all.0 all.1 are all.2 in
+      let w = windows_of c rate in
+      let all = exists w soft (omega (arith, keep)) (seen-of c rate keep) in
+      let rest = stands w soft first all.0 all.1 are all.2 in
       let whole = has s soft all.0 all.1 all.2 in
       let split = parts rate s.invert c.keep c.ahead (first_place s soft) are.0 first rest.0 whole.0 are.1
       (subst (λ (l : List WindowBlock). IsCertificate s soft l whole.0) rest.1 whole.1) in

@@ -15,7 +15,8 @@ use Rattle.tm_viterbi.specs.WindowBlock.{WindowBlock}
 use Rattle.tm_viterbi.specs.Due.{Place, Closed, AreDue, AreFirst, first_place}
 use Rattle.tm_phase.specs.declared.choosing.Chosen.{Chosen}
 use Rattle.tm_inner.specs.Symbols.{is_inverted}
-use Rattle.tm_inner.specs.Inner.{settings_of, soft_value, soft_octets, DueAt, AreInnerDue}
+use Rattle.tm_windows.specs.Windows.{AreFirstIn}
+use Rattle.tm_inner.specs.Inner.{settings_of, windows_of, soft_value, soft_octets, DueAt, AreInnerDue}
 use Rattle.tm_inner.specs.Phase.{IsChosenBy, PhaseAt, needed_at, phase_octets, skip_of, skipped_at}
 use Rattle.tm_inner.specs.Receiving.{InnerReceiving, StandsFor, FirstAt, AreInnerFirst}
 use Rattle.tm_inner.specs.Handing.{AreHandedDue, AreHandedFirst}
@@ -183,7 +184,7 @@ stood-piece longer stay within c rate old given octets piece new handed text is 
     let first = first_place s (soft_octets c skip octets) in
     let on = soft-on c rate octets piece new skip is (skip-within within c rate (phase_octets c octets) due.chosen is due.choice) soft in
     let place : given.place ≡ with_more old.place new = ap (λ (v : Certifying). v.place) gives in
-    let stays = stay s (soft_octets c skip octets) new due.items (old.place, g.closed) in
+    let stays = stay (windows_of c rate) (soft_octets c skip octets) new due.items (old.place, g.closed) in
     let same : stays.0 ≡ given.place = closed-longer rate invert c.keep c.ahead first old.place stays.0 due.items new g.closed stays.1 ∙ sym place in
     let closed : Closed rate invert c.keep c.ahead (with_more first new) due.items given.place =
     subst (λ (p : Place). Closed rate invert c.keep c.ahead (with_more first new) due.items p) same stays.1 in
@@ -364,8 +365,9 @@ longer-at longer stay (Some rate) c phase octets more items text first is =
     let s = settings_of c rate in
     let soft = soft_octets c phase octets in
     let back = map (soft_value c) (drop (phase - length (drop c.skip octets)) (drop (c.skip - length octets) more)) in
-    let P : List ℕ → Type 0 = λ l. AreFirst s l items × IsCertificate s l items text in
-    subst P (sym (soft-more c phase octets more)) (stay s soft back items first, longer rate s.invert c.keep c.ahead (first_place s soft) first.0 items back text first.1 is)
+    let w = windows_of c rate in
+    let P : List ℕ → Type 0 = λ l. AreFirstIn w l items × IsCertificate s l items text in
+    subst P (sym (soft-more c phase octets more)) (stay w soft back items first, longer rate s.invert c.keep c.ahead (first_place s soft) first.0 items back text first.1 is)
 
 pub fails-longer : Longer → StayClosed → PhaseStays → (c : Configuration) (start taken_now : Option (List ℕ)) (octets more : List ℕ) → CertifyFails c start taken_now octets → CertifyFails c start taken_now (octets ++ more)
 fails-longer longer stay stays c start taken_now octets more t =

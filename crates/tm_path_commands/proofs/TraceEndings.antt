@@ -12,11 +12,12 @@ use Rattle.tm_conv.specs.Path.{steps_size}
 use Rattle.tm_conv.proofs.Sizes.{steps_size_ge}
 use Rattle.tm_viterbi.specs.WindowBlock.{WindowBlock}
 use Rattle.tm_viterbi.specs.Blocks.{AreBlocks}
-use Rattle.tm_viterbi.specs.Due.{Place, Closed, after_block, first_place, AreFirst}
+use Rattle.tm_viterbi.specs.Due.{Place, Closed, after_block, first_place}
+use Rattle.tm_windows.specs.Windows.{AreFirstIn}
 use Rattle.tm_viterbi.specs.Starts.{first_start}
 use Rattle.tm_viterbi.proofs.CleanBlocks.{steps-mono}
 use Rattle.tm_viterbi.proofs.HasBlocks.{some_kept}
-use Rattle.tm_inner.specs.Inner.{settings_of, soft_value, soft_octets, BlocksAt, AreInnerBlocks, AreInnerDue, inner_bits}
+use Rattle.tm_inner.specs.Inner.{settings_of, windows_of, soft_value, soft_octets, BlocksAt, AreInnerBlocks, AreInnerDue, inner_bits}
 use Rattle.tm_inner.specs.Phase.{skip_of, with_phase, WithPhaseSettled}
 use Rattle.tm_inner.specs.Receiving.{InnerReceiving, StandsFor, FirstAt, AreInnerFirst, Hands, HandsPrefix}
 use Rattle.tm_inner.specs.Handing.{AreHanded, AreHandedDue, AreHandedFirst, AreHandedPrefix}
@@ -117,14 +118,14 @@ few-handed c octets handed left accepted h =
 first-of-all : StandFirst → (rate : Option Rate) (c : Configuration) (phase : ℕ) (octets : List ℕ) (first blocks : List WindowBlock) (left : ℕ)
     → FirstAt rate c phase octets first → BlocksAt rate c phase octets blocks left → (rest : List WindowBlock) × (blocks ≡ first ++ rest)
 first-of-all stands None c phase octets first blocks left are all = ([], all.0 ∙ ap (λ l. l ++ []) (sym are))
-first-of-all stands (Some rate) c phase octets first blocks left are all = stands (settings_of c rate) (soft_octets c phase octets) first blocks left are all
+first-of-all stands (Some rate) c phase octets first blocks left are all = stands (windows_of c rate) (soft_octets c phase octets) first blocks left are all
 
 stay-first : StayClosed → (rate : Option Rate) (c : Configuration) (phase : ℕ) (octets more : List ℕ) (first : List WindowBlock) → FirstAt rate c phase octets first
     → FirstAt rate c phase (octets ++ more) first
 stay-first stay None c phase octets more first are = are
 stay-first stay (Some rate) c phase octets more first are =
     let back = map (soft_value c) (drop (phase - length (drop c.skip octets)) (drop (c.skip - length octets) more)) in
-    subst (λ (l : List ℕ). AreFirst (settings_of c rate) l first) (sym (soft-more c phase octets more)) (stay (settings_of c rate) (soft_octets c phase octets) back first are)
+    subst (λ (l : List ℕ). AreFirstIn (windows_of c rate) l first) (sym (soft-more c phase octets more)) (stay (windows_of c rate) (soft_octets c phase octets) back first are)
 
 -- what is handed over up to a fault is a prefix of all
 prefix-of-all : HasBlocks → StandFirst → (c : Configuration) (octets : List ℕ) (prefix : List (Handed WindowBlock)) → IsAccepted c → AreHandedPrefix c octets prefix

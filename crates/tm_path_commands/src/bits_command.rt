@@ -17,7 +17,8 @@ use tm_config::Config;
 use tm_driver::{Ending, Feed, Outcome, Stop, drive, phase_line};
 use tm_inner::{InnerEnd, InnerReceiver};
 use tm_phase::{Chosen, phase_law, whole_window_law};
-use tm_viterbi::{Block, BlockTaker, closed_windows_law, due_law, one_list_law};
+use tm_viterbi::{Block, BlockTaker};
+use tm_windows::{closed_prefix_law, due_windows_law, one_windows_law};
 
 // How many octets a turn reads at most.
 const PIECE: usize = 4096;
@@ -432,9 +433,9 @@ pub fn bits<S: Source, O: Sink, N: Sink>(
         (sink_call N.taken N.faults N.is_last notes.old notes.new)) }
     ensures memory { OnErr result ((source.new ≡ source.old) × (out.new ≡ out.old) × (notes.new ≡ notes.old)) }
 {
-    one_list_law();
-    due_law();
-    closed_windows_law();
+    one_windows_law();
+    due_windows_law();
+    closed_prefix_law();
     phase_law();
     whole_window_law();
     let Ok(mut receiver) = InnerReceiver::open(alloc, config) else {

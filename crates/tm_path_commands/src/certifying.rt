@@ -17,7 +17,7 @@ use tm_conv::Rate;
 use tm_driver::{Ending, Feed, Outcome, Stop, drive};
 use tm_inner::{InnerReceiver, is_inverted, rate_of};
 use tm_phase::{phase_law, whole_window_law};
-use tm_viterbi::{closed_windows_law, due_law, one_list_law};
+use tm_windows::{closed_prefix_law, due_windows_law, one_windows_law};
 
 // What is kept to write the certificate of a configuration, which was given nothing yet. With no inner code it is given
 // nothing.
@@ -73,7 +73,7 @@ fn certify_piece<O: Sink>(
     ensures cause { HasCause (O.faults out.old) (O.faults out.new) (O.is_last out.new) result }
 {
     certified_law();
-    closed_windows_law();
+    closed_prefix_law();
     phase_law();
     give_piece(receiver, certifying, piece);
     let mut certifier = Certifier { certifying, out };
@@ -103,7 +103,7 @@ fn certify_pieces<O: Sink>(
     ensures cause { HasCause (O.faults out.old) (O.faults out.new) (O.is_last out.new) result }
 {
     certified_law();
-    closed_windows_law();
+    closed_prefix_law();
     whole_window_law();
     let mut done = 0;
     while done < octets.len() {
@@ -126,8 +126,8 @@ fn certify_last<O: Sink>(
     ensures cause { HasCause (O.faults out.old) (O.faults out.new) (O.is_last out.new) result }
 {
     certified_law();
-    due_law();
-    one_list_law();
+    due_windows_law();
+    one_windows_law();
     let mut certifier = Certifier { certifying, out };
     match receiver.finish(&mut certifier) {
         Ok(_) => Ok(()),
@@ -225,9 +225,9 @@ pub fn certify<S: Source, O: Sink>(
     ensures memory { OnErr result ((source.new ≡ source.old) × (out.new ≡ out.old)) }
 {
     certified_law();
-    closed_windows_law();
-    due_law();
-    one_list_law();
+    closed_prefix_law();
+    due_windows_law();
+    one_windows_law();
     phase_law();
     whole_window_law();
     let Ok(mut receiver) = InnerReceiver::open(alloc, config) else {

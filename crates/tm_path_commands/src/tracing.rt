@@ -13,7 +13,7 @@ use tm_config::Config;
 use tm_driver::{Ending, Feed, Outcome, Stop, drive};
 use tm_inner::InnerReceiver;
 use tm_phase::{phase_law, whole_window_law};
-use tm_viterbi::{closed_windows_law, due_law, one_list_law};
+use tm_windows::{closed_prefix_law, due_windows_law, one_windows_law};
 
 // An inner receiver, and what takes its phase and windows.
 struct Tracing<'a, 'b, O> {
@@ -118,8 +118,8 @@ fn trace_end<O: Sink>(receiver: &mut InnerReceiver, trace: &mut Trace<'_, O>) ->
         (O.is_last trace.new.lines.now) result }
     ensures same { trace.new.lines.ghost_name ≡ trace.old.lines.ghost_name }
 {
-    one_list_law();
-    due_law();
+    one_windows_law();
+    due_windows_law();
     match receiver.finish(trace) {
         Ok(end) => end_trace(trace.lines, trace.count, end.bits, end.leftover),
         Err(_) => Err(Failed),
@@ -140,9 +140,9 @@ pub fn trace<S: Source, O: Sink>(
         (sink_call O.taken O.faults O.is_last out.old out.new)) }
     ensures memory { OnErr result ((source.new ≡ source.old) × (out.new ≡ out.old)) }
 {
-    one_list_law();
-    due_law();
-    closed_windows_law();
+    one_windows_law();
+    due_windows_law();
+    closed_prefix_law();
     phase_law();
     whole_window_law();
     let Ok(mut receiver) = InnerReceiver::open(alloc, config) else {

@@ -1,18 +1,18 @@
 -- What holds of blocks, by whether the phase is followed.
-use Rattle.std.proofs.Common.{◌≡◌, ◌⊎◌, ℕ, ◌-◌, ◌<◌, ◌∙◌, sym, ap, subst, arith, List, [], ◌∷◌, ◌++◌, Option, Some, None}
+use Rattle.std.proofs.Common.{◌≡◌, ◌⊎◌, ℕ, ◌-◌, ◌<◌, ◌∙◌, refl, sym, ap, subst, arith, List, [], ◌∷◌, ◌++◌, Option, Some, None}
 use Rattle.tm_conv.specs.Path.{AreBits, complement, path}
 use Rattle.tm_conv.specs.Cost.{sure}
 use Rattle.tm_conv.proofs.Clean.{bits-path}
 use Rattle.tm_conv.proofs.Complement.{path-complement}
-use Rattle.tm_viterbi.specs.Settings.{Settings}
 use Rattle.tm_viterbi.specs.WindowBlock.{WindowBlock}
 use Rattle.tm_viterbi.specs.Blocks.{AreBlocksOf}
-use Rattle.tm_viterbi.specs.Clean.{sure_symbols, turned_octets}
+use Rattle.tm_viterbi.specs.Due.{first_place}
+use Rattle.tm_viterbi.specs.Clean.{sure_symbols, complemented_octets}
 use Rattle.tm_viterbi.proofs.ClosedPrefix as plain
-use Rattle.tm_viterbi.proofs.CleanBlocks.{bits_of-digits, digits-complement, turned-sure}
+use Rattle.tm_viterbi.proofs.CleanBlocks.{bits_of-digits, digits-complement, complemented-sure}
 use Rattle.tm_viterbi.proofs.HasBlocks.{HasBest, has_blocks}
 use Rattle.tm_viterbi.proofs.OneList.{OneBest, first_blocks, all_but_last, longer_due, only_list, no_blocks, no_due}
-use Rattle.tm_windows.specs.Followed.{Windows}
+use Rattle.tm_windows.specs.Followed.{Windows, first_spot}
 use Rattle.tm_windows.specs.Windows.{AreBlocksBy, AreDueBy, AreFirstBy, IsSeen}
 use Rattle.tm_windows.proofs.FollowedOnce.{followed-first, followed-prefix, followed-longer, followed-due, followed-one, followed-none, followed-no_due}
 use Rattle.tm_windows.proofs.FollowedExists.{followed-exists}
@@ -31,6 +31,16 @@ pub blocks-one : OneBest → (seen : Option ℕ) (w : Windows) (octets : List �
     → AreBlocksBy seen w octets blocks left → AreBlocksBy seen w octets others right → (blocks ≡ others) × (left ≡ right)
 blocks-one one None w octets blocks others left right h k = only_list one w.settings octets blocks others left right h k
 blocks-one one (Some steps) w octets blocks others left right h k = followed-one one w octets blocks others left right h k
+
+-- no block is the first of them
+pub none-first : (seen : Option ℕ) (w : Windows) (octets : List ℕ) → AreFirstBy seen w octets []
+none-first None w octets = (first_place w.settings octets, refl)
+none-first (Some steps) w octets = (first_spot w octets, refl)
+
+-- due blocks are first ones
+pub due-is_first : (seen : Option ℕ) (w : Windows) (octets : List ℕ) (blocks : List WindowBlock) → AreDueBy seen w octets blocks → AreFirstBy seen w octets blocks
+due-is_first None w octets blocks h = (h.to, h.closed)
+due-is_first (Some steps) w octets blocks h = (h.to, h.closed)
 
 pub due-none : (seen : Option ℕ) (w : Windows) → AreDueBy seen w [] []
 due-none None w = no_due w.settings
@@ -62,13 +72,13 @@ blocks-sent None w register bits blocks left are small h = h
 blocks-sent (Some steps) w register bits blocks left are small h = sure-blocks w register bits blocks left are small h
 
 -- symbols complemented are those of the bits and the register complemented
-pub blocks-turned : (seen : Option ℕ) (w : Windows) (register : ℕ) (bits : List ℕ) (blocks : List WindowBlock) (left : ℕ) → AreBits bits → register < 64
-    → AreBlocksBy seen w (turned_octets (sure_symbols w.settings register bits)) blocks left
-    → AreBlocksOf w.settings (turned_octets (sure_symbols w.settings register bits)) blocks left
-blocks-turned seen w register bits blocks left are small h =
+pub blocks-complemented : (seen : Option ℕ) (w : Windows) (register : ℕ) (bits : List ℕ) (blocks : List WindowBlock) (left : ℕ) → AreBits bits → register < 64
+    → AreBlocksBy seen w (complemented_octets (sure_symbols w.settings register bits)) blocks left
+    → AreBlocksOf w.settings (complemented_octets (sure_symbols w.settings register bits)) blocks left
+blocks-complemented seen w register bits blocks left are small h =
     let s = w.settings in
-    let octets : turned_octets (sure_symbols s register bits) ≡ sure_symbols s (63 - register) (complement bits) =
-    turned-sure (path s.rate s.invert 0 register bits) (bits-path s.rate s.invert 0 register bits) ∙ ap sure (sym (path-complement s.rate s.invert 0 register bits small are)) in
+    let octets : complemented_octets (sure_symbols s register bits) ≡ sure_symbols s (63 - register) (complement bits) =
+    complemented-sure (path s.rate s.invert 0 register bits) (bits-path s.rate s.invert 0 register bits) ∙ ap sure (sym (path-complement s.rate s.invert 0 register bits small are)) in
     subst (λ (v : List ℕ). AreBlocksOf s v blocks left) (sym octets)
     (blocks-sent seen w (63 - register) (complement bits) blocks left (bits_of-digits (complement bits) (digits-complement bits)) (omega arith)
     (subst (λ (v : List ℕ). AreBlocksBy seen w v blocks left) octets h))

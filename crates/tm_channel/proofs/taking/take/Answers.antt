@@ -63,7 +63,7 @@ returns-in-Err g c =
       handed = search rules;
       prefix = subst (HandsPrefix took broke StagesFor first start c.args.taker.now c.take_piece.new.taker) whole
           (hands-longer took broke StagesFor first start c.args.taker.now c.take_piece.new.taker (take at octets ++ next) rest
-          (first_with-stays c.whole_window_law.ensures.prefix c.closed_windows_law.ensures c.args.inner.now.config chosen)
+          (first_with-stays c.whole_window_law.ensures.prefix c.closed_prefix_law.ensures c.args.inner.now.config chosen)
           (hands-prefix took broke StagesFor first start before c.args.taker.now c.loop-done.taker c.take_piece.new.taker (take at octets) next
           (stages-hand took start before c.args.taker.now c.loop-done.taker (take at octets) i.handed) part));
       cause = search rules;

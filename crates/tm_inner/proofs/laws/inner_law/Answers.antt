@@ -2,7 +2,7 @@ use Rattle.tm_inner.proofs.InnerBits.{has_bits, only_bits}
 use Rattle.tm_inner.proofs.laws.inner_law.Goals as goal
 
 pub returns-clause-exists : goal.returns-clause-exists
-returns-clause-exists c = has_bits c.one_list_law.ensures.exists
+returns-clause-exists c = has_bits c.one_windows_law.ensures.exists
 
 pub returns-clause-one : goal.returns-clause-one
-returns-clause-one c = only_bits c.one_list_law.ensures.one
+returns-clause-one c = only_bits c.one_windows_law.ensures.one

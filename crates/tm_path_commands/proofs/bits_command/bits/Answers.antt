@@ -24,8 +24,8 @@ returns-clause-answered g c =
     let done : Ends c.drive-ending.result (bits_meaning config) config.limit h.0
     (taken_by (g.O.Sink.taken c.args.out.now) (g.O.Sink.taken now.out.now) (g.N.Sink.taken c.args.notes.now)
     (g.N.Sink.taken now.notes.now)) =
-    driven-ends c.one_list_law.ensures.exists c.due_law.ensures.first c.phase_law.ensures.exists
-    c.phase_law.ensures.one c.closed_windows_law.ensures
+    driven-ends c.one_windows_law.ensures.exists c.due_windows_law.ensures.first c.phase_law.ensures.exists
+    c.phase_law.ensures.one c.closed_prefix_law.ensures
     c.whole_window_law.ensures.prefix (λ (t : BitWriting g.row.O.Denot g.row.N.Denot). t.receiver.now)
     (λ t. t.packer.now)
     (λ t. g.O.Sink.taken t.out.now) (λ t. g.N.Sink.taken t.notes.now) config _ now c.limit.ensures.accepted fresh

@@ -15,8 +15,8 @@ returns-clause-answered g c =
     let law = c.certified_law.ensures in
     let done : (noted : Option (List ℕ)) → Ends c.drive-ending.result (certify_meaning config) config.limit h.0
     (taken_by (g.O.Sink.taken c.args.out.now) (g.O.Sink.taken now.out.now) noted noted) =
-    λ noted. driven-ends c.one_list_law.ensures.exists c.due_law.ensures.first c.phase_law.ensures.exists
-    c.whole_window_law.ensures.prefix c.closed_windows_law.ensures
+    λ noted. driven-ends c.one_windows_law.ensures.exists c.due_windows_law.ensures.first c.phase_law.ensures.exists
+    c.whole_window_law.ensures.prefix c.closed_prefix_law.ensures
     law.exists law.one law.split law.longer (λ (t : Certificate g.row.O.Denot). t.receiver.now) (λ t. t.certifying.now)
     (λ t. g.O.Sink.taken t.out.now)
     config _ now noted c.limit.ensures.accepted

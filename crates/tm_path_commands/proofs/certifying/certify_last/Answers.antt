@@ -25,7 +25,7 @@ returns-in-Err-clause-prefix g c = λ config start octets accepted t.
     let same : now.out.ghost_name ≡ _ = took.sink in
     let law = c.certified_law.ensures in
     let done : WroteCertificatePrefix config start (g.O.Sink.taken now.out.now) octets =
-    certified-prefix c.one_list_law.ensures.exists c.due_law.ensures.first law.exists law.one law.split law.append law.closed_prefix law.last_prefix config c.args.receiver.now c.args.certifying.now
+    certified-prefix c.one_windows_law.ensures.exists c.due_windows_law.ensures.first law.exists law.one law.split law.append law.closed_prefix law.last_prefix config c.args.receiver.now c.args.certifying.now
     start (g.O.Sink.taken c.args.out.now) (g.O.Sink.taken now.out.now) octets h.0 accepted t took.wrote h.2 in
     search rules
 

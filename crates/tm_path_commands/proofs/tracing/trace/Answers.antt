@@ -17,8 +17,8 @@ returns-clause-answered g c =
     (g.O.Sink.faults t.lines.now) in
     let done : (noted : Option (List ℕ)) → Ends c.drive-ending.result (trace_meaning config) config.limit h.0
     (taken_by (g.O.Sink.taken c.args.out.now) (g.O.Sink.taken now.trace.lines.now) noted noted) =
-    λ noted. driven-ends c.one_list_law.ensures.exists c.due_law.ensures.first c.phase_law.ensures.exists
-    c.phase_law.ensures.one c.closed_windows_law.ensures
+    λ noted. driven-ends c.one_windows_law.ensures.exists c.due_windows_law.ensures.first c.phase_law.ensures.exists
+    c.phase_law.ensures.one c.closed_prefix_law.ensures
     c.whole_window_law.ensures.prefix (λ (t : Tracing g.row.O.Denot). t.receiver.now) (λ t. t.trace)
     (λ (t : Trace g.row.O.Denot). t.lines.ghost_name) lines
     (λ t. g.O.Sink.is_last t.lines.now) (λ t. t.count) config _ now noted refl c.limit.ensures.accepted

@@ -156,7 +156,7 @@ returns-in-Err-clause-prefix g c =
     let chose = subst (λ (h : HeldOctets). ChoosesPrefix t.took_phase t.broke_phase t.took t.broke (record before { held = h.octets; room = h.room }) start c.choose.new.blocks) f.held c.in-Err.ensures.prefix in
     subst (λ (p : Phasing). HandsPrefix (on_handed t.took_phase t.took) (on_handed t.broke_phase t.broke) PhasesFor (IsFirstBy p.config) p start c.choose.new.blocks (soft_form p.config octets)) c.self.view_is
     (subst (HandsPrefix (on_handed t.took_phase t.took) (on_handed t.broke_phase t.broke) PhasesFor (IsFirstBy s.config) before start c.choose.new.blocks) f.parts
-    (prefix-choosing c.whole_window_law.ensures.prefix c.phase_law.ensures.within c.closed_windows_law.ensures t.took_phase t.broke_phase t.took t.broke before start c.choose.new.blocks form rest
+    (prefix-choosing c.whole_window_law.ensures.prefix c.phase_law.ensures.within c.closed_prefix_law.ensures t.took_phase t.broke_phase t.took t.broke before start c.choose.new.blocks form rest
     asks.0 asks.1 f.many chose))
 
 pub invariant_of-self-3 : goal.invariant_of-self-3
