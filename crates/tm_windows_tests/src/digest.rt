@@ -55,6 +55,7 @@ impl BlockTaker for Digest {
         value = mixed(value, u64::from(b.kept));
         value = mixed(value, b.metric);
         value = mixed(value, u64::from(b.end_state));
+        value = mixed(value, u64::from(b.dropped));
         for bit in b.bits {
             value = mixed(value, u64::from(*bit));
         }

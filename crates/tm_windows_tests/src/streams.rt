@@ -72,6 +72,7 @@ fn opened(
     shape: WindowShape,
     start: Start,
     workers: u8,
+    follow: bool,
 ) -> Result<ParallelDecoder, Fail> {
     let WindowShape {
         rate,
@@ -88,7 +89,7 @@ fn opened(
         keep as u32,
         ahead as u32,
         workers,
-        false,
+        follow,
     )?)
 }
 
@@ -102,7 +103,7 @@ fn with_workers<R: Abort + Threads + Sync>(
     way: Way,
     room: u64,
 ) -> Result<Outcome, Fail> {
-    let mut decoder = opened(rt, alloc, shape, start, workers)?;
+    let mut decoder = opened(rt, alloc, shape, start, workers, false)?;
     let mut digest = with_room(room);
     let answer = feed_with_workers(rt, &mut decoder, octets, way, &mut digest);
     Ok(Outcome { digest, answer })
@@ -223,7 +224,7 @@ fn a_taker_fails_at_each_block(rt: HostRuntime) -> Result<(), Fail> {
 fn gathered_octets_wait(rt: HostRuntime) -> Result<(), Fail> {
     let alloc = rt.alloc();
     let octets = octets_for(&rt, alloc, Kind::Clean, SHARED)?;
-    let mut decoder = opened(&rt, alloc, SHARED, Start::Zero, 2)?;
+    let mut decoder = opened(&rt, alloc, SHARED, Start::Zero, 2, false)?;
     let mut digest = empty();
     assert!(rt; decoder.gather(&octets));
     assert_eq!(rt; decoder.count_closed(), WINDOWS);
@@ -251,7 +252,7 @@ fn room_ends_with_the_batch(rt: HostRuntime) -> Result<(), Fail> {
         keep: 64,
         ahead: 0,
     };
-    let mut decoder = opened(&rt, alloc, shape, Start::Zero, 7)?;
+    let mut decoder = opened(&rt, alloc, shape, Start::Zero, 7, false)?;
     let mut digest = empty();
     assert!(rt; !decoder.gather(&[127; 131]));
     assert!(rt; decoder.gather(&[127; 129]));
@@ -261,5 +262,51 @@ fn room_ends_with_the_batch(rt: HostRuntime) -> Result<(), Fail> {
     assert_eq!(rt; decoder.count_closed(), 1);
     decoder.feed(&rt, &[127; 128], &mut digest)?;
     assert_eq!(rt; digest.blocks, 2);
+    Ok(())
+}
+
+const UPRIGHT: WindowShape = WindowShape {
+    rate: Rate::R12,
+    invert: false,
+    keep: 1024,
+    ahead: 64,
+};
+
+// What comes of a stream whose phase is followed, and how often octets were dropped.
+fn followed<R: Abort + Threads + Sync>(
+    rt: &R,
+    alloc: Global,
+    workers: u8,
+    octets: &[u8],
+    way: Way,
+) -> Result<(Outcome, u64), Fail> {
+    let mut decoder = opened(rt, alloc, UPRIGHT, Start::Zero, workers, true)?;
+    let mut digest = empty();
+    let answer = feed_with_workers(rt, &mut decoder, octets, way, &mut digest);
+    Ok((Outcome { digest, answer }, decoder.slips()))
+}
+
+// Undisturbed octets drop none. Where a symbol is lost in the second window, one is dropped before the third, the other symbol
+// of its step.
+#[test]
+fn followed_streams_drop_octets(rt: HostRuntime) -> Result<(), Fail> {
+    let alloc = rt.alloc();
+    let mut octets = octets_for(&rt, alloc, Kind::Clean, UPRIGHT)?;
+    let whole = alone(&rt, alloc, UPRIGHT, Start::Zero, &octets, u64::MAX)?;
+    let (outcome, slips) = followed(&rt, alloc, 1, &octets, Way::Once)?;
+    assert_eq!(rt; outcome, whole);
+    assert_eq!(rt; slips, 0);
+    assert!(rt; octets.len() > 3000);
+    octets.remove(3000);
+    let (wanted, slips) = followed(&rt, alloc, 1, &octets, Way::Once)?;
+    assert_eq!(rt; wanted.digest.blocks, WINDOWS as u64 + 1);
+    assert_eq!(rt; slips, 1);
+    for workers in [1, 2, 7] {
+        for way in WAYS {
+            let (outcome, slips) = followed(&rt, alloc, workers, &octets, way)?;
+            assert_eq!(rt; outcome, wanted);
+            assert_eq!(rt; slips, 1);
+        }
+    }
     Ok(())
 }
