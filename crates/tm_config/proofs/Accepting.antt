@@ -8,7 +8,7 @@ use Rattle.tm_config.specs.declared.values.Raw.{Raw}
 use Rattle.tm_config.specs.declared.values.OuterCode.{OuterCode}
 use Rattle.tm_config.specs.declared.values.OuterCode.TheVariants.{Rs16, Rs8, Uncoded}
 use Rattle.tm_config.specs.declared.error.ConfigError.{ConfigError}
-use Rattle.tm_config.specs.Configuration.{configuration_of, most_data, correctable, all_codes, code_of, is_uncoded, number_of_rate, all_rates}
+use Rattle.tm_config.specs.Configuration.{Configuration, configuration_of, unfollowed, most_data, correctable, all_codes, code_of, is_uncoded, number_of_rate, all_rates}
 use Rattle.tm_config.specs.Configuration.{number_of_basis, all_bases, number_of_form, all_forms, number_of_start, all_starts}
 use Rattle.tm_config.specs.Accepted.{IsAccepted, is_listed, is_number, is_within, switch_fits, sought_fits, fits_if_given, depth_fits, length_fits, repair_fits, tests, first_error, refusal_of}
 use Rattle.tm_config.proofs.Choices.{uncoded_tells}
@@ -201,3 +201,28 @@ configuration_is_accepted raw none =
       batch = (within 1 most_batch raw.batch pass.batch).1;
       verify = at_most raw.verify most_verify pass.verify;
     }
+
+-- a phase may be found once as well
+pub unfollowed_is_accepted : (c : Configuration) → IsAccepted c → IsAccepted (unfollowed c)
+unfollowed_is_accepted c accepted = record {
+  some_depth = accepted.some_depth;
+  depth = accepted.depth;
+  no_depth = accepted.no_depth;
+  whole = accepted.whole;
+  some_data = accepted.some_data;
+  data_fits = accepted.data_fits;
+  tolerance = accepted.tolerance;
+  repair = accepted.repair;
+  skip = accepted.skip;
+  some_workers = accepted.some_workers;
+  workers = accepted.workers;
+  some_limit = accepted.some_limit;
+  limit = accepted.limit;
+  fly = accepted.fly;
+  some_keep = accepted.some_keep;
+  keep = accepted.keep;
+  ahead = accepted.ahead;
+  some_batch = accepted.some_batch;
+  batch = accepted.batch;
+  verify = accepted.verify;
+}

@@ -11,8 +11,8 @@ use Rattle.tm_config.specs.declared.values.SoftForm.TheVariants.{Unsigned}
 use Rattle.tm_config.specs.declared.values.Sought.TheVariants.{Given}
 use Rattle.tm_config.specs.Configuration.{HaveNumbers, configuration_of, numbered, correctable, all_codes, number_of_rate, all_rates}
 use Rattle.tm_config.specs.Configuration.{number_of_switch, all_switches, is_on, number_of_basis, all_bases, number_of_form, all_forms}
-use Rattle.tm_config.specs.Configuration.{number_of_start, all_starts, number_of_sought, all_sought}
-use Rattle.tm_config.specs.Accepted.{is_number, fits_if_given, switch_fits, refusal_of}
+use Rattle.tm_config.specs.Configuration.{number_of_start, all_starts, phase_of, is_followed, number_of_phase, number_of_sought, all_sought}
+use Rattle.tm_config.specs.Accepted.{is_number, fits_if_given, switch_fits, sought_fits, refusal_of}
 use Rattle.tm_config.proofs.Accepting.{all_pass}
 
 -- the value found by a number that one of the list has
@@ -31,6 +31,12 @@ basis-has : (number : ℕ) → is_number number_of_basis all_bases number ≡ tr
 basis-has zero fits = refl
 basis-has (suc n) fits = grind (arith, nat_tests)
 
+phase-has : (number : ℕ) → sought_fits number ≡ true
+    → number_of_phase (phase_of number) (is_followed number) ≡ number
+phase-has zero fits = refl
+phase-has (suc zero) fits = refl
+phase-has (suc (suc n)) fits = grind (arith, nat_tests)
+
 invert-has : (number : Option ℕ) → fits_if_given switch_fits number ≡ true
     → option_map number_of_switch (option_map is_on number) ≡ number
 invert-has None fits = refl
@@ -48,7 +54,7 @@ configuration-has raw none =
       basis = basis-has raw.basis pass.basis;
       soft = numbered-has number_of_form all_forms Unsigned raw.soft pass.soft;
       start = numbered-has number_of_start all_starts Zero raw.start pass.start;
-      phase = numbered-has number_of_sought all_sought Given raw.phase pass.phase;
+      phase = phase-has raw.phase pass.phase;
       polarity = numbered-has number_of_sought all_sought Given raw.polarity pass.polarity;
       pack = numbered-has number_of_switch all_switches false raw.pack pass.pack;
     }

@@ -1,6 +1,6 @@
 -- What contracts see of a configuration, and what the numbers that are given for it come to.
 use Rattle.std.specs.Prelude.{◌≡◌, ℕ, ◌+◌, ◌-◌, ◌*◌, ◌/◌, ◌^◌, ◌==◌, Bool, true, false, List, [], ◌∷◌}
-use Rattle.std.specs.Prelude.{Option, Some, None, option_map, unwrap_or, if◌then◌else◌}
+use Rattle.std.specs.Prelude.{Option, Some, None, min, option_map, unwrap_or, if◌then◌else◌}
 use Rattle.tm_conv.specs.declared.rates.Rate.{Rate}
 use Rattle.tm_conv.specs.declared.rates.Rate.TheVariants.{R12, R23, R34, R56, R78}
 use Rattle.tm_dual.specs.Octet.{basis_of}
@@ -144,6 +144,18 @@ all_sought = Given ∷ Find ∷ []
 abbrev pub sought_of : ℕ → Sought
 sought_of = numbered number_of_sought all_sought Given
 
+-- the numbers of a phase that is given, that is to be found, and that is to be found and followed
+abbrev pub phase_of : ℕ → Sought
+phase_of number = sought_of (min number 1)
+
+abbrev pub is_followed : ℕ → Bool
+is_followed number = number == 2
+
+abbrev pub number_of_phase : Sought → Bool → ℕ
+number_of_phase Given follow = 0
+number_of_phase Find false = 1
+number_of_phase Find true = 2
+
 abbrev pub is_sought : Sought → Bool
 is_sought Given = false
 is_sought Find = true
@@ -175,7 +187,8 @@ configuration_of raw = record {
   fly = raw.fly;
   keep = raw.keep;
   ahead = raw.ahead;
-  phase = sought_of raw.phase;
+  phase = phase_of raw.phase;
+  follow = is_followed raw.phase;
   polarity = sought_of raw.polarity;
   batch = raw.batch;
   pack = is_on raw.pack;
@@ -191,9 +204,13 @@ pub record HaveNumbers (raw : Raw) (c : Configuration) : Type 0 where
   pub basis : number_of_basis c.basis ≡ raw.basis
   pub soft : number_of_form c.soft ≡ raw.soft
   pub start : number_of_start c.start ≡ raw.start
-  pub phase : number_of_sought c.phase ≡ raw.phase
+  pub phase : number_of_phase c.phase c.follow ≡ raw.phase
   pub polarity : number_of_sought c.polarity ≡ raw.polarity
   pub pack : number_of_switch c.pack ≡ raw.pack
+
+-- the same, but that the phase is found once
+abbrev pub unfollowed : Configuration → Configuration
+unfollowed c = record c { follow = false }
 
 -- the data octets of one codeword
 abbrev pub data_length : Configuration → ℕ

@@ -1,13 +1,13 @@
 // A configuration whose values are all within their lists and ranges.
 ghost use Rattle.std.specs.Prelude.{◌≡◌, ◌≢◌, ◌⊎◌, ◌*◌, ◌<◌, ◌≤◌, None, Some, OnOk, IfOk, IfErr, option_map};
-ghost use Rattle.tm_config.specs.Configuration.{HaveNumbers, configuration_of, word_length, correctable, number_of_rate, number_of_switch, number_of_basis, number_of_form, number_of_start, number_of_sought};
+ghost use Rattle.tm_config.specs.Configuration.{HaveNumbers, configuration_of, word_length, correctable, number_of_rate, number_of_switch, number_of_basis, number_of_form, number_of_start, number_of_phase, number_of_sought, unfollowed};
 ghost use Rattle.tm_config.specs.Accepted.{IsAccepted, refusal_of};
 ghost use Rattle.tm_config.specs.Bounds.{longest_word};
 
 use crate::ranges::{frame_length, refusal};
 use crate::values::{
-    are_on, code_of, form_of, is_on, number_of_sought, number_of_switch, rate_of, sought_of,
-    start_of,
+    are_on, code_of, form_of, is_followed, is_on, number_of_phase, number_of_sought,
+    number_of_switch, phase_of, rate_of, sought_of, start_of,
 };
 use crate::{ConfigError, OuterCode, Raw, SoftForm, Values};
 use std::marker::Model;
@@ -237,10 +237,10 @@ impl Config {
 
     /// The phase of the symbols: 0 where it is given, 1 where it is to be found.
     pub fn phase(&self) -> u64
-        ensures value { result ≡ number_of_sought self.now.phase }
+        ensures value { result ≡ number_of_phase self.now.phase self.now.follow }
         ensures accepted { IsAccepted self.now }
     {
-        number_of_sought(self.values.phase)
+        number_of_phase(self.values.phase, self.values.follow)
     }
 
     /// The polarity of the symbols: 0 where it is given, 1 where it is to be found.
@@ -274,6 +274,18 @@ impl Config {
     {
         self.values.verify
     }
+
+    /// The same configuration, but that a phase which is to be found is not followed.
+    pub fn unfollowed(&self) -> Config
+        ensures value { result ≡ unfollowed self.now }
+        ensures accepted { IsAccepted result }
+    {
+        let values = Values {
+            follow: false,
+            ..self.values
+        };
+        Config { values }
+    }
 }
 
 // The values, with those that were not given.
@@ -300,7 +312,8 @@ fn resolved(raw: &Raw) -> Values
         fly: raw.fly,
         keep: raw.keep,
         ahead: raw.ahead,
-        phase: sought_of(raw.phase),
+        phase: phase_of(raw.phase),
+        follow: is_followed(raw.phase),
         polarity: sought_of(raw.polarity),
         batch: raw.batch,
         pack: is_on(raw.pack),

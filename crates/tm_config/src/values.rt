@@ -1,6 +1,6 @@
 // The values of the options: the numbers that were given, and what they are in a configuration.
 ghost use Rattle.std.specs.Prelude.{◌≡◌, option_map};
-ghost use Rattle.tm_config.specs.Configuration.{default_raw, correctable, is_uncoded, code_of, rate_of, number_of_switch, is_on, form_of, start_of, number_of_sought, sought_of};
+ghost use Rattle.tm_config.specs.Configuration.{default_raw, correctable, is_uncoded, code_of, rate_of, number_of_switch, is_on, form_of, start_of, phase_of, is_followed, number_of_phase, number_of_sought, sought_of};
 
 use tm_conv::Rate;
 use tm_dual::Basis;
@@ -149,6 +149,8 @@ pub struct Values {
     /// The steps that a window has beyond those that are kept.
     pub ahead: u64,
     pub phase: Sought,
+    /// Whether the phase, where it is to be found, is looked at again before each later window of the inner decoder.
+    pub follow: bool,
     pub polarity: Sought,
     /// How many codeblocks are repaired and handed over at once.
     pub batch: u64,
@@ -250,6 +252,27 @@ pub fn sought_of(number: u64) -> Sought
     match number {
         1 => Sought::Find,
         _ => Sought::Given,
+    }
+}
+
+pub fn phase_of(number: u64) -> Sought
+    ensures { result ≡ phase_of number }
+{
+    sought_of(number.min(1))
+}
+
+pub fn is_followed(number: u64) -> bool
+    ensures { result ≡ is_followed number }
+{
+    number == 2
+}
+
+pub fn number_of_phase(phase: Sought, follow: bool) -> u64
+    ensures { result ≡ number_of_phase phase follow }
+{
+    match phase {
+        Sought::Given => 0,
+        Sought::Find => { if follow { 2 } else { 1 } }
     }
 }
 
