@@ -6,6 +6,7 @@ pub mod InnerBits
 pub mod DueBits
 pub mod ReceivedBits
 pub mod FollowedBits
+pub mod Unfollowed
 pub mod WindowBits
 pub mod FewBits
 mod Metrics

@@ -7,7 +7,7 @@ use Rattle.tm_base.specs.Bits.{AreOctets}
 use Rattle.tm_base.specs.Handed.{Item, items_of}
 use Rattle.tm_base.specs.Written.{Wrote}
 use Rattle.tm_base.proofs.HandedItems.{items_of-items}
-use Rattle.tm_config.specs.Configuration.{Configuration}
+use Rattle.tm_config.specs.Configuration.{Configuration, unfollowed}
 use Rattle.tm_config.specs.Accepted.{IsAccepted}
 use Rattle.tm_conv.specs.declared.rates.Rate.{Rate}
 use Rattle.tm_conv.specs.Path.{steps_size}
@@ -19,6 +19,7 @@ use Rattle.tm_viterbi.specs.Clean.{kept_bits}
 use Rattle.tm_inner.specs.Inner.{BlocksAt, bits_at, inner_bits, settings_of, soft_octets, soft_value}
 use Rattle.tm_inner.specs.Phase.{skip_of}
 use Rattle.tm_inner.proofs.ReceivedBits.{kept-count, kept-le}
+use Rattle.tm_inner.proofs.Unfollowed.{blocks-unfollowed}
 use Rattle.tm_cert_file.specs.declared.seen.Reason.{Reason}
 use Rattle.tm_cert_file.specs.declared.seen.Seen.{Seen}
 use Rattle.tm_cert_file.specs.declared.seen.Seen.TheVariants.{More, Passed, Failed}
@@ -129,15 +130,16 @@ all-bits rate invert keep ahead starts t n octets (w ∷ windows) are =
     let rest = all-bits rate invert keep ahead (Some b.end_state) (t + w.kept) (n - w.kept) (drop (steps_size rate t w.kept) octets) windows are.2 in
     omega (arith, are.1.kept, kept-le keep ahead n, rest)
 
-certifies : Passing → (c d : Configuration) (given octets : List ℕ) (rate : Rate) → c.inner ≡ Some rate → IsAccepted c → HasSamePaths c d → AreOctets given
+certifies : Passing → (c d : Configuration) (given octets : List ℕ) (rate : Rate) → c.inner ≡ Some rate → IsAccepted c → HasSamePaths c d → d.follow ≡ false → AreOctets given
     → (all : IsCertifiedAll d given octets) → Certifies c d given octets all.are_handed.items rate
-certifies passing c d given octets rate is accepted same small all =
+certifies passing c d given octets rate is accepted same plain small all =
     let s = settings_of d rate in
     let phase = skip_of all.are_handed.chosen in
     let soft = soft_octets d phase given in
     let blocks = all.are_handed.items in
     let here : d.inner ≡ Some rate = sym same.inner ∙ is in
-    let are : AreBlocksOf s soft blocks all.left = subst (λ (r : Option Rate). BlocksAt r d phase given blocks all.left) here all.are_handed.are_items in
+    let are : AreBlocksOf s soft blocks all.left =
+    blocks-unfollowed d rate soft blocks all.left plain (subst (λ (r : Option Rate). BlocksAt r d phase given blocks all.left) here all.are_handed.are_items) in
     let text : IsCertificate s soft blocks octets = subst (λ (r : Option Rate). TextAt r d phase given blocks octets) here all.is_text in
     let passed = passing s soft blocks all.left octets (omega (arith, accepted.some_keep, same.keep)) (omega (arith, accepted.keep, accepted.ahead, same.keep, same.ahead))
     (soft-small d phase given small) are text in
@@ -179,34 +181,38 @@ told-whole one rules octets out notes windows checked whole =
     let h = read-whole one rules octets checked.windows windows checked.seen checked.read whole in
     checked.are_notes ∙ (λ i. windows_text 0 (h.0 i) ++ end_text (h.1 i) (h.2 i) (h.0 i))
 
-not-broken : OneRead → Passing → (c d : Configuration) (given octets : List ℕ) → IsAccepted c → HasSamePaths c d → AreOctets given → IsCertifiedAll d given octets → (check_meaning c).is_bad octets → ⊥
-not-broken one passing c d given octets accepted same small all bad =
+not-broken : OneRead → Passing → (c d : Configuration) (given octets : List ℕ) → IsAccepted c → HasSamePaths c d → d.follow ≡ false → AreOctets given → IsCertifiedAll d given octets → (check_meaning c).is_bad octets → ⊥
+not-broken one passing c d given octets accepted same plain small all bad =
     let r = by-rate (λ rules. (windows : List Window) × (reason : Reason) × IsBroken rules octets windows reason) c.inner c bad in
-    let k = certifies passing c d given octets r.0 r.1 accepted same small all in
+    let k = certifies passing c d given octets r.0 r.1 accepted same plain small all in
     let failed : Failed r.2.1 ≡ More = (read-whole one (rules_of c r.0) octets r.2.0 k.windows (Failed r.2.1) r.2.2 k.whole).1 in
     cc failed
 
-not-cut : OneRead → Passing → (c d : Configuration) (given octets : List ℕ) → IsAccepted c → HasSamePaths c d → AreOctets given → IsCertifiedAll d given octets → (check_meaning c).is_partial octets → ⊥
-not-cut one passing c d given octets accepted same small all partial =
+not-cut : OneRead → Passing → (c d : Configuration) (given octets : List ℕ) → IsAccepted c → HasSamePaths c d → d.follow ≡ false → AreOctets given → IsCertifiedAll d given octets → (check_meaning c).is_partial octets → ⊥
+not-cut one passing c d given octets accepted same plain small all partial =
     let r = by-rate (λ rules. (windows : List Window) × IsCut rules octets windows) c.inner c partial in
-    let k = certifies passing c d given octets r.0 r.1 accepted same small all in
+    let k = certifies passing c d given octets r.0 r.1 accepted same plain small all in
     let no : true ≡ false = sym r.2.1.1 ∙ (read-whole one (rules_of c r.0) octets r.2.0 k.windows More r.2.1.0 k.whole).2 in
     cc no
+
+-- the same paths are candidates where the phase is found once
+same-unfollowed : (c d : Configuration) → HasSamePaths c d → HasSamePaths c (unfollowed d)
+same-unfollowed c d same = record { inner = same.inner; inverted = same.inverted; start = same.start; keep = same.keep; ahead = same.ahead }
 
 pub passes-certified : OneRead → Passing → (e : Ending) (status : ℕ) (c : Configuration) (octets : List ℕ) (taken taken_now noted noted_now : Option (List ℕ))
     → IsAccepted c → status ≡ status_of e → Ends e (check_meaning c) c.limit octets (taken_by taken taken_now noted noted_now) → PassesCertified status c octets noted noted_now
 passes-certified one passing Done status c octets taken taken_now noted noted_now accepted told ends = λ d given same small all within source sink.
     let o = ends.0.0 in
     let r = by-rate (λ rules. IsChecked rules octets o.out o.notes) c.inner c ends.0.1 in
-    let k = certifies passing c d given octets r.0 r.1 accepted same small all in
-    let text = told-whole one (rules_of c r.0) octets o.out o.notes k.windows r.2 k.whole ∙ same-trace c d given octets all.are_handed.items r.0 k in
+    let k = certifies passing c (unfollowed d) given octets r.0 r.1 accepted (same-unfollowed c d same) refl small all in
+    let text = told-whole one (rules_of c r.0) octets o.out o.notes k.windows r.2 k.whole ∙ same-trace c (unfollowed d) given octets all.are_handed.items r.0 k in
     (told, subst (Wrote noted noted_now) text ends.0.2.notes)
 passes-certified one passing Bad status c octets taken taken_now noted noted_now accepted told ends = λ d given same small all within source sink.
-    absurd (not-broken one passing c d given octets accepted same small all ends.2)
+    absurd (not-broken one passing c (unfollowed d) given octets accepted (same-unfollowed c d same) refl small all ends.2)
 passes-certified one passing BadWindow status c octets taken taken_now noted noted_now accepted told ends = λ d given same small all within source sink.
-    absurd (not-broken one passing c d given octets accepted same small all (subst (check_meaning c).is_bad (take_all c.limit octets within) ends.2))
+    absurd (not-broken one passing c (unfollowed d) given octets accepted (same-unfollowed c d same) refl small all (subst (check_meaning c).is_bad (take_all c.limit octets within) ends.2))
 passes-certified one passing LeftOver status c octets taken taken_now noted noted_now accepted told ends = λ d given same small all within source sink.
-    absurd (not-cut one passing c d given octets accepted same small all ends.2)
+    absurd (not-cut one passing c (unfollowed d) given octets accepted (same-unfollowed c d same) refl small all ends.2)
 passes-certified one passing SourceFault status c octets taken taken_now noted noted_now accepted told ends = λ d given same small all within source sink. absurd (source told)
 passes-certified one passing SinkFault status c octets taken taken_now noted noted_now accepted told ends = λ d given same small all within source sink. absurd (sink told)
 passes-certified one passing PastLimit status c octets taken taken_now noted noted_now accepted told ends = λ d given same small all within source sink.

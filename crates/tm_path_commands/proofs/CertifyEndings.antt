@@ -1,5 +1,5 @@
 -- How certifying ends.
-use Rattle.std.proofs.Common.{◌≡◌, inl, inr, ℕ, ◌≤◌, List, [], ◌++◌, length, Option, Some, None, refl, sym, ap, ◌∙◌, subst, arith}
+use Rattle.std.proofs.Common.{◌≡◌, inl, inr, ℕ, ◌≤◌, List, [], ◌++◌, length, Option, Some, None, false, refl, sym, ap, ◌∙◌, subst, arith}
 use Rattle.std.specs.Io.KnownBytes.{append_known}
 use Rattle.tm_base.specs.Handed.{Handed}
 use Rattle.tm_config.specs.Accepted.{IsAccepted}
@@ -14,6 +14,7 @@ use Rattle.tm_inner.proofs.DueBits.{StandFirst, StayClosed}
 use Rattle.tm_inner.proofs.FewBits.{first-of-due}
 use Rattle.tm_inner.proofs.WithPhase.{HasPhase, with_phase-exists}
 use Rattle.tm_inner.proofs.InnerBits.{HasBlocks, has_blocks}
+use Rattle.tm_inner.proofs.Unfollowed.{blocks-unfollowed}
 use Rattle.tm_inner.proofs.PhasePieces.{PhaseStays}
 use Rattle.tm_cert_file.specs.Certifying.{Certifying}
 use Rattle.tm_driver.specs.Driven.{DrivenTo}
@@ -23,21 +24,21 @@ use Rattle.tm_driver.specs.declared.ending.Outcome.TheVariants as outcome
 use Rattle.tm_driver.specs.declared.ending.Stop.TheVariants as stop
 use Rattle.tm_driver.proofs.Driven.{Shows, WroteInOrder, done-driven}
 use Rattle.tm_driver.proofs.SinkTexts.{wrote-prefix, wrote-nothing}
-use Rattle.tm_path_commands.specs.Certify.{IsCertifiedAll, IsCertifiedSoFar, TextAt, certify_meaning}
+use Rattle.tm_path_commands.specs.Certify.{IsCertifiedAll, IsCertifiedSoFar, TextAt, certified_meaning}
 use Rattle.tm_path_commands.specs.Certifying.{Certifies, CertifiesMore, CertifyFails, CutsCertificate, EndsCertificate, FailsCertifying, WritesAt, WroteCertificate, WroteCertificatePrefix}
 use Rattle.tm_path_commands.proofs.CertifyingPlace.{Longer}
 use Rattle.tm_path_commands.proofs.CertifyingPieces.{fails-longer}
 use Rattle.tm_path_commands.proofs.CertifyingEnd.{HasCertificate, OneCertificate, Split, fails-all}
 
 shows-all : (c : Configuration) (octets : List ℕ) (taken taken_now noted : Option (List ℕ)) → WroteCertificate c taken taken_now octets
-    → Shows (certify_meaning c) octets (taken_by taken taken_now noted noted) outcome.Done
+    → Shows (certified_meaning c) octets (taken_by taken taken_now noted noted) outcome.Done
 shows-all c octets taken taken_now noted w = (
   (record { out = w.0; notes = [] }, (w.1, refl), record { out = w.2; notes = wrote-nothing noted }),
   (λ none. none, λ none. none),
 )
 
 shows-prefix : (c : Configuration) (octets : List ℕ) (taken taken_now noted : Option (List ℕ)) → WroteCertificatePrefix c taken taken_now octets
-    → WroteInOrder (certify_meaning c) octets (taken_by taken taken_now noted noted)
+    → WroteInOrder (certified_meaning c) octets (taken_by taken taken_now noted noted)
 shows-prefix c octets taken taken_now noted w = (
   record { out = w.0; notes = [] },
   (w.1, refl),
@@ -61,19 +62,20 @@ so-far (Some rate) c now octets handed text is w due = elim w.3 as (λ _. IsCert
   })
 ]
 
-text-all : HasCertificate → (q : Option Rate) (c : Configuration) (phase : ℕ) (octets : List ℕ) (blocks : List WindowBlock) (left : ℕ) → BlocksAt q c phase octets blocks left
+text-all : HasCertificate → (q : Option Rate) (c : Configuration) (phase : ℕ) (octets : List ℕ) (blocks : List WindowBlock) (left : ℕ) → c.follow ≡ false → BlocksAt q c phase octets blocks left
     → (text : List ℕ) × TextAt q c phase octets blocks text
-text-all has None c phase octets blocks left are = ([], refl)
-text-all has (Some rate) c phase octets blocks left are = has (settings_of c rate) (soft_octets c phase octets) blocks left are
+text-all has None c phase octets blocks left plain are = ([], refl)
+text-all has (Some rate) c phase octets blocks left plain are =
+    has (settings_of c rate) (soft_octets c phase octets) blocks left (blocks-unfollowed c rate (soft_octets c phase octets) blocks left plain are)
 
 module _ (exists : HasBlocks) (stands : StandFirst) (phase : HasPhase) (stays : PhaseStays) (stay : StayClosed) (has : HasCertificate) (one : OneCertificate) (parts : Split) (longer : Longer) where
   -- octets have a certificate
-  certificate-all : (c : Configuration) (octets : List ℕ) → IsAccepted c → (text : List ℕ) × IsCertifiedAll c octets text
-  certificate-all c octets accepted =
+  certificate-all : (c : Configuration) (octets : List ℕ) → IsAccepted c → c.follow ≡ false → (text : List ℕ) × IsCertifiedAll c octets text
+  certificate-all c octets accepted plain =
       let all = with_phase-exists (λ n blocks. (left : ℕ) × AreInnerBlocks c n octets blocks left) phase c octets
       (λ n. let b = has_blocks exists c n octets accepted in (b.0, (b.1, b.2))) in
       let h = all.1 in
-      let text = text-all has c.inner c (skip_of h.chosen) octets h.items h.are_items.0 h.are_items.1 in (
+      let text = text-all has c.inner c (skip_of h.chosen) octets h.items h.are_items.0 plain h.are_items.1 in (
         text.0,
         record {
           handed = all.0;
@@ -84,14 +86,15 @@ module _ (exists : HasBlocks) (stands : StandFirst) (phase : HasPhase) (stays : 
       )
 
   -- what was written is a prefix of it, whatever octets come
-  prefix-later : (c : Configuration) (octets more : List ℕ) (handed : List (Handed WindowBlock)) (text : List ℕ) (taken taken_now : Option (List ℕ)) → IsAccepted c
+  prefix-later : (c : Configuration) (octets more : List ℕ) (handed : List (Handed WindowBlock)) (text : List ℕ) (taken taken_now : Option (List ℕ)) → IsAccepted c → c.follow ≡ false
       → taken_now ≡ append_known taken text → IsCertifiedSoFar c octets handed text → WroteCertificatePrefix c taken taken_now (octets ++ more)
-  prefix-later c octets more handed text taken taken_now accepted wrote (inl none) =
-      let all = certificate-all c (octets ++ more) accepted in
+  prefix-later c octets more handed text taken taken_now accepted plain wrote (inl none) =
+      let all = certificate-all c (octets ++ more) accepted plain in
       (all.0, all.1, (0, wrote ∙ ap (append_known taken) none.2))
-  prefix-later c octets more handed text taken taken_now accepted wrote (inr s) =
+  prefix-later c octets more handed text taken taken_now accepted plain wrote (inr s) =
       let h = s.are_due in
       let fails : CertifyFails c taken taken_now octets = record {
+        unfollowed = plain;
         handed = handed;
         are_first = (
           s.settled,
@@ -110,12 +113,12 @@ module _ (exists : HasBlocks) (stands : StandFirst) (phase : HasPhase) (stays : 
       fails-all exists stands has one parts c taken taken_now (octets ++ more) accepted (fails-longer longer stay stays c taken taken_now octets more fails)
 
   ends-early : (c : Configuration) (r : InnerReceiving) (now : Certifying) (octets : List ℕ) (taken taken_now noted : Option (List ℕ)) → IsAccepted c
-      → Certifies c r now taken taken_now octets → WroteEarly (certify_meaning c) octets (taken_by taken taken_now noted noted)
+      → Certifies c r now taken taken_now octets → WroteEarly (certified_meaning c) octets (taken_by taken taken_now noted noted)
   ends-early c r now octets taken taken_now noted accepted t =
       let due = so-far c.inner c now octets t.handed t.text refl t.writes (subst (λ (k : Configuration). AreHandedDue k octets t.handed) t.config t.stands.1) in (
         (record { out = t.text; notes = [] }, ((t.handed, due), refl), record { out = t.wrote; notes = wrote-nothing noted }),
         λ more.
-            let later = prefix-later c octets more t.handed t.text taken taken_now accepted t.wrote due in
+            let later = prefix-later c octets more t.handed t.text taken taken_now accepted t.unfollowed t.wrote due in
             (record { out = later.0; notes = [] }, (later.1, refl), record { out = later.2; notes = (0, wrote-nothing noted) }),
       )
 
@@ -152,8 +155,8 @@ module _ (exists : HasBlocks) (stands : StandFirst) (phase : HasPhase) (stays : 
       pub driven-ends : (limit : ℕ) → limit ≡ c.limit → (ended unended : Type 0) (ending : Ending) (octets : List ℕ)
           → DrivenTo Fed (λ a b o why. (why ≡ stop.SinkFault) × Fails a b o) (λ a b by. (by ≡ outcome.Done) × Finishes a b)
           Failed limit before now ended unended ending octets
-          → Ends ending (certify_meaning c) c.limit octets (taken_by (out before) (out now) noted noted)
-      driven-ends = done-driven Fed Fails Finishes Failed before now (certify_meaning c) c.limit
+          → Ends ending (certified_meaning c) c.limit octets (taken_by (out before) (out now) noted noted)
+      driven-ends = done-driven Fed Fails Finishes Failed before now (certified_meaning c) c.limit
           (taken_by (out before) (out now) noted noted)
           (λ o within p. ends-early c (receiver now) (kept now) o (out before) (out now) noted accepted
           (of-fed now o within p))

@@ -1,5 +1,5 @@
 -- How far a certificate is written, piece by piece.
-use Rattle.std.proofs.Common.{◌≡◌, ◌⊎◌, inl, inr, ℕ, ◌+◌, ◌-◌, ◌*◌, ◌<◌, ◌≤◌, ◌^◌, List, [], ◌∷◌, ◌++◌, length, take, drop, map, Option, Some, None, Bool, refl, sym, ap, ◌∙◌, subst, arith, append_assoc, length-append, length-drop, length-take}
+use Rattle.std.proofs.Common.{◌≡◌, ◌⊎◌, inl, inr, ℕ, ◌+◌, ◌-◌, ◌*◌, ◌<◌, ◌≤◌, ◌^◌, List, [], ◌∷◌, ◌++◌, length, take, drop, map, Option, Some, None, Bool, false, refl, sym, ap, ◌∙◌, subst, arith, append_assoc, length-append, length-drop, length-take}
 use Rattle.std.proofs.Math.Seq.{take-add}
 use Rattle.std.proofs.lemmas.Bool.{cases_lt}
 use Rattle.std.proofs.lemmas.List.{take_all, drop_all, drop-append-le}
@@ -21,6 +21,7 @@ use Rattle.tm_inner.specs.Phase.{IsChosenBy, PhaseAt, needed_at, phase_octets, s
 use Rattle.tm_inner.specs.Receiving.{InnerReceiving, StandsFor, FirstAt, AreInnerFirst}
 use Rattle.tm_inner.specs.Handing.{AreHandedDue, AreHandedFirst}
 use Rattle.tm_inner.proofs.DueBits.{StayClosed, soft-more}
+use Rattle.tm_inner.proofs.Unfollowed.{due-unfollowed, first-unfollowed, first-windows}
 use Rattle.tm_inner.proofs.HandedBits.{needed-few}
 use Rattle.tm_inner.proofs.WithPhase.{choice-stays, settled-stays}
 use Rattle.tm_inner.proofs.PhasePieces.{PhaseStays, PhaseWithin, items_of-with_phase}
@@ -36,13 +37,15 @@ use Rattle.tm_path_commands.proofs.TraceEndings.{stands-new}
 
 -- ---- with an inner code, and with none
 
-pub due-some : (c : Configuration) (rate : Rate) (phase : ℕ) (octets : List ℕ) (blocks : List WindowBlock) → c.inner ≡ Some rate → AreInnerDue c phase octets blocks
+pub due-some : (c : Configuration) (rate : Rate) (phase : ℕ) (octets : List ℕ) (blocks : List WindowBlock) → c.inner ≡ Some rate → c.follow ≡ false → AreInnerDue c phase octets blocks
     → AreDue (settings_of c rate) (soft_octets c phase octets) blocks
-due-some c rate phase octets blocks is due = subst (λ (r : Option Rate). DueAt r c phase octets blocks) is due
+due-some c rate phase octets blocks is plain due =
+    due-unfollowed c rate (soft_octets c phase octets) blocks plain (subst (λ (r : Option Rate). DueAt r c phase octets blocks) is due)
 
-pub first-some : (c : Configuration) (rate : Rate) (phase : ℕ) (octets : List ℕ) (blocks : List WindowBlock) → c.inner ≡ Some rate → AreInnerFirst c phase octets blocks
+pub first-some : (c : Configuration) (rate : Rate) (phase : ℕ) (octets : List ℕ) (blocks : List WindowBlock) → c.inner ≡ Some rate → c.follow ≡ false → AreInnerFirst c phase octets blocks
     → AreFirst (settings_of c rate) (soft_octets c phase octets) blocks
-first-some c rate phase octets blocks is first = subst (λ (r : Option Rate). FirstAt r c phase octets blocks) is first
+first-some c rate phase octets blocks is plain first =
+    first-unfollowed c rate (soft_octets c phase octets) blocks plain (subst (λ (r : Option Rate). FirstAt r c phase octets blocks) is first)
 
 nil-second : {A : Type 0} (xs ys : List A) → xs ++ ys ≡ [] → ys ≡ []
 nil-second [] ys is = is
@@ -102,12 +105,13 @@ new-writes c now (Some rate) each due =
         let both = subst P none (ap (first_place s) (no-soft_octets c (skip_of h.1.chosen)) ∙ sym place, refl) in
         inr (record { settled = h.0; are_due = h.1; closed = both.0; is_text = both.1 })
 
-pub certifies-new : (c : Configuration) (r : InnerReceiving) (now : Certifying) (taken : Option (List ℕ)) → IsAccepted c → r.config ≡ c → StandsFor r [] []
+pub certifies-new : (c : Configuration) (r : InnerReceiving) (now : Certifying) (taken : Option (List ℕ)) → IsAccepted c → c.follow ≡ false → r.config ≡ c → StandsFor r [] []
     → ((rate : Rate) → c.inner ≡ Some rate → now ≡ new-at c rate) → Certifies c r now taken taken []
-certifies-new c r now taken accepted same stands each =
+certifies-new c r now taken accepted plain same stands each =
     let there = stands-new c r accepted same stands in
     record {
       config = same;
+      unfollowed = plain;
       few = omega arith;
       handed = [];
       stands = there;
@@ -119,16 +123,16 @@ certifies-new c r now taken accepted same stands each =
 -- ---- where the certificate stands once a piece was given
 
 -- the window that is open has few octets, and so have those that wait
-has-room : (c : Configuration) (rate : Rate) (now : Certifying) (octets : List ℕ) (handed : List (Handed WindowBlock)) (text : List ℕ) → c.inner ≡ Some rate
+has-room : (c : Configuration) (rate : Rate) (now : Certifying) (octets : List ℕ) (handed : List (Handed WindowBlock)) (text : List ℕ) → c.inner ≡ Some rate → c.follow ≡ false
     → Waits c rate now octets handed text ⊎ Goes c rate now octets handed text → length now.place.octets ≤ 2 * (c.keep + c.ahead) + 8
-has-room c rate now octets handed text is (inl w) =
+has-room c rate now octets handed text is plain (inl w) =
     elim (cases_lt (length (phase_octets c octets)) (needed_at c.inner c)) as (λ _. length now.place.octets ≤ 2 * (c.keep + c.ahead) + 8) [
       | inl less ↦ omega (arith, less, needed-few c.inner c, ap (λ (p : Place). length p.octets) w.place)
       | inr many ↦ absurd (w.unsettled (inr many))
     ]
-has-room c rate now octets handed text is (inr g) =
+has-room c rate now octets handed text is plain (inr g) =
     let skip = skip_of g.are_due.chosen in
-    let due = due-some c rate skip octets g.are_due.items is g.are_due.are_items in
+    let due = due-some c rate skip octets g.are_due.items is plain g.are_due.are_items in
     let same : now.place ≡ due.to =
     closed-one rate (is_inverted rate c.invert) c.keep c.ahead (first_place (settings_of c rate) (soft_octets c skip octets)) now.place due.to g.are_due.items g.closed due.closed in
     omega (arith, due.few, steps_size-most rate due.to.t (c.keep + c.ahead + 1), ap (λ (p : Place). length p.octets) same)
@@ -171,12 +175,12 @@ place-waits c rate old given octets piece new handed text soft gives w =
     ap (λ (v : Certifying). v.place) gives ∙ ap (λ (p : Place). with_more p new) w.place ∙ ap (first_place (settings_of c rate)) (sym soft)
 
 stood-piece : Longer → StayClosed → PhaseWithin → (c : Configuration) (rate : Rate) (old given : Certifying) (octets piece new : List ℕ) (handed : List (Handed WindowBlock)) (text : List ℕ)
-    → c.inner ≡ Some rate → phase_octets c (octets ++ piece) ≡ phase_octets c octets ++ new → given ≡ with_octets old (old.place.octets ++ new)
+    → c.inner ≡ Some rate → c.follow ≡ false → phase_octets c (octets ++ piece) ≡ phase_octets c octets ++ new → given ≡ with_octets old (old.place.octets ++ new)
     → Waits c rate old octets handed text ⊎ Goes c rate old octets handed text
     → StoodWaiting c rate given (octets ++ piece) handed text ⊎ StoodGoing c rate given (octets ++ piece) handed text
-stood-piece longer stay within c rate old given octets piece new handed text is soft gives (inl w) =
+stood-piece longer stay within c rate old given octets piece new handed text is plain soft gives (inl w) =
     inl (record { place = place-waits c rate old given octets piece new handed text soft gives w; nothing = w.nothing; is_text = w.is_text })
-stood-piece longer stay within c rate old given octets piece new handed text is soft gives (inr g) =
+stood-piece longer stay within c rate old given octets piece new handed text is plain soft gives (inr g) =
     let s = settings_of c rate in
     let invert = is_inverted rate c.invert in
     let due = g.are_due in
@@ -184,7 +188,8 @@ stood-piece longer stay within c rate old given octets piece new handed text is 
     let first = first_place s (soft_octets c skip octets) in
     let on = soft-on c rate octets piece new skip is (skip-within within c rate (phase_octets c octets) due.chosen is due.choice) soft in
     let place : given.place ≡ with_more old.place new = ap (λ (v : Certifying). v.place) gives in
-    let stays = stay (windows_of c rate) (soft_octets c skip octets) new due.items (old.place, g.closed) in
+    let stays = first-unfollowed c rate (soft_octets c skip octets ++ new) due.items plain
+    (stay (windows_of c rate) (soft_octets c skip octets) new due.items (first-windows c rate (soft_octets c skip octets) due.items plain (old.place, g.closed))) in
     let same : stays.0 ≡ given.place = closed-longer rate invert c.keep c.ahead first old.place stays.0 due.items new g.closed stays.1 ∙ sym place in
     let closed : Closed rate invert c.keep c.ahead (with_more first new) due.items given.place =
     subst (λ (p : Place). Closed rate invert c.keep c.ahead (with_more first new) due.items p) same stays.1 in
@@ -207,20 +212,20 @@ pub record Given (c : Configuration) (old given : Certifying) (octets piece new 
 
 -- there is room for all of it
 gives-all : (c : Configuration) (rate : Rate) (old given : Certifying) (octets piece new : List ℕ) (handed : List (Handed WindowBlock)) (text : List ℕ)
-    → c.inner ≡ Some rate → Given c old given octets piece new → WritesAt (Some rate) c old octets handed text → given ≡ with_octets old (old.place.octets ++ new)
-gives-all c rate old given octets piece new handed text is g w =
-    let room = has-room c rate old octets handed text is w.3 in
+    → c.inner ≡ Some rate → c.follow ≡ false → Given c old given octets piece new → WritesAt (Some rate) c old octets handed text → given ≡ with_octets old (old.place.octets ++ new)
+gives-all c rate old given octets piece new handed text is plain g w =
+    let room = has-room c rate old octets handed text is plain w.3 in
     g.gives ∙ ap (λ (l : List ℕ). with_octets old (old.place.octets ++ l)) (take_all (old.room - length old.place.octets) new (omega (arith, g.few, room, w.2)))
 
 pub stood-more : Longer → StayClosed → PhaseWithin → (c : Configuration) (rate : Rate) (old given : Certifying) (octets piece new : List ℕ) (handed : List (Handed WindowBlock)) (text : List ℕ)
-    → c.inner ≡ Some rate → Given c old given octets piece new → WritesAt (Some rate) c old octets handed text → Stood c rate given (octets ++ piece) handed text
-stood-more longer stay within c rate old given octets piece new handed text is g w =
-    let all = gives-all c rate old given octets piece new handed text is g w in
+    → c.inner ≡ Some rate → c.follow ≡ false → Given c old given octets piece new → WritesAt (Some rate) c old octets handed text → Stood c rate given (octets ++ piece) handed text
+stood-more longer stay within c rate old given octets piece new handed text is plain g w =
+    let all = gives-all c rate old given octets piece new handed text is plain g w in
     record {
       is_rate = ap (λ (v : Certifying). v.rate) all ∙ w.0;
       is_invert = ap (λ (v : Certifying). v.invert) all ∙ w.1;
       is_room = ap (λ (v : Certifying). v.room) all ∙ w.2;
-      stood = stood-piece longer stay within c rate old given octets piece new handed text is g.soft all w.3;
+      stood = stood-piece longer stay within c rate old given octets piece new handed text is plain g.soft all w.3;
     }
 
 -- ---- what is written with a piece
@@ -232,12 +237,12 @@ pub record WritesOn (r : Option Rate) (c : Configuration) (now : Certifying) (oc
   pub wrote : Wrote taken taken_now last
 
 writes-some : Append → Longer → WritesClosed → StayClosed → PhaseWithin → (c : Configuration) (rate : Rate) (old given now : Certifying) (octets piece new : List ℕ) (handed more : List (Handed WindowBlock)) (text : List ℕ) (taken taken_now : Option (List ℕ))
-    → IsAccepted c → c.inner ≡ Some rate → length (octets ++ piece) < 2 ^ 44 → Given c old given octets piece new → WritesAt (Some rate) c old octets handed text
+    → IsAccepted c → c.inner ≡ Some rate → c.follow ≡ false → length (octets ++ piece) < 2 ^ 44 → Given c old given octets piece new → WritesAt (Some rate) c old octets handed text
     → WroteHanded given now more taken taken_now → AreHandedDue c (octets ++ piece) (handed ++ more) → WritesOn (Some rate) c now (octets ++ piece) (handed ++ more) text taken taken_now
-writes-some append longer closes stay within c rate old given now octets piece new handed more text taken taken_now accepted is few g w wrote (inr h) =
-    let stood = stood-more longer stay within c rate old given octets piece new handed text is g w in
+writes-some append longer closes stay within c rate old given now octets piece new handed more text taken taken_now accepted is plain few g w wrote (inr h) =
+    let stood = stood-more longer stay within c rate old given octets piece new handed text is plain g w in
     let skip = skip_of h.1.chosen in
-    let due = due-some c rate skip (octets ++ piece) h.1.items is h.1.are_items in
+    let due = due-some c rate skip (octets ++ piece) h.1.items is plain h.1.are_items in
     let from = from-stood c rate given (octets ++ piece) (phase_octets c (octets ++ piece)) h.1.chosen h.1.items handed more text is h.1.choice h.1.are stood in
     let to = wrote-to c rate given (octets ++ piece) skip h.1.items more text accepted few append from closes due.to now taken taken_now due.closed wrote in
     record {
@@ -256,13 +261,13 @@ writes-some append longer closes stay within c rate old given now octets piece n
       );
       wrote = to.wrote;
     }
-writes-some append longer closes stay within c rate old given now octets piece new handed more text taken taken_now accepted is few g w wrote (inl none) = by_stood w.3
+writes-some append longer closes stay within c rate old given now octets piece new handed more text taken taken_now accepted is plain few g w wrote (inl none) = by_stood w.3
   where
     same : WroteHanded given now [] taken taken_now
     same = subst (λ (l : List (Handed WindowBlock)). WroteHanded given now l taken taken_now) (nil-second handed more none.1) wrote
 
     all : now ≡ with_octets old (old.place.octets ++ new)
-    all = same.0 ∙ gives-all c rate old given octets piece new handed text is g w
+    all = same.0 ∙ gives-all c rate old given octets piece new handed text is plain g w
 
     by_stood : Waits c rate old octets handed text ⊎ Goes c rate old octets handed text → WritesOn (Some rate) c now (octets ++ piece) (handed ++ more) text taken taken_now
     by_stood (inr goes) = absurd (none.0 (settled-stays c octets piece goes.settled))
@@ -283,15 +288,15 @@ writes-some append longer closes stay within c rate old given now octets piece n
     }
 
 writes-on : Append → Longer → WritesClosed → StayClosed → PhaseWithin → (r : Option Rate) (c : Configuration) (old given now : Certifying) (octets piece new : List ℕ) (handed more : List (Handed WindowBlock)) (text : List ℕ) (taken taken_now : Option (List ℕ))
-    → IsAccepted c → c.inner ≡ r → length (octets ++ piece) < 2 ^ 44 → Given c old given octets piece new → WritesAt r c old octets handed text
+    → IsAccepted c → c.inner ≡ r → c.follow ≡ false → length (octets ++ piece) < 2 ^ 44 → Given c old given octets piece new → WritesAt r c old octets handed text
     → WroteHanded given now more taken taken_now → AreHandedDue c (octets ++ piece) (handed ++ more) → WritesOn r c now (octets ++ piece) (handed ++ more) text taken taken_now
-writes-on append longer closes stay within None c old given now octets piece new handed more text taken taken_now accepted is few g w wrote due = record {
+writes-on append longer closes stay within None c old given now octets piece new handed more text taken taken_now accepted is plain few g w wrote due = record {
   last = [];
   writes = ap (λ (l : List ℕ). l ++ []) w;
   wrote = wrote-none given now more taken taken_now (no-items handed more (no-due c (octets ++ piece) (handed ++ more) is due)) wrote ∙ wrote-nothing taken;
 }
-writes-on append longer closes stay within (Some rate) c old given now octets piece new handed more text taken taken_now accepted is few g w wrote due =
-    writes-some append longer closes stay within c rate old given now octets piece new handed more text taken taken_now accepted is few g w wrote due
+writes-on append longer closes stay within (Some rate) c old given now octets piece new handed more text taken taken_now accepted is plain few g w wrote due =
+    writes-some append longer closes stay within c rate old given now octets piece new handed more text taken taken_now accepted is plain few g w wrote due
 
 -- ---- a piece was given
 
@@ -318,9 +323,10 @@ module _ (append : Append) (longer : Longer) (stay : StayClosed) (within : Phase
       let there = hands octets t.handed (omega (arith, few)) t.stands.0 in
       let short : length (octets ++ piece) < 2 ^ 44 = omega (arith, few, length-append octets piece) in
       let due = subst (λ (k : Configuration). AreHandedDue k (octets ++ piece) (t.handed ++ more)) t.config there.1 in
-      let on = writes-on append longer closes stay within c.inner c old given now octets piece p.soft t.handed more t.text taken taken_now accepted refl short (given-at t) t.writes wrote due in
+      let on = writes-on append longer closes stay within c.inner c old given now octets piece p.soft t.handed more t.text taken taken_now accepted refl t.unfollowed short (given-at t) t.writes wrote due in
       record {
         config = same ∙ t.config;
+        unfollowed = t.unfollowed;
         few = short;
         handed = t.handed ++ more;
         stands = (there.0, subst (λ (k : Configuration). AreHandedDue k (octets ++ piece) (t.handed ++ more)) (sym same) there.1);
@@ -330,15 +336,15 @@ module _ (append : Append) (longer : Longer) (stay : StayClosed) (within : Phase
       }
 
   -- the sink failed in what is written
-  prefix-on : WritesClosedPrefix → (q : Option Rate) (handed tried : List (Handed WindowBlock)) (text : List ℕ) → IsAccepted c → c.inner ≡ q → length (octets ++ piece) < 2 ^ 44
+  prefix-on : WritesClosedPrefix → (q : Option Rate) (handed tried : List (Handed WindowBlock)) (text : List ℕ) → IsAccepted c → c.inner ≡ q → c.follow ≡ false → length (octets ++ piece) < 2 ^ 44
       → Given c old given octets piece p.soft → WritesAt q c old octets handed text → WroteHandedPrefix given tried taken taken_now → (h : AreHandedFirst c (octets ++ piece) (handed ++ tried))
       → (last : List ℕ) × TextAt q c (skip_of h.1.chosen) (octets ++ piece) h.1.items (text ++ last) × WrotePrefix taken taken_now last
-  prefix-on closes None handed tried text accepted is few g w part h =
+  prefix-on closes None handed tried text accepted is plain few g w part h =
       absurd (prefix-none given tried taken taken_now (no-items handed tried (no-first c (octets ++ piece) (handed ++ tried) is h)) part)
-  prefix-on closes (Some rate) handed tried text accepted is few g w part h =
-      let stood = stood-more longer stay within c rate old given octets piece p.soft handed text is g w in
+  prefix-on closes (Some rate) handed tried text accepted is plain few g w part h =
+      let stood = stood-more longer stay within c rate old given octets piece p.soft handed text is plain g w in
       let skip = skip_of h.1.chosen in
-      let first = first-some c rate skip (octets ++ piece) h.1.items is h.1.are_items in
+      let first = first-some c rate skip (octets ++ piece) h.1.items is plain h.1.are_items in
       let from = from-stood c rate given (octets ++ piece) (phase_octets c (octets ++ piece)) h.1.chosen h.1.items handed tried text is h.1.choice h.1.are stood in
       prefix-to c rate given (octets ++ piece) skip h.1.items tried text accepted few append from closes first.0 taken taken_now first.1 part
 
@@ -347,8 +353,9 @@ module _ (append : Append) (longer : Longer) (stay : StayClosed) (within : Phase
   fails-more closes tried accepted t few part hands =
       let short : length (octets ++ piece) < 2 ^ 44 = omega (arith, few, length-append octets piece) in
       let first = subst (λ (k : Configuration). AreHandedFirst k (octets ++ piece) (t.handed ++ tried)) t.config (hands octets t.handed (omega (arith, few)) t.stands.0) in
-      let on = prefix-on closes c.inner t.handed tried t.text accepted refl short (given-at t) t.writes part first in
+      let on = prefix-on closes c.inner t.handed tried t.text accepted refl t.unfollowed short (given-at t) t.writes part first in
       record {
+        unfollowed = t.unfollowed;
         handed = t.handed ++ tried;
         are_first = first;
         text = t.text ++ on.0;
@@ -358,22 +365,24 @@ module _ (append : Append) (longer : Longer) (stay : StayClosed) (within : Phase
 
 -- ---- octets after those of first blocks
 
-longer-at : Longer → StayClosed → (r : Option Rate) (c : Configuration) (phase : ℕ) (octets more : List ℕ) (items : List WindowBlock) (text : List ℕ) → FirstAt r c phase octets items → TextAt r c phase octets items text
+longer-at : Longer → StayClosed → (r : Option Rate) (c : Configuration) (phase : ℕ) (octets more : List ℕ) (items : List WindowBlock) (text : List ℕ) → c.follow ≡ false → FirstAt r c phase octets items → TextAt r c phase octets items text
     → FirstAt r c phase (octets ++ more) items × TextAt r c phase (octets ++ more) items text
-longer-at longer stay None c phase octets more items text first is = (first, is)
-longer-at longer stay (Some rate) c phase octets more items text first is =
+longer-at longer stay None c phase octets more items text plain first is = (first, is)
+longer-at longer stay (Some rate) c phase octets more items text plain first is =
     let s = settings_of c rate in
     let soft = soft_octets c phase octets in
     let back = map (soft_value c) (drop (phase - length (drop c.skip octets)) (drop (c.skip - length octets) more)) in
     let w = windows_of c rate in
+    let closed = first-unfollowed c rate soft items plain first in
     let P : List ℕ → Type 0 = λ l. AreFirstIn w l items × IsCertificate s l items text in
-    subst P (sym (soft-more c phase octets more)) (stay w soft back items first, longer rate s.invert c.keep c.ahead (first_place s soft) first.0 items back text first.1 is)
+    subst P (sym (soft-more c phase octets more)) (stay w soft back items first, longer rate s.invert c.keep c.ahead (first_place s soft) closed.0 items back text closed.1 is)
 
 pub fails-longer : Longer → StayClosed → PhaseStays → (c : Configuration) (start taken_now : Option (List ℕ)) (octets more : List ℕ) → CertifyFails c start taken_now octets → CertifyFails c start taken_now (octets ++ more)
 fails-longer longer stay stays c start taken_now octets more t =
     let h = t.are_first.1 in
-    let more_of = longer-at longer stay c.inner c (skip_of h.chosen) octets more h.items t.text h.are_items t.is_text in
+    let more_of = longer-at longer stay c.inner c (skip_of h.chosen) octets more h.items t.text t.unfollowed h.are_items t.is_text in
     record {
+      unfollowed = t.unfollowed;
       handed = t.handed;
       are_first = (
         settled-stays c octets more t.are_first.0,

@@ -2,7 +2,7 @@
 use Rattle.std.specs.Prelude.{◌≡◌, ◌⊎◌, ℕ, List, [], Option, Some, None}
 use Rattle.tm_base.specs.Handed.{Handed}
 use Rattle.tm_base.specs.Written.{Wrote}
-use Rattle.tm_config.specs.Configuration.{Configuration}
+use Rattle.tm_config.specs.Configuration.{Configuration, unfollowed}
 use Rattle.tm_conv.specs.declared.rates.Rate.{Rate}
 use Rattle.tm_driver.specs.Meaning.{Meaning}
 use Rattle.tm_viterbi.specs.WindowBlock.{WindowBlock}
@@ -42,9 +42,9 @@ abbrev pub IsCertifiedDue : Configuration → List ℕ → List ℕ → Type 0
 IsCertifiedDue c octets text = (handed : List (Handed WindowBlock))
     × IsCertifiedSoFar c octets handed text
 
--- what it writes; no input is partial, and nothing is bad
-abbrev pub certify_meaning : Configuration → Meaning
-certify_meaning c = record {
+-- what is written by a configuration; no input is partial, and nothing is bad
+abbrev pub certified_meaning : Configuration → Meaning
+certified_meaning c = record {
   is_output = λ octets output. IsCertifiedAll c octets output.out × (output.notes ≡ []);
   is_due = λ octets output. IsCertifiedDue c octets output.out × (output.notes ≡ []);
   is_partial = λ octets. ⊥;
@@ -52,3 +52,8 @@ certify_meaning c = record {
   is_in_order = λ octets output taken. Wrote taken.notes taken.notes_now [];
   stops_at_bad = ⊥;
 }
+
+-- What it writes. A phase that is to be followed is found once, since a certificate has no place
+-- for octets that are dropped.
+abbrev pub certify_meaning : Configuration → Meaning
+certify_meaning c = certified_meaning (unfollowed c)

@@ -1,5 +1,5 @@
 -- How far a certificate is written.
-use Rattle.std.specs.Prelude.{◌≡◌, ◌⊎◌, ℕ, ◌+◌, ◌*◌, ◌-◌, ◌^◌, ◌<◌, ◌≤◌, List, [], ◌++◌, length, take, Option, Some, None}
+use Rattle.std.specs.Prelude.{◌≡◌, ◌⊎◌, ℕ, ◌+◌, ◌*◌, ◌-◌, ◌^◌, ◌<◌, ◌≤◌, false, List, [], ◌++◌, length, take, Option, Some, None}
 use Rattle.tm_base.specs.Handed.{Handed}
 use Rattle.tm_base.specs.Written.{Wrote, WrotePrefix}
 use Rattle.tm_config.specs.Accepted.{IsAccepted}
@@ -46,11 +46,12 @@ WritesAt (Some rate) c now octets handed text =
     × (now.room ≡ 2 * (c.keep + c.ahead) + 264)
     × (Waits c rate now octets handed text ⊎ Goes c rate now octets handed text)
 
--- the receiver was given these octets, fewer than 2^44, and the sink took the certificate of what
--- is due for them
+-- the receiver, which does not follow a phase, was given these octets, fewer than 2^44, and the
+-- sink took the certificate of what is due for them
 pub record Certifies (c : Configuration) (receiver : InnerReceiving) (now : Certifying)
     (taken taken_now : Option (List ℕ)) (octets : List ℕ) : Type 0 where
   pub config : receiver.config ≡ c
+  pub unfollowed : c.follow ≡ false
   pub few : length octets < 2 ^ 44
   pub handed : List (Handed WindowBlock)
   pub stands : StandsAt receiver octets handed
@@ -72,6 +73,7 @@ pub record GavePiece (receiver : InnerReceiving) (before now : Certifying)
 -- the sink failed in the certificate of the first blocks of these octets
 pub record CertifyFails (c : Configuration) (taken taken_now : Option (List ℕ))
     (octets : List ℕ) : Type 0 where
+  pub unfollowed : c.follow ≡ false
   pub handed : List (Handed WindowBlock)
   pub are_first : AreHandedFirst c octets handed
   pub text : List ℕ

@@ -3,7 +3,7 @@ use Rattle.std.specs.Prelude.{◌≡◌, ℕ, ◌≤◌, List, length, map, Opti
 use Rattle.tm_base.specs.Bits.{AreOctets}
 use Rattle.tm_base.specs.Handed.{Item}
 use Rattle.tm_base.specs.Written.{Wrote}
-use Rattle.tm_config.specs.Configuration.{Configuration}
+use Rattle.tm_config.specs.Configuration.{Configuration, unfollowed}
 use Rattle.tm_conv.specs.declared.rates.Rate.{Rate}
 use Rattle.tm_inner.specs.Inner.{inner_bits}
 use Rattle.tm_inner.specs.Symbols.{is_inverted}
@@ -34,14 +34,14 @@ pub record HasSamePaths (c d : Configuration) : Type 0 where
   pub ahead : c.ahead ≡ d.ahead
 
 -- What `certify` writes of other octets, with the same inner code, start and windows, passes within
--- the limit: no window fails and none is missing. The notes are the trace of these octets, without
--- a phase and with no octet left over.
+-- the limit: no window fails and none is missing. The notes are the trace of these octets, whose
+-- phase is found once where it is not given, without that phase and with no octet left over.
 abbrev pub PassesCertified : ℕ → Configuration → List ℕ → (noted noted_now : Option (List ℕ))
     → Type 0
 PassesCertified status c octets noted noted_now =
     (d : Configuration) (given : List ℕ) → HasSamePaths c d → AreOctets given
-    → (all : IsCertifiedAll d given octets) → length octets ≤ c.limit
+    → (all : IsCertifiedAll (unfollowed d) given octets) → length octets ≤ c.limit
     → (status ≡ 3 → ⊥) → (status ≡ 4 → ⊥)
     → (status ≡ 0) × Wrote noted noted_now
     (trace_text (map Item all.are_handed.items)
-    (length (inner_bits d given all.are_handed.items)) 0)
+    (length (inner_bits (unfollowed d) given all.are_handed.items)) 0)

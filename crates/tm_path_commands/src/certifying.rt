@@ -19,9 +19,10 @@ use tm_inner::{InnerReceiver, is_inverted, rate_of};
 use tm_phase::{phase_law, whole_window_law};
 use tm_windows::{closed_prefix_law, due_windows_law, one_windows_law};
 
-// What is kept to write the certificate of a configuration, which was given nothing yet. With no inner code it is given
-// nothing.
+// What is kept to write the certificate of a configuration that does not follow a phase, which was given nothing yet.
+// With no inner code it is given nothing.
 fn open(alloc: Global, config: &Config) -> Result<Certifying, NoMemory>
+    requires { config.now.follow ≡ false }
     ensures { IfOk result (λ certifying. (receiver : InnerReceiving) (taken : Option (List ℕ))
         → receiver.config ≡ config.now → StandsFor receiver [] []
         → Certifies config.now receiver certifying taken taken []) }
@@ -212,7 +213,8 @@ impl<'a, 'b, 'c, O: Sink> Feed for Certificate<'a, 'b, 'c, O> {
 
 /// Writes the certificate of the windows of the soft decoder for the soft octets of the source, up to the limit in
 /// octets: of each window its numbers, its path's bits, its soft octets and the columns of least path metrics. With no
-/// inner code it is empty. After a fault nothing more is read or written. It takes all its memory before it reads.
+/// inner code it is empty. A phase that is to be followed is found once, since a certificate has no place for octets
+/// that are dropped. After a fault nothing more is read or written. It takes all its memory before it reads.
 pub fn certify<S: Source, O: Sink>(
     alloc: Global,
     config: &Config,
@@ -230,10 +232,11 @@ pub fn certify<S: Source, O: Sink>(
     one_windows_law();
     phase_law();
     whole_window_law();
-    let Ok(mut receiver) = InnerReceiver::open(alloc, config) else {
+    let found = config.unfollowed();
+    let Ok(mut receiver) = InnerReceiver::open(alloc, &found) else {
         return Err(NoMemory);
     };
-    let Ok(mut certifying) = open(alloc, config) else {
+    let Ok(mut certifying) = open(alloc, &found) else {
         return Err(NoMemory);
     };
     let mut certificate = Certificate {
@@ -241,7 +244,7 @@ pub fn certify<S: Source, O: Sink>(
         certifying: &mut certifying,
         out,
     };
-    let ending = drive(config.limit(), source, &mut certificate);
+    let ending = drive(found.limit(), source, &mut certificate);
     let Certificate {
         receiver: _,
         certifying: _,

@@ -1,0 +1,34 @@
+-- Where the phase is not followed, windows stand one behind the other, and nothing is dropped before any.
+use Rattle.std.proofs.Common.{◌≡◌, ℕ, Bool, false, List, None, refl, sym, subst}
+use Rattle.tm_config.specs.Configuration.{Configuration}
+use Rattle.tm_conv.specs.declared.rates.Rate.{Rate}
+use Rattle.tm_viterbi.specs.Settings.{Settings}
+use Rattle.tm_viterbi.specs.WindowBlock.{WindowBlock}
+use Rattle.tm_viterbi.specs.Blocks.{AreBlocksOf}
+use Rattle.tm_viterbi.specs.Due.{AreDue, AreFirst}
+use Rattle.tm_windows.specs.Followed.{Windows}
+use Rattle.tm_windows.specs.Windows.{AreBlocksIn, AreDueIn, AreFirstIn}
+use Rattle.tm_inner.specs.Inner.{settings_of, windows_of}
+
+-- windows before which no slip is looked for
+abbrev pub unseen : Settings → Windows
+unseen settings = record { settings = settings; seen = None }
+
+pub unfollowed-windows : (c : Configuration) (rate : Rate) → c.follow ≡ false → windows_of c rate ≡ unseen (settings_of c rate)
+unfollowed-windows c rate is = refl
+
+pub blocks-unfollowed : (c : Configuration) (rate : Rate) (soft : List ℕ) (blocks : List WindowBlock) (left : ℕ) → c.follow ≡ false
+    → AreBlocksIn (windows_of c rate) soft blocks left → AreBlocksOf (settings_of c rate) soft blocks left
+blocks-unfollowed c rate soft blocks left is h = subst (λ (w : Windows). AreBlocksIn w soft blocks left) (unfollowed-windows c rate is) h
+
+pub due-unfollowed : (c : Configuration) (rate : Rate) (soft : List ℕ) (blocks : List WindowBlock) → c.follow ≡ false
+    → AreDueIn (windows_of c rate) soft blocks → AreDue (settings_of c rate) soft blocks
+due-unfollowed c rate soft blocks is h = subst (λ (w : Windows). AreDueIn w soft blocks) (unfollowed-windows c rate is) h
+
+pub first-unfollowed : (c : Configuration) (rate : Rate) (soft : List ℕ) (blocks : List WindowBlock) → c.follow ≡ false
+    → AreFirstIn (windows_of c rate) soft blocks → AreFirst (settings_of c rate) soft blocks
+first-unfollowed c rate soft blocks is h = subst (λ (w : Windows). AreFirstIn w soft blocks) (unfollowed-windows c rate is) h
+
+pub first-windows : (c : Configuration) (rate : Rate) (soft : List ℕ) (blocks : List WindowBlock) → c.follow ≡ false
+    → AreFirst (settings_of c rate) soft blocks → AreFirstIn (windows_of c rate) soft blocks
+first-windows c rate soft blocks is h = subst (λ (w : Windows). AreFirstIn w soft blocks) (sym (unfollowed-windows c rate is)) h
