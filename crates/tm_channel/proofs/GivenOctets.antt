@@ -17,7 +17,7 @@ use Rattle.tm_phase.specs.declared.choosing.Chosen.{Chosen}
 use Rattle.tm_inner.specs.Inner.{BlocksAt, plain_bits, plain_count, bits_at, windows_of, soft_value, soft_octets, AreInnerBlocks, AreInnerDue, Inner, inner_bits}
 use Rattle.tm_inner.specs.Phase.{IsChosenBy, IsChosen, IsSettled, needed_at, skipped_at, phase_octets, skip_of, with_phase, IsChosenSoFar}
 use Rattle.tm_inner.specs.Handing.{AreHanded, AreHandedDue}
-use Rattle.tm_inner.specs.Receiving.{InnerReceiving, FirstAt, AreInnerFirst, StandsFor as InnerStandsFor, Hands, HandsPrefix}
+use Rattle.tm_inner.specs.Receiving.{IsCount, InnerReceiving, FirstAt, AreInnerFirst, StandsFor as InnerStandsFor, Hands, HandsPrefix}
 use Rattle.tm_inner.proofs.DueBits.{drop-split, soft-more}
 use Rattle.tm_inner.proofs.GivenPieces.{Stay}
 use Rattle.tm_inner.proofs.PlainBits.{bits-nil, length-plain, plain-append, plain-few}
@@ -134,13 +134,13 @@ gathered-fed inner middle now octets taken more same within gathered fed given d
 pub gathered-all : (inner now : InnerReceiving) (octets : List ℕ) (taken due most : ℕ) → now.config ≡ inner.config → taken ≡ length octets → due ≤ most
     → ((given : List ℕ) (done : List (Handed WindowBlock)) → length given + taken < 2 ^ 60 → InnerStandsFor inner given done → InnerStandsFor now (given ++ take taken octets) done)
     → ((given : List ℕ) (done : List (Handed WindowBlock)) → InnerStandsFor now given done
-    → (more : List WindowBlock) × (length (kept_bits more) ≡ due) × AreHandedDue now.config given (done ++ map Item more))
+    → (more : List WindowBlock) × IsCount now.config (length (kept_bits more)) due × AreHandedDue now.config given (done ++ map Item more))
     → Gathers inner now octets most
 gathered-all inner now octets taken due most same all few_due gathered counted given done few stood =
     let there = subst (λ (l : List ℕ). InnerStandsFor now (given ++ l) done) (take_all taken octets (omega (arith, all))) (gathered given done (omega (arith, few, all)) stood) in
     let h = counted (given ++ octets) done there in (
       there,
-      (h.0, omega (arith, h.1, few_due), subst (λ (k : Configuration). AreHandedDue k (given ++ octets) (done ++ map Item h.0)) same h.2),
+      (h.0, omega (arith, h.1.0, few_due), subst (λ (k : Configuration). AreHandedDue k (given ++ octets) (done ++ map Item h.0)) same h.2),
     )
 
 last-at : (rate : Option Rate) (c : Configuration) (phase : ℕ) (given : List ℕ) (blocks last : List WindowBlock) (left : ℕ) → BlocksAt rate c phase given (blocks ++ last) left

@@ -9,15 +9,12 @@ use Rattle.tm_config.proofs.Choices.{never_both, given_or_find}
 use Rattle.tm_config.specs.declared.values.Sought.TheVariants.{Find}
 use Rattle.tm_config.specs.Configuration.{Configuration}
 use Rattle.tm_conv.specs.declared.rates.Rate.{Rate}
-use Rattle.tm_conv.proofs.Sizes.{steps_size_ge}
-use Rattle.tm_viterbi.specs.Due.{first_place}
-use Rattle.tm_inner.specs.Inner.{Inner, DueAt, AreInnerDue, settings_of, soft_octets, inner_bits}
+use Rattle.tm_inner.specs.Inner.{Inner, AreInnerDue, inner_bits}
 use Rattle.tm_inner.specs.Phase.{WithPhase, IsSettled, skip_of}
-use Rattle.tm_inner.proofs.FewBits.{first-few, whole-few, first-of-due}
+use Rattle.tm_inner.proofs.FewBits.{first-few, whole-few, first-of-due, due-none as no-blocks}
 use Rattle.tm_inner.proofs.GivenPieces.{few-soft}
 use Rattle.tm_inner.proofs.HandedPieces.{needed-some}
 use Rattle.tm_inner.proofs.PhasePieces.{items_of-with_phase}
-use Rattle.tm_inner.proofs.ReceivedBits.{length-soft}
 use Rattle.tm_sync.specs.declared.found.Found.{Found}
 use Rattle.tm_sync.specs.Places.{places}
 use Rattle.tm_sync.proofs.Longer.{places-count}
@@ -110,14 +107,6 @@ no-items : (c : Configuration) (bits : List Bool) (fs : List Found) → length f
 no-items c bits [] none = tt
 no-items c bits (f ∷ fs) none = absurd (omega (arith, none))
 
-no-blocks : (rate : Option Rate) (c : Configuration) → DueAt rate c 0 [] []
-no-blocks None c = refl
-no-blocks (Some rate) c = record {
-  to = first_place (settings_of c rate) (soft_octets c 0 []);
-  closed = refl;
-  few = omega (arith, length-soft c 0 [], steps_size_ge rate 0 (c.keep + c.ahead + 1));
-}
-
 none-settled : (c : Configuration) → IsAccepted c → c.phase ≡ Find → IsSettled c [] → ⊥
 none-settled c accepted find (inl given) = never_both c.phase given find
 none-settled c accepted find (inr many) = let keep = accepted.some_keep in omega
@@ -126,7 +115,7 @@ none-settled c accepted find (inr many) = let keep = accepted.some_keep in omega
 none-due : (c : Configuration) → IsAccepted c → AreReceivedDue c [] []
 none-due c accepted = elim (given_or_find c.phase) as (λ _. AreReceivedDue c [] []) [
   | inl given ↦ (
-      let blocks : AreInnerDue c 0 [] [] = no-blocks c.inner c in
+      let blocks : AreInnerDue c 0 [] [] = no-blocks c in
       let bits = inner_bits c [] [] in
       let items = no-items c bits (due c bits) (few-places c [] bits (first-few c 0 [] [] (first-of-due c 0 [] [] blocks))) in
       inr (inl given, record { chosen = None; choice = given; items = []; are_items = record { blocks = []; are_due = blocks; are_items = items }; are = refl })

@@ -233,3 +233,32 @@ followed-later w from to [] (x ∷ blocks) h =
       h.2.0.is_block.kept ∙ kept_is s.keep s.ahead,
       followed-later w (spot_after s h.0 x) to [] blocks h.3,
     )
+
+-- ---- how many windows there are
+
+-- each closed one keeps a step or more
+pub followed-count : (w : Windows) (from to : Spot) (blocks : List WindowBlock) → 0 < w.settings.keep → Followed w from blocks to
+    → length blocks ≤ kept_of blocks
+followed-count w from to [] some h = omega arith
+followed-count w from to (x ∷ xs) some h =
+    let s = w.settings in
+    omega (arith, some, h.2.0.is_block.kept ∙ kept_is s.keep s.ahead, followed-count w (spot_after s h.0 x) to xs some h.3)
+
+last-count : (s : Settings) (b : Beginning) (n : ℕ) (last : List WindowBlock) → IsLast s b n last → length last ≤ n
+last-count s b zero last h = omega (arith, ap length h)
+last-count s b (suc n) last h = omega (arith, ap length h.1)
+
+pub followed-count_all : (w : Windows) (octets : List ℕ) (blocks : List WindowBlock) (left : ℕ) → 0 < w.settings.keep
+    → AreFollowedOf w octets blocks left → length blocks ≤ kept_of blocks
+followed-count_all w octets blocks left some h =
+    let last = last-keeps w.settings h.window h.count h.last h.steps.whole h.few h.is_last in
+    omega (
+      arith,
+      ap length h.are,
+      ap kept_of h.are,
+      length-append h.done h.last,
+      kept-append h.done h.last,
+      last.steps,
+      last-count w.settings h.window h.count h.last h.is_last,
+      followed-count w (first_spot w octets) h.to h.done some h.closed,
+    )

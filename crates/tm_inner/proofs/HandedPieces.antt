@@ -11,9 +11,9 @@ use Rattle.tm_viterbi.specs.WindowBlock.{WindowBlock}
 use Rattle.tm_inner.specs.declared.inner_decoder.InnerDecoder.{InnerDecoder}
 use Rattle.tm_windows.specs.Windows.{AreFirstIn}
 use Rattle.tm_phase.specs.declared.choosing.Chosen.{Chosen}
-use Rattle.tm_inner.specs.Inner.{windows_of, soft_value, soft_octets, AreInnerBlocks, AreInnerDue, inner_bits}
+use Rattle.tm_inner.specs.Inner.{windows_of, soft_value, soft_octets, AreInnerBlocks, AreInnerDue, inner_bits, slips_told}
 use Rattle.tm_inner.specs.Phase.{IsChosen, IsChosenSoFar, IsChosenBy, IsChosenSoFar, IsSettledBy, IsSoFarBy, needed_at, skipped_at, phase_octets, skip_of, with_phase}
-use Rattle.tm_inner.specs.Receiving.{AreInnerFirst, HasClosedAll, IsDecoderOf, DecodesFor, FirstFor, FirstAt, Hands, HandsPrefix, InnerReceiving, StandsFor, Phasing, Goes, PhasesFor, IsPrefixBy, IsFirstBy, soft_form}
+use Rattle.tm_inner.specs.Receiving.{AreInnerFirst, HasClosedAll, HasCountedAll, IsCount, IsDecoderOf, DecodesFor, FirstFor, FirstAt, Hands, HandsPrefix, InnerReceiving, StandsFor, Phasing, Goes, PhasesFor, IsPrefixBy, IsFirstBy, soft_form}
 use Rattle.tm_inner.specs.Handing.{AreHanded, AreHandedDue, AreHandedFirst, AreHandedPrefix}
 use Rattle.tm_inner.proofs.GivenPieces.{due-of, decodes-after, few-soft, phase_octets-more, soft-after}
 use Rattle.tm_inner.proofs.PhasePieces.{NoneWaits, further, items_of-with_phase, none-goes, so-far}
@@ -100,9 +100,9 @@ handed-due p given done of closed (inr g) = inr (
 -- what is due where a decoder holds octets
 pub due-further : (p : Phasing) (given : List ℕ) (done : List (Handed WindowBlock)) (count : ℕ) → IsDecoderOf p.config p.decoder → NoneWaits p
     → ((c : Configuration) (phase : ℕ) (given : List ℕ) (done : List WindowBlock) → IsDecoderOf c p.decoder → DecodesFor p.decoder (soft_octets c phase given) done
-    → (more : List WindowBlock) × (length more ≡ count) × AreInnerDue c phase given (done ++ more))
+    → (more : List WindowBlock) × IsCount c (length more) count × AreInnerDue c phase given (done ++ more))
     → PhasesFor p (phase_octets p.config given) done
-    → (more : List WindowBlock) × (length more ≡ count) × AreHandedDue p.config given (done ++ map Item more)
+    → (more : List WindowBlock) × IsCount p.config (length more) count × AreHandedDue p.config given (done ++ map Item more)
 due-further p given done count of none counted (inl w) = absurd (none (w.0.find, w.0.none))
 due-further p given done count of none counted (inr g) =
     let phase = skip_of p.chosen in
@@ -117,27 +117,34 @@ due-further p given done count of none counted (inr g) =
 
 -- while the phase is to be chosen nothing is due
 pub due-waiting : (p : Phasing) (given : List ℕ) (done : List (Handed WindowBlock)) → p.config.phase ≡ Find → p.chosen ≡ None
-    → PhasesFor p (phase_octets p.config given) done → (more : List WindowBlock) × (length more ≡ 0) × AreHandedDue p.config given (done ++ map Item more)
-due-waiting p given done find none (inl w) = ([], refl, inl (w.1, append-nil done ∙ w.0.nothing))
+    → PhasesFor p (phase_octets p.config given) done → (more : List WindowBlock) × IsCount p.config (length more) 0 × AreHandedDue p.config given (done ++ map Item more)
+due-waiting p given done find none (inl w) = ([], (omega arith, λ plain. refl), inl (w.1, append-nil done ∙ w.0.nothing))
 due-waiting p given done find none (inr g) = absurd (none-goes p (phase_octets p.config given) done find none g.0)
 
--- the last blocks, by which all is handed over
-abbrev pub AreLast : Option InnerDecoder → List WindowBlock → ℕ → Type 0
-AreLast decoder last left = (c : Configuration) (phase : ℕ) (given : List ℕ) (done : List WindowBlock) → IsDecoderOf c decoder
-    → DecodesFor decoder (soft_octets c phase given) done → AreInnerBlocks c phase given (done ++ last) left
+-- the last blocks, by which all is handed over, and counted
+abbrev pub AreLast : (before now : Option InnerDecoder) → List WindowBlock → ℕ → Type 0
+AreLast before now last left = (c : Configuration) (phase : ℕ) (given : List ℕ) (done : List WindowBlock) → IsDecoderOf c before
+    → DecodesFor before (soft_octets c phase given) done → AreInnerBlocks c phase given (done ++ last) left × HasCountedAll now (done ++ last)
 
-pub handed-last : (p : Phasing) (given : List ℕ) (done : List (Handed WindowBlock)) (last : List WindowBlock) (left : ℕ) → IsDecoderOf p.config p.decoder → AreLast p.decoder last left
-    → Goes p (phase_octets p.config given) done → (all : AreHanded p.config given (done ++ map Item last) left) × (all.chosen ≡ p.chosen)
-handed-last p given done last left of are g = (
-  record {
-    chosen = p.chosen;
-    choice = g.choice;
-    items = g.blocks ++ last;
-    are_items = are p.config (skip_of p.chosen) given g.blocks of (decodes-after p.config p.decoder (skip_of p.chosen) given g.blocks of g.decodes);
-    are = further p.chosen done g.blocks last g.are;
-  },
-  refl,
-)
+-- all that was handed over, of this phase, by a decoder that has counted it
+abbrev pub AllCounted : Configuration → List ℕ → List (Handed WindowBlock) → ℕ → Option Chosen → Option InnerDecoder → Type 0
+AllCounted c given handed left chosen decoder =
+    (all : AreHanded c given handed left) × (all.chosen ≡ chosen) × HasCountedAll decoder all.items
+
+pub handed-last : (p : Phasing) (now : Option InnerDecoder) (given : List ℕ) (done : List (Handed WindowBlock)) (last : List WindowBlock) (left : ℕ) → IsDecoderOf p.config p.decoder
+    → AreLast p.decoder now last left → Goes p (phase_octets p.config given) done → AllCounted p.config given (done ++ map Item last) left p.chosen now
+handed-last p now given done last left of are g =
+    let all = are p.config (skip_of p.chosen) given g.blocks of (decodes-after p.config p.decoder (skip_of p.chosen) given g.blocks of g.decodes) in (
+      record {
+        chosen = p.chosen;
+        choice = g.choice;
+        items = g.blocks ++ last;
+        are_items = all.0;
+        are = further p.chosen done g.blocks last g.are;
+      },
+      refl,
+      all.1,
+    )
 
 -- the taker fails at one of the last blocks
 pub handed-last_prefix : (p : Phasing) (given : List ℕ) (done : List (Handed WindowBlock)) (tried : List WindowBlock) → IsDecoderOf p.config p.decoder
@@ -208,21 +215,28 @@ pub chosen-last : (r : InnerReceiving) (chosen : Option Chosen) → r.phased.con
 chosen-last r chosen inside is given done stood =
     subst (λ (k : Configuration). IsChosenBy k (phase_octets r.config given) chosen) inside (is (phase_octets r.config given) done stood.phases)
 
-pub all-handed : (r : InnerReceiving) (chosen : Option Chosen) (last : List (Handed WindowBlock)) (phase bits left : ℕ) → r.phased.config ≡ r.config → phase ≡ skip_of chosen
-    → ((given : List ℕ) (blocks : List WindowBlock) (left : ℕ) → length given ≡ r.count → length given < 2 ^ 60 → AreInnerBlocks r.config phase given blocks left
-    → bits ≡ length (inner_bits r.config given blocks))
+-- what came of all octets, by what was counted of the blocks
+abbrev pub Counted : InnerReceiving → (phase bits : ℕ) → Option ℕ → Option InnerDecoder → Type 0
+Counted r phase bits slips now = (given : List ℕ) (blocks : List WindowBlock) (left : ℕ) → length given ≡ r.count → length given < 2 ^ 60
+    → AreInnerBlocks r.config phase given blocks left → HasCountedAll now blocks
+    → (bits ≡ length (inner_bits r.config given blocks)) × (slips ≡ slips_told r.config blocks)
+
+pub all-handed : (r : InnerReceiving) (now : Option InnerDecoder) (chosen : Option Chosen) (last : List (Handed WindowBlock)) (bits left : ℕ) (slips : Option ℕ)
+    → r.phased.config ≡ r.config → Counted r (skip_of chosen) bits slips now
     → ((given : List ℕ) (done : List (Handed WindowBlock)) → length given < 2 ^ 60 → PhasesFor r.phased (phase_octets r.phased.config given) done
-    → (all : AreHanded r.phased.config given (done ++ last) left) × (all.chosen ≡ chosen))
+    → AllCounted r.phased.config given (done ++ last) left chosen now)
     → (given : List ℕ) (done : List (Handed WindowBlock)) → StandsFor r given done
     → AreHanded r.config given (done ++ last) left × (bits ≡ length (inner_bits r.config given (items_of (done ++ last))))
-all-handed r chosen last phase bits left inside skip counts handed given done stood =
+    × (slips ≡ slips_told r.config (items_of (done ++ last)))
+all-handed r now chosen last bits left slips inside counts handed given done stood =
     let c = r.config in
-    let h : (all : AreHanded c given (done ++ last) left) × (all.chosen ≡ chosen) =
-    subst (λ (k : Configuration). PhasesFor r.phased (phase_octets k given) done → (all : AreHanded k given (done ++ last) left) × (all.chosen ≡ chosen)) inside (handed given done stood.few) stood.phases in
+    let h : AllCounted c given (done ++ last) left chosen now =
+    subst (λ (k : Configuration). PhasesFor r.phased (phase_octets k given) done → AllCounted k given (done ++ last) left chosen now) inside
+    (handed given done stood.few) stood.phases in
     let all = h.0 in
-    let same : skip_of all.chosen ≡ phase = ap skip_of h.1 ∙ sym skip in
-    let items : items_of (done ++ last) ≡ all.items = ap items_of all.are ∙ items_of-with_phase all.chosen all.items in (
+    let items : items_of (done ++ last) ≡ all.items = ap items_of all.are ∙ items_of-with_phase all.chosen all.items in
+    let said = counts given all.items left stood.count stood.few (subst (λ (o : Option Chosen). AreInnerBlocks c (skip_of o) given all.items left) h.1 all.are_items) h.2 in (
       all,
-      counts given all.items left stood.count stood.few (subst (λ (n : ℕ). AreInnerBlocks c n given all.items left) same all.are_items)
-          ∙ ap (λ (l : List WindowBlock). length (inner_bits c given l)) (sym items),
+      said.0 ∙ ap (λ (l : List WindowBlock). length (inner_bits c given l)) (sym items),
+      said.1 ∙ ap (slips_told c) (sym items),
     )

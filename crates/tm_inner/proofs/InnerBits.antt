@@ -1,5 +1,6 @@
 -- The bits that octets come to, and those of octets that were sent and not disturbed.
-use Rattle.std.proofs.Common.{◌≡◌, ℕ, zero, suc, ◌+◌, ◌-◌, ◌%◌, ◌<◌, ◌≤◌, ◌==◌, cond, Bool, true, false, List, [], ◌∷◌, length, drop, map, refl, sym, ap, ◌∙◌, subst, arith, Option, Some, None, ◌⊎◌, inl, inr}
+use Rattle.std.proofs.Common.{◌≡◌, ℕ, zero, suc, ◌+◌, ◌-◌, ◌%◌, ◌<◌, ◌≤◌, ◌==◌, cond, Bool, true, false, List, [], ◌∷◌, length, drop, map, refl, sym, ap, ◌∙◌, subst, arith, if◌then◌else◌, Option, Some, None, ◌⊎◌, inl, inr}
+use Rattle.std.specs.Option.{ForSome}
 use Rattle.std.proofs.lemmas.List.{length-map}
 use Rattle.std.proofs.lemmas.List.Elements.{All-cons, All-nil}
 use Rattle.tm_base.specs.Bits.{bits_of, bit_number}
@@ -19,6 +20,7 @@ use Rattle.tm_viterbi.specs.Settings.{Settings}
 use Rattle.tm_viterbi.specs.WindowBlock.{WindowBlock}
 use Rattle.tm_viterbi.specs.Blocks.{AreBlocksOf}
 use Rattle.tm_viterbi.specs.Clean.{IsFixed, AreClean, sure_symbols}
+use Rattle.tm_phase.specs.Slip.{steps_seen}
 use Rattle.tm_windows.specs.Followed.{Windows}
 use Rattle.tm_windows.specs.Windows.{AreBlocksIn, IsSeen}
 use Rattle.tm_windows.proofs.WindowLaws.{blocks-sent}
@@ -37,6 +39,10 @@ same-blocks : OneBlocks → (rate : Option Rate) (c : Configuration) (phase : �
 same-blocks one None c phase octets blocks others left rest p q = p.0 ∙ sym q.0
 same-blocks one (Some rate) c phase octets blocks others left rest p q = (one (windows_of c rate) (soft_octets c phase octets) blocks others left rest p q).0
 
+pub only_blocks : OneBlocks → (c : Configuration) (phase : ℕ) (octets : List ℕ) (blocks others : List WindowBlock) (left rest : ℕ)
+    → AreInnerBlocks c phase octets blocks left → AreInnerBlocks c phase octets others rest → blocks ≡ others
+only_blocks one c = same-blocks one c.inner c
+
 pub only_bits : OneBlocks → (c : Configuration) (phase : ℕ) (octets : List ℕ) (bits others : List Bool) → Inner c phase octets bits → Inner c phase octets others → bits ≡ others
 only_bits one c phase octets bits others p q =
     p.are_bits ∙ ap (bits_at c.inner c octets) (same-blocks one c.inner c phase octets p.blocks q.blocks p.left q.left p.are_blocks q.are_blocks) ∙ sym q.are_bits
@@ -48,8 +54,13 @@ abbrev pub HasBlocks : Type 0
 HasBlocks = (w : Windows) (octets : List ℕ) → 0 < w.settings.keep → IsSeen w → (blocks : List WindowBlock) × (left : ℕ) × AreBlocksIn w octets blocks left
 
 -- a window that is closed has been looked at
+seen-by : (follow : Bool) (keep ahead : ℕ) → 64 ≤ keep
+    → ForSome (if follow then Some (steps_seen keep ahead) else None) (λ steps. (1 ≤ steps) × (steps + 8 ≤ keep + ahead))
+seen-by false keep ahead wide = λ steps is. absurd cc
+seen-by true keep ahead wide = λ steps is. let e : steps_seen keep ahead ≡ steps = cc in (omega (arith, e, wide), omega (arith, e, wide))
+
 pub seen-of : (c : Configuration) (rate : Rate) → 64 ≤ c.keep → IsSeen (windows_of c rate)
-seen-of c rate wide = λ steps is. absurd (cc)
+seen-of c rate wide = seen-by c.follow c.keep c.ahead wide
 
 blocks-at : HasBlocks → (rate : Option Rate) (c : Configuration) (phase : ℕ) (octets : List ℕ) → 64 ≤ c.keep
     → (blocks : List WindowBlock) × (left : ℕ) × BlocksAt rate c phase octets blocks left

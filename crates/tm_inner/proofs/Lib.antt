@@ -13,6 +13,7 @@ mod Metrics
 pub mod DueBlocks
 pub mod GivenPieces
 pub mod PhasePieces
+pub mod Counted
 pub mod HandedPieces
 pub mod WithPhase
 pub mod HandedBits

@@ -1,5 +1,5 @@
 -- How many bits octets come to.
-use Rattle.std.proofs.Common.{◌≡◌, ℕ, ◌+◌, ◌-◌, ◌*◌, ◌/◌, ◌%◌, ◌<◌, ◌≤◌, ◌==◌, min, Bool, List, [], ◌∷◌, ◌++◌, length, take, drop, map, sym, ap, ◌∙◌, subst, arith, Option, Some, None, length-append, length-drop, length-take, inl, inr}
+use Rattle.std.proofs.Common.{◌≡◌, ℕ, ◌+◌, ◌-◌, ◌*◌, ◌/◌, ◌%◌, ◌<◌, ◌≤◌, ◌==◌, min, Bool, false, List, [], ◌∷◌, ◌++◌, length, take, drop, map, sym, ap, ◌∙◌, subst, arith, Option, Some, None, length-append, length-drop, length-take, inl, inr}
 use Rattle.std.proofs.lemmas.List.{length-map}
 use Rattle.std.proofs.lemmas.Bool.{cases_lt}
 use Rattle.std.proofs.lemmas.Bool.Decides.{nat_tests}
@@ -16,6 +16,7 @@ use Rattle.tm_viterbi.specs.Starts.{first_start}
 use Rattle.tm_viterbi.proofs.CleanBlocks.{steps-mono}
 use Rattle.tm_inner.proofs.DueBits.{drop-split}
 use Rattle.tm_inner.proofs.PlainBits.{plain-append, length-plain}
+use Rattle.tm_inner.proofs.Unfollowed.{blocks-unfollowed}
 use Rattle.tm_inner.specs.Inner.{settings_of, soft_value, soft_octets, BlocksAt, plain_bits, plain_count, bits_at, AreInnerBlocks, inner_bits}
 
 -- ---- the whole steps of symbols
@@ -105,10 +106,11 @@ kept-count rate invert keep ahead starts t n octets (b ∷ blocks) whole are =
 pub length-soft : (c : Configuration) (phase : ℕ) (given : List ℕ) → length (soft_octets c phase given) ≡ length given - c.skip - phase
 length-soft c phase given = length-map (drop phase (drop c.skip given)) (soft_value c) ∙ omega (arith, length-drop phase (drop c.skip given), length-drop c.skip given)
 
-pub bits-coded : (c : Configuration) (rate : Rate) (phase n m : ℕ) (given : List ℕ) (blocks : List WindowBlock) (left : ℕ) → c.inner ≡ Some rate → length given ≡ n
+pub bits-coded : (c : Configuration) (rate : Rate) (phase n m : ℕ) (given : List ℕ) (blocks : List WindowBlock) (left : ℕ) → c.inner ≡ Some rate → c.follow ≡ false → length given ≡ n
     → AreWhole rate (n - c.skip - phase) m → AreInnerBlocks c phase given blocks left → m ≡ length (inner_bits c given blocks)
-bits-coded c rate phase n m given blocks left is long whole are =
-    subst (λ (r : Option Rate). BlocksAt r c phase given blocks left → m ≡ length (bits_at r c given blocks)) (sym is) counted are
+bits-coded c rate phase n m given blocks left is plain long whole are =
+    subst (λ (r : Option Rate). BlocksAt r c phase given blocks left → m ≡ length (bits_at r c given blocks)) (sym is)
+    (λ at. counted (blocks-unfollowed c rate (soft_octets c phase given) blocks left plain at)) are
   where
     counted : AreBlocksOf (settings_of c rate) (soft_octets c phase given) blocks left → m ≡ length (map (λ bit. bit == 1) (kept_bits blocks))
     counted of =

@@ -1,21 +1,35 @@
 -- Where the phase is not followed, windows stand one behind the other, and nothing is dropped before any.
-use Rattle.std.proofs.Common.{◌≡◌, ℕ, Bool, false, List, None, refl, sym, subst}
+use Rattle.std.proofs.Common.{◌≡◌, ℕ, Bool, true, false, List, Option, Some, None, if◌then◌else◌, refl, sym, ap, ◌∙◌, subst}
 use Rattle.tm_config.specs.Configuration.{Configuration}
 use Rattle.tm_conv.specs.declared.rates.Rate.{Rate}
 use Rattle.tm_viterbi.specs.Settings.{Settings}
 use Rattle.tm_viterbi.specs.WindowBlock.{WindowBlock}
 use Rattle.tm_viterbi.specs.Blocks.{AreBlocksOf}
 use Rattle.tm_viterbi.specs.Due.{AreDue, AreFirst}
+use Rattle.tm_phase.specs.Slip.{steps_seen}
 use Rattle.tm_windows.specs.Followed.{Windows}
 use Rattle.tm_windows.specs.Windows.{AreBlocksIn, AreDueIn, AreFirstIn}
+use Rattle.tm_viterbi.specs.Decoding.{Decoding}
+use Rattle.tm_windows.specs.ParallelDecoding.{ParallelDecoding}
+use Rattle.tm_inner.specs.declared.inner_decoder.InnerDecoder.TheVariants.{One, Many}
 use Rattle.tm_inner.specs.Inner.{settings_of, windows_of}
+use Rattle.tm_inner.specs.Receiving.{IsDecoderOf}
 
 -- windows before which no slip is looked for
 abbrev pub unseen : Settings → Windows
 unseen settings = record { settings = settings; seen = None }
 
 pub unfollowed-windows : (c : Configuration) (rate : Rate) → c.follow ≡ false → windows_of c rate ≡ unseen (settings_of c rate)
-unfollowed-windows c rate is = refl
+unfollowed-windows c rate is =
+    ap (λ (follow : Bool). let w : Windows = record { settings = settings_of c rate; seen = if follow then Some (steps_seen c.keep c.ahead) else None } in w) is
+
+-- and where no slip is looked for, it is not followed
+unseen-not : (follow : Bool) (steps : ℕ) → ◌≡◌ {A = Option ℕ} (if follow then Some steps else None) None → follow ≡ false
+unseen-not false steps is = refl
+unseen-not true steps is = absurd cc
+
+pub unseen-unfollowed : (c : Configuration) (rate : Rate) → (windows_of c rate).seen ≡ None → c.follow ≡ false
+unseen-unfollowed c rate is = unseen-not c.follow (steps_seen c.keep c.ahead) is
 
 pub blocks-unfollowed : (c : Configuration) (rate : Rate) (soft : List ℕ) (blocks : List WindowBlock) (left : ℕ) → c.follow ≡ false
     → AreBlocksIn (windows_of c rate) soft blocks left → AreBlocksOf (settings_of c rate) soft blocks left
@@ -32,3 +46,13 @@ first-unfollowed c rate soft blocks is h = subst (λ (w : Windows). AreFirstIn w
 pub first-windows : (c : Configuration) (rate : Rate) (soft : List ℕ) (blocks : List WindowBlock) → c.follow ≡ false
     → AreFirst (settings_of c rate) soft blocks → AreFirstIn (windows_of c rate) soft blocks
 first-windows c rate soft blocks is h = subst (λ (w : Windows). AreFirstIn w soft blocks) (sym (unfollowed-windows c rate is)) h
+
+-- ---- the decoder of a configuration
+
+pub one-decodes : (c : Configuration) (rate : Rate) (decoder : Decoding) → c.inner ≡ Some rate → c.follow ≡ false
+    → decoder.settings ≡ settings_of c rate → IsDecoderOf c (Some (One decoder))
+one-decodes c rate decoder is plain same = (rate, is, ap unseen same ∙ sym (unfollowed-windows c rate plain))
+
+pub many-decodes : (c : Configuration) (rate : Rate) (decoder : ParallelDecoding) → c.inner ≡ Some rate
+    → decoder.windows ≡ windows_of c rate → IsDecoderOf c (Some (Many decoder))
+many-decodes c rate decoder is same = (rate, is, same)

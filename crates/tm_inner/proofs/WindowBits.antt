@@ -1,5 +1,5 @@
 -- The bits that blocks keep, whether the phase is followed or not.
-use Rattle.std.proofs.Common.{ℕ, ◌≡◌, ◌+◌, ◌-◌, ◌*◌, ◌≤◌, ◌<◌, ◌∙◌, refl, Bool, List, [], ◌∷◌, ◌++◌, length, take, ap, subst, arith, inl, inr, Option, Some, None, length-append, length-drop, length-take}
+use Rattle.std.proofs.Common.{ℕ, ◌≡◌, ◌+◌, ◌-◌, ◌*◌, ◌≤◌, ◌<◌, ◌∙◌, Bool, List, [], ◌∷◌, ◌++◌, length, take, ap, subst, arith, inl, inr, Option, Some, None, length-append, length-drop, length-take}
 use Rattle.std.proofs.lemmas.Bool.{cases_lt}
 use Rattle.std.proofs.lemmas.Bool.Decides.{nat_tests}
 use Rattle.tm_conv.specs.declared.rates.Rate.{Rate}

@@ -9,7 +9,7 @@ use Rattle.tm_viterbi.specs.declared.decoder.FeedError.TheVariants.{Stopped, Tak
 use Rattle.tm_windows.specs.Windows.{AreFirstIn}
 use Rattle.tm_inner.specs.declared.inner_decoder.InnerDecoder.{InnerDecoder}
 use Rattle.tm_inner.specs.declared.receiver.InnerEnd.{InnerEnd}
-use Rattle.tm_inner.specs.Inner.{inner_bits}
+use Rattle.tm_inner.specs.Inner.{inner_bits, slips_told}
 use Rattle.tm_inner.specs.InnerDecoding.{has_stopped_in, windows_in, StandsIn}
 use Rattle.tm_inner.specs.Phase.{IsChosen, IsChosenSoFar}
 use Rattle.tm_inner.specs.Receiving.{Hands, HandsPrefix, InnerReceiving, StandsFor}
@@ -59,7 +59,7 @@ pub record Feeds {R : Type 0} (before now : InnerReceiving) (octets : List ℕ)
       → AreHandedFirst before.config (given ++ octets) (done ++ tried))
 
 -- at the end what is left was handed over, or the first of it until the taker failed; so many bits
--- were received, and so many octets are left over
+-- were received, octets were dropped so often, and so many are left over
 pub record Finishes (before now : InnerReceiving) (taker : TakerCall (Handed WindowBlock))
     (result : Result InnerEnd FeedError) : Type 0 where
   pub call : Calls before now taker result
@@ -70,7 +70,8 @@ pub record Finishes (before now : InnerReceiving) (taker : TakerCall (Handed Win
   pub handed : IfOk result (λ end. (last : List (Handed WindowBlock)) × taker.took last
       × ((given : List ℕ) (done : List (Handed WindowBlock)) → StandsFor before given done
       → AreHanded before.config given (done ++ last) end.leftover
-      × (end.bits ≡ length (inner_bits before.config given (items_of (done ++ last))))))
+      × (end.bits ≡ length (inner_bits before.config given (items_of (done ++ last))))
+      × (end.slips ≡ slips_told before.config (items_of (done ++ last)))))
   pub prefix : IsErrOf result Taker → (tried : List (Handed WindowBlock)) × taker.broke tried
       × ((given : List ℕ) (done : List (Handed WindowBlock)) → StandsFor before given done
       → AreHandedPrefix before.config given (done ++ tried))

@@ -10,7 +10,8 @@ use Rattle.tm_viterbi.specs.declared.block.Start.TheVariants.{Zero}
 use Rattle.tm_viterbi.specs.Settings.{Settings}
 use Rattle.tm_viterbi.specs.WindowBlock.{WindowBlock}
 use Rattle.tm_viterbi.specs.Clean.{kept_bits}
-use Rattle.tm_windows.specs.Followed.{Windows}
+use Rattle.tm_phase.specs.Slip.{steps_seen}
+use Rattle.tm_windows.specs.Followed.{Windows, slips_of}
 use Rattle.tm_windows.specs.Windows.{AreBlocksIn, AreDueIn}
 use Rattle.tm_inner.specs.Symbols.{is_inverted}
 
@@ -26,7 +27,15 @@ settings_of c rate = record {
 
 -- the windows in which they are
 abbrev pub windows_of : Configuration → Rate → Windows
-windows_of c rate = record { settings = settings_of c rate; seen = None }
+windows_of c rate = record {
+  settings = settings_of c rate;
+  seen = if c.follow then Some (steps_seen c.keep c.ahead) else None;
+}
+
+-- before how many of the windows of these blocks octets were dropped; None where the phase is not
+-- followed
+abbrev pub slips_told : Configuration → List WindowBlock → Option ℕ
+slips_told c blocks = if c.follow then Some (slips_of blocks) else None
 
 -- a soft octet as one of which 0 is the surest 0 and 255 the surest 1; in the form i8 these are
 -- -128 and 127, in two's complement

@@ -2,7 +2,7 @@
 use Rattle.std.specs.Prelude.{◌≡◌, ℕ, Bool, List, Option, Some, None}
 use Rattle.tm_viterbi.specs.WindowBlock.{WindowBlock}
 use Rattle.tm_viterbi.specs.Decoding.{StandsFor as StandsForOne}
-use Rattle.tm_windows.specs.Followed.{Windows}
+use Rattle.tm_windows.specs.Followed.{Windows, slips_of, kept_of}
 use Rattle.tm_windows.specs.Gathered.{IsOpen}
 use Rattle.tm_windows.specs.Sharing.{workers_for, windows_for}
 use Rattle.tm_windows.specs.ParallelDecoding.{StandsFor as StandsForMany}
@@ -37,3 +37,10 @@ HasClosed (Many decoder) = IsOpen decoder.gathering
 abbrev pub StandsIn : InnerDecoder → List ℕ → List WindowBlock → Type 0
 StandsIn (One decoder) given done = StandsForOne decoder given done
 StandsIn (Many decoder) given done = StandsForMany decoder given done
+
+-- it has counted before how many of the windows of these blocks octets were dropped; one with
+-- several workers has counted how many steps they keep, too
+abbrev pub HasCounted : InnerDecoder → List WindowBlock → Type 0
+HasCounted (One decoder) blocks = slips_of blocks ≡ 0
+HasCounted (Many decoder) blocks =
+    (slips_of blocks ≡ decoder.gathering.slips) × (kept_of blocks ≡ decoder.gathering.t)

@@ -1,6 +1,6 @@
 -- What an inner receiver keeps, and for which octets, given so far, and which blocks, handed over
 -- so far, it stands.
-use Rattle.std.specs.Prelude.{◌≡◌, ◌⊎◌, ℕ, ◌+◌, ◌^◌, ◌<◌, ◌%◌, Bool, if◌then◌else◌, List, [], ◌++◌, length, map, drop, Option, Some, None}
+use Rattle.std.specs.Prelude.{◌≡◌, ◌⊎◌, ℕ, ◌+◌, ◌^◌, ◌<◌, ◌≤◌, ◌%◌, Bool, false, if◌then◌else◌, List, [], ◌++◌, length, map, drop, Option, Some, None}
 use Rattle.tm_base.specs.Handed.{Handed}
 use Rattle.tm_base.specs.Takers.{HandedOver, HandedPart}
 use Rattle.tm_config.specs.Configuration.{Configuration}
@@ -11,7 +11,7 @@ use Rattle.tm_inner.specs.declared.inner_decoder.InnerDecoder.{InnerDecoder}
 use Rattle.tm_phase.specs.declared.choosing.Chosen.{Chosen}
 use Rattle.tm_windows.specs.Windows.{AreFirstIn}
 use Rattle.tm_inner.specs.Inner.{windows_of, soft_value, soft_octets}
-use Rattle.tm_inner.specs.InnerDecoding.{HasClosed, windows_in, has_stopped_in, StandsIn}
+use Rattle.tm_inner.specs.InnerDecoding.{HasClosed, HasCounted, windows_in, has_stopped_in, StandsIn}
 use Rattle.tm_inner.specs.Phase.{IsChosenBy, IsSettledBy, phase_octets, skip_of, with_phase}
 
 -- the decoder is that of the configuration's inner code, and there is none where it has no inner
@@ -36,6 +36,15 @@ HasClosedAll (Some decoder) = HasClosed decoder
 abbrev pub DecodesFor : Option InnerDecoder → List ℕ → List WindowBlock → Type 0
 DecodesFor None soft done = done ≡ []
 DecodesFor (Some decoder) soft done = StandsIn decoder soft done
+
+-- a decoder, where there is one, has counted what these blocks keep and drop
+abbrev pub HasCountedAll : Option InnerDecoder → List WindowBlock → Type 0
+HasCountedAll None blocks = blocks ≡ []
+HasCountedAll (Some decoder) blocks = HasCounted decoder blocks
+
+-- a count of this many; where the phase is followed it may be of more
+abbrev pub IsCount : Configuration → (n count : ℕ) → Type 0
+IsCount c n count = (n ≤ count) × (c.follow ≡ false → n ≡ count)
 
 -- the blocks of the first windows that a decoder finds in soft octets
 abbrev pub FindsFirst : Option InnerDecoder → List ℕ → List WindowBlock → Type 0

@@ -1,5 +1,5 @@
 // How many bits are received.
-ghost use Rattle.std.specs.Prelude.{◌≡◌, ℕ, ◌+◌, ◌-◌, ◌^◌, ◌<◌, ◌≤◌, List, length, min};
+ghost use Rattle.std.specs.Prelude.{◌≡◌, ℕ, ◌+◌, ◌-◌, ◌^◌, ◌<◌, ◌≤◌, ◌⊎◌, List, length, min, None, false};
 ghost use Rattle.tm_conv.specs.Path.{steps_size};
 ghost use Rattle.tm_viterbi.specs.WindowBlock.{WindowBlock};
 ghost use Rattle.tm_inner.specs.Inner.{AreInnerBlocks, inner_bits, plain_count};
@@ -8,9 +8,10 @@ use crate::code::{is_packed, rate_of};
 use tm_config::Config;
 use tm_conv::{Rate, period};
 
-// How many bits are received with so many octets: those of the whole steps of the inner code after the phase, or with
-// none all after the skipped ones.
+// How many bits are received with so many octets, where none is dropped between windows: those of the whole steps of
+// the inner code after the phase, or with none all after the skipped ones.
 pub fn count_bits(config: &Config, phase: u64, octets: u64) -> u64
+    requires { (config.now.inner ≡ None) ⊎ (config.now.follow ≡ false) }
     ensures { (given : List ℕ) (blocks : List WindowBlock) (left : ℕ) → length given ≡ octets → length given < 2 ^ 60
         → AreInnerBlocks config.now phase given blocks left → result ≡ length (inner_bits config.now given blocks) }
 {

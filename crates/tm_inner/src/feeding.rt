@@ -1,17 +1,18 @@
 // The decoder of a configuration's inner code, and soft octets of either form given to it.
-ghost use Rattle.std.specs.Prelude.{◌≡◌, ◌<◌, ◌≤◌, ◌++◌, ◌⊎◌, ℕ, Bool, List, [], true, false, IfOk, OnOk, OnErr, length, take};
+ghost use Rattle.std.specs.Prelude.{◌≡◌, ◌≢◌, ◌<◌, ◌≤◌, ◌++◌, ◌⊎◌, ℕ, Bool, List, [], None, true, false, IfOk, IfSome, IsSome, OnOk, OnErr, length, take};
 ghost use Rattle.tm_base.specs.Outside.{HasCause};
 ghost use Rattle.tm_base.specs.Takers.{HandedOver, HandedPart};
 ghost use Rattle.tm_config.specs.Configuration.{Configuration};
 ghost use Rattle.tm_viterbi.specs.WindowBlock.{WindowBlock};
+ghost use Rattle.tm_windows.specs.Followed.{slips_of, kept_of};
 ghost use Rattle.tm_inner.specs.Calls.{GivesSoft};
 ghost use Rattle.tm_inner.specs.Inner.{AreInnerBlocks, AreInnerDue, soft_octets};
 ghost use Rattle.tm_inner.specs.InnerDecoding.{HasClosed, HasWorkers, windows_in, has_stopped_in, StandsIn};
-ghost use Rattle.tm_inner.specs.Receiving.{AreInnerFirst, HasClosedAll, IsDecoderOf, HasStopped, DecodesFor, FindsFirst, Hands, HandsPrefix, from_form};
+ghost use Rattle.tm_inner.specs.Receiving.{AreInnerFirst, HasClosedAll, HasCountedAll, IsCount, IsDecoderOf, HasStopped, DecodesFor, FindsFirst, Hands, HandsPrefix, from_form};
 
 use crate::code::{is_inverted, rate_of};
 use crate::inner_decoder::InnerDecoder;
-use crate::workers::{Feeding, count_closed, gather};
+use crate::workers::{Feeding, count_closed, gather, slip_count, step_count};
 use std::alloc::Global;
 use tm_base::{Failed, NoMemory};
 use tm_config::Config;
@@ -40,13 +41,14 @@ pub fn decoder_of(
     let ahead = config.ahead() as u32;
     let invert = is_inverted(rate, config.values().invert);
     let start = config.values().start;
-    if workers == 1 {
+    let follow = config.values().follow;
+    if workers == 1 && !follow {
         return match Decoder::open(alloc, rate, invert, start, keep, ahead) {
             Ok(decoder) => Ok(Some(InnerDecoder::One(decoder))),
             Err(_) => Err(NoMemory),
         };
     }
-    match ParallelDecoder::open(alloc, rate, invert, start, keep, ahead, workers, false) {
+    match ParallelDecoder::open(alloc, rate, invert, start, keep, ahead, workers, follow) {
         Ok(decoder) => Ok(Some(InnerDecoder::Many(decoder))),
         Err(_) => Err(NoMemory),
     }
@@ -130,15 +132,39 @@ fn gather_signed(decoder: &mut InnerDecoder, octets: &[u8]) -> usize
     done
 }
 
-// How many blocks are due and were not handed over yet.
+// How many blocks are due and were not handed over yet, or more where the phase is followed.
 pub fn count_due(decoder: &Option<InnerDecoder>) -> usize
     ensures { (c : Configuration) (phase : ℕ) (given : List ℕ) (done : List WindowBlock) → IsDecoderOf c decoder.now
         → DecodesFor decoder.now (soft_octets c phase given) done
-        → (more : List WindowBlock) × (length more ≡ result) × AreInnerDue c phase given (done ++ more) }
+        → (more : List WindowBlock) × IsCount c (length more) result × AreInnerDue c phase given (done ++ more) }
 {
     match decoder {
         Some(decoder) => count_closed(decoder),
         None => 0,
+    }
+}
+
+// Before how many windows octets were dropped, of those whose blocks were handed over.
+pub fn slips(decoder: &Option<InnerDecoder>) -> u64
+    ensures { (blocks : List WindowBlock) → HasCountedAll decoder.now blocks → result ≡ slips_of blocks }
+{
+    match decoder {
+        Some(decoder) => slip_count(decoder),
+        None => 0,
+    }
+}
+
+// How many steps the blocks keep that were handed over. None where this is not counted; no octet is dropped then.
+pub fn steps(decoder: &Option<InnerDecoder>) -> Option<u64>
+    ensures some { IfSome result (λ steps. (blocks : List WindowBlock) → HasCountedAll decoder.now blocks
+        → steps ≡ kept_of blocks) }
+    ensures coded { IsSome result → (c : Configuration) → IsDecoderOf c decoder.now → c.inner ≢ None }
+    ensures none { result ≡ None → (c : Configuration) → IsDecoderOf c decoder.now
+        → (c.inner ≡ None) ⊎ (c.follow ≡ false) }
+{
+    match decoder {
+        Some(decoder) => step_count(decoder),
+        None => None,
     }
 }
 
@@ -154,7 +180,8 @@ pub fn end<F: Feeding<B>, B: BlockTaker>(
     ensures stopped { HasStopped true decoder.new }
     ensures handed { IfOk result (λ left. (last : List WindowBlock) × HandedOver B.took blocks.old last blocks.new
         × ((c : Configuration) (phase : ℕ) (given : List ℕ) (done : List WindowBlock) → IsDecoderOf c decoder.old
-        → DecodesFor decoder.old (soft_octets c phase given) done → AreInnerBlocks c phase given (done ++ last) left)) }
+        → DecodesFor decoder.old (soft_octets c phase given) done → AreInnerBlocks c phase given (done ++ last) left
+        × HasCountedAll decoder.new (done ++ last))) }
     ensures prefix { OnErr result ((tried : List WindowBlock) × HandedPart B.took B.broke blocks.old tried blocks.new
         × ((c : Configuration) (phase : ℕ) (given : List ℕ) (done : List WindowBlock) → IsDecoderOf c decoder.old
         → DecodesFor decoder.old (soft_octets c phase given) done → AreInnerFirst c phase given (done ++ tried)

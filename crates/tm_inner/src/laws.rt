@@ -11,12 +11,14 @@ ghost use Rattle.tm_inner.specs.Symbols.{symbols_of_octets};
 use tm_viterbi::clean_blocks_law;
 use tm_windows::{closed_prefix_law, due_windows_law, one_windows_law};
 
-/// Received octets come to one list of bits. It does nothing.
+/// Received octets come to one list of bits, and of blocks. It does nothing.
 pub fn inner_law()
     ensures exists { (c : Configuration) (phase : ℕ) (octets : List ℕ) → IsAccepted c
         → (bits : List Bool) × Inner c phase octets bits }
     ensures one { (c : Configuration) (phase : ℕ) (octets : List ℕ) (bits others : List Bool)
         → Inner c phase octets bits → Inner c phase octets others → bits ≡ others }
+    ensures blocks { (c : Configuration) (phase : ℕ) (octets : List ℕ) (blocks others : List WindowBlock) (left rest : ℕ)
+        → AreInnerBlocks c phase octets blocks left → AreInnerBlocks c phase octets others rest → blocks ≡ others }
 {
     one_windows_law();
 }

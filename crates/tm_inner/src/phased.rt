@@ -1,16 +1,17 @@
 // The decoder of the inner code after the choice of the symbol phase.
-ghost use Rattle.std.specs.Prelude.{◌≡◌, ◌↔◌, ◌++◌, ◌^◌, ◌<◌, ◌≤◌, ℕ, List, [], None, false, IfOk, IsTrue, OnOk, OnErr, length, map, take};
+ghost use Rattle.std.specs.Prelude.{◌≡◌, ◌≢◌, ◌↔◌, ◌++◌, ◌^◌, ◌<◌, ◌≤◌, ◌⊎◌, ℕ, List, [], None, false, IfOk, IfSome, IsSome, IsTrue, OnOk, OnErr, length, map, take};
 ghost use Rattle.tm_base.specs.Handed.{Handed, Item, on_handed};
 ghost use Rattle.tm_base.specs.Outside.{HasCause};
 ghost use Rattle.tm_base.specs.Takers.{HandedOver, HandedPart};
 ghost use Rattle.tm_viterbi.specs.WindowBlock.{WindowBlock};
+ghost use Rattle.tm_windows.specs.Followed.{slips_of, kept_of};
 ghost use Rattle.tm_inner.specs.Phase.{IsChosenBy, IsSoFarBy, PhaseAt, needed_at, phase_octets, skip_of};
 ghost use Rattle.tm_inner.specs.InnerDecoding.{HasWorkers};
-ghost use Rattle.tm_inner.specs.Receiving.{HasClosedAll, IsDecoderOf, HasStopped, Hands, HandsPrefix, PhasesFor, Waits, Goes, IsPrefixBy, IsFirstBy, soft_form};
+ghost use Rattle.tm_inner.specs.Receiving.{HasClosedAll, HasCountedAll, IsCount, IsDecoderOf, HasStopped, Hands, HandsPrefix, PhasesFor, Waits, Goes, IsPrefixBy, IsFirstBy, soft_form};
 ghost use Rattle.tm_inner.specs.Handing.{AreHanded, AreHandedDue, AreHandedPrefix};
 
 use crate::code::{is_inverted, is_signed, rate_of};
-use crate::feeding::{count_due, decode, decoder_of, end, gather_octets};
+use crate::feeding::{count_due, decode, decoder_of, end, gather_octets, slips, steps};
 use crate::held::hold;
 use crate::inner_decoder::InnerDecoder;
 use crate::workers::Feeding;
@@ -138,11 +139,11 @@ impl Phased {
         gather_octets(&mut self.decoder, signed, octets)
     }
 
-    // How many blocks are due and were not handed over yet.
+    // How many blocks are due and were not handed over yet, or more where the phase is followed.
     pub fn count_due(&self) -> usize
         ensures { (given : List ℕ) (done : List (Handed WindowBlock))
             → PhasesFor self.now (phase_octets self.now.config given) done
-            → (more : List WindowBlock) × (length more ≡ result)
+            → (more : List WindowBlock) × IsCount self.now.config (length more) result
             × AreHandedDue self.now.config given (done ++ map Item more) }
     {
         if self.waits() {
@@ -167,7 +168,8 @@ impl Phased {
             × HandedOver (on_handed B.took_phase B.took) blocks.old last blocks.new
             × ((given : List ℕ) (done : List (Handed WindowBlock)) → length given < 2 ^ 60
             → PhasesFor self.old (phase_octets self.old.config given) done
-            → (all : AreHanded self.old.config given (done ++ last) left) × (all.chosen ≡ self.new.chosen))) }
+            → (all : AreHanded self.old.config given (done ++ last) left) × (all.chosen ≡ self.new.chosen)
+            × HasCountedAll self.new.decoder all.items)) }
         ensures prefix { OnErr result ((tried : List (Handed WindowBlock))
             × HandedPart (on_handed B.took_phase B.took) (on_handed B.broke_phase B.broke) blocks.old tried blocks.new
             × ((given : List ℕ) (done : List (Handed WindowBlock)) → length given < 2 ^ 60
@@ -198,6 +200,23 @@ impl Phased {
             Some(chosen) => u64::from(chosen.skip),
             None => 0,
         }
+    }
+
+    // Before how many windows octets were dropped, of those whose blocks were handed over.
+    pub fn slips(&self) -> u64
+        ensures { (blocks : List WindowBlock) → HasCountedAll self.now.decoder blocks → result ≡ slips_of blocks }
+    {
+        slips(&self.decoder)
+    }
+
+    // How many steps the blocks keep that were handed over. None where this is not counted; no octet is dropped then.
+    pub fn steps(&self) -> Option<u64>
+        ensures some { IfSome result (λ steps. (blocks : List WindowBlock) → HasCountedAll self.now.decoder blocks
+            → steps ≡ kept_of blocks) }
+        ensures coded { IsSome result → self.now.config.inner ≢ None }
+        ensures none { result ≡ None → (self.now.config.inner ≡ None) ⊎ (self.now.config.follow ≡ false) }
+    {
+        steps(&self.decoder)
     }
 
     // Whether the phase is still to be chosen.

@@ -7,10 +7,11 @@ ghost use Rattle.tm_base.specs.Takers.{HandedOver, HandedPart};
 ghost use Rattle.tm_conv.specs.Path.{AreBits};
 ghost use Rattle.tm_viterbi.specs.WindowBlock.{WindowBlock};
 ghost use Rattle.tm_viterbi.specs.Clean.{kept_bits};
-ghost use Rattle.tm_inner.specs.Inner.{inner_bits, nearest_bit, plain_bits, plain_count};
-ghost use Rattle.tm_inner.specs.Phase.{IsChosen, IsChosenSoFar, phase_octets, skipped_at};
+ghost use Rattle.tm_windows.specs.Followed.{slips_of};
+ghost use Rattle.tm_inner.specs.Inner.{AreInnerBlocks, inner_bits, nearest_bit, plain_bits, plain_count, slips_told};
+ghost use Rattle.tm_inner.specs.Phase.{IsChosen, IsChosenSoFar, phase_octets, skip_of, skipped_at};
 ghost use Rattle.tm_inner.specs.InnerDecoding.{HasWorkers};
-ghost use Rattle.tm_inner.specs.Receiving.{StandsFor};
+ghost use Rattle.tm_inner.specs.Receiving.{HasCountedAll, IsCount, StandsFor};
 ghost use Rattle.tm_inner.specs.Calls.{Calls, Feeds, Finishes};
 ghost use Rattle.tm_inner.specs.Handing.{AreHanded, AreHandedDue, AreHandedFirst, AreHandedPrefix};
 
@@ -33,6 +34,8 @@ use tm_viterbi::{BlockTaker, FeedError};
 pub struct InnerEnd {
     /// How many bits were received.
     pub bits: u64,
+    /// Before how many windows octets were dropped; None where the symbol phase is not followed.
+    pub slips: Option<u64>,
     /// How many octets are left over after the last whole step of the inner code: none or one.
     pub leftover: u8,
 }
@@ -184,27 +187,28 @@ impl InnerReceiver {
         taken
     }
 
-    /// How many blocks are due and were not handed over yet, as octets were gathered.
+    /// How many blocks are due and were not handed over yet, as octets were gathered. Where the symbol phase is followed
+    /// there may be fewer, since octets may be dropped.
     pub fn count_due(&self) -> usize
         ensures { (given : List ℕ) (done : List (Handed WindowBlock)) → StandsFor self.now given done
-            → (more : List WindowBlock) × (length more ≡ result)
+            → (more : List WindowBlock) × IsCount self.now.config (length more) result
             × AreHandedDue self.now.config given (done ++ map Item more) }
     {
         self.phased.count_due()
     }
 
-    /// How many bits these blocks keep.
+    /// How many bits these blocks keep, or more where the symbol phase is followed.
     pub fn bits_due(&self) -> u64
         ensures { (given : List ℕ) (done : List (Handed WindowBlock)) → StandsFor self.now given done
-            → (more : List WindowBlock) × (length (kept_bits more) ≡ result)
+            → (more : List WindowBlock) × IsCount self.now.config (length (kept_bits more)) result
             × AreHandedDue self.now.config given (done ++ map Item more) }
     {
         (self.count_due() as u64).saturating_mul(self.config.keep())
     }
 
     /// Hands over what is left: the symbol phase, where it is to be found and was not chosen yet, and the last blocks.
-    /// Answers how many bits were received and how many octets are left over. It is called once, at the end of the
-    /// octets.
+    /// Answers how many bits were received, how often octets were dropped, and how many are left over. It is called once,
+    /// at the end of the octets.
     ///
     /// `Taker` comes where `blocks` fails; a prefix of all was then handed over. `Stopped` comes where an earlier call
     /// answered `Taker` or `finish` was called; nothing is handed over then.
@@ -247,7 +251,8 @@ impl InnerReceiver {
             × HandedOver (on_handed B.took_phase B.took) blocks.old last blocks.new
             × ((given : List ℕ) (done : List (Handed WindowBlock)) → StandsFor self.old given done
             → AreHanded self.old.config given (done ++ last) end.leftover
-            × (end.bits ≡ length (inner_bits self.old.config given (items_of (done ++ last)))))) }
+            × (end.bits ≡ length (inner_bits self.old.config given (items_of (done ++ last))))
+            × (end.slips ≡ slips_told self.old.config (items_of (done ++ last))))) }
         ensures prefix { IsErrOf result FeedError.Taker
             → (tried : List (Handed WindowBlock))
             × HandedPart (on_handed B.took_phase B.took) (on_handed B.broke_phase B.broke) blocks.old tried blocks.new
@@ -260,10 +265,7 @@ impl InnerReceiver {
         }
         self.has_stopped = true;
         match self.phased.end(by, blocks) {
-            Ok(leftover) => Ok(InnerEnd {
-                bits: count_bits(&self.config, self.phased.skip(), self.count),
-                leftover,
-            }),
+            Ok(leftover) => Ok(ended(&self.config, &self.phased, self.count, leftover)),
             Err(Failed) => Err(FeedError::Taker),
         }
     }
@@ -275,6 +277,15 @@ impl InnerReceiver {
             → IsChosenSoFar self.now.config given result }
     {
         self.phased.chosen()
+    }
+
+    /// Before how many windows octets were dropped, of those whose blocks were handed over: none where the symbol phase is
+    /// not followed.
+    pub fn slips(&self) -> u64
+        ensures { (given : List ℕ) (done : List (Handed WindowBlock)) → StandsFor self.now given done
+            → result ≡ slips_of (items_of done) }
+    {
+        self.phased.slips()
     }
 
     /// Whether the configuration has an inner code. Where it has none, no block comes, and the octets hold the bits.
@@ -343,5 +354,45 @@ impl InnerReceiver {
         } else {
             0
         }
+    }
+}
+
+// What came of so many octets, once the decoder has ended.
+fn ended(config: &Config, phased: &Phased, count: u64, leftover: u8) -> InnerEnd
+    requires { phased.now.config ≡ config.now }
+    ensures left { result.leftover ≡ leftover }
+    ensures counts { (given : List ℕ) (blocks : List WindowBlock) (left : ℕ) → length given ≡ count
+        → length given < 2 ^ 60 → AreInnerBlocks config.now (skip_of phased.now.chosen) given blocks left
+        → HasCountedAll phased.now.decoder blocks
+        → (result.bits ≡ length (inner_bits config.now given blocks)) × (result.slips ≡ slips_told config.now blocks) }
+{
+    InnerEnd {
+        bits: bits_received(config, phased, count),
+        slips: slips_told(config, phased),
+        leftover,
+    }
+}
+
+// How many bits were received with so many octets: a bit for each step, where these were counted.
+fn bits_received(config: &Config, phased: &Phased, count: u64) -> u64
+    requires { phased.now.config ≡ config.now }
+    ensures { (given : List ℕ) (blocks : List WindowBlock) (left : ℕ) → length given ≡ count → length given < 2 ^ 60
+        → AreInnerBlocks config.now (skip_of phased.now.chosen) given blocks left
+        → HasCountedAll phased.now.decoder blocks → result ≡ length (inner_bits config.now given blocks) }
+{
+    match phased.steps() {
+        Some(steps) => steps,
+        None => count_bits(config, phased.skip(), count),
+    }
+}
+
+// Before how many windows octets were dropped, where the symbol phase is followed.
+fn slips_told(config: &Config, phased: &Phased) -> Option<u64>
+    ensures { (blocks : List WindowBlock) → HasCountedAll phased.now.decoder blocks → result ≡ slips_told config.now blocks }
+{
+    if config.values().follow {
+        Some(phased.slips())
+    } else {
+        None
     }
 }

@@ -4,7 +4,7 @@ ghost use Rattle.tm_base.specs.Handed.{Handed, items_of, on_handed};
 ghost use Rattle.tm_base.specs.Takers.{HandedOver, HandedPart};
 ghost use Rattle.tm_base.specs.Outside.{Rose};
 ghost use Rattle.tm_viterbi.specs.WindowBlock.{WindowBlock};
-ghost use Rattle.tm_inner.specs.Inner.{inner_bits};
+ghost use Rattle.tm_inner.specs.Inner.{inner_bits, slips_told};
 ghost use Rattle.tm_inner.specs.Handing.{AreHanded, AreHandedPrefix};
 
 use crate::receiver::{InnerEnd, InnerReceiver};
@@ -13,7 +13,8 @@ use tm_config::Config;
 use tm_viterbi::{AllError, BlockTaker};
 
 /// Hands over the symbol phase of received octets, fewer than 2^60, where it is to be found, and their blocks. Answers
-/// how many bits were received and how many octets are left over. With no inner code no block comes.
+/// how many bits were received, how often octets were dropped, and how many are left over. With no inner code no block
+/// comes.
 ///
 /// `Memory` comes only where there isn't enough of it. `Taker` comes where `blocks` fails; a prefix of all was then
 /// handed over.
@@ -26,7 +27,8 @@ pub fn inner_all<B: BlockTaker>(
     ensures handed { IfOk result (λ end. (all : List (Handed WindowBlock))
         × HandedOver (on_handed B.took_phase B.took) blocks.old all blocks.new
         × (length octets.now < 2 ^ 60 → AreHanded config.now octets.now all end.leftover
-        × (end.bits ≡ length (inner_bits config.now octets.now (items_of all))))) }
+        × (end.bits ≡ length (inner_bits config.now octets.now (items_of all)))
+        × (end.slips ≡ slips_told config.now (items_of all)))) }
     ensures prefix { IsErrOf result AllError.Taker
         → (tried : List (Handed WindowBlock)) × HandedPart (on_handed B.took_phase B.took)
         (on_handed B.broke_phase B.broke) blocks.old tried blocks.new

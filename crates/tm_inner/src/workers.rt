@@ -1,10 +1,11 @@
 // How the decoder of the inner code is fed: with its workers, or with no thread.
-ghost use Rattle.std.specs.Prelude.{◌≡◌, ◌≢◌, ◌↔◌, ◌++◌, ◌⊎◌, ℕ, ◌+◌, ◌^◌, ◌<◌, ◌≤◌, IsTrue, List, None, true, false, IfOk, OnOk, IsErrOf, Err, length};
+ghost use Rattle.std.specs.Prelude.{◌≡◌, ◌≢◌, ◌↔◌, ◌++◌, ◌⊎◌, ℕ, ◌+◌, ◌^◌, ◌<◌, ◌≤◌, IsTrue, List, None, true, false, IfOk, OnOk, IfSome, IsErrOf, Err, length};
 ghost use Rattle.tm_base.specs.Outside.{Rose};
 ghost use Rattle.tm_base.specs.Takers.{HandedOver, HandedPart};
 ghost use Rattle.tm_viterbi.specs.WindowBlock.{WindowBlock};
+ghost use Rattle.tm_windows.specs.Followed.{slips_of, kept_of};
 ghost use Rattle.tm_windows.specs.Windows.{AreBlocksIn, AreDueIn, AreFirstIn};
-ghost use Rattle.tm_inner.specs.InnerDecoding.{HasClosed, windows_in, has_stopped_in, StandsIn};
+ghost use Rattle.tm_inner.specs.InnerDecoding.{HasClosed, HasCounted, windows_in, has_stopped_in, StandsIn};
 
 use crate::inner_decoder::InnerDecoder;
 use std::thread::Threads;
@@ -46,7 +47,7 @@ pub trait Feeding<B: BlockTaker> {
         ensures windows { windows_in decoder.new ≡ windows_in decoder.old }
         ensures handed { IfOk result (λ left. (last : List WindowBlock) × HandedOver B.took blocks.old last blocks.new
             × ((given : List ℕ) (done : List WindowBlock) → StandsIn decoder.old given done
-            → AreBlocksIn (windows_in decoder.old) given (done ++ last) left)) }
+            → AreBlocksIn (windows_in decoder.old) given (done ++ last) left × HasCounted decoder.new (done ++ last))) }
         ensures prefix { IsErrOf result FeedError.Taker → (tried : List WindowBlock)
             × HandedPart B.took B.broke blocks.old tried blocks.new
             × ((given : List ℕ) (done : List WindowBlock) → StandsIn decoder.old given done
@@ -82,6 +83,27 @@ pub fn count_closed(decoder: &InnerDecoder) -> usize
     match decoder {
         InnerDecoder::One(_) => 0,
         InnerDecoder::Many(decoder) => decoder.count_closed(),
+    }
+}
+
+/// Before how many windows octets were dropped, of those whose blocks were handed over.
+pub fn slip_count(decoder: &InnerDecoder) -> u64
+    ensures { (blocks : List WindowBlock) → HasCounted decoder.now blocks → result ≡ slips_of blocks }
+{
+    match decoder {
+        InnerDecoder::One(_) => 0,
+        InnerDecoder::Many(decoder) => decoder.slips(),
+    }
+}
+
+/// How many steps the blocks keep that were handed over. None where this is not counted; no octet is dropped then.
+pub fn step_count(decoder: &InnerDecoder) -> Option<u64>
+    ensures some { IfSome result (λ steps. (blocks : List WindowBlock) → HasCounted decoder.now blocks → steps ≡ kept_of blocks) }
+    ensures none { result ≡ None → (windows_in decoder.now).seen ≡ None }
+{
+    match decoder {
+        InnerDecoder::One(_) => None,
+        InnerDecoder::Many(decoder) => Some(decoder.steps()),
     }
 }
 

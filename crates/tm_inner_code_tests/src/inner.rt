@@ -69,6 +69,7 @@ fn check_found<R: Abort + Threads + Sync>(
     let config = Config::check(&raw)?;
     let end = InnerEnd {
         bits: end.0,
+        slips: None,
         leftover: end.1,
     };
     let wanted = Wanted { phase, blocks, end };
@@ -371,6 +372,7 @@ fn phase_of_a_tie(rt: HostRuntime) -> Result<(), Fail> {
     let end = inner_all(alloc, &config, &octets, &mut taker)?;
     let wanted = InnerEnd {
         bits: 3,
+        slips: None,
         leftover: 1,
     };
     assert_eq!(rt; end, wanted);

@@ -13,14 +13,16 @@ use Rattle.tm_conv.proofs.Sizes.{steps_size_ge}
 use Rattle.tm_viterbi.specs.WindowBlock.{WindowBlock}
 use Rattle.tm_viterbi.specs.Blocks.{AreBlocks}
 use Rattle.tm_viterbi.specs.Due.{Place, Closed, after_block, first_place}
-use Rattle.tm_windows.specs.Windows.{AreFirstIn}
+use Rattle.tm_windows.specs.Followed.{Windows, first_spot}
+use Rattle.tm_windows.specs.Windows.{AreBlocksBy, AreFirstBy, AreFirstIn}
 use Rattle.tm_viterbi.specs.Starts.{first_start}
 use Rattle.tm_viterbi.proofs.CleanBlocks.{steps-mono}
 use Rattle.tm_viterbi.proofs.HasBlocks.{some_kept}
-use Rattle.tm_inner.specs.Inner.{settings_of, windows_of, soft_value, soft_octets, BlocksAt, AreInnerBlocks, AreInnerDue, inner_bits}
+use Rattle.tm_inner.specs.Inner.{windows_of, soft_value, soft_octets, BlocksAt, AreInnerBlocks, AreInnerDue, inner_bits}
 use Rattle.tm_inner.specs.Phase.{skip_of, with_phase, WithPhaseSettled}
 use Rattle.tm_inner.specs.Receiving.{InnerReceiving, StandsFor, FirstAt, AreInnerFirst, Hands, HandsPrefix}
 use Rattle.tm_inner.specs.Handing.{AreHanded, AreHandedDue, AreHandedFirst, AreHandedPrefix}
+use Rattle.tm_inner.proofs.FollowedBits.{followed-count, followed-count_all, followed-few, followed-keep, followed-whole}
 use Rattle.tm_inner.proofs.DueBits.{StayClosed, StandFirst, soft-more}
 use Rattle.tm_inner.proofs.InnerBits.{HasBlocks, has_blocks}
 use Rattle.tm_inner.proofs.ReceivedBits.{length-soft}
@@ -63,25 +65,41 @@ whole-few rate invert keep ahead starts t n octets (b ∷ blocks) some are =
     let rest = whole-few rate invert keep ahead (Some b.end_state) (t + b.kept) (n - b.kept) (drop (steps_size rate t b.kept) octets) blocks some are.2 in
     omega (arith, kept, are.1.kept, rest)
 
+few-first-by : (seen : Option ℕ) (w : Windows) (octets : List ℕ) (blocks : List WindowBlock) → 0 < w.settings.keep → AreFirstBy seen w octets blocks
+    → length blocks ≤ length octets
+few-first-by None w octets blocks some are =
+    let s = w.settings in
+    closed-few s.rate s.invert s.keep s.ahead (first_place s octets) are.0 blocks some are.1
+few-first-by (Some steps) w octets blocks some are =
+    let from = first_spot w octets in
+    omega (arith, followed-count w from are.0 blocks some are.1, followed-keep w from are.0 blocks are.1, followed-few w octets blocks are)
+
+few-by : (seen : Option ℕ) (w : Windows) (octets : List ℕ) (blocks : List WindowBlock) (left : ℕ) → 0 < w.settings.keep → AreBlocksBy seen w octets blocks left
+    → length blocks ≤ length octets
+few-by None w octets blocks left some are =
+    let s = w.settings in
+    omega (
+      arith,
+      whole-few s.rate s.invert s.keep s.ahead (first_start s.start) 0 are.count octets blocks some are.are,
+      are.steps.whole,
+      steps_size_ge s.rate 0 are.count,
+    )
+few-by (Some steps) w octets blocks left some are =
+    omega (arith, followed-count_all w octets blocks left some are, (followed-whole w octets blocks left are).few)
+
 few-first-at : (rate : Option Rate) (c : Configuration) (phase : ℕ) (octets : List ℕ) (blocks : List WindowBlock) → 0 < c.keep → FirstAt rate c phase octets blocks
     → length blocks ≤ length octets
 few-first-at None c phase octets blocks some are = let none = ap length are in omega arith
 few-first-at (Some rate) c phase octets blocks some are =
-    let s = settings_of c rate in
-    omega (arith, closed-few rate s.invert s.keep s.ahead (first_place s (soft_octets c phase octets)) are.0 blocks some are.1, length-soft c phase octets)
+    let w = windows_of c rate in
+    omega (arith, few-first-by w.seen w (soft_octets c phase octets) blocks some are, length-soft c phase octets)
 
 few-at : (rate : Option Rate) (c : Configuration) (phase : ℕ) (octets : List ℕ) (blocks : List WindowBlock) (left : ℕ) → 0 < c.keep → BlocksAt rate c phase octets blocks left
     → length blocks ≤ length octets
 few-at None c phase octets blocks left some are = let none = ap length are.0 in omega arith
 few-at (Some rate) c phase octets blocks left some are =
-    let s = settings_of c rate in
-    omega (
-      arith,
-      whole-few rate s.invert s.keep s.ahead (first_start s.start) 0 are.count (soft_octets c phase octets) blocks some are.are,
-      are.steps.whole,
-      steps_size_ge rate 0 are.count,
-      length-soft c phase octets,
-    )
+    let w = windows_of c rate in
+    omega (arith, few-by w.seen w (soft_octets c phase octets) blocks left some are, length-soft c phase octets)
 
 keeps-some : (c : Configuration) → IsAccepted c → 0 < c.keep
 keeps-some c accepted = let keep = accepted.some_keep in omega arith

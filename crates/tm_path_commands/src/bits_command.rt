@@ -252,6 +252,7 @@ fn gather_last(receiver: &mut InnerReceiver, packer: &mut Packer) -> InnerEnd
         }
         Err(_) => InnerEnd {
             bits: 0,
+            slips: None,
             leftover: 0,
         },
     }

@@ -21,7 +21,8 @@ returns-in-Ok-clause-whole g c =
     on_ok_weaker c.end_trace.result (λ whole. λ config start octets accepted t.
     wrote-end config now.count c.in-Ok.end.bits c.in-Ok.end.leftover start (lines now) end octets
     (traced-whole name lines count config c.args.receiver.now was now start octets h.0 c.in-Ok.end.bits
-    c.in-Ok.end.leftover accepted t took h.2) whole) c.end_trace.ensures.whole
+    c.in-Ok.end.leftover accepted t took
+    (λ given done stands. let said = h.2 given done stands in (said.0, said.1))) whole) c.end_trace.ensures.whole
 
 pub returns-in-Ok-clause-prefix : goal.returns-in-Ok-clause-prefix
 returns-in-Ok-clause-prefix g c =
@@ -38,7 +39,8 @@ returns-in-Ok-clause-prefix g c =
     cut-end config now.count c.in-Ok.end.bits c.in-Ok.end.leftover start (lines now) end
     (g.O.Sink.is_last c.end_trace.new.lines) octets
     (traced-whole name lines count config c.args.receiver.now was now start octets h.0 c.in-Ok.end.bits
-    c.in-Ok.end.leftover accepted t took h.2) broke) c.end_trace.ensures.broke
+    c.in-Ok.end.leftover accepted t took
+    (λ given done stands. let said = h.2 given done stands in (said.0, said.1))) broke) c.end_trace.ensures.broke
 
 pub returns-in-Ok-clause-same : goal.returns-in-Ok-clause-same
 returns-in-Ok-clause-same g c =

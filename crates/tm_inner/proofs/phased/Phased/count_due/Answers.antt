@@ -1,9 +1,9 @@
-use Rattle.std.proofs.Common.{◌≡◌, ◌++◌, List, length, map, false, sym, subst, IsTrue}
+use Rattle.std.proofs.Common.{◌++◌, List, length, map, false, sym, subst, IsTrue}
 use Rattle.tm_base.specs.Handed.{Item}
 use Rattle.tm_viterbi.specs.WindowBlock.{WindowBlock}
 use Rattle.tm_inner.specs.Handing.{AreHandedDue}
 use Rattle.tm_inner.specs.Phase.{phase_octets}
-use Rattle.tm_inner.specs.Receiving.{Phasing, PhasesFor}
+use Rattle.tm_inner.specs.Receiving.{IsCount, Phasing, PhasesFor}
 use Rattle.tm_inner.proofs.HandedPieces.{due-further}
 use Rattle.tm_inner.proofs.PhasePieces.{NoneWaits}
 use Rattle.tm_inner.proofs.phased.Phased.count_due.Goals as goal
@@ -15,5 +15,5 @@ returns c = λ given done stood.
     let before : Phasing = record { config = s.config; decoder = s.decoder; held = s.held.octets; room = s.held.room; chosen = s.chosen } in
     let none : NoneWaits c.args.self.now = λ w. let both : IsTrue false = c.if-waits.ensures.1 w in absurd cc in
     let there = subst (λ (p : Phasing). PhasesFor p (phase_octets p.config given) done) (sym c.self.view_is) stood in
-    subst (λ (p : Phasing). (more : List WindowBlock) × (length more ≡ n) × AreHandedDue p.config given (done ++ map Item more)) c.self.view_is
+    subst (λ (p : Phasing). (more : List WindowBlock) × IsCount p.config (length more) n × AreHandedDue p.config given (done ++ map Item more)) c.self.view_is
     (due-further before given done n c.self.invariant.0 (subst NoneWaits (sym c.self.view_is) none) c.count_due.ensures there)

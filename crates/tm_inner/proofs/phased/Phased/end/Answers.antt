@@ -6,10 +6,10 @@ use Rattle.tm_base.proofs.HandedItems.{HandedOver-items, HandedPart-items}
 use Rattle.tm_config.specs.Configuration.{Configuration}
 use Rattle.tm_viterbi.specs.WindowBlock.{WindowBlock}
 use Rattle.tm_inner.specs.Phase.{IsChosenBy, phase_octets}
-use Rattle.tm_inner.specs.Handing.{AreHanded, AreHandedPrefix}
+use Rattle.tm_inner.specs.Handing.{AreHandedPrefix}
 use Rattle.tm_inner.specs.Receiving.{Phasing, Goes}
 use Rattle.tm_inner.proofs.GivenPieces.{few-soft}
-use Rattle.tm_inner.proofs.HandedPieces.{handed-prefix, handed-last, handed-last_prefix}
+use Rattle.tm_inner.proofs.HandedPieces.{AllCounted, handed-prefix, handed-last, handed-last_prefix}
 use Rattle.tm_inner.proofs.phased.Phased.end.Goals as goal
 
 pub returns-in-Err-clause-prefix : goal.returns-in-Err-clause-prefix
@@ -44,9 +44,9 @@ returns-clause-handed g c =
           let goes = subst (λ (k : Configuration). Goes before (phase_octets k given) (done ++ m.0)) (sym config)
           (subst (λ (p : Phasing). Goes p (phase_octets old.config given) (done ++ m.0)) (sym c.self.view_is)
           (m.2 (phase_octets old.config given) done (omega (arith, few, few-soft old.config given)) stood)) in
-          subst (λ (k : Configuration). (all : AreHanded k given (done ++ (m.0 ++ map Item h.0)) left) × (all.chosen ≡ s.chosen)) config
-          (subst (λ (l : List (Handed WindowBlock)). (all : AreHanded s.config given l left) × (all.chosen ≡ s.chosen)) (append_assoc done m.0 (map Item h.0))
-          (handed-last before given (done ++ m.0) h.0 left c.self.invariant.0 h.2 goes)),
+          subst (λ (k : Configuration). AllCounted k given (done ++ (m.0 ++ map Item h.0)) left s.chosen c.end.new.decoder) config
+          (subst (λ (l : List (Handed WindowBlock)). AllCounted s.config given l left s.chosen c.end.new.decoder) (append_assoc done m.0 (map Item h.0))
+          (handed-last before c.end.new.decoder given (done ++ m.0) h.0 left c.self.invariant.0 h.2 goes)),
     )) c.end.ensures.handed
 
 pub returns-clause-prefix : goal.returns-clause-prefix

@@ -1,4 +1,4 @@
-use Rattle.std.proofs.Common.{◌≡◌, ◌++◌, ℕ, List, IfOk, IsErrOf, Ok, Err, Result, length, sym, subst}
+use Rattle.std.proofs.Common.{◌≡◌, ◌++◌, ◌<◌, ◌^◌, ℕ, List, IfOk, IsErrOf, Ok, Err, Result, length, sym, subst}
 use Rattle.tm_base.specs.Handed.{Handed, items_of, on_handed}
 use Rattle.tm_base.specs.Takers.{HandedOver, HandedPart}
 use Rattle.tm_config.specs.Configuration.{Configuration}
@@ -6,11 +6,11 @@ use Rattle.tm_viterbi.specs.WindowBlock.{WindowBlock}
 use Rattle.tm_viterbi.specs.declared.decoder.FeedError.{FeedError}
 use Rattle.tm_viterbi.specs.declared.decoder.FeedError.TheVariants.{Taker}
 use Rattle.tm_inner.specs.declared.receiver.InnerEnd.{InnerEnd}
-use Rattle.tm_inner.specs.Inner.{inner_bits}
+use Rattle.tm_inner.specs.Inner.{inner_bits, slips_told}
 use Rattle.tm_inner.specs.Phase.{IsChosen, phase_octets}
 use Rattle.tm_inner.specs.Receiving.{InnerReceiving, StandsFor, PhasesFor}
 use Rattle.tm_inner.specs.Handing.{AreHanded, AreHandedPrefix}
-use Rattle.tm_inner.proofs.HandedPieces.{chosen-last, all-handed}
+use Rattle.tm_inner.proofs.HandedPieces.{AllCounted, chosen-last, all-handed}
 use Rattle.tm_inner.proofs.receiver.InnerReceiver.finish_by.Goals as goal
 use Rattle.tm_inner.proofs.receiver.InnerReceiver.finish_by.Goals.{in-Ok, in-Err}
 
@@ -28,14 +28,19 @@ returns-clause-handed g c =
     let over = HandedOver (on_handed g.B.BlockTaker.took_phase g.B.BlockTaker.took) in
     let Said : InnerReceiving → Result InnerEnd FeedError → Type 0 = λ r result. IfOk result (λ end. (last : List (Handed WindowBlock)) × over c.args.blocks.now last c.end.new.blocks
     × ((given : List ℕ) (done : List (Handed WindowBlock)) → StandsFor r given done
-    → AreHanded r.config given (done ++ last) end.leftover × (end.bits ≡ length (inner_bits r.config given (items_of (done ++ last)))))) in
+    → AreHanded r.config given (done ++ last) end.leftover × (end.bits ≡ length (inner_bits r.config given (items_of (done ++ last))))
+    × (end.slips ≡ slips_told r.config (items_of (done ++ last))))) in
     subst (λ (r : InnerReceiving). Said r c.match-end.result) c.self.view_is (elim c.match-end.branch as (λ _. Said before c.match-end.result) [
       | in-Ok w ↦ (
           let h = w.in-Ok.ensures.handed in
-          let said : Said before (Ok (record { bits = w.count_bits.result; leftover = w.in-Ok.leftover })) = (
+          let end = w.ended.result in
+          let said : Said before (Ok end) = (
             h.0,
             h.1,
-            all-handed before c.end.new.self.chosen h.0 w.skip.result w.count_bits.result w.in-Ok.leftover c.self.invariant.0 w.skip.ensures w.count_bits.ensures h.2,
+            all-handed before c.end.new.self.decoder c.end.new.self.chosen h.0 end.bits end.leftover end.slips c.self.invariant.0 w.ended.ensures.counts
+                (subst (λ (n : ℕ). (given : List ℕ) (done : List (Handed WindowBlock)) → length given < 2 ^ 60
+                → PhasesFor s.phased (phase_octets s.phased.config given) done
+                → AllCounted s.phased.config given (done ++ h.0) n c.end.new.self.chosen c.end.new.self.decoder) (sym w.ended.ensures.left) h.2),
           ) in
           subst (Said before) (sym w.result-is) said
           )
@@ -52,7 +57,7 @@ returns-clause-prefix g c =
     × ((given : List ℕ) (done : List (Handed WindowBlock)) → StandsFor r given done → AreHandedPrefix r.config given (done ++ tried)) in
     subst (λ (r : InnerReceiving). Said r c.match-end.result) c.self.view_is (elim c.match-end.branch as (λ _. Said before c.match-end.result) [
       | in-Ok w ↦ (
-          let said : Said before (Ok (record { bits = w.count_bits.result; leftover = w.in-Ok.leftover })) = λ none. absurd cc in
+          let said : Said before (Ok w.ended.result) = λ none. absurd cc in
           subst (Said before) (sym w.result-is) said
           )
       | in-Err w ↦ (
