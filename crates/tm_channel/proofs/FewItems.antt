@@ -25,6 +25,7 @@ use Rattle.tm_sync.specs.declared.found.Found.{Found}
 use Rattle.tm_sync.specs.Places.{places}
 use Rattle.tm_sync.proofs.Longer.{places-few}
 use Rattle.tm_codeblock.specs.ReceivedCodeblock.{rules_of, codeblock_at, data_octets, frame_of}
+use Rattle.tm_channel.specs.declared.totals.Totals.{Totals}
 use Rattle.tm_channel.specs.Items.{ItemValue, IsItem, AreItemsOf, are_fixed, frames_of}
 use Rattle.tm_channel.specs.Due.{due}
 use Rattle.tm_channel.specs.Handing.{phase_of}
@@ -175,15 +176,15 @@ stages-few s now given octets done more ok same stood on =
     items-few c bits piece stood.items (items_of more) (due c (bits ++ piece)) (length octets) ok stood.are_items whole within few
 
 -- at the end
-pub ends-few : {T : Type 0} (took : T → ItemValue → T → Type 0) (s : Stages) (bits_now : BitReceiving) (taker middle now : T) (room : ℕ) (phase : Option Chosen) (piece : List Bool) (count : ℕ)
-    → IsAccepted s.inner.config → IsOf s → IsRoomy s 0 room → Ends s.inner room phase piece count → (p : Received took s.bits bits_now taker middle piece) (q : ReceivedLast took bits_now middle now)
+pub ends-few : {T : Type 0} (took : T → ItemValue → T → Type 0) (s : Stages) (bits_now : BitReceiving) (taker middle now : T) (room : ℕ) (phase : Option Chosen) (piece : List Bool) (totals : Totals)
+    → IsAccepted s.inner.config → IsOf s → IsRoomy s 0 room → Ends s.inner room phase piece totals → (p : Received took s.bits bits_now taker middle piece) (q : ReceivedLast took bits_now middle now)
     → (given : List ℕ) (done : List (Handed ItemValue)) → StagesFor s given done
     → AreFew s.inner.config 0 (items_of (with_phase phase [] ++ map Item (p.items ++ q.items)))
-ends-few took s bits_now taker middle now room phase piece count ok of roomy ends p q given done stood =
+ends-few took s bits_now taker middle now room phase piece totals ok of roomy ends p q given done stood =
     let c = s.inner.config in
     let bits = inner_bits c given (items_of stood.handed) in
     let e = ends given stood.handed stood.waiting (omega (arith, stood.few, roomy)) stood.inner stood.are_due in
-    let items = items-ended took s bits_now taker middle now piece of p q given done stood (ended s given done stood room phase piece count roomy ends).few in
+    let items = items-ended took s bits_now taker middle now piece of p q given done stood (ended s given done stood room phase piece totals roomy ends).few in
     let few = last-few c.inner c given (items_of stood.handed) (items_of e.last) piece
     (ap (inner_bits c given) (sym (items_of-append stood.handed e.last)) ∙ e.bits)
     (omega (arith, waiting-last-few c given stood.handed stood.waiting e.last e.left stood.are_due e.are_handed, stood.few, needed-few c.inner c)) in

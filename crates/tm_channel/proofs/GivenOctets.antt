@@ -32,7 +32,8 @@ use Rattle.tm_sync.proofs.Longer.{places-end, places-goes_on}
 use Rattle.tm_codeblock.specs.ReceivedCodeblock.{rules_of}
 use Rattle.tm_channel.specs.Items.{ItemValue, AreItemsOf, AreFirstItemsOf, AreItems}
 use Rattle.tm_channel.specs.Due.{due}
-use Rattle.tm_channel.specs.Handing.{phase_from, phase_of, AreReceived, AreReceivedDue, AreReceivedFirst, AreReceivedPrefix}
+use Rattle.tm_channel.specs.declared.totals.Totals.{Totals}
+use Rattle.tm_channel.specs.Handing.{totals_of, phase_from, phase_of, AreReceived, AreReceivedDue, AreReceivedFirst, AreReceivedPrefix}
 use Rattle.tm_channel.specs.Receiving.{beyond, waiting_bits, AreFurther, AreFirstFurther, AreFirstDue}
 use Rattle.tm_channel.specs.OctetReceiving.{BitReceiving, OctetReceiving, StandsFor, FirstWith, StandsForBits, Stages, StagesFor, StagesHand, StagesOn, Keeping, Keeps, KeepsPhase, AreSpare, AreWaiting, Gathers, Grows, Ends, Received, ReceivedPart, ReceivedLast, ReceivedLastPart, bits_found, received_bits}
 use Rattle.tm_channel.proofs.Streaming.{first-longer, first-more, first-then, items-then}
@@ -164,12 +165,12 @@ bits-last c given done last left h =
     (subst (λ (l : List WindowBlock). AreInnerBlocks c (skip_of h.chosen) given l left) blocks h.are_items)
 
 -- the first stage ended, and its phase and its bits were kept
-pub ends-kept : (inner : InnerReceiving) (room kept : Keeping) (count : ℕ) (last : List (Handed WindowBlock)) (left : ℕ) → HandedOver (on_handed KeepsPhase Keeps) room last kept
+pub ends-kept : (inner : InnerReceiving) (room kept : Keeping) (totals : Totals) (last : List (Handed WindowBlock)) (left : ℕ) → HandedOver (on_handed KeepsPhase Keeps) room last kept
     → room.bits ≡ [] → room.phase ≡ None
     → ((given : List ℕ) (done : List (Handed WindowBlock)) → InnerStandsFor inner given done
-    → AreHanded inner.config given (done ++ last) left × (count ≡ length (inner_bits inner.config given (items_of (done ++ last)))))
-    → Ends inner room.size kept.phase (map (λ bit. bit == 1) kept.bits) count
-ends-kept inner room kept count last left handed none fresh stands given done waiting fits stood due =
+    → AreHanded inner.config given (done ++ last) left × (totals ≡ totals_of inner.config (inner_bits inner.config given (items_of (done ++ last))) (items_of (done ++ last))))
+    → Ends inner room.size kept.phase (map (λ bit. bit == 1) kept.bits) totals
+ends-kept inner room kept totals last left handed none fresh stands given done waiting fits stood due =
     let c = inner.config in
     let there = stands given done stood in
     let most = waiting-last-few c given done waiting last left due there.0 in
@@ -651,19 +652,19 @@ chosen-at_end r now chosen view same is =
     (λ given done stood _. subst (λ (k : Configuration). IsChosen k given chosen) same (is given stood.handed stood.inner))
 
 -- the phase and the bits of the end of the octets
-pub record Ended (s : Stages) (given : List ℕ) (done : List (Handed ItemValue)) (stood : StagesFor s given done) (phase : Option Chosen) (piece : List Bool) (count : ℕ) : Type 0 where
+pub record Ended (s : Stages) (given : List ℕ) (done : List (Handed ItemValue)) (stood : StagesFor s given done) (phase : Option Chosen) (piece : List Bool) (totals : Totals) : Type 0 where
   pub chosen : Option Chosen
   pub choice : IsChosen s.inner.config given chosen
   pub bits : List Bool
   pub inner : Inner s.inner.config (skip_of chosen) given bits
   pub is : bits ≡ inner_bits s.inner.config given (items_of stood.handed) ++ piece
   pub few : length (inner_bits s.inner.config given (items_of stood.handed) ++ piece) < 2 ^ 63
-  pub counted : count ≡ length bits
+  pub counted : totals ≡ totals_of s.inner.config bits inner.blocks
   pub turn : (others : List ItemValue) → done ++ (with_phase phase [] ++ map Item others) ≡ with_phase chosen (stood.items ++ others)
 
-pub ended : (s : Stages) (given : List ℕ) (done : List (Handed ItemValue)) (stood : StagesFor s given done) (room : ℕ) (phase : Option Chosen) (piece : List Bool) (count : ℕ) → IsRoomy s 0 room → Ends s.inner room phase piece count
-    → Ended s given done stood phase piece count
-ended s given done stood room phase piece count roomy ends =
+pub ended : (s : Stages) (given : List ℕ) (done : List (Handed ItemValue)) (stood : StagesFor s given done) (room : ℕ) (phase : Option Chosen) (piece : List Bool) (totals : Totals) → IsRoomy s 0 room → Ends s.inner room phase piece totals
+    → Ended s given done stood phase piece totals
+ended s given done stood room phase piece totals roomy ends =
     let c = s.inner.config in
     let e = ends given stood.handed stood.waiting (omega (arith, stood.few, roomy)) stood.inner stood.are_due in
     let h = e.are_handed in
@@ -699,13 +700,13 @@ items-ended took s bits_now taker middle now piece of p q given done stood few =
     (subst (λ (fs : List Found). AreItemsOf c (bits ++ piece) fs (stood.items ++ p.items)) (sym (beyond-nil c (due c (bits ++ piece)))) due_items) last in
     subst (AreItems c (bits ++ piece)) (append_assoc stood.items p.items q.items) items
 
-pub ends : {T : Type 0} (took : T → ItemValue → T → Type 0) (s : Stages) (bits_now : BitReceiving) (taker middle now : T) (room : ℕ) (phase : Option Chosen) (piece : List Bool) (count : ℕ)
-    → IsOf s → IsRoomy s 0 room → Ends s.inner room phase piece count → (p : Received took s.bits bits_now taker middle piece) (q : ReceivedLast took bits_now middle now)
+pub ends : {T : Type 0} (took : T → ItemValue → T → Type 0) (s : Stages) (bits_now : BitReceiving) (taker middle now : T) (room : ℕ) (phase : Option Chosen) (piece : List Bool) (totals : Totals)
+    → IsOf s → IsRoomy s 0 room → Ends s.inner room phase piece totals → (p : Received took s.bits bits_now taker middle piece) (q : ReceivedLast took bits_now middle now)
     → (given : List ℕ) (done : List (Handed ItemValue)) → StagesFor s given done
-    → AreReceived s.inner.config given (done ++ (with_phase phase [] ++ map Item (p.items ++ q.items))) count
-ends took s bits_now taker middle now room phase piece count of roomy ended_with p q given done stood =
+    → AreReceived s.inner.config given (done ++ (with_phase phase [] ++ map Item (p.items ++ q.items))) totals
+ends took s bits_now taker middle now room phase piece totals of roomy ended_with p q given done stood =
     let c = s.inner.config in
-    let e = ended s given done stood room phase piece count roomy ended_with in
+    let e = ended s given done stood room phase piece totals roomy ended_with in
     record {
       chosen = e.chosen;
       choice = e.choice;
@@ -720,12 +721,12 @@ ends took s bits_now taker middle now room phase piece count of roomy ended_with
     }
 
 -- a prefix of all, where these are first items of the bits
-ends-first : (s : Stages) (phase : Option Chosen) (piece : List Bool) (count : ℕ) (given : List ℕ) (done : List (Handed ItemValue)) (stood : StagesFor s given done)
-    → Ended s given done stood phase piece count → (tried : List ItemValue)
+ends-first : (s : Stages) (phase : Option Chosen) (piece : List Bool) (totals : Totals) (given : List ℕ) (done : List (Handed ItemValue)) (stood : StagesFor s given done)
+    → Ended s given done stood phase piece totals → (tried : List ItemValue)
     → AreFirstItemsOf s.inner.config (inner_bits s.inner.config given (items_of stood.handed) ++ piece)
     (places (rules_of s.inner.config) (inner_bits s.inner.config given (items_of stood.handed) ++ piece)) (stood.items ++ tried)
     → AreReceivedPrefix s.inner.config given (done ++ (with_phase phase [] ++ map Item tried))
-ends-first s phase piece count given done stood e tried first =
+ends-first s phase piece totals given done stood e tried first =
     let c = s.inner.config in
     record {
       chosen = e.chosen;
@@ -740,35 +741,35 @@ ends-first s phase piece count given done stood e tried first =
     }
 
 -- the taker failed at the phase
-pub ends-phase : (s : Stages) (room : ℕ) (phase : Option Chosen) (piece : List Bool) (count : ℕ) → IsOf s → IsRoomy s 0 room → Ends s.inner room phase piece count
+pub ends-phase : (s : Stages) (room : ℕ) (phase : Option Chosen) (piece : List Bool) (totals : Totals) → IsOf s → IsRoomy s 0 room → Ends s.inner room phase piece totals
     → (given : List ℕ) (done : List (Handed ItemValue)) → StagesFor s given done → AreReceivedPrefix s.inner.config given (done ++ with_phase phase [])
-ends-phase s room phase piece count of roomy ended_with given done stood =
+ends-phase s room phase piece totals of roomy ended_with given done stood =
     let c = s.inner.config in
-    let e = ended s given done stood room phase piece count roomy ended_with in
+    let e = ended s given done stood room phase piece totals roomy ended_with in
     let bits = inner_bits c given (items_of stood.handed) in
     subst (λ (l : List (Handed ItemValue)). AreReceivedPrefix c given (done ++ l)) (append-nil (with_phase phase []))
-    (ends-first s phase piece count given done stood e [] (first-of-more c bits piece stood.items [] stood.are_items tt))
+    (ends-first s phase piece totals given done stood e [] (first-of-more c bits piece stood.items [] stood.are_items tt))
 
 -- it failed at one of the items that are due with the last bits
-pub ends-part : {T : Type 0} (took broke : T → ItemValue → T → Type 0) (s : Stages) (bits_now : BitReceiving) (taker now : T) (room : ℕ) (phase : Option Chosen) (piece : List Bool) (count : ℕ)
-    → IsOf s → IsRoomy s 0 room → Ends s.inner room phase piece count → (p : ReceivedPart took broke s.bits bits_now taker now piece)
+pub ends-part : {T : Type 0} (took broke : T → ItemValue → T → Type 0) (s : Stages) (bits_now : BitReceiving) (taker now : T) (room : ℕ) (phase : Option Chosen) (piece : List Bool) (totals : Totals)
+    → IsOf s → IsRoomy s 0 room → Ends s.inner room phase piece totals → (p : ReceivedPart took broke s.bits bits_now taker now piece)
     → (given : List ℕ) (done : List (Handed ItemValue)) → StagesFor s given done
     → AreReceivedPrefix s.inner.config given (done ++ (with_phase phase [] ++ map Item p.tried))
-ends-part took broke s bits_now taker now room phase piece count of roomy ended_with p given done stood =
+ends-part took broke s bits_now taker now room phase piece totals of roomy ended_with p given done stood =
     let c = s.inner.config in
-    let e = ended s given done stood room phase piece count roomy ended_with in
+    let e = ended s given done stood room phase piece totals roomy ended_with in
     let bits = inner_bits c given (items_of stood.handed) in
     let more = subst (λ (k : Configuration). AreFirstFurther k bits piece p.tried) of (p.first bits e.few stood.bits) in
-    ends-first s phase piece count given done stood e p.tried (first-of-more c bits piece stood.items p.tried stood.are_items more)
+    ends-first s phase piece totals given done stood e p.tried (first-of-more c bits piece stood.items p.tried stood.are_items more)
 
 -- it failed at one of the last items
-pub ends-prefix : {T : Type 0} (took broke : T → ItemValue → T → Type 0) (s : Stages) (bits_now : BitReceiving) (taker middle now : T) (room : ℕ) (phase : Option Chosen) (piece : List Bool) (count : ℕ)
-    → IsOf s → IsRoomy s 0 room → Ends s.inner room phase piece count → (p : Received took s.bits bits_now taker middle piece) (q : ReceivedLastPart took broke bits_now middle now)
+pub ends-prefix : {T : Type 0} (took broke : T → ItemValue → T → Type 0) (s : Stages) (bits_now : BitReceiving) (taker middle now : T) (room : ℕ) (phase : Option Chosen) (piece : List Bool) (totals : Totals)
+    → IsOf s → IsRoomy s 0 room → Ends s.inner room phase piece totals → (p : Received took s.bits bits_now taker middle piece) (q : ReceivedLastPart took broke bits_now middle now)
     → (given : List ℕ) (done : List (Handed ItemValue)) → StagesFor s given done
     → AreReceivedPrefix s.inner.config given (done ++ (with_phase phase [] ++ map Item (p.items ++ q.tried)))
-ends-prefix took broke s bits_now taker middle now room phase piece count of roomy ended_with p q given done stood =
+ends-prefix took broke s bits_now taker middle now room phase piece totals of roomy ended_with p q given done stood =
     let c = s.inner.config in
-    let e = ended s given done stood room phase piece count roomy ended_with in
+    let e = ended s given done stood room phase piece totals roomy ended_with in
     let bits = inner_bits c given (items_of stood.handed) in
     let more = subst (λ (k : Configuration). AreFurther k bits piece p.items) of (p.due bits e.few stood.bits) in
     let due_items = due-further c bits piece stood.items p.items stood.are_items more in
@@ -776,7 +777,7 @@ ends-prefix took broke s bits_now taker middle now room phase piece count of roo
     (p.config ∙ of) (q.first (bits ++ piece) (p.stands bits e.few stood.bits)) in
     let items = some-items c (bits ++ piece) (stood.items ++ p.items) q.tried
     (subst (λ (fs : List Found). AreItemsOf c (bits ++ piece) fs (stood.items ++ p.items)) (sym (beyond-nil c (due c (bits ++ piece)))) due_items) last in
-    ends-first s phase piece count given done stood e (p.items ++ q.tried)
+    ends-first s phase piece totals given done stood e (p.items ++ q.tried)
     (subst (AreFirstItemsOf c (bits ++ piece) (places (rules_of c) (bits ++ piece))) (append_assoc stood.items p.items q.tried) items)
 
 -- ---- new stages

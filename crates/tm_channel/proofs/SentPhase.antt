@@ -30,6 +30,7 @@ use Rattle.tm_inner.proofs.InnerBits.{AreBits-bit_numbers, drop-none, soft-sent}
 use Rattle.tm_codeblock.specs.Frames.{whole_frames}
 use Rattle.tm_channel.specs.Sent.{cadus, sent, sent_phase}
 use Rattle.tm_channel.specs.Items.{ItemValue}
+use Rattle.tm_channel.specs.declared.totals.Totals.{Totals}
 use Rattle.tm_channel.specs.Handing.{AreReceived}
 use Rattle.tm_channel.specs.Receive.{Receive}
 use Rattle.tm_channel.specs.SentStream.{clean_items, found_frames}
@@ -180,9 +181,9 @@ sent-skip c = go (is_sought c.phase)
 -- the phase, where it is to be found, and then the items of the whole frames
 pub handed-clean : HasBest → ((c : Configuration) (octets : List ℕ) (items : List ItemValue) → IsAccepted c → c.skip ≡ 0 → IsStartKnown c → AreOctets octets
     → Receive c 0 (sent c octets) items → items ≡ clean_items c 0 (found_frames c (whole_frames c.frame_length octets)))
-    → (c : Configuration) (octets : List ℕ) (handed : List (Handed ItemValue)) (bits : ℕ) → IsAccepted c → c.skip ≡ 0 → IsStartKnown c → AreOctets octets
-    → AreReceived c (sent c octets) handed bits → handed ≡ with_phase (sent_phase c) (clean_items c 0 (found_frames c (whole_frames c.frame_length octets)))
-handed-clean best clean c octets handed bits ok none start small r =
+    → (c : Configuration) (octets : List ℕ) (handed : List (Handed ItemValue)) (totals : Totals) → IsAccepted c → c.skip ≡ 0 → IsStartKnown c → AreOctets octets
+    → AreReceived c (sent c octets) handed totals → handed ≡ with_phase (sent_phase c) (clean_items c 0 (found_frames c (whole_frames c.frame_length octets)))
+handed-clean best clean c octets handed totals ok none start small r =
     let chosen : r.chosen ≡ sent_phase c = phase-sent best c octets r.chosen none r.choice in
     let inner : Inner c 0 (sent c octets) r.are_items.0 = subst (λ (n : ℕ). Inner c n (sent c octets) r.are_items.0) (ap skip_of chosen ∙ sent-skip c) r.are_items.1 in
     let items : r.items ≡ clean_items c 0 (found_frames c (whole_frames c.frame_length octets)) =

@@ -4,6 +4,7 @@ use Rattle.tm_base.specs.Calls.{CallAnswers}
 use Rattle.tm_base.specs.Handed.{Handed}
 use Rattle.tm_base.specs.Outside.{HasCause}
 use Rattle.tm_inner.specs.Receiving.{HandsPrefix}
+use Rattle.tm_channel.specs.declared.totals.Totals.{Totals}
 use Rattle.tm_channel.specs.declared.receiver.RecvError.{RecvError}
 use Rattle.tm_channel.specs.declared.receiver.RecvError.TheVariants.{Stopped, Taker}
 use Rattle.tm_channel.specs.Items.{ItemValue}
@@ -60,7 +61,7 @@ pub record Feeds {T R : Type 0} (took broke : T → Handed ItemValue → T → T
 -- at the end what is left was handed over, or the first of it until the taker failed
 pub record Finishes {T : Type 0} (took broke : T → Handed ItemValue → T → Type 0) (faults : T → ℕ)
     (is_last : T → Type 0) (before now : OctetReceiving) (taker taker_now : T)
-    (result : Result ℕ RecvError) : Type 0 where
+    (result : Result Totals RecvError) : Type 0 where
   pub call : Calls faults is_last before now taker taker_now result
   pub stops : now.has_stopped ≡ true
   pub config : now.config ≡ before.config

@@ -4,8 +4,10 @@ use Rattle.std.specs.Prelude.{◌≡◌, ℕ, Bool, List, [], ◌∷◌, length,
 use Rattle.tm_base.specs.Handed.{Handed, Phase, Item}
 use Rattle.tm_config.specs.Configuration.{Configuration}
 use Rattle.tm_phase.specs.declared.choosing.Chosen.{Chosen}
-use Rattle.tm_inner.specs.Inner.{Inner}
+use Rattle.tm_viterbi.specs.WindowBlock.{WindowBlock}
+use Rattle.tm_inner.specs.Inner.{Inner, slips_told}
 use Rattle.tm_inner.specs.Phase.{WithPhase, WithPhaseSettled, WithPhaseSoFar}
+use Rattle.tm_channel.specs.declared.totals.Totals.{Totals}
 use Rattle.tm_channel.specs.Items.{ItemValue, AreItems}
 use Rattle.tm_channel.specs.Receive.{ReceiveDue, ReceiveFirst, ReceivePrefix}
 
@@ -20,15 +22,19 @@ phase_from before (Item item ∷ handed) = phase_from before handed
 abbrev pub phase_of : {I : Type 0} → List (Handed I) → Option Chosen
 phase_of handed = phase_from None handed
 
--- these are the items of received octets, which come to so many bits
-abbrev pub ReceiveAll : Configuration → ℕ → List ℕ → ℕ → List ItemValue → Type 0
-ReceiveAll c phase octets count items = (bits : List Bool) × Inner c phase octets bits
-    × (count ≡ length bits) × AreItems c bits items
+-- what octets come to that are received as these bits, in these blocks
+abbrev pub totals_of : Configuration → List Bool → List WindowBlock → Totals
+totals_of c bits blocks = record { bits = length bits; slips = slips_told c blocks }
 
--- all that is handed over, and how many bits were received
-abbrev pub AreReceived : Configuration → List ℕ → List (Handed ItemValue) → ℕ → Type 0
-AreReceived c octets handed count = WithPhase
-    (λ phase. ReceiveAll c phase octets count) c octets handed
+-- these are the items of received octets, and what the octets come to
+abbrev pub ReceiveAll : Configuration → ℕ → List ℕ → Totals → List ItemValue → Type 0
+ReceiveAll c phase octets totals items = (bits : List Bool) × (inner : Inner c phase octets bits)
+    × (totals ≡ totals_of c bits inner.blocks) × AreItems c bits items
+
+-- all that is handed over, and what the octets come to
+abbrev pub AreReceived : Configuration → List ℕ → List (Handed ItemValue) → Totals → Type 0
+AreReceived c octets handed totals = WithPhase
+    (λ phase. ReceiveAll c phase octets totals) c octets handed
 
 -- what is due, whatever octets come: the phase, once it is settled, and the items that are due
 abbrev pub AreReceivedDue : Configuration → List ℕ → List (Handed ItemValue) → Type 0

@@ -15,7 +15,8 @@ use Rattle.tm_inner.specs.Handing.{AreHanded, AreHandedDue}
 use Rattle.tm_inner.specs.Receiving.{InnerReceiving, StandsFor as InnerStandsFor}
 use Rattle.tm_channel.specs.Items.{ItemValue, AreItemsOf}
 use Rattle.tm_channel.specs.Due.{due, due_count}
-use Rattle.tm_channel.specs.Handing.{phase_of, AreReceived, AreReceivedDue, AreReceivedFirst, AreReceivedPrefix}
+use Rattle.tm_channel.specs.declared.totals.Totals.{Totals}
+use Rattle.tm_channel.specs.Handing.{phase_of, totals_of, AreReceived, AreReceivedDue, AreReceivedFirst, AreReceivedPrefix}
 use Rattle.tm_channel.specs.Most.{AreFew}
 use Rattle.tm_channel.specs.Receiving.{Batching, Stands, HoldsMore, waiting_bits, GoesOn, AreDue, AreFirstDue, AreFurther, AreFirstFurther, AreLast, AreFirstLast}
 
@@ -116,13 +117,13 @@ FeedChooses before now octets = (given : List ℕ) (done : List (Handed ItemValu
     → StandsFor before given done → before.has_stopped ≡ false
     → IsChosenSoFar before.config (given ++ octets) now.stages.inner.phased.chosen
 
--- at the end what is left was handed over, and so many bits were received; these are few items too
+-- at the end what is left was handed over, and the octets come to this; these are few items too
 abbrev pub FinishHands : {T : Type 0} → (T → Handed ItemValue → T → Type 0) → OctetReceiving → T → T
-    → ℕ → Type 0
-FinishHands took before taker taker_now count = (last : List (Handed ItemValue))
+    → Totals → Type 0
+FinishHands took before taker taker_now totals = (last : List (Handed ItemValue))
     × HandedOver took taker last taker_now
     × ((given : List ℕ) (done : List (Handed ItemValue)) → StandsFor before given done
-    → AreReceived before.config given (done ++ last) count)
+    → AreReceived before.config given (done ++ last) totals)
     × ((given : List ℕ) (done : List (Handed ItemValue)) → StandsFor before given done
     → AreFew before.config 0 (items_of last))
 
@@ -269,21 +270,22 @@ Grows inner inner_now room octets phase piece =
     → InnerStandsFor inner given done → AreWaiting inner.config given done waiting
     → Further inner inner_now given octets done phase piece
 
--- the end of the octets adds this phase and these bits, and so many bits were received
-pub record EndsWith (inner : InnerReceiving) (given : List ℕ) (done : List (Handed WindowBlock)) (phase : Option Chosen) (piece : List Bool) (count : ℕ) : Type 0 where
+-- the end of the octets adds this phase and these bits, and the octets come to this
+pub record EndsWith (inner : InnerReceiving) (given : List ℕ) (done : List (Handed WindowBlock)) (phase : Option Chosen) (piece : List Bool) (totals : Totals) : Type 0 where
   pub last : List (Handed WindowBlock)
   pub left : ℕ
   pub are_handed : AreHanded inner.config given (done ++ last) left
   pub is_phase : phase ≡ phase_of last
   pub bits : inner_bits inner.config given (items_of (done ++ last))
       ≡ inner_bits inner.config given (items_of done) ++ piece
-  pub counted : count ≡ length (inner_bits inner.config given (items_of (done ++ last)))
+  pub counted : totals ≡ totals_of inner.config
+      (inner_bits inner.config given (items_of (done ++ last))) (items_of (done ++ last))
 
 -- whatever octets the first stage was given, and whichever blocks waited, it ends with this phase
--- and these bits, for which there is this room, and so many bits were received
-abbrev pub Ends : InnerReceiving → ℕ → Option Chosen → List Bool → ℕ → Type 0
-Ends inner room phase piece count =
+-- and these bits, for which there is this room, and the octets come to this
+abbrev pub Ends : InnerReceiving → ℕ → Option Chosen → List Bool → Totals → Type 0
+Ends inner room phase piece totals =
     (given : List ℕ) (done : List (Handed WindowBlock)) (waiting : List WindowBlock)
     → HasRoom inner.config waiting 0 room
     → InnerStandsFor inner given done → AreWaiting inner.config given done waiting
-    → EndsWith inner given done phase piece count
+    → EndsWith inner given done phase piece totals

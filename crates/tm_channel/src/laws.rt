@@ -16,6 +16,7 @@ ghost use Rattle.tm_codeblock.specs.Frames.{whole_frames};
 ghost use Rattle.tm_codeblock.specs.ReceivedCodeblock.{received_columns};
 ghost use Rattle.tm_channel.specs.Sent.{sent, sent_phase};
 ghost use Rattle.tm_channel.specs.Items.{ItemValue, frames_of, complemented_item};
+ghost use Rattle.tm_channel.specs.declared.totals.Totals.{Totals};
 ghost use Rattle.tm_channel.specs.Handing.{AreReceived, AreReceivedDue, AreReceivedFirst, AreReceivedPrefix};
 ghost use Rattle.tm_channel.specs.Receive.{Receive, ReceiveDue, ReceiveFirst, ReceivePrefix};
 ghost use Rattle.tm_channel.specs.SentStream.{AreAsSent, AreNear, AreWithin, IsSent, SentUnit, clean_items, found_frames, sent_columns, unit_frames, unit_places};
@@ -63,27 +64,27 @@ pub fn first_items_law()
 }
 
 /// What is handed over for received octets, their phase where it is to be found and then items, is one list, which
-/// there is. What is due, and the first of what is handed over, stand first in it, whatever octets follow. It does
+/// there is, and so is what the octets come to. What is due, and the first of what is handed over, stand first in it, whatever octets follow. It does
 /// nothing.
 pub fn received_law()
     ensures exists { (c : Configuration) (octets : List ℕ) → IsAccepted c
-        → (handed : List (Handed ItemValue)) × ((bits : ℕ) × AreReceived c octets handed bits) }
-    ensures one { (c : Configuration) (octets : List ℕ) (handed others : List (Handed ItemValue)) (bits count : ℕ)
+        → (handed : List (Handed ItemValue)) × ((totals : Totals) × AreReceived c octets handed totals) }
+    ensures one { (c : Configuration) (octets : List ℕ) (handed others : List (Handed ItemValue)) (totals sums : Totals)
         → IsAccepted c
-        → AreReceived c octets handed bits → AreReceived c octets others count → handed ≡ others }
-    ensures bits { (c : Configuration) (octets : List ℕ) (handed others : List (Handed ItemValue)) (bits count : ℕ)
-        → AreReceived c octets handed bits → AreReceived c octets others count → bits ≡ count }
-    ensures due { (c : Configuration) (octets more : List ℕ) (due all : List (Handed ItemValue)) (bits : ℕ)
+        → AreReceived c octets handed totals → AreReceived c octets others sums → handed ≡ others }
+    ensures totals { (c : Configuration) (octets : List ℕ) (handed others : List (Handed ItemValue)) (totals sums : Totals)
+        → AreReceived c octets handed totals → AreReceived c octets others sums → totals ≡ sums }
+    ensures due { (c : Configuration) (octets more : List ℕ) (due all : List (Handed ItemValue)) (totals : Totals)
         → IsAccepted c
-        → AreReceivedDue c octets due → AreReceived c (octets ++ more) all bits
+        → AreReceivedDue c octets due → AreReceived c (octets ++ more) all totals
         → (rest : List (Handed ItemValue)) × (all ≡ due ++ rest) }
-    ensures first { (c : Configuration) (octets more : List ℕ) (first all : List (Handed ItemValue)) (bits : ℕ)
+    ensures first { (c : Configuration) (octets more : List ℕ) (first all : List (Handed ItemValue)) (totals : Totals)
         → IsAccepted c
-        → AreReceivedFirst c octets first → AreReceived c (octets ++ more) all bits
+        → AreReceivedFirst c octets first → AreReceived c (octets ++ more) all totals
         → (rest : List (Handed ItemValue)) × (all ≡ first ++ rest) }
-    ensures prefix { (c : Configuration) (octets : List ℕ) (prefix all : List (Handed ItemValue)) (bits : ℕ)
+    ensures prefix { (c : Configuration) (octets : List ℕ) (prefix all : List (Handed ItemValue)) (totals : Totals)
         → IsAccepted c
-        → AreReceivedPrefix c octets prefix → AreReceived c octets all bits
+        → AreReceivedPrefix c octets prefix → AreReceived c octets all totals
         → (rest : List (Handed ItemValue)) × (all ≡ prefix ++ rest) }
 {
     items_law();
@@ -139,9 +140,9 @@ pub fn clean_law()
         → frames_of (clean_items c at frames) ≡ concat frames }
     ensures phase { (c : Configuration) (octets : List ℕ) (chosen : Option Chosen) → c.skip ≡ 0
         → IsChosen c (sent c octets) chosen → chosen ≡ sent_phase c }
-    ensures handed { (c : Configuration) (octets : List ℕ) (handed : List (Handed ItemValue)) (bits : ℕ) → IsAccepted c
+    ensures handed { (c : Configuration) (octets : List ℕ) (handed : List (Handed ItemValue)) (totals : Totals) → IsAccepted c
         → c.skip ≡ 0 → IsStartKnown c → AreOctets octets
-        → AreReceived c (sent c octets) handed bits
+        → AreReceived c (sent c octets) handed totals
         → handed ≡ with_phase (sent_phase c)
         (clean_items c 0 (found_frames c (whole_frames c.frame_length octets))) }
 {

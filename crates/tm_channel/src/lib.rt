@@ -16,6 +16,7 @@ mod slot;
 mod store;
 mod stream;
 mod taking;
+mod totals;
 mod workers;
 
 pub use item::{Item, ItemTaker, are_fixed};
@@ -32,3 +33,4 @@ pub use tm_phase::Chosen;
 pub use tm_rs_solve::Answer;
 pub use tm_viterbi::{AllError, Block, BlockTaker, FeedError};
 pub use tm_workers::{Gate, OpenGate};
+pub use totals::Totals;

@@ -5,6 +5,7 @@ ghost use Rattle.tm_base.specs.Handed.{Handed, on_handed};
 ghost use Rattle.tm_base.specs.Outside.{Rose};
 ghost use Rattle.tm_base.specs.Takers.{HandedOver, HandedPart};
 ghost use Rattle.tm_inner.specs.InnerDecoding.{HasWorkers};
+ghost use Rattle.tm_inner.specs.Handing.{AreSlipsSoFar};
 ghost use Rattle.tm_inner.specs.Phase.{IsChosen, IsChosenSoFar};
 ghost use Rattle.tm_sync.specs.Places.{verify_bits};
 ghost use Rattle.tm_sync.specs.Searching.{StandsFor as SearchStandsFor, inside_of};
@@ -22,6 +23,7 @@ use crate::packed::take_bits;
 use crate::store::Codeblocks;
 use crate::stream::BitStream;
 use crate::taking::{PIECE, end, hand_phase, take};
+use crate::totals::Totals;
 use crate::workers::{InOrder, SideBySide, Workers};
 use std::alloc::Global;
 use std::marker::Model;
@@ -203,7 +205,7 @@ impl Receiver {
     }
 
     /// Hands over what is left: the symbol phase, where it is to be found and was not chosen yet, and the last items.
-    /// Answers how many bits were received. It is called once, at the end of the octets.
+    /// Answers what all octets came to. It is called once, at the end of the octets.
     ///
     /// `Taker` comes where `taker` fails; a prefix of all was then handed over. `Stopped` comes where an earlier call
     /// answered `Taker` or the receiver was finished; nothing is handed over then.
@@ -212,7 +214,7 @@ impl Receiver {
         rt: &R,
         taker: &mut T,
         gate: &G,
-    ) -> Result<u64, RecvError>
+    ) -> Result<Totals, RecvError>
         ensures { Finishes (on_handed T.took_phase T.took) (on_handed T.broke_phase T.broke) T.faults T.is_last
             self.old self.new taker.old taker.new result }
     {
@@ -225,7 +227,7 @@ impl Receiver {
     }
 
     /// Does what `finish` does with no thread but the caller's, whichever calls were before.
-    pub fn finish_in_order<T: ItemTaker>(&mut self, taker: &mut T) -> Result<u64, RecvError>
+    pub fn finish_in_order<T: ItemTaker>(&mut self, taker: &mut T) -> Result<Totals, RecvError>
         ensures { Finishes (on_handed T.took_phase T.took) (on_handed T.broke_phase T.broke) T.faults T.is_last
             self.old self.new taker.old taker.new result }
     {
@@ -237,7 +239,7 @@ impl Receiver {
         &mut self,
         by: &P,
         taker: &mut T,
-    ) -> Result<u64, RecvError>
+    ) -> Result<Totals, RecvError>
         requires workers { P.is_ready by.now }
         ensures call { Calls T.faults T.is_last self.old self.new taker.old taker.new result }
         ensures stops { self.new.has_stopped ≡ true }
@@ -252,7 +254,7 @@ impl Receiver {
             return Err(RecvError::Stopped);
         }
         self.has_stopped = true;
-        let count = end(by, &mut self.inner, &mut self.kept);
+        let totals = end(by, &mut self.inner, &mut self.kept);
         match hand_phase(&self.kept, taker) {
             Ok(()) => {}
             Err(Failed) => return Err(RecvError::Taker),
@@ -262,7 +264,7 @@ impl Receiver {
             Err(Failed) => return Err(RecvError::Taker),
         }
         match self.stream.hand_last(by, taker) {
-            Ok(()) => Ok(count),
+            Ok(()) => Ok(totals),
             Err(Failed) => Err(RecvError::Taker),
         }
     }
@@ -274,6 +276,15 @@ impl Receiver {
             → IsChosenSoFar self.now.config given result }
     {
         self.inner.chosen()
+    }
+
+    /// Before how many windows of the inner code octets were dropped so far, of those whose bits were searched: none
+    /// where the symbol phase is not followed.
+    pub fn slips(&self) -> u64
+        ensures { (given : List ℕ) (done : List (Handed ItemValue)) → StandsFor self.now given done
+            → AreSlipsSoFar self.now.config given result }
+    {
+        self.inner.slips()
     }
 }
 
@@ -297,8 +308,8 @@ fn open_search(alloc: Global, config: &Config) -> Result<(Search, Vec<u8>), NoMe
     Ok((search, room))
 }
 
-/// Hands over the symbol phase of octets, fewer than 2^60, where it is to be found, and all their items. Answers how
-/// many bits were received.
+/// Hands over the symbol phase of octets, fewer than 2^60, where it is to be found, and all their items. Answers what the
+/// octets came to.
 ///
 /// `Memory` comes only where there isn't enough of it; nothing is handed over then. `Taker` comes where `taker` fails;
 /// a prefix of all was then handed over. Workers enter `OpenGate`.
@@ -308,10 +319,10 @@ pub fn receive_all<R: Threads + Sync, T: ItemTaker>(
     config: Config,
     octets: &[u8],
     taker: &mut T,
-) -> Result<u64, AllError>
-    ensures handed { IfOk result (λ count. (all : List (Handed ItemValue))
+) -> Result<Totals, AllError>
+    ensures handed { IfOk result (λ totals. (all : List (Handed ItemValue))
         × HandedOver (on_handed T.took_phase T.took) taker.old all taker.new
-        × (length octets.now < 2 ^ 60 → AreReceived config octets.now all count)) }
+        × (length octets.now < 2 ^ 60 → AreReceived config octets.now all totals)) }
     ensures prefix { IsErrOf result AllError.Taker
         → (tried : List (Handed ItemValue)) × HandedPart (on_handed T.took_phase T.took)
         (on_handed T.broke_phase T.broke) taker.old tried taker.new
@@ -329,7 +340,7 @@ pub fn receive_all<R: Threads + Sync, T: ItemTaker>(
         return Err(AllError::Taker);
     };
     match receiver.finish(rt, taker, &OpenGate) {
-        Ok(count) => Ok(count),
+        Ok(totals) => Ok(totals),
         Err(_) => Err(AllError::Taker),
     }
 }

@@ -16,6 +16,7 @@ use crate::item::ItemTaker;
 use crate::kept::KeptBits;
 use crate::packed::take_bits;
 use crate::stream::BitStream;
+use crate::totals::Totals;
 use crate::workers::Workers;
 use tm_base::Failed;
 use tm_inner::InnerReceiver;
@@ -150,9 +151,8 @@ pub fn hand_phase<T: ItemTaker>(kept: &KeptBits, taker: &mut T) -> Result<(), Fa
     }
 }
 
-/// Ends the first stage, keeps the phase and the bits of its last blocks, and answers how many bits were received in
-/// all.
-pub fn end<P: Workers>(by: &P, inner: &mut InnerReceiver, kept: &mut KeptBits) -> u64
+/// Ends the first stage, keeps the phase and the bits of its last blocks, and answers what all octets came to.
+pub fn end<P: Workers>(by: &P, inner: &mut InnerReceiver, kept: &mut KeptBits) -> Totals
     requires workers { P.is_ready by.now }
     requires fresh { inner.old.has_stopped ≡ false }
     ensures inner { inner.new.config ≡ inner.old.config }

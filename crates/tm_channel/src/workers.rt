@@ -9,9 +9,11 @@ ghost use Rattle.tm_inner.specs.Handing.{AreHanded, AreHandedDue};
 ghost use Rattle.tm_inner.specs.Receiving.{StandsFor};
 ghost use Rattle.tm_workers.specs.Batch.{EachBecomes};
 ghost use Rattle.tm_workers.specs.Words.{Decodes};
+ghost use Rattle.tm_channel.specs.Handing.{totals_of};
 ghost use Rattle.tm_channel.specs.OctetReceiving.{Keeps, KeepsPhase};
 
 use crate::kept::KeptBits;
+use crate::totals::Totals;
 use std::alloc::Global;
 use std::thread::Threads;
 use tm_inner::InnerReceiver;
@@ -45,9 +47,9 @@ pub trait Workers {
             → StandsFor inner.new (given ++ octets.now) (done ++ more)
             × AreHandedDue inner.old.config (given ++ octets.now) (done ++ more)) };
 
-    /// Ends it, and keeps the phase and the bits of its last blocks, where there is room for them. Answers how many
-    /// bits were received in all.
-    fn finish(&self, inner: &mut InnerReceiver, kept: &mut KeptBits) -> u64
+    /// Ends it, and keeps the phase and the bits of its last blocks, where there is room for them. Answers what all
+    /// octets came to.
+    fn finish(&self, inner: &mut InnerReceiver, kept: &mut KeptBits) -> Totals
         requires ready { is_ready self.now }
         requires fresh { inner.old.has_stopped ≡ false }
         ensures config { inner.new.config ≡ inner.old.config }
@@ -57,7 +59,8 @@ pub trait Workers {
             × HandedOver (on_handed KeepsPhase Keeps) kept.old last kept.new
             × ((given : List ℕ) (done : List (Handed WindowBlock)) → StandsFor inner.old given done
             → AreHanded inner.old.config given (done ++ last) left
-            × (result ≡ length (inner_bits inner.old.config given (items_of (done ++ last))))) };
+            × (result ≡ totals_of inner.old.config (inner_bits inner.old.config given (items_of (done ++ last)))
+            (items_of (done ++ last)))) };
 
     /// Decodes each word in its place, as `decode_batch` does, by at most so many workers.
     fn decode(&self, alloc: Global, params: &Params, repair: u8, words: &mut [Word], workers: u8)
@@ -93,10 +96,16 @@ impl<'a, R: Threads + Sync, F: Fn(Global, &Params, u8, &mut [Word], u8)> Workers
         }
     }
 
-    fn finish(&self, inner: &mut InnerReceiver, kept: &mut KeptBits) -> u64 {
+    fn finish(&self, inner: &mut InnerReceiver, kept: &mut KeptBits) -> Totals {
         match inner.finish_with(self.rt, kept) {
-            Ok(end) => end.bits,
-            Err(_) => 0,
+            Ok(end) => Totals {
+                bits: end.bits,
+                slips: end.slips,
+            },
+            Err(_) => Totals {
+                bits: 0,
+                slips: None,
+            },
         }
     }
 
@@ -124,10 +133,16 @@ impl Workers for InOrder {
         }
     }
 
-    fn finish(&self, inner: &mut InnerReceiver, kept: &mut KeptBits) -> u64 {
+    fn finish(&self, inner: &mut InnerReceiver, kept: &mut KeptBits) -> Totals {
         match inner.finish(kept) {
-            Ok(end) => end.bits,
-            Err(_) => 0,
+            Ok(end) => Totals {
+                bits: end.bits,
+                slips: end.slips,
+            },
+            Err(_) => Totals {
+                bits: 0,
+                slips: None,
+            },
         }
     }
 

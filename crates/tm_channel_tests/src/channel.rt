@@ -213,8 +213,8 @@ fn receive_by_workers<R: Abort + Threads + Sync>(
     let mut taken = Digest::new();
     let mut receiver = Receiver::open(alloc, config)?;
     receiver.feed(rt, octets, &mut taken, &OpenGate)?;
-    let bits = receiver.finish(rt, &mut taken, &OpenGate)?;
-    taken.add(bits);
+    let totals = receiver.finish(rt, &mut taken, &OpenGate)?;
+    taken.add(totals.bits);
     Ok(taken)
 }
 
@@ -225,8 +225,8 @@ fn receive_alone(alloc: Global, config: Config, octets: &[u8]) -> Result<Digest,
     for piece in octets.chunks(700) {
         receiver.feed_in_order(piece, &mut taken)?;
     }
-    let bits = receiver.finish_in_order(&mut taken)?;
-    taken.add(bits);
+    let totals = receiver.finish_in_order(&mut taken)?;
+    taken.add(totals.bits);
     Ok(taken)
 }
 

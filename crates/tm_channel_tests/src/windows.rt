@@ -87,8 +87,8 @@ fn received<R: Threads + Sync>(
         receiver.feed(rt, piece, &mut taker, &OpenGate)?;
         taker.add(1);
     }
-    let bits = receiver.finish(rt, &mut taker, &OpenGate)?;
-    taker.add(bits);
+    let totals = receiver.finish(rt, &mut taker, &OpenGate)?;
+    taker.add(totals.bits);
     Ok(taker.number)
 }
 

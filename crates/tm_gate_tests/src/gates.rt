@@ -2,7 +2,7 @@
 use std::sync::atomic::{AtomicU64, Ordering};
 use std::test::Fail;
 use tm_base::Failed;
-use tm_channel::{Item, ItemTaker, Receiver};
+use tm_channel::{Item, ItemTaker, Receiver, Totals};
 use tm_config::{Config, Raw};
 use tm_gf256::Gf;
 use tm_rs_code::Params;
@@ -153,7 +153,11 @@ fn a_receiver_decodes_a_batch_by_all_its_workers(rt: HostRuntime) -> Result<(), 
         assert!(rt; receiver.feed(&rt, &MARKED, &mut counting, &gate) == Ok(()));
     }
     assert!(rt; counting.count == 0);
-    assert!(rt; receiver.finish(&rt, &mut counting, &gate) == Ok(2368));
+    let totals = Totals {
+        bits: 2368,
+        slips: None,
+    };
+    assert!(rt; receiver.finish(&rt, &mut counting, &gate) == Ok(totals));
     assert!(rt; gate.freed.load(Ordering::SeqCst) == 1);
     assert!(rt; counting.count == 8);
     Ok(())

@@ -102,7 +102,7 @@ fn finish(
     receiver: &mut Receiver,
     taker: &mut Collector,
 ) -> Result<u64, RecvError> {
-    receiver.finish(rt, taker, &OpenGate)
+    Ok(receiver.finish(rt, taker, &OpenGate)?.bits)
 }
 
 // What a taker with room for so many items is handed of the octets, and how that ends.
@@ -115,7 +115,10 @@ fn received(
 ) -> Result<(Vec<Kept>, Result<u64, AllError>), Fail> {
     let config = Config::check(&link(skip))?;
     let mut taker = Collector::new(alloc, room);
-    let end = receive_all(rt, alloc, config, octets, &mut taker);
+    let end = match receive_all(rt, alloc, config, octets, &mut taker) {
+        Ok(totals) => Ok(totals.bits),
+        Err(error) => Err(error),
+    };
     Ok((taker.kept, end))
 }
 

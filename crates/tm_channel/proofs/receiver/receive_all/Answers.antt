@@ -16,7 +16,7 @@ returns-in-Ok-finish-clause-handed g c =
       HandedOver-append _ c.args.taker.now c.feed.new.taker c.finish.new.taker fed.0 last.0 fed.1 last.1,
       λ few.
           let stands = (fed.2 [] [] (omega (arith, few)) c.in-Ok.ensures.stands).0 in
-          subst (λ (k : Configuration). AreReceived k octets (fed.0 ++ last.0) c.in-Ok-finish.count)
+          subst (λ (k : Configuration). AreReceived k octets (fed.0 ++ last.0) c.in-Ok-finish.totals)
           (c.feed.ensures.config ∙ c.in-Ok.ensures.config) (last.2 octets fed.0 stands),
     )
 
