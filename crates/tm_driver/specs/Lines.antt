@@ -1,5 +1,5 @@
 -- The lines that several commands write, each ended by one line feed.
-use Rattle.std.specs.Prelude.{ℕ, ◌==◌, if◌then◌else◌, List, [], ◌∷◌, ◌++◌, codes, decimal}
+use Rattle.std.specs.Prelude.{ℕ, ◌==◌, if◌then◌else◌, List, [], ◌∷◌, ◌++◌, Option, Some, None, codes, decimal}
 use Rattle.tm_driver.specs.declared.ending.Outcome.{Outcome}
 use Rattle.tm_driver.specs.declared.ending.Outcome.TheVariants.{Done, LeftOver}
 
@@ -10,6 +10,11 @@ left_over_text rest = if rest == 0 then [] else codes "left over " ++ decimal re
 -- the symbol phase that was chosen: the octets skipped, and what the best path after them costs
 abbrev pub phase_text : (skip cost : ℕ) → List ℕ
 phase_text skip cost = codes "phase " ++ decimal skip ++ codes " cost " ++ decimal cost ++ 10 ∷ []
+
+-- before how many windows octets were dropped; no line where the symbol phase is not followed
+abbrev pub slips_text : Option ℕ → List ℕ
+slips_text None = []
+slips_text (Some count) = codes "slips " ++ decimal count ++ 10 ∷ []
 
 -- what came of an input by how many octets are left over
 abbrev pub outcome_by : ℕ → Outcome

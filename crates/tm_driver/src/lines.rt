@@ -1,8 +1,8 @@
 // The lines that several commands write.
-ghost use Rattle.std.specs.Prelude.{◌≡◌, IfOk, OnOk, OnErr};
+ghost use Rattle.std.specs.Prelude.{◌≡◌, ◌+◌, ◌≤◌, ◌++◌, length, IfOk, OnOk, OnErr};
 ghost use Rattle.tm_base.specs.Outside.{HasCause};
 ghost use Rattle.tm_base.specs.Written.{Wrote, WrotePrefix};
-ghost use Rattle.tm_driver.specs.Lines.{left_over_text, outcome_by, phase_text};
+ghost use Rattle.tm_driver.specs.Lines.{left_over_text, outcome_by, phase_text, slips_text};
 
 use crate::ending::Outcome;
 use crate::line::Line;
@@ -50,4 +50,17 @@ pub fn phase_line<O: Sink>(out: &mut O, skip: u8, cost: u64) -> Result<(), Faile
     line.number(cost);
     line.text(b"\n");
     line.put(out)
+}
+
+/// Adds before how many windows octets were dropped, a line of its own: `slips N`; nothing where the symbol phase is not followed.
+pub fn add_slips(line: &mut Line, slips: Option<u64>)
+    requires { length line.old ≤ 500 }
+    ensures text { line.new ≡ line.old ++ slips_text slips }
+    ensures length { length line.new ≤ length line.old + 27 }
+{
+    if let Some(count) = slips {
+        line.text(b"slips ");
+        line.number(count);
+        line.text(b"\n");
+    }
 }

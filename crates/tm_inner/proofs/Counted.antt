@@ -1,5 +1,5 @@
 -- What a decoder has counted of the blocks that it handed over.
-use Rattle.std.proofs.Common.{◌≡◌, ◌∙◌, ℕ, ◌-◌, ◌+◌, ◌≤◌, List, [], ◌∷◌, ◌++◌, length, drop, inl, inr, Bool, Option, Some, None, refl, sym, ap, subst, arith, ◌==◌}
+use Rattle.std.proofs.Common.{◌≡◌, ◌∙◌, ℕ, ◌-◌, ◌+◌, List, [], ◌∷◌, ◌++◌, length, drop, inl, inr, Bool, Option, Some, None, refl, sym, ap, subst, arith, ◌==◌}
 use Rattle.std.proofs.lemmas.List.{length-map}
 use Rattle.tm_base.specs.Handed.{Handed, items_of}
 use Rattle.tm_config.specs.Configuration.{Configuration}
@@ -39,7 +39,7 @@ pub whole-slips : (s : Settings) (octets : List ℕ) (blocks : List WindowBlock)
 whole-slips s octets blocks left are = blocks-slips s.rate s.invert s.keep s.ahead (first_start s.start) 0 are.count octets blocks are.are
 
 -- they keep all steps
-blocks-kept : (rate : Rate) (invert : Bool) (keep ahead : ℕ) (starts : Option ℕ) (t n : ℕ) (octets : List ℕ) (blocks : List WindowBlock)
+pub blocks-kept : (rate : Rate) (invert : Bool) (keep ahead : ℕ) (starts : Option ℕ) (t n : ℕ) (octets : List ℕ) (blocks : List WindowBlock)
     → AreBlocks rate invert keep ahead starts t n octets blocks → kept_of blocks ≡ n
 blocks-kept rate invert keep ahead starts t n octets [] are = sym are
 blocks-kept rate invert keep ahead starts t n octets (b ∷ blocks) are =

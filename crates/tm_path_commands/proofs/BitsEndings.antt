@@ -1,16 +1,16 @@
 -- What `bits` has written, from what waited, and how it ends.
-use Rattle.std.proofs.Common.{◌≡◌, ◌⊎◌, inl, inr, ℕ, ◌+◌, ◌%◌, ◌^◌, ◌<◌, ◌≤◌, Bool, List, [], ◌++◌, length, Option, Some, None, refl, sym, ap, ◌∙◌, subst, arith, append_assoc, length-append}
-use Rattle.std.proofs.lemmas.List.{append-nil, drop_all, take_all}
+use Rattle.std.proofs.Common.{◌≡◌, ◌⊎◌, inl, inr, ℕ, ◌+◌, ◌%◌, ◌^◌, ◌<◌, ◌≤◌, Bool, List, [], ◌++◌, length, Option, None, refl, sym, ap, ◌∙◌, subst, arith, append_assoc, length-append}
+use Rattle.std.proofs.lemmas.List.{append-nil, take_all}
 use Rattle.tm_base.specs.Bits.{bits_of, octets_of}
 use Rattle.tm_base.specs.Handed.{Handed, items_of}
 use Rattle.tm_base.specs.Written.{Wrote, WrotePrefix}
 use Rattle.tm_base.proofs.Packing.{AreOctets-octets_of, length-bits_of, octets_of-append, octets_of-bits_of}
 use Rattle.tm_config.specs.Accepted.{IsAccepted}
 use Rattle.tm_config.specs.Configuration.{Configuration}
-use Rattle.tm_conv.specs.declared.rates.Rate.{Rate}
 use Rattle.tm_phase.specs.declared.choosing.Chosen.{Chosen}
 use Rattle.tm_viterbi.specs.WindowBlock.{WindowBlock}
-use Rattle.tm_inner.specs.Inner.{AreInnerBlocks, AreInnerDue, bits_at, inner_bits}
+use Rattle.tm_inner.specs.Inner.{AreInnerBlocks, AreInnerDue, inner_bits, slips_told}
+use Rattle.tm_inner.specs.declared.receiver.InnerEnd.{InnerEnd}
 use Rattle.tm_inner.specs.Phase.{with_phase, skip_of}
 use Rattle.tm_inner.specs.Receiving.{InnerReceiving, StandsFor}
 use Rattle.tm_inner.specs.Handing.{AreHanded, AreHandedDue}
@@ -27,7 +27,7 @@ use Rattle.tm_driver.specs.declared.ending.Stop.TheVariants as stop
 use Rattle.tm_driver.proofs.Driven.{Shows, WroteInOrder, done-driven}
 use Rattle.tm_driver.proofs.SinkTexts.{prefix-of, wrote-prefix, wrote-nothing, wrote-then, wrote-then_prefix}
 use Rattle.tm_path_commands.specs.Bits.{CutsWriting, EndsWriting, FailsWriting, Gathers, GathersLast, IsEmptied, Packing, PhaseWaits, Writes, WritesAll, WritesAllPart, WritesMore, WritesPart, WrotePart, WroteWaiting, AreBitsInOrder, IsBits, bits_meaning, bits_of_handed, end_line, fill, filled_octets, line_of, open_bits, phase_line}
-use Rattle.tm_path_commands.specs.Lines.{trace_end_text}
+use Rattle.tm_path_commands.specs.Lines.{bits_end_text}
 use Rattle.tm_path_commands.proofs.TraceEndings.{stands-new}
 use Rattle.tm_path_commands.proofs.BitsGathered.{bits-unsettled, line-append, line-with_phase}
 use Rattle.tm_path_commands.proofs.PackedBits.{few-open, octets-more, octets-none, split-open}
@@ -145,13 +145,13 @@ module _ (receiver now : InnerReceiving) (packing packed : Packing) (octets : Li
 
 -- ---- the end
 
-module _ (receiver : InnerReceiving) (packing packed : Packing) (count left : ℕ) (out out_now notes : Option (List ℕ))
-    (h : GathersLast receiver packing packed count left) where
+module _ (receiver : InnerReceiving) (packing packed : Packing) (end : InnerEnd) (out out_now notes : Option (List ℕ))
+    (h : GathersLast receiver packing packed end) where
   -- the line after the bits
   end-is : (c : Configuration) (octets : List ℕ) (handed : List (Handed WindowBlock)) (windows : ℕ)
-      → windows ≡ length (items_of handed) → count ≡ length (bits_of_handed c octets handed)
-      → trace_end_text windows count left ≡ end_line c octets handed left
-  end-is c octets handed windows is counted = λ i. trace_end_text (is i) (counted i) left
+      → windows ≡ length (items_of handed) → end.bits ≡ length (bits_of_handed c octets handed) → end.slips ≡ slips_told c (items_of handed)
+      → bits_end_text end.slips windows end.bits end.leftover ≡ end_line c octets handed end.leftover
+  end-is c octets handed windows is counted slips = λ i. bits_end_text (slips i) (is i) (counted i) end.leftover
 
   -- all octets, and the line of the phase
   module _ (c : Configuration) (start noted : Option (List ℕ)) (octets : List ℕ) (accepted : IsAccepted c)
@@ -178,24 +178,24 @@ module _ (receiver : InnerReceiving) (packing packed : Packing) (count left : �
         (wrote-then noted notes middle (phase_line p.handed) (line_of packed.phase) p.notes wrote)
 
     last-line : (emptied : Packing) → IsEmptied packed emptied
-        → trace_end_text emptied.windows count left ≡ end_line c octets (p.handed ++ h.last) left
+        → bits_end_text end.slips emptied.windows end.bits end.leftover ≡ end_line c octets (p.handed ++ h.last) end.leftover
     last-line emptied is =
         let g = h.holds c p.written octets p.handed accepted p.holds p.is_written in
         end-is c octets (p.handed ++ h.last) emptied.windows (ap (λ (q : Packing). q.windows) is ∙ g.0.windows)
-        g.0.counted
+        g.0.counted g.0.slips
 
   pub ends-all : (emptied : Packing) (middle notes_now : Option (List ℕ)) → IsEmptied packed emptied
       → WroteWaiting packed out out_now notes middle
-      → Wrote middle notes_now (trace_end_text emptied.windows count left)
+      → Wrote middle notes_now (bits_end_text end.slips emptied.windows end.bits end.leftover)
       → EndsWriting receiver packing out notes out_now notes_now
   ends-all emptied middle notes_now is wrote line c start noted octets accepted p =
       let all : List (Handed WindowBlock) = p.handed ++ h.last in
       record {
         handed = all;
-        left = left;
+        left = end.leftover;
         are_handed = (h.holds c p.written octets p.handed accepted p.holds p.is_written).0.are_handed;
         out = out-all c start noted octets accepted p wrote.1;
-        notes = wrote-then noted middle notes_now (phase_line all) (end_line c octets all left)
+        notes = wrote-then noted middle notes_now (phase_line all) (end_line c octets all end.leftover)
             (line-all c start noted octets accepted p middle wrote.0)
             (subst (Wrote middle notes_now) (last-line c start noted octets accepted p emptied is) line);
       }
@@ -208,7 +208,7 @@ module _ (receiver : InnerReceiving) (packing packed : Packing) (count left : �
       let g = h.holds c p.written octets p.handed accepted p.holds p.is_written in
       record {
         handed = all;
-        left = left;
+        left = end.leftover;
         are_handed = g.0.are_handed;
         part = inl (subst (λ (l : List ℕ). WrotePart l (filled_octets (bits_of_handed c octets all)) start out_now
             noted notes_now) (the-line c start noted octets accepted p)
@@ -222,17 +222,17 @@ module _ (receiver : InnerReceiving) (packing packed : Packing) (count left : �
   -- or in the last line
   pub cuts-line : (emptied : Packing) (middle notes_now : Option (List ℕ)) → IsEmptied packed emptied
       → WroteWaiting packed out out_now notes middle
-      → WrotePrefix middle notes_now (trace_end_text emptied.windows count left)
+      → WrotePrefix middle notes_now (bits_end_text end.slips emptied.windows end.bits end.leftover)
       → CutsWriting receiver packing out notes out_now notes_now
   cuts-line emptied middle notes_now is wrote line c start noted octets accepted p =
       let all : List (Handed WindowBlock) = p.handed ++ h.last in
       record {
         handed = all;
-        left = left;
+        left = end.leftover;
         are_handed = (h.holds c p.written octets p.handed accepted p.holds p.is_written).0.are_handed;
         part = inr (
           out-all c start noted octets accepted p wrote.1,
-          wrote-then_prefix noted middle notes_now (phase_line all) (end_line c octets all left)
+          wrote-then_prefix noted middle notes_now (phase_line all) (end_line c octets all end.leftover)
               (line-all c start noted octets accepted p middle wrote.0)
               (subst (WrotePrefix middle notes_now) (last-line c start noted octets accepted p emptied is) line),
         );

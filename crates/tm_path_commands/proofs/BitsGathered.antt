@@ -1,7 +1,7 @@
 -- The bits and the phase that wait of what an inner receiver hands over.
 use Rattle.std.proofs.Common.{◌≡◌, ◌⊎◌, inl, inr, ℕ, ◌+◌, ◌*◌, ◌<◌, ◌≤◌, ◌^◌, ◌==◌, Bool, true, false, List, [], ◌∷◌, ◌++◌, length, take, drop, map, refl, sym, ap, ◌∙◌, subst, arith, append_assoc, length-append, length-drop, Option, Some, None}
 use Rattle.std.specs.Option.{is_some}
-use Rattle.std.proofs.lemmas.List.{append-nil, drop_all, length-map, map-append}
+use Rattle.std.proofs.lemmas.List.{append-nil, length-map, map-append}
 use Rattle.tm_base.specs.Bits.{low_bits}
 use Rattle.tm_base.specs.Handed.{Handed, Phase, Item, on_handed, items_of}
 use Rattle.tm_base.specs.Takers.{HandedOver}
@@ -9,13 +9,14 @@ use Rattle.tm_base.proofs.Packing.{length-low_bits}
 use Rattle.tm_base.proofs.HandedItems.{items_of-append}
 use Rattle.tm_config.specs.Accepted.{IsAccepted}
 use Rattle.tm_config.specs.Configuration.{Configuration}
-use Rattle.tm_config.specs.declared.values.Sought.TheVariants.{Given, Find}
+use Rattle.tm_config.specs.declared.values.Sought.TheVariants.{Given}
 use Rattle.tm_conv.specs.declared.rates.Rate.{Rate}
 use Rattle.tm_driver.specs.Lines.{phase_text}
 use Rattle.tm_phase.specs.declared.choosing.Chosen.{Chosen}
 use Rattle.tm_viterbi.specs.Clean.{kept_bits}
 use Rattle.tm_viterbi.specs.WindowBlock.{WindowBlock}
-use Rattle.tm_inner.specs.Inner.{BlocksAt, DueAt, plain_bits, bits_at, inner_bits, soft_value, AreInnerBlocks}
+use Rattle.tm_inner.specs.Inner.{BlocksAt, DueAt, plain_bits, bits_at, inner_bits, slips_told, soft_value, AreInnerBlocks}
+use Rattle.tm_inner.specs.declared.receiver.InnerEnd.{InnerEnd}
 use Rattle.tm_inner.specs.Phase.{IsChosenBy, IsSettled, with_phase, needed_at, phase_octets, skip_of, skipped_at}
 use Rattle.tm_inner.specs.Receiving.{InnerReceiving, StandsFor}
 use Rattle.tm_inner.specs.Handing.{AreHanded, AreHandedDue}
@@ -391,20 +392,23 @@ last-bits None c phase octets blocks last left are =
     ∙ ap (λ l. drop c.skip (plain_bits c octets) ++ all_bits l) (sym (back-none blocks last are.0))
 last-bits (Some rate) c phase octets blocks last left are = all_bits-append blocks last
 
-pub gathers-last : (receiver : InnerReceiving) (packing packed final : Packing) (count left : ℕ)
+pub gathers-last : (receiver : InnerReceiving) (packing packed final : Packing) (end : InnerEnd)
     (last : List (Handed WindowBlock)) → HandedOver (on_handed AddsPhase AddsWindow) packing last packed
     → Adds packed (low_bits 7 0) final
     → ((given : List ℕ) (done : List (Handed WindowBlock)) → StandsFor receiver given done
-    → AreHanded receiver.config given (done ++ last) left
-    × (count ≡ length (inner_bits receiver.config given (items_of (done ++ last)))))
-    → GathersLast receiver packing final count left
-gathers-last receiver packing packed final count left last handed adds ends = record {
+    → AreHanded receiver.config given (done ++ last) end.leftover
+    × (end.bits ≡ length (inner_bits receiver.config given (items_of (done ++ last))))
+    × (end.slips ≡ slips_told receiver.config (items_of (done ++ last))))
+    → GathersLast receiver packing final end
+gathers-last receiver packing packed final end last handed adds ends = record {
   last = last;
   holds = λ c written octets done accepted p is.
       let all = waits packing packed last handed in
       let due = subst (λ (k : Configuration). AreHandedDue k octets done) p.config p.stands.1 in
+      let left = end.leftover in
       let there = subst (λ (k : Configuration). AreHanded k octets (done ++ last) left
-      × (count ≡ length (inner_bits k octets (items_of (done ++ last))))) p.config
+      × (end.bits ≡ length (inner_bits k octets (items_of (done ++ last))))
+      × (end.slips ≡ slips_told k (items_of (done ++ last)))) p.config
       (ends octets done p.stands.0) in
       let t = there.0 in
       let most = handed-last-few c octets done last left due t in
@@ -445,6 +449,7 @@ gathers-last receiver packing packed final count left last handed adds ends = re
               ∙ ap (λ l. bits_of_handed c octets (done ++ last) ++ l) zeros-fill;
           windows = adds.windows ∙ omega (arith, counted, sum, p.windows);
           counted = there.1;
+          slips = there.2;
         },
         phase-waits c final written packing.bits octets (phase_octets c octets) done last t.chosen t.items due p.bits
             t.choice t.are

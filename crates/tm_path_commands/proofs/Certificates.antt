@@ -35,7 +35,8 @@ use Rattle.tm_driver.specs.declared.ending.Ending.{Ending}
 use Rattle.tm_driver.specs.declared.ending.Ending.TheVariants.{Done, Bad, BadWindow, LeftOver, SourceFault, SinkFault, PastLimit}
 use Rattle.tm_path_commands.specs.Certify.{TextAt, IsCertifiedAll}
 use Rattle.tm_path_commands.specs.Check.{ReadAt, IsChecked, check_meaning, rules_of, windows_text, bits_kept, end_text}
-use Rattle.tm_path_commands.specs.Lines.{window_text, trace_end_text}
+use Rattle.tm_path_commands.specs.declared.tally.Tally.{Tally}
+use Rattle.tm_path_commands.specs.Lines.{no_blocks, tally_after, window_text, trace_end_text}
 use Rattle.tm_path_commands.specs.Shown.{ShowsLeast, HasSamePaths, PassesCertified}
 use Rattle.tm_path_commands.specs.Trace.{blocks_text, trace_text}
 
@@ -157,14 +158,15 @@ certifies passing c d given octets rate is accepted same plain small all =
 
 -- ---- and what `check` writes of it
 
-same-lines : (n : ℕ) (windows : List Window) → windows_text n windows ≡ blocks_text n (map Item (map block_of windows))
-same-lines n [] = refl
-same-lines n (w ∷ windows) = ap (λ l. window_text n w.steps w.kept w.metric ++ l) (same-lines (n + 1) windows)
+same-lines : (was : Tally) (windows : List Window) → windows_text was.blocks windows ≡ blocks_text was (map Item (map block_of windows))
+same-lines was [] = refl
+same-lines was (w ∷ windows) = ap (λ l. window_text was.blocks w.steps w.kept w.metric ++ l) (same-lines (tally_after was (block_of w)) windows)
 
 same-trace : (c d : Configuration) (given octets : List ℕ) (blocks : List WindowBlock) (rate : Rate) (k : Certifies c d given octets blocks rate)
     → windows_text 0 k.windows ++ trace_end_text (length k.windows) (bits_kept k.windows) 0 ≡ trace_text (map Item blocks) (length (inner_bits d given blocks)) 0
 same-trace c d given octets blocks rate k =
-    let lines : windows_text 0 k.windows ≡ blocks_text 0 (map Item blocks) = same-lines 0 k.windows ∙ ap (λ (l : List WindowBlock). blocks_text 0 (map Item l)) k.same in
+    let lines : windows_text 0 k.windows ≡ blocks_text no_blocks (map Item blocks) =
+    same-lines no_blocks k.windows ∙ ap (λ (l : List WindowBlock). blocks_text no_blocks (map Item l)) k.same in
     let count : length k.windows ≡ length (items_of (map Item blocks)) = sym (length-map k.windows block_of) ∙ ap length k.same ∙ ap length (sym (items_of-items blocks)) in
     λ i. lines i ++ trace_end_text (count i) (sym k.bits i) 0
 

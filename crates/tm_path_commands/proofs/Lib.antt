@@ -1,9 +1,9 @@
 pub mod TraceLines
+pub mod CertifierTook
+pub mod CertifyingPlace
 pub mod TraceEndings
 pub mod CheckedWindows
 pub mod CheckEndings
-pub mod CertifierTook
-pub mod CertifyingPlace
 pub mod CertifyingPieces
 pub mod CertifyingEnd
 pub mod CertifyEndings

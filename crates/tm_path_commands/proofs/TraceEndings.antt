@@ -13,7 +13,8 @@ use Rattle.tm_conv.proofs.Sizes.{steps_size_ge}
 use Rattle.tm_viterbi.specs.WindowBlock.{WindowBlock}
 use Rattle.tm_viterbi.specs.Blocks.{AreBlocks}
 use Rattle.tm_viterbi.specs.Due.{Place, Closed, after_block, first_place}
-use Rattle.tm_windows.specs.Followed.{Windows, first_spot}
+use Rattle.tm_windows.specs.Followed.{Windows, first_spot, kept_of}
+use Rattle.tm_windows.proofs.FollowedRuns.{closed-kept, kept-append}
 use Rattle.tm_windows.specs.Windows.{AreBlocksBy, AreFirstBy, AreFirstIn}
 use Rattle.tm_viterbi.specs.Starts.{first_start}
 use Rattle.tm_viterbi.proofs.CleanBlocks.{steps-mono}
@@ -22,6 +23,7 @@ use Rattle.tm_inner.specs.Inner.{windows_of, soft_value, soft_octets, BlocksAt, 
 use Rattle.tm_inner.specs.Phase.{skip_of, with_phase, WithPhaseSettled}
 use Rattle.tm_inner.specs.Receiving.{InnerReceiving, StandsFor, FirstAt, AreInnerFirst, Hands, HandsPrefix}
 use Rattle.tm_inner.specs.Handing.{AreHanded, AreHandedDue, AreHandedFirst, AreHandedPrefix}
+use Rattle.tm_inner.proofs.Counted.{blocks-kept}
 use Rattle.tm_inner.proofs.FollowedBits.{followed-count, followed-count_all, followed-few, followed-keep, followed-whole}
 use Rattle.tm_inner.proofs.DueBits.{StayClosed, StandFirst, soft-more}
 use Rattle.tm_inner.proofs.InnerBits.{HasBlocks, has_blocks}
@@ -39,11 +41,13 @@ use Rattle.tm_driver.specs.declared.ending.Outcome.TheVariants as outcome
 use Rattle.tm_driver.specs.declared.ending.Stop.TheVariants as stop
 use Rattle.tm_driver.proofs.Driven.{Shows, WroteInOrder, done-driven}
 use Rattle.tm_driver.proofs.SinkTexts.{broke-prefix, prefix-of, wrote-prefix, wrote-nothing}
-use Rattle.tm_path_commands.specs.Lines.{trace_end_text}
+use Rattle.tm_path_commands.specs.declared.tally.Tally.{Tally}
+use Rattle.tm_path_commands.specs.Lines.{no_blocks, trace_end_text}
 use Rattle.tm_path_commands.specs.Taken.{TracedAll}
 use Rattle.tm_path_commands.specs.Trace.{IsTrace, IsTraceDue, blocks_text, trace_meaning, trace_text}
 use Rattle.tm_path_commands.specs.Tracing.{CutsTrace, EndsTrace, StandsAt, Traces, TraceFails, TracedWhole, WroteTrace, WroteTracePrefix}
-use Rattle.tm_path_commands.proofs.TraceLines.{TookOne, BrokeOne, traced-none, traced-more, traced-part, trace-prefix, trace_text-split}
+use Rattle.tm_path_commands.proofs.CertifyingPlace.{closed-few as closed-less}
+use Rattle.tm_path_commands.proofs.TraceLines.{TookOne, BrokeOne, few-tally, traced-none, traced-more, traced-part, trace-prefix, trace_text-split}
 
 -- ---- windows are at most as many as octets
 
@@ -131,6 +135,63 @@ few-handed c octets handed left accepted h =
     let few = few-at c.inner c (skip_of h.chosen) octets h.items left (keeps-some c accepted) h.are_items in
     omega (arith, few, ap (λ l. length (items_of l)) h.are, ap length (items_of-with_phase h.chosen h.items))
 
+-- ---- they keep no more bits than there are octets
+
+kept-first-by : (seen : Option ℕ) (w : Windows) (octets : List ℕ) (blocks : List WindowBlock) → AreFirstBy seen w octets blocks
+    → kept_of blocks ≤ length octets
+kept-first-by None w octets blocks are =
+    let s = w.settings in
+    let from = first_place s octets in
+    omega (arith, closed-kept s from are.0 blocks are.1, closed-less s.rate s.invert s.keep s.ahead from are.0 blocks are.1)
+kept-first-by (Some steps) w octets blocks are =
+    omega (arith, followed-keep w (first_spot w octets) are.0 blocks are.1, followed-few w octets blocks are)
+
+kept-by : (seen : Option ℕ) (w : Windows) (octets : List ℕ) (blocks : List WindowBlock) (left : ℕ) → AreBlocksBy seen w octets blocks left
+    → kept_of blocks ≤ length octets
+kept-by None w octets blocks left are =
+    let s = w.settings in
+    omega (
+      arith,
+      blocks-kept s.rate s.invert s.keep s.ahead (first_start s.start) 0 are.count octets blocks are.are,
+      are.steps.whole,
+      steps_size_ge s.rate 0 are.count,
+    )
+kept-by (Some steps) w octets blocks left are = let k = followed-whole w octets blocks left are in omega (arith, k.few)
+
+kept-first-at : (rate : Option Rate) (c : Configuration) (phase : ℕ) (octets : List ℕ) (blocks : List WindowBlock) → FirstAt rate c phase octets blocks
+    → kept_of blocks ≤ length octets
+kept-first-at None c phase octets blocks are = omega (arith, ap kept_of are)
+kept-first-at (Some rate) c phase octets blocks are =
+    let w = windows_of c rate in
+    omega (arith, kept-first-by w.seen w (soft_octets c phase octets) blocks are, length-soft c phase octets)
+
+kept-at : (rate : Option Rate) (c : Configuration) (phase : ℕ) (octets : List ℕ) (blocks : List WindowBlock) (left : ℕ) → BlocksAt rate c phase octets blocks left
+    → kept_of blocks ≤ length octets
+kept-at None c phase octets blocks left are = omega (arith, ap kept_of are.0)
+kept-at (Some rate) c phase octets blocks left are =
+    let w = windows_of c rate in
+    omega (arith, kept-by w.seen w (soft_octets c phase octets) blocks left are, length-soft c phase octets)
+
+kept-first : (c : Configuration) (octets : List ℕ) (handed : List (Handed WindowBlock)) → AreHandedFirst c octets handed → kept_of (items_of handed) ≤ length octets
+kept-first c octets handed h = omega (
+  arith,
+  kept-first-at c.inner c (skip_of h.1.chosen) octets h.1.items h.1.are_items,
+  ap (λ l. kept_of (items_of l)) h.1.are,
+  ap kept_of (items_of-with_phase h.1.chosen h.1.items),
+)
+
+kept-due : (c : Configuration) (octets : List ℕ) (handed : List (Handed WindowBlock)) → AreHandedDue c octets handed → kept_of (items_of handed) ≤ length octets
+kept-due c octets handed (inl none) = omega (arith, ap (λ l. kept_of (items_of l)) none.1)
+kept-due c octets handed (inr h) = kept-first c octets handed (first-settled c octets handed h)
+
+kept-handed : (c : Configuration) (octets : List ℕ) (handed : List (Handed WindowBlock)) (left : ℕ) → AreHanded c octets handed left → kept_of (items_of handed) ≤ length octets
+kept-handed c octets handed left h = omega (
+  arith,
+  kept-at c.inner c (skip_of h.chosen) octets h.items left h.are_items,
+  ap (λ l. kept_of (items_of l)) h.are,
+  ap kept_of (items_of-with_phase h.chosen h.items),
+)
+
 -- ---- first windows stand first
 
 first-of-all : StandFirst → (rate : Option Rate) (c : Configuration) (phase : ℕ) (octets : List ℕ) (first blocks : List WindowBlock) (left : ℕ)
@@ -170,38 +231,39 @@ prefix-of-all exists stands c octets prefix accepted f =
 
 -- ---- what was traced of the octets that were read
 
-traces : {T K : Type 0} (name : T → K) (lines : T → SinkState) (count : T → ℕ) (c : Configuration) (a b : InnerReceiving) (taker now : T) (octets : List ℕ)
-    → count taker ≡ 0 → IsAccepted c → b.config ≡ c → length octets < 2 ^ 60 → StandsAt a [] []
+traces : {T K : Type 0} (name : T → K) (lines : T → SinkState) (count : T → Tally) (c : Configuration) (a b : InnerReceiving) (taker now : T) (octets : List ℕ)
+    → count taker ≡ no_blocks → IsAccepted c → b.config ≡ c → length octets < 2 ^ 60 → StandsAt a [] []
     → Hands (TookOne name lines count) StandsAt a b taker now octets → Traces c b (count now) (lines taker) (lines now) octets
 traces name lines count c a b taker now octets new accepted same few stood p =
     let small : 0 + length octets < 2 ^ 60 = omega arith in
     let stands : StandsAt b octets p.more = p.stands [] [] small stood in
-    let bound = few-due b.config octets p.more (subst IsAccepted (sym same) accepted) stands.1 in
+    let ok = subst IsAccepted (sym same) accepted in
+    let bound = few-tally (length octets) p.more few (few-due b.config octets p.more ok stands.1) (kept-due b.config octets p.more stands.1) in
     record {
       handed = p.more;
       config = same;
       stands = stands;
-      lines = traced-more name lines count (lines taker) [] p.more taker now (traced-none (lines taker) (count taker) new) p.handed (omega arith);
+      lines = traced-more name lines count (lines taker) [] p.more taker now (traced-none (lines taker) (count taker) new) p.handed bound;
     }
 
-trace-fails : {T K : Type 0} (name : T → K) (lines : T → SinkState) (last : T → Type 0) (count : T → ℕ) (c : Configuration) (a : InnerReceiving) (taker now : T) (octets : List ℕ)
-    → count taker ≡ 0 → IsAccepted c → length octets < 2 ^ 60 → StandsAt a [] []
+trace-fails : {T K : Type 0} (name : T → K) (lines : T → SinkState) (last : T → Type 0) (count : T → Tally) (c : Configuration) (a : InnerReceiving) (taker now : T) (octets : List ℕ)
+    → count taker ≡ no_blocks → IsAccepted c → length octets < 2 ^ 60 → StandsAt a [] []
     → HandsPrefix (TookOne name lines count) (BrokeOne name lines last count) StandsAt (AreHandedFirst c) a taker now octets
     → TraceFails c (lines taker) (lines now) (last now) octets
 trace-fails name lines last count c a taker now octets new accepted few stood p =
     let small : 0 + length octets < 2 ^ 60 = omega arith in
     let first : AreHandedFirst c octets p.tried = p.first [] [] small stood in
-    let bound = few-first c octets p.tried accepted first in
+    let bound = few-tally (length octets) p.tried few (few-first c octets p.tried accepted first) (kept-first c octets p.tried first) in
     record {
       handed = p.tried;
       are_first = first;
-      broke = traced-part name lines last count (lines taker) [] p.tried taker now (traced-none (lines taker) (count taker) new) p.handed (omega arith);
+      broke = traced-part name lines last count (lines taker) [] p.tried taker now (traced-none (lines taker) (count taker) new) p.handed bound;
     }
 
 -- ---- the end of a trace
 
 -- the last windows after those that were traced before
-pub traced-whole : {T K : Type 0} (name : T → K) (lines : T → SinkState) (count : T → ℕ) (c : Configuration) (r : InnerReceiving) (taker now : T) (start : SinkState) (octets : List ℕ)
+pub traced-whole : {T K : Type 0} (name : T → K) (lines : T → SinkState) (count : T → Tally) (c : Configuration) (r : InnerReceiving) (taker now : T) (start : SinkState) (octets : List ℕ)
     (last : List (Handed WindowBlock)) (bits left : ℕ) → IsAccepted c → Traces c r (count taker) start (lines taker) octets
     → HandedOver (TookOne name lines count) taker last now
     → ((given : List ℕ) (done : List (Handed WindowBlock)) → StandsFor r given done
@@ -210,18 +272,18 @@ pub traced-whole : {T K : Type 0} (name : T → K) (lines : T → SinkState) (co
 traced-whole name lines count c r taker now start octets last bits left accepted t handed finish =
     let done = t.handed in
     let whole = subst (λ (k : Configuration). AreHanded k octets (done ++ last) left × (bits ≡ length (inner_bits k octets (items_of (done ++ last))))) t.config (finish octets done t.stands.0) in
-    let bound = few-handed c octets (done ++ last) left accepted whole.0 in
-    let few = t.stands.0.few in
+    let bound = few-tally (length octets) (done ++ last) t.stands.0.few (few-handed c octets (done ++ last) left accepted whole.0)
+    (kept-handed c octets (done ++ last) left whole.0) in
     record {
       handed = done ++ last;
       are_handed = whole.0;
       are_bits = whole.1;
-      lines = traced-more name lines count start done last taker now t.lines handed (omega arith);
+      lines = traced-more name lines count start done last taker now t.lines handed bound;
     }
 
 -- the sink took the last line
-pub wrote-end : (c : Configuration) (count bits left : ℕ) (start before now : SinkState) (octets : List ℕ) → TracedWhole c count bits left start before octets
-    → ((from : SinkState) (handed : List (Handed WindowBlock)) → TracedAll from before 0 count handed → TookText from now (trace_text handed bits left)) → WroteTrace c start now octets
+pub wrote-end : (c : Configuration) (count : Tally) (bits left : ℕ) (start before now : SinkState) (octets : List ℕ) → TracedWhole c count bits left start before octets
+    → ((from : SinkState) (handed : List (Handed WindowBlock)) → TracedAll from before no_blocks count handed → TookText from now (trace_text handed bits left)) → WroteTrace c start now octets
 wrote-end c count bits left start before now octets w whole = record {
   handed = w.handed;
   left = left;
@@ -230,9 +292,9 @@ wrote-end c count bits left start before now octets w whole = record {
 }
 
 -- the sink failed in the last line
-pub cut-end : (c : Configuration) (count bits left : ℕ) (start before now : SinkState) (is_last : Type 0) (octets : List ℕ) → TracedWhole c count bits left start before octets
-    → ((from : SinkState) (handed : List (Handed WindowBlock)) → TracedAll from before 0 count handed
-    → BrokeText from now is_last (blocks_text 0 handed) (trace_end_text (length (items_of handed)) bits left)) → WroteTracePrefix c start now octets
+pub cut-end : (c : Configuration) (count : Tally) (bits left : ℕ) (start before now : SinkState) (is_last : Type 0) (octets : List ℕ) → TracedWhole c count bits left start before octets
+    → ((from : SinkState) (handed : List (Handed WindowBlock)) → TracedAll from before no_blocks count handed
+    → BrokeText from now is_last (blocks_text no_blocks handed) (trace_end_text (length (items_of handed)) bits left)) → WroteTracePrefix c start now octets
 cut-end c count bits left start before now is_last octets w broke =
     let handed = w.handed in
     let end = trace_end_text (length (items_of handed)) bits left in
@@ -241,19 +303,19 @@ cut-end c count bits left start before now is_last octets w broke =
       left = left;
       are_handed = w.are_handed;
       written = subst (λ (n : ℕ). WrotePrefix start.taken now.taken (trace_text handed n left)) w.are_bits
-          (subst (λ l. WrotePrefix start.taken now.taken (blocks_text 0 handed ++ l)) (append-nil end)
-          (broke-prefix start now is_last (blocks_text 0 handed) end [] (broke start handed w.lines)));
+          (subst (λ l. WrotePrefix start.taken now.taken (blocks_text no_blocks handed ++ l)) (append-nil end)
+          (broke-prefix start now is_last (blocks_text no_blocks handed) end [] (broke start handed w.lines)));
     }
 
 -- a prefix of the lines of the first of all is a prefix of the trace
 trace-first : (before now : Option (List ℕ)) (handed first rest : List (Handed WindowBlock)) (bits left : ℕ) → handed ≡ first ++ rest
-    → WrotePrefix before now (blocks_text 0 first) → WrotePrefix before now (trace_text handed bits left)
+    → WrotePrefix before now (blocks_text no_blocks first) → WrotePrefix before now (trace_text handed bits left)
 trace-first before now handed first rest bits left split wrote =
     let text = trace_text-split handed first rest bits left split in
-    subst (WrotePrefix before now) (sym text.1) (prefix-of before now (blocks_text 0 first) text.0 wrote)
+    subst (WrotePrefix before now) (sym text.1) (prefix-of before now (blocks_text no_blocks first) text.0 wrote)
 
 -- or in one of the last lines before it
-pub cut-last : HasBlocks → StandFirst → {T K : Type 0} (name : T → K) (lines : T → SinkState) (last : T → Type 0) (count : T → ℕ) (c : Configuration) (r : InnerReceiving) (taker now : T)
+pub cut-last : HasBlocks → StandFirst → {T K : Type 0} (name : T → K) (lines : T → SinkState) (last : T → Type 0) (count : T → Tally) (c : Configuration) (r : InnerReceiving) (taker now : T)
     (start : SinkState) (octets : List ℕ) (tried : List (Handed WindowBlock)) → IsAccepted c → Traces c r (count taker) start (lines taker) octets
     → HandedPart (TookOne name lines count) (BrokeOne name lines last count) taker tried now
     → ((given : List ℕ) (done : List (Handed WindowBlock)) → StandsFor r given done → AreHandedPrefix r.config given (done ++ tried))
@@ -261,10 +323,11 @@ pub cut-last : HasBlocks → StandFirst → {T K : Type 0} (name : T → K) (lin
 cut-last exists stands name lines last count c r taker now start octets tried accepted t part finish =
     let prefix = t.handed ++ tried in
     let all = prefix-of-all exists stands c octets prefix accepted (subst (λ (k : Configuration). AreHandedPrefix k octets prefix) t.config (finish octets t.handed t.stands.0)) in
-    let bound : length (items_of prefix) ≤ length octets =
+    let blocks : length (items_of prefix) ≤ length octets =
     omega (arith, few-handed c octets all.0 all.1 accepted all.2, ap (λ l. length (items_of l)) all.3.1, ap length (items_of-append prefix all.3.0), length-append (items_of prefix) (items_of all.3.0)) in
-    let few = t.stands.0.few in
-    let broke = traced-part name lines last count start t.handed tried taker now t.lines part (omega arith) in
+    let bits : kept_of (items_of prefix) ≤ length octets =
+    omega (arith, kept-handed c octets all.0 all.1 all.2, ap (λ l. kept_of (items_of l)) all.3.1, ap kept_of (items_of-append prefix all.3.0), kept-append (items_of prefix) (items_of all.3.0)) in
+    let broke = traced-part name lines last count start t.handed tried taker now t.lines part (few-tally (length octets) prefix t.stands.0.few blocks bits) in
     record {
       handed = all.0;
       left = all.1;
@@ -282,7 +345,7 @@ stands-new c r accepted same stands = (stands, subst (λ (k : Configuration). Ar
 
 -- lines of the first of all are a prefix of the trace
 prefixes-by : (c : Configuration) (octets : List ℕ) (first : List (Handed WindowBlock)) (taken taken_now noted : Option (List ℕ)) (output : Output) (is : IsTrace c octets output)
-    → (rest : List (Handed WindowBlock)) × (is.handed ≡ first ++ rest) → WrotePrefix taken taken_now (blocks_text 0 first) → WrotePrefixes output (taken_by taken taken_now noted noted)
+    → (rest : List (Handed WindowBlock)) × (is.handed ≡ first ++ rest) → WrotePrefix taken taken_now (blocks_text no_blocks first) → WrotePrefixes output (taken_by taken taken_now noted noted)
 prefixes-by c octets first taken taken_now noted output is split wrote = record {
   out = subst (WrotePrefix taken taken_now) (sym is.out)
       (trace-first taken taken_now is.handed first split.0 (length (inner_bits c octets (items_of is.handed))) is.left split.1 wrote);
@@ -316,10 +379,10 @@ shows-prefix c octets before now noted w = (
   wrote-nothing noted,
 )
 
-due-written : (c : Configuration) (r : InnerReceiving) (count : ℕ) (octets : List ℕ) (before now : SinkState) (noted : Option (List ℕ)) → Traces c r count before now octets
+due-written : (c : Configuration) (r : InnerReceiving) (count : Tally) (octets : List ℕ) (before now : SinkState) (noted : Option (List ℕ)) → Traces c r count before now octets
     → (output : Output) × IsTraceDue c octets output × WroteBoth output (taken_by before.taken now.taken noted noted)
 due-written c r count octets before now noted t =
-    let output : Output = record { out = blocks_text 0 t.handed; notes = [] } in (
+    let output : Output = record { out = blocks_text no_blocks t.handed; notes = [] } in (
       output,
       record { handed = t.handed; are_due = subst (λ (k : Configuration). AreHandedDue k octets t.handed) t.config t.stands.1; out = refl; notes = refl },
       record { out = t.lines.lines.written; notes = wrote-nothing noted },
@@ -336,7 +399,7 @@ module _ (exists : HasBlocks) (stands : StandFirst) (phase : HasPhase) (one : On
         is-trace c octets all.0 left record { chosen = all.1.chosen; choice = all.1.choice; items = all.1.items; are_items = all.1.are_items.1; are = all.1.are },
       )
 
-  ends-early : StayClosed → PhaseStays → (c : Configuration) (r : InnerReceiving) (count : ℕ) (octets : List ℕ) (before now : SinkState) (noted : Option (List ℕ))
+  ends-early : StayClosed → PhaseStays → (c : Configuration) (r : InnerReceiving) (count : Tally) (octets : List ℕ) (before now : SinkState) (noted : Option (List ℕ))
       → IsAccepted c → Traces c r count before now octets → WroteEarly (trace_meaning c) octets (taken_by before.taken now.taken noted noted)
   ends-early stay stays c r count octets before now noted accepted t = (
     due-written c r count octets before now noted t,
@@ -349,7 +412,7 @@ module _ (exists : HasBlocks) (stands : StandFirst) (phase : HasPhase) (one : On
           all.0,
           all.1,
           prefixes-by c (octets ++ more) t.handed before.taken now.taken noted all.0 all.1 split
-              (wrote-prefix before.taken now.taken (blocks_text 0 t.handed) t.lines.lines.written),
+              (wrote-prefix before.taken now.taken (blocks_text no_blocks t.handed) t.lines.lines.written),
         ),
   )
 
@@ -370,7 +433,7 @@ module _ (exists : HasBlocks) (stands : StandFirst) (phase : HasPhase) (one : On
   -- the relations of what is fed, over the receiver and the taker of a value
   module _ (stay : StayClosed) (stays : PhaseStays) {F T K : Type 0} (receiver : F → InnerReceiving) (taker : F → T)
       (name : T → K) (lines : T → SinkState)
-      (last : T → Type 0) (count : T → ℕ) where
+      (last : T → Type 0) (count : T → Tally) where
     abbrev pub Fed : F → F → List ℕ → Type 0
     Fed a b octets = ((receiver b).config ≡ (receiver a).config)
         × Hands (TookOne name lines count) StandsAt (receiver a) (receiver b) (taker a) (taker b) octets
@@ -387,7 +450,7 @@ module _ (exists : HasBlocks) (stands : StandFirst) (phase : HasPhase) (one : On
     Failed a b = CutsTrace (receiver a) (count (taker a)) (lines (taker a)) (lines (taker b))
 
     -- nothing was given before
-    module _ (c : Configuration) (before now : F) (noted : Option (List ℕ)) (new : count (taker before) ≡ 0)
+    module _ (c : Configuration) (before now : F) (noted : Option (List ℕ)) (new : count (taker before) ≡ no_blocks)
         (accepted : IsAccepted c)
         (same : (receiver before).config ≡ c) (fresh : StandsFor (receiver before) [] []) where
       stood : StandsAt (receiver before) [] []

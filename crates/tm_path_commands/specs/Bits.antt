@@ -11,10 +11,11 @@ use Rattle.tm_driver.specs.Lines.{phase_text}
 use Rattle.tm_driver.specs.Meaning.{Meaning, Output, Taken}
 use Rattle.tm_phase.specs.declared.choosing.Chosen.{Chosen}
 use Rattle.tm_viterbi.specs.WindowBlock.{WindowBlock}
-use Rattle.tm_inner.specs.Inner.{inner_bits}
+use Rattle.tm_inner.specs.Inner.{inner_bits, slips_told}
 use Rattle.tm_inner.specs.Handing.{AreHanded, AreHandedDue}
 use Rattle.tm_inner.specs.Receiving.{InnerReceiving, StandsFor}
-use Rattle.tm_path_commands.specs.Lines.{trace_end_text}
+use Rattle.tm_inner.specs.declared.receiver.InnerEnd.{InnerEnd}
+use Rattle.tm_path_commands.specs.Lines.{bits_end_text}
 use Rattle.tm_path_commands.specs.Tracing.{StandsAt}
 
 -- ---- the meaning of `bits`
@@ -37,10 +38,12 @@ phase_line (Item block ∷ handed) = phase_line handed
 abbrev pub bits_of_handed : Configuration → List ℕ → List (Handed WindowBlock) → List Bool
 bits_of_handed c octets handed = inner_bits c octets (items_of handed)
 
--- what is said after the bits: the windows, the bits, and the octets after the last step
+-- what is said after the bits: how often octets were dropped, where the phase is followed, the
+-- windows, the bits, and the octets after the last step
 abbrev pub end_line : Configuration → List ℕ → List (Handed WindowBlock) → ℕ → List ℕ
 end_line c octets handed left =
-    trace_end_text (length (items_of handed)) (length (bits_of_handed c octets handed)) left
+    bits_end_text (slips_told c (items_of handed)) (length (items_of handed))
+    (length (bits_of_handed c octets handed)) left
 
 -- all bits of the octets, and what is said of them
 pub record IsBits (c : Configuration) (octets : List ℕ) (output : Output) : Type 0 where
@@ -177,22 +180,23 @@ pub record Gathers (receiver receiver_now : InnerReceiving) (packing packing_now
       × PhaseWaits packing_now written more
 
 -- After the bits that were written all others of the octets wait, filled to a whole octet. They
--- come to so many bits, and so many octets are left over.
+-- come to so many bits, octets were dropped so often, and so many are left over.
 pub record HoldsAll (c : Configuration) (packing : Packing) (written : List Bool)
-    (octets : List ℕ) (handed : List (Handed WindowBlock)) (count left : ℕ) : Type 0 where
-  pub are_handed : AreHanded c octets handed left
+    (octets : List ℕ) (handed : List (Handed WindowBlock)) (end : InnerEnd) : Type 0 where
+  pub are_handed : AreHanded c octets handed end.leftover
   pub bits : written ++ packing.bits ≡ bits_of_handed c octets handed ++ fill
   pub windows : packing.windows ≡ length (items_of handed)
-  pub counted : count ≡ length (bits_of_handed c octets handed)
+  pub counted : end.bits ≡ length (bits_of_handed c octets handed)
+  pub slips : end.slips ≡ slips_told c (items_of handed)
 
 -- at the end the receiver hands over the last, and all of it waits
 pub record GathersLast (receiver : InnerReceiving) (packing packing_now : Packing)
-    (count left : ℕ) : Type 0 where
+    (end : InnerEnd) : Type 0 where
   pub last : List (Handed WindowBlock)
   pub holds : (c : Configuration) (written : List Bool) (octets : List ℕ)
       (done : List (Handed WindowBlock)) → IsAccepted c
       → Holds c receiver packing written octets done → IsWritten packing
-      → HoldsAll c packing_now written octets (done ++ last) count left
+      → HoldsAll c packing_now written octets (done ++ last) end
       × PhaseWaits packing_now written last
 
 -- the receiver was given these octets, and what is due of them is written

@@ -10,6 +10,8 @@ use Rattle.tm_viterbi.specs.WindowBlock.{WindowBlock}
 use Rattle.tm_inner.specs.Inner.{inner_bits}
 use Rattle.tm_inner.specs.Handing.{AreHanded, AreHandedDue, AreHandedFirst}
 use Rattle.tm_inner.specs.Receiving.{InnerReceiving, StandsFor}
+use Rattle.tm_path_commands.specs.declared.tally.Tally.{Tally}
+use Rattle.tm_path_commands.specs.Lines.{no_blocks}
 use Rattle.tm_path_commands.specs.Trace.{trace_text}
 use Rattle.tm_path_commands.specs.Taken.{TracedAll, TraceBroke}
 
@@ -20,13 +22,13 @@ StandsAt receiver octets handed = StandsFor receiver octets handed
     × AreHandedDue receiver.config octets handed
 
 -- the receiver was given these octets, and the sink took the lines of what is due for them, with so
--- many windows
-pub record Traces (c : Configuration) (receiver : InnerReceiving) (count : ℕ)
+-- many windows and bits
+pub record Traces (c : Configuration) (receiver : InnerReceiving) (tally : Tally)
     (before now : SinkState) (octets : List ℕ) : Type 0 where
   pub handed : List (Handed WindowBlock)
   pub config : receiver.config ≡ c
   pub stands : StandsAt receiver octets handed
-  pub lines : TracedAll before now 0 count handed
+  pub lines : TracedAll before now no_blocks tally handed
 
 -- the sink failed in one of the first lines of these octets
 pub record TraceFails (c : Configuration) (before now : SinkState) (is_last : Type 0)
@@ -37,12 +39,12 @@ pub record TraceFails (c : Configuration) (before now : SinkState) (is_last : Ty
 
 -- The sink took the lines of all that is handed over of these octets, with so many windows. The
 -- octets come to so many bits, and so many octets are left over.
-pub record TracedWhole (c : Configuration) (count bits left : ℕ) (before now : SinkState)
+pub record TracedWhole (c : Configuration) (tally : Tally) (bits left : ℕ) (before now : SinkState)
     (octets : List ℕ) : Type 0 where
   pub handed : List (Handed WindowBlock)
   pub are_handed : AreHanded c octets handed left
   pub are_bits : bits ≡ length (inner_bits c octets (items_of handed))
-  pub lines : TracedAll before now 0 count handed
+  pub lines : TracedAll before now no_blocks tally handed
 
 -- the sink took the trace of these octets
 pub record WroteTrace (c : Configuration) (before now : SinkState) (octets : List ℕ) : Type 0 where
@@ -62,12 +64,12 @@ pub record WroteTracePrefix (c : Configuration) (before now : SinkState)
       (trace_text handed (length (inner_bits c octets (items_of handed))) left)
 
 -- what was begun is traced to its end, or the sink fails in it
-abbrev pub EndsTrace : InnerReceiving → (count : ℕ) → (lines lines_now : SinkState) → Type 0
-EndsTrace receiver count lines lines_now =
+abbrev pub EndsTrace : InnerReceiving → (tally : Tally) → (lines lines_now : SinkState) → Type 0
+EndsTrace receiver tally lines lines_now =
     (c : Configuration) (start : SinkState) (octets : List ℕ) → IsAccepted c
-    → Traces c receiver count start lines octets → WroteTrace c start lines_now octets
+    → Traces c receiver tally start lines octets → WroteTrace c start lines_now octets
 
-abbrev pub CutsTrace : InnerReceiving → (count : ℕ) → (lines lines_now : SinkState) → Type 0
-CutsTrace receiver count lines lines_now =
+abbrev pub CutsTrace : InnerReceiving → (tally : Tally) → (lines lines_now : SinkState) → Type 0
+CutsTrace receiver tally lines lines_now =
     (c : Configuration) (start : SinkState) (octets : List ℕ) → IsAccepted c
-    → Traces c receiver count start lines octets → WroteTracePrefix c start lines_now octets
+    → Traces c receiver tally start lines octets → WroteTracePrefix c start lines_now octets

@@ -9,7 +9,7 @@ ghost use Rattle.tm_driver.specs.Statuses.{failed_at_end};
 ghost use Rattle.tm_inner.specs.Inner.{nearest_bit, plain_bits};
 ghost use Rattle.tm_path_commands.specs.Bits.{Adds, CutsWriting, EndsWriting, FailsWriting, Gathers, GathersLast, HandsWindows, IsEmptied, WrotePart, WritesMore, WroteWaiting, bits_meaning, line_of};
 
-use crate::lines::blocks_line;
+use crate::lines::bits_end_line;
 use std::alloc::Global;
 use std::marker::Model;
 use tm_base::{Failed, NoMemory, Sink, Source, put_all};
@@ -243,7 +243,7 @@ fn add_nearest(receiver: &InnerReceiver, packer: &mut Packer, skip: u64, octets:
 // Ends a receiver, and packs the last bits, with zeros after them to a whole octet.
 fn gather_last(receiver: &mut InnerReceiver, packer: &mut Packer) -> InnerEnd
     requires { receiver.old.has_stopped ≡ false }
-    ensures { GathersLast receiver.old packer.old packer.new result.bits result.leftover }
+    ensures { GathersLast receiver.old packer.old packer.new result }
 {
     match receiver.finish(packer) {
         Ok(end) => {
@@ -335,7 +335,7 @@ fn write_end<O: Sink, N: Sink>(
         Ok(()) => {}
         Err(Failed) => return Err(Failed),
     }
-    blocks_line(notes, packer.windows(), end.bits, end.leftover)
+    bits_end_line(notes, end.slips, packer.windows(), end.bits, end.leftover)
 }
 
 // An inner receiver, what waits of its bits, and what they are written to.

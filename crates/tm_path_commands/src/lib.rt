@@ -8,6 +8,7 @@ mod certificate;
 mod certifying;
 mod checking;
 mod lines;
+mod tally;
 mod trace_lines;
 mod tracing;
 
@@ -16,5 +17,6 @@ pub use certificate::certificate_law;
 pub use certifying::certify;
 pub use checking::check;
 pub use lines::{block_line, blocks_line};
+pub use tally::Tally;
 pub use trace_lines::{Trace, end_trace};
 pub use tracing::trace;

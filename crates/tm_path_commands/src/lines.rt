@@ -2,11 +2,12 @@
 ghost use Rattle.std.specs.Prelude.{◌≡◌, ◌+◌, ◌≤◌, ◌++◌, length, OnOk, OnErr};
 ghost use Rattle.tm_base.specs.Outside.{HasCause};
 ghost use Rattle.tm_base.specs.Written.{Wrote, WrotePrefix};
-ghost use Rattle.tm_path_commands.specs.Lines.{window_text, block_text, trace_end_text, reason_text, bad_text, cut_text};
+ghost use Rattle.tm_path_commands.specs.Lines.{window_text, slip_text, block_text, trace_end_text, bits_end_text, reason_text, bad_text, cut_text};
 
+use crate::tally::Tally;
 use tm_base::{Failed, Sink};
 use tm_cert_file::Reason;
-use tm_driver::Line;
+use tm_driver::{Line, add_slips};
 use tm_viterbi::Block;
 
 /// Writes a window, the one of this number: `block K steps n kept m metric M`. `Failed` comes only where the sink's
@@ -23,6 +24,15 @@ pub fn window_line<O: Sink>(
     ensures cause { HasCause (O.faults out.old) (O.faults out.new) (O.is_last out.new) result }
 {
     let mut line = Line::new();
+    add_window(&mut line, number, steps, kept, metric);
+    line.put(out)
+}
+
+// Adds a window.
+fn add_window(line: &mut Line, number: u64, steps: u32, kept: u32, metric: u64)
+    requires { length line.old ≤ 300 }
+    ensures { line.new ≡ line.old ++ window_text number steps kept metric }
+{
     line.text(b"block ");
     line.number(number);
     line.text(b" steps ");
@@ -32,17 +42,34 @@ pub fn window_line<O: Sink>(
     line.text(b" metric ");
     line.number(metric);
     line.text(b"\n");
-    line.put(out)
 }
 
-/// Writes a window of the soft decoder, the one of this number. `Failed` comes only where the sink's count of faults
-/// rose.
-pub fn block_line<O: Sink>(out: &mut O, number: u64, block: &Block<'_>) -> Result<(), Failed>
-    ensures ok { OnOk result (Wrote (O.taken out.old) (O.taken out.new) (block_text number block.now)) }
-    ensures err { OnErr result (WrotePrefix (O.taken out.old) (O.taken out.new) (block_text number block.now)) }
+// Adds that octets were dropped after so many bits, where some were, a line of its own.
+fn add_slip(line: &mut Line, dropped: u8, bits: u64)
+    requires { length line.old ≤ 100 }
+    ensures text { line.new ≡ line.old ++ slip_text dropped bits }
+    ensures length { length line.new ≤ length line.old + 60 }
+{
+    if dropped != 0 {
+        line.text(b"slip ");
+        line.number(dropped as u64);
+        line.text(b" at ");
+        line.number(bits);
+        line.text(b"\n");
+    }
+}
+
+/// Writes a window of the soft decoder, after so many windows and bits; and where octets were dropped before it, a line
+/// before it: `slip K at B`, with the octets and the bits. `Failed` comes only where the sink's count of faults rose.
+pub fn block_line<O: Sink>(out: &mut O, was: Tally, block: &Block<'_>) -> Result<(), Failed>
+    ensures ok { OnOk result (Wrote (O.taken out.old) (O.taken out.new) (block_text was block.now)) }
+    ensures err { OnErr result (WrotePrefix (O.taken out.old) (O.taken out.new) (block_text was block.now)) }
     ensures cause { HasCause (O.faults out.old) (O.faults out.new) (O.is_last out.new) result }
 {
-    window_line(out, number, block.steps, block.kept, block.metric)
+    let mut line = Line::new();
+    add_slip(&mut line, block.dropped, was.bits);
+    add_window(&mut line, was.blocks, block.steps, block.kept, block.metric);
+    line.put(out)
 }
 
 /// Writes the end of a trace: `blocks K bits N leftover R`, with the windows, the bits received and the octets after
@@ -53,6 +80,15 @@ pub fn blocks_line<O: Sink>(out: &mut O, blocks: u64, bits: u64, leftover: u8) -
     ensures cause { HasCause (O.faults out.old) (O.faults out.new) (O.is_last out.new) result }
 {
     let mut line = Line::new();
+    add_end(&mut line, blocks, bits, leftover);
+    line.put(out)
+}
+
+// Adds the end of a trace.
+fn add_end(line: &mut Line, blocks: u64, bits: u64, leftover: u8)
+    requires { length line.old ≤ 300 }
+    ensures { line.new ≡ line.old ++ trace_end_text blocks bits leftover }
+{
     line.text(b"blocks ");
     line.number(blocks);
     line.text(b" bits ");
@@ -60,7 +96,26 @@ pub fn blocks_line<O: Sink>(out: &mut O, blocks: u64, bits: u64, leftover: u8) -
     line.text(b" leftover ");
     line.number(leftover as u64);
     line.text(b"\n");
-    line.put(out)
+}
+
+/// Writes what is said after the bits: `slips N`, before how many windows octets were dropped, where the symbol phase is
+/// followed, and the end of a trace. `Failed` comes only where the sink's count of faults rose.
+pub fn bits_end_line<N: Sink>(
+    notes: &mut N,
+    slips: Option<u64>,
+    blocks: u64,
+    bits: u64,
+    leftover: u8,
+) -> Result<(), Failed>
+    ensures ok { OnOk result (Wrote (N.taken notes.old) (N.taken notes.new) (bits_end_text slips blocks bits leftover)) }
+    ensures err { OnErr result (WrotePrefix (N.taken notes.old) (N.taken notes.new)
+        (bits_end_text slips blocks bits leftover)) }
+    ensures cause { HasCause (N.faults notes.old) (N.faults notes.new) (N.is_last notes.new) result }
+{
+    let mut line = Line::new();
+    add_slips(&mut line, slips);
+    add_end(&mut line, blocks, bits, leftover);
+    line.put(notes)
 }
 
 // Adds why a window of a certificate fails.

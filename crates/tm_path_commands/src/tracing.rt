@@ -6,6 +6,7 @@ ghost use Rattle.tm_driver.specs.Courses.{sink_call, sink_state, source_call};
 ghost use Rattle.tm_path_commands.specs.Trace.{trace_meaning};
 ghost use Rattle.tm_path_commands.specs.Tracing.{CutsTrace, EndsTrace};
 
+use crate::tally::Tally;
 use crate::trace_lines::{Trace, end_trace};
 use std::alloc::Global;
 use tm_base::{Failed, NoMemory, Sink, Source};
@@ -39,24 +40,24 @@ impl<'a, 'b, O: Sink> Feed for Tracing<'a, 'b, O> {
     ghost fed = { λ a b octets. (b.receiver.now.config ≡ a.receiver.now.config)
         × Hands (λ x handed y. (y.lines.ghost_name ≡ x.lines.ghost_name)
         × TracedHanded (sink_state (O.taken x.lines.now) (O.faults x.lines.now))
-        (sink_state (O.taken y.lines.now) (O.faults y.lines.now)) x.count y.count handed)
+        (sink_state (O.taken y.lines.now) (O.faults y.lines.now)) x.tally y.tally handed)
         StandsAt a.receiver.now b.receiver.now a.trace b.trace octets };
 
     ghost stopped = { λ a b octets stop. (stop ≡ SinkFault) × ((config : Configuration) → a.receiver.now.config ≡ config
         → HandsPrefix (λ x handed y. (y.lines.ghost_name ≡ x.lines.ghost_name)
         × TracedHanded (sink_state (O.taken x.lines.now) (O.faults x.lines.now))
-        (sink_state (O.taken y.lines.now) (O.faults y.lines.now)) x.count y.count handed)
+        (sink_state (O.taken y.lines.now) (O.faults y.lines.now)) x.tally y.tally handed)
         (λ x handed y. (y.lines.ghost_name ≡ x.lines.ghost_name)
         × BrokeText (sink_state (O.taken x.lines.now) (O.faults x.lines.now))
         (sink_state (O.taken y.lines.now) (O.faults y.lines.now)) (O.is_last y.lines.now)
-        [] (handed_block_text x.count handed))
+        [] (handed_block_text x.tally handed))
         StandsAt (AreHandedFirst config) a.receiver.now a.trace b.trace octets) };
 
-    ghost finished = { λ a b outcome. (outcome ≡ Done) × EndsTrace a.receiver.now a.trace.count
+    ghost finished = { λ a b outcome. (outcome ≡ Done) × EndsTrace a.receiver.now a.trace.tally
         (sink_state (O.taken a.trace.lines.now) (O.faults a.trace.lines.now))
         (sink_state (O.taken b.trace.lines.now) (O.faults b.trace.lines.now)) };
 
-    ghost failed = { λ a b. CutsTrace a.receiver.now a.trace.count
+    ghost failed = { λ a b. CutsTrace a.receiver.now a.trace.tally
         (sink_state (O.taken a.trace.lines.now) (O.faults a.trace.lines.now))
         (sink_state (O.taken b.trace.lines.now) (O.faults b.trace.lines.now)) };
 
@@ -108,10 +109,10 @@ impl<'a, 'b, O: Sink> Feed for Tracing<'a, 'b, O> {
 // Traces what is left at the end, and writes the end of the trace.
 fn trace_end<O: Sink>(receiver: &mut InnerReceiver, trace: &mut Trace<'_, O>) -> Result<(), Failed>
     requires { receiver.old.has_stopped ≡ false }
-    ensures whole { OnOk result (EndsTrace receiver.old trace.old.count
+    ensures whole { OnOk result (EndsTrace receiver.old trace.old.tally
         (sink_state (O.taken trace.old.lines.now) (O.faults trace.old.lines.now))
         (sink_state (O.taken trace.new.lines.now) (O.faults trace.new.lines.now))) }
-    ensures prefix { OnErr result (CutsTrace receiver.old trace.old.count
+    ensures prefix { OnErr result (CutsTrace receiver.old trace.old.tally
         (sink_state (O.taken trace.old.lines.now) (O.faults trace.old.lines.now))
         (sink_state (O.taken trace.new.lines.now) (O.faults trace.new.lines.now))) }
     ensures cause { HasCause (O.faults trace.old.lines.now) (O.faults trace.new.lines.now)
@@ -121,13 +122,14 @@ fn trace_end<O: Sink>(receiver: &mut InnerReceiver, trace: &mut Trace<'_, O>) ->
     one_windows_law();
     due_windows_law();
     match receiver.finish(trace) {
-        Ok(end) => end_trace(trace.lines, trace.count, end.bits, end.leftover),
+        Ok(end) => end_trace(trace.lines, trace.tally, end.bits, end.leftover),
         Err(_) => Err(Failed),
     }
 }
 
 /// Writes a line for the symbol phase of the soft octets of the source, where it is to be found, and one for each
-/// window, up to the limit in octets, and at the end of the input the end of the trace. After a fault nothing more is
+/// window, before which one more says where octets were dropped, up to the limit in octets, and at the end of the input
+/// the end of the trace. After a fault nothing more is
 /// read or written. It takes all its memory before it reads.
 pub fn trace<S: Source, O: Sink>(
     alloc: Global,
@@ -152,13 +154,13 @@ pub fn trace<S: Source, O: Sink>(
         receiver: &mut receiver,
         trace: Trace {
             lines: out,
-            count: 0,
+            tally: Tally { blocks: 0, bits: 0 },
         },
     };
     let ending = drive(config.limit(), source, &mut tracing);
     let Tracing {
         receiver: _,
-        trace: Trace { lines: _, count: _ },
+        trace: Trace { lines: _, tally: _ },
     } = tracing;
     Ok(ending)
 }

@@ -21,7 +21,7 @@ returns-clause-answered g c =
     c.phase_law.ensures.one c.closed_prefix_law.ensures
     c.whole_window_law.ensures.prefix (λ (t : Tracing g.row.O.Denot). t.receiver.now) (λ t. t.trace)
     (λ (t : Trace g.row.O.Denot). t.lines.ghost_name) lines
-    (λ t. g.O.Sink.is_last t.lines.now) (λ t. t.count) config _ now noted refl c.limit.ensures.accepted
+    (λ t. g.O.Sink.is_last t.lines.now) (λ t. t.tally) config _ now noted refl c.limit.ensures.accepted
     c.in-Ok.ensures.config c.in-Ok.ensures.stands
     c.limit.result c.limit.ensures.value _ _ c.drive-ending.result h.0 h.3 in
     let source = source_call g.S.Source.given g.S.Source.left g.S.Source.ended g.S.Source.faults g.S.Source.is_last

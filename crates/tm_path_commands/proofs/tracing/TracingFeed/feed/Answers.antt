@@ -14,7 +14,7 @@ returns-in-Ok-clause-fed g c =
       same,
       record {
         more = h.0;
-        handed = took-each (λ (t : Trace g.row.O.Denot). t.lines.ghost_name) (λ t. sink_state (g.O.Sink.taken t.lines.now) (g.O.Sink.faults t.lines.now)) (λ t. t.count)
+        handed = took-each (λ (t : Trace g.row.O.Denot). t.lines.ghost_name) (λ t. sink_state (g.O.Sink.taken t.lines.now) (g.O.Sink.faults t.lines.now)) (λ t. t.tally)
             h.0 c.args.self.now.trace c.feed.new.blocks h.1;
         stands = λ given done few stood.
             let there = h.2 given done few stood.0 in
@@ -30,7 +30,7 @@ returns-in-Err-clause-stopped g c = (
       record {
         tried = h.0;
         handed = took-part (λ (t : Trace g.row.O.Denot). t.lines.ghost_name) (λ t. sink_state (g.O.Sink.taken t.lines.now) (g.O.Sink.faults t.lines.now))
-            (λ t. g.O.Sink.is_last t.lines.now) (λ t. t.count) h.0 c.args.self.now.trace c.feed.new.blocks h.1;
+            (λ t. g.O.Sink.is_last t.lines.now) (λ t. t.tally) h.0 c.args.self.now.trace c.feed.new.blocks h.1;
         first = λ given done few stood. subst (λ (k : Configuration). AreHandedFirst k (given ++ c.args.piece.now) (done ++ h.0)) is (h.2 given done few stood.0);
       },
 )
@@ -39,7 +39,7 @@ pub returns-in-Ok-clause-same : goal.returns-in-Ok-clause-same
 returns-in-Ok-clause-same g c =
     let h = c.in-Ok.ensures.handed in (
       refl,
-      same-along (λ (t : Trace g.row.O.Denot). t.lines.ghost_name) (λ t. sink_state (g.O.Sink.taken t.lines.now) (g.O.Sink.faults t.lines.now)) (λ t. t.count)
+      same-along (λ (t : Trace g.row.O.Denot). t.lines.ghost_name) (λ t. sink_state (g.O.Sink.taken t.lines.now) (g.O.Sink.faults t.lines.now)) (λ t. t.tally)
           h.0 c.args.self.now.trace c.feed.new.blocks h.1,
     )
 
@@ -48,5 +48,5 @@ returns-in-Err-clause-same g c =
     let h = c.in-Err.ensures.prefix (taker_alone c.in-Err.field-0 (λ stopped. absurd (search rules))) in (
       refl,
       same-part (λ (t : Trace g.row.O.Denot). t.lines.ghost_name) (λ t. sink_state (g.O.Sink.taken t.lines.now) (g.O.Sink.faults t.lines.now))
-          (λ t. g.O.Sink.is_last t.lines.now) (λ t. t.count) h.0 c.args.self.now.trace c.feed.new.blocks h.1,
+          (λ t. g.O.Sink.is_last t.lines.now) (λ t. t.tally) h.0 c.args.self.now.trace c.feed.new.blocks h.1,
     )

@@ -1,0 +1,8 @@
+// How far the windows of a trace are told.
+
+/// The windows that were told, and the bits that they keep, each up to 2^64-1.
+#[derive(Clone, Copy, Debug, PartialEq, Eq)]
+pub struct Tally {
+    pub blocks: u64,
+    pub bits: u64,
+}
