@@ -119,7 +119,7 @@ value-complemented c symbol = go c.soft (symbol == 0)
     go Signed true = refl
     go Signed false = refl
 
-values-complemented : (c : Configuration) (symbols : List ℕ) → map (soft_value c) (complemented_octets (levels (low_level c.soft) symbols)) ≡ complemented_octets (sure symbols)
+pub values-complemented : (c : Configuration) (symbols : List ℕ) → map (soft_value c) (complemented_octets (levels (low_level c.soft) symbols)) ≡ complemented_octets (sure symbols)
 values-complemented c [] = refl
 values-complemented c (symbol ∷ symbols) = (λ i. value-complemented c symbol i ∷ values-complemented c symbols i)
 
@@ -128,7 +128,7 @@ numbers-complemented [] = refl
 numbers-complemented (true ∷ bits) = ap (λ l. false ∷ l) (numbers-complemented bits)
 numbers-complemented (false ∷ bits) = ap (λ l. true ∷ l) (numbers-complemented bits)
 
-half-complemented : ComplementedBlocks → (c : Configuration) (rate : Option Rate) (octets : List ℕ) (blocks : List WindowBlock)
+pub half-complemented : ComplementedBlocks → (c : Configuration) (rate : Option Rate) (octets : List ℕ) (blocks : List WindowBlock)
     (left : ℕ) → c.inner ≡ rate
     → IsAccepted c → c.inner ≡ Some R12 → c.start ≡ Any → c.skip ≡ 0
     → BlocksAt rate c 0 (complemented_octets (symbols_by rate c (bits_of octets))) blocks left

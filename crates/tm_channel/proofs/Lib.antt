@@ -9,6 +9,7 @@ pub mod OnlyItems
 mod HasItems
 pub mod ReceivedOctets
 pub mod SentPhase
+mod CleanTotals
 pub mod ComplementedOctets
 pub mod DueItems
 pub mod FirstItems

@@ -1,6 +1,6 @@
 -- What a receiver hands over for received octets: the symbol phase, where it is to be found, and
 -- then items.
-use Rattle.std.specs.Prelude.{◌≡◌, ℕ, Bool, List, [], ◌∷◌, length, Option, Some, None}
+use Rattle.std.specs.Prelude.{◌≡◌, ℕ, Bool, if◌then◌else◌, List, [], ◌∷◌, length, Option, Some, None}
 use Rattle.tm_base.specs.Handed.{Handed, Phase, Item}
 use Rattle.tm_config.specs.Configuration.{Configuration}
 use Rattle.tm_phase.specs.declared.choosing.Chosen.{Chosen}
@@ -25,6 +25,10 @@ phase_of handed = phase_from None handed
 -- what octets come to that are received as these bits, in these blocks
 abbrev pub totals_of : Configuration → List Bool → List WindowBlock → Totals
 totals_of c bits blocks = record { bits = length bits; slips = slips_told c blocks }
+
+-- what octets come to that were not disturbed: this many bits, and no octet was dropped
+abbrev pub clean_totals : Configuration → ℕ → Totals
+clean_totals c count = record { bits = count; slips = if c.follow then Some 0 else None }
 
 -- these are the items of received octets, and what the octets come to
 abbrev pub ReceiveAll : Configuration → ℕ → List ℕ → Totals → List ItemValue → Type 0

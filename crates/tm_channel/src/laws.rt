@@ -1,5 +1,5 @@
 // What holds of received octets, over the definitions alone.
-ghost use Rattle.std.specs.Prelude.{◌≡◌, ◌++◌, ℕ, Bool, true, false, List, [], ◌∷◌, None, Option, map, replicate};
+ghost use Rattle.std.specs.Prelude.{◌≡◌, ◌*◌, ◌++◌, ℕ, Bool, true, false, List, [], ◌∷◌, None, Option, length, map, replicate};
 ghost use Rattle.std.specs.List.{concat};
 ghost use Rattle.tm_base.specs.Bits.{AreOctets, bits_of};
 ghost use Rattle.tm_base.specs.Handed.{Handed};
@@ -14,10 +14,10 @@ ghost use Rattle.tm_viterbi.specs.Clean.{complemented_octets};
 ghost use Rattle.tm_inner.specs.Phase.{IsChosen, with_phase};
 ghost use Rattle.tm_codeblock.specs.Frames.{whole_frames};
 ghost use Rattle.tm_codeblock.specs.ReceivedCodeblock.{received_columns};
-ghost use Rattle.tm_channel.specs.Sent.{sent, sent_phase};
+ghost use Rattle.tm_channel.specs.Sent.{cadus, sent, sent_phase};
 ghost use Rattle.tm_channel.specs.Items.{ItemValue, frames_of, complemented_item};
 ghost use Rattle.tm_channel.specs.declared.totals.Totals.{Totals};
-ghost use Rattle.tm_channel.specs.Handing.{AreReceived, AreReceivedDue, AreReceivedFirst, AreReceivedPrefix};
+ghost use Rattle.tm_channel.specs.Handing.{AreReceived, AreReceivedDue, AreReceivedFirst, AreReceivedPrefix, clean_totals};
 ghost use Rattle.tm_channel.specs.Receive.{Receive, ReceiveDue, ReceiveFirst, ReceivePrefix};
 ghost use Rattle.tm_channel.specs.SentStream.{AreAsSent, AreNear, AreWithin, IsSent, SentUnit, clean_items, found_frames, sent_columns, unit_frames, unit_places};
 ghost use Rattle.tm_channel.specs.Disturbed as disturbed;
@@ -64,16 +64,16 @@ pub fn first_items_law()
 }
 
 /// What is handed over for received octets, their phase where it is to be found and then items, is one list, which
-/// there is, and so is what the octets come to. What is due, and the first of what is handed over, stand first in it, whatever octets follow. It does
-/// nothing.
+/// there is, and so is what the octets come to. What is due, and the first of what is handed over, stand first in it,
+/// whatever octets follow. It does nothing.
 pub fn received_law()
     ensures exists { (c : Configuration) (octets : List ℕ) → IsAccepted c
         → (handed : List (Handed ItemValue)) × ((totals : Totals) × AreReceived c octets handed totals) }
     ensures one { (c : Configuration) (octets : List ℕ) (handed others : List (Handed ItemValue)) (totals sums : Totals)
         → IsAccepted c
         → AreReceived c octets handed totals → AreReceived c octets others sums → handed ≡ others }
-    ensures totals { (c : Configuration) (octets : List ℕ) (handed others : List (Handed ItemValue)) (totals sums : Totals)
-        → AreReceived c octets handed totals → AreReceived c octets others sums → totals ≡ sums }
+    ensures totals { (c : Configuration) (octets : List ℕ) (handed others : List (Handed ItemValue))
+        (totals sums : Totals) → AreReceived c octets handed totals → AreReceived c octets others sums → totals ≡ sums }
     ensures due { (c : Configuration) (octets more : List ℕ) (due all : List (Handed ItemValue)) (totals : Totals)
         → IsAccepted c
         → AreReceivedDue c octets due → AreReceived c (octets ++ more) all totals
@@ -131,7 +131,8 @@ pub fn disturbed_octets_law()
 /// The items of what is sent for octets, where none is skipped, nothing was disturbed and it is known where the first
 /// path starts: the whole frames of the octets, in order and with nothing wrong; but none where there are no more of
 /// them than further markers are to verify the first. Their frames joined are these. Where the phase is to be found
-/// none of the octets is skipped, at no cost, and it is handed over before the items. It does nothing.
+/// none of the octets is skipped, at no cost, and it is handed over before the items. All bits come, and no octet is
+/// dropped between windows. It does nothing.
 pub fn clean_law()
     ensures items { (c : Configuration) (octets : List ℕ) (items : List ItemValue) → IsAccepted c → c.skip ≡ 0
         → IsStartKnown c → AreOctets octets → Receive c 0 (sent c octets) items
@@ -140,11 +141,14 @@ pub fn clean_law()
         → frames_of (clean_items c at frames) ≡ concat frames }
     ensures phase { (c : Configuration) (octets : List ℕ) (chosen : Option Chosen) → c.skip ≡ 0
         → IsChosen c (sent c octets) chosen → chosen ≡ sent_phase c }
-    ensures handed { (c : Configuration) (octets : List ℕ) (handed : List (Handed ItemValue)) (totals : Totals) → IsAccepted c
-        → c.skip ≡ 0 → IsStartKnown c → AreOctets octets
+    ensures handed { (c : Configuration) (octets : List ℕ) (handed : List (Handed ItemValue)) (totals : Totals)
+        → IsAccepted c → c.skip ≡ 0 → IsStartKnown c → AreOctets octets
         → AreReceived c (sent c octets) handed totals
         → handed ≡ with_phase (sent_phase c)
         (clean_items c 0 (found_frames c (whole_frames c.frame_length octets))) }
+    ensures totals { (c : Configuration) (octets : List ℕ) (handed : List (Handed ItemValue)) (totals : Totals)
+        → IsAccepted c → c.skip ≡ 0 → IsStartKnown c → AreReceived c (sent c octets) handed totals
+        → totals ≡ clean_totals c (8 * length (cadus c octets)) }
 {
     clean_inner_law();
     best_path_law();
@@ -153,7 +157,7 @@ pub fn clean_law()
 /// Where inverted markers match too: with no inner code, the items of octets with each bit complemented are those of
 /// the octets, each in the other polarity. At rate 1/2, where paths start from any register and none is skipped, so are
 /// those of the symbols that are sent for octets, each complemented. Their phase is that of the symbols as they are
-/// sent, at any rate. It does nothing.
+/// sent, at any rate; all bits come, and no octet is dropped between windows. It does nothing.
 pub fn polarity_law()
     ensures uncoded { (c : Configuration) (phase : ℕ) (octets : List ℕ) (items : List ItemValue) → IsAccepted c
         → c.inner ≡ None → c.polarity ≡ Find → AreOctets octets
@@ -164,6 +168,10 @@ pub fn polarity_law()
         → items ≡ map complemented_item (clean_items c 0 (found_frames c (whole_frames c.frame_length octets))) }
     ensures phase { (c : Configuration) (octets : List ℕ) (chosen : Option Chosen) → c.skip ≡ 0
         → IsChosen c (complemented_octets (sent c octets)) chosen → chosen ≡ sent_phase c }
+    ensures totals { (c : Configuration) (octets : List ℕ) (handed : List (Handed ItemValue)) (totals : Totals)
+        → IsAccepted c → c.inner ≡ Some R12 → c.start ≡ Any → c.skip ≡ 0
+        → AreReceived c (complemented_octets (sent c octets)) handed totals
+        → totals ≡ clean_totals c (8 * length (cadus c octets)) }
 {
     complemented_blocks_law();
     best_path_law();
