@@ -1,7 +1,12 @@
 // Worked values, and values from a program outside that walks each candidate's trellis with numbers of its own.
 
-use tm_conv::Rate;
-use tm_phase::{Chosen, choose, octets_needed, phase_law, whole_window_law};
+use std::alloc::{AllocError, Global};
+use std::test::Fail;
+use tm_conv::{Encoder, Rate, Symbols};
+use tm_phase::{
+    Chosen, choose, octets_needed, octets_seen, phase_law, slip, slip_law, steps_seen,
+    whole_window_law,
+};
 
 // The symbols of the marker 1A CF FC 1D at rate 1/2, the second of each pair inverted.
 const MARKER_SYMBOLS: u64 = 0x56081C971AA73D3E;
@@ -95,8 +100,101 @@ fn octets_for_a_window(rt: HostRuntime) {
     }
 }
 
+// Noise over so few steps that some of it passes for a slip: costs that tie, and an excess that is three quarters of that
+// of octet 0, or a little more or less.
+#[test]
+fn slips_in_drawn_octets(rt: HostRuntime) {
+    let rows = [
+        (Rate::R12, true, 3, 20, 147, 0),
+        (Rate::R12, true, 3, 20, 368, 0),
+        (Rate::R12, true, 3, 20, 1422, 1),
+        (Rate::R12, true, 3, 20, 2552, 0),
+        (Rate::R12, false, 1_000_000_007, 16, 172, 0),
+        (Rate::R12, false, 1_000_000_007, 16, 445, 1),
+        (Rate::R23, true, 3, 20, 8, 2),
+        (Rate::R23, true, 3, 20, 271, 2),
+        (Rate::R23, true, 3, 20, 485, 0),
+        (Rate::R34, true, 3, 20, 1, 0),
+        (Rate::R34, true, 3, 20, 13, 2),
+        (Rate::R34, true, 3, 20, 21, 3),
+        (Rate::R34, true, 3, 20, 22, 1),
+        (Rate::R56, true, 3, 20, 3, 0),
+        (Rate::R78, false, 0, 12, 1, 0),
+    ];
+    for (rate, invert, t, steps, seed, dropped) in rows {
+        let octets = drawn(seed);
+        assert!(rt; steps <= 1024 && t < 1 << 60);
+        assert!(rt; octets_seen(rate, t, steps) <= octets.len());
+        assert_eq!(rt; slip(rate, invert, t, steps, &octets), dropped, "{rate:?}, {seed}");
+    }
+}
+
+// The undisturbed symbols of 440 steps, whose bits are drawn.
+fn sure_symbols(alloc: Global, rate: Rate) -> Result<Vec<u8>, AllocError> {
+    let mut octets = Vec::new(alloc);
+    let mut encoder = Encoder::new(rate, false);
+    let mut now = 1u64;
+    for _ in 0..440 {
+        now = now
+            .wrapping_mul(6364136223846793005)
+            .wrapping_add(1442695040888963407);
+        match encoder.step(now >> 63 == 1) {
+            Symbols::One(symbol) => octets.push(if symbol { 255 } else { 0 })?,
+            Symbols::Two(first, second) => {
+                octets.push(if first { 255 } else { 0 })?;
+                octets.push(if second { 255 } else { 0 })?;
+            }
+        }
+    }
+    Ok(octets)
+}
+
+// Where symbols were lost before a window, from step 5 on, the others of a period are dropped.
+#[test]
+fn slips_of_lost_symbols(rt: HostRuntime) -> Result<(), Fail> {
+    for (rate, period, at) in [
+        (Rate::R12, 2, 10),
+        (Rate::R23, 3, 8),
+        (Rate::R34, 4, 7),
+        (Rate::R56, 6, 6),
+        (Rate::R78, 8, 6),
+    ] {
+        let octets = sure_symbols(rt.alloc(), rate)?;
+        for lost in 0..8u8 {
+            if lost < period {
+                let from = at + usize::from(lost);
+                assert!(rt; from <= octets.len());
+                let octets = &octets[from..];
+                assert!(rt; octets_seen(rate, 5, 400) <= octets.len());
+                let dropped = if lost == 0 { 0 } else { period - lost };
+                assert_eq!(rt; slip(rate, false, 5, 400, octets), dropped, "{rate:?}, {lost}");
+            }
+        }
+    }
+    Ok(())
+}
+
+#[test]
+fn octets_for_a_slip(rt: HostRuntime) {
+    let rows = [
+        (Rate::R12, 113, 2_049),
+        (Rate::R23, 86, 1_538),
+        (Rate::R34, 78, 1_368),
+        (Rate::R56, 73, 1_234),
+        (Rate::R78, 71, 1_177),
+    ];
+    for (rate, few, most) in rows {
+        assert_eq!(rt; octets_seen(rate, 0, 56), few);
+        assert_eq!(rt; octets_seen(rate, 5, 1024), most);
+    }
+    assert_eq!(rt; steps_seen(64, 0), 56);
+    assert_eq!(rt; steps_seen(1000, 31), 1023);
+    assert_eq!(rt; steps_seen(1000, 33), 1024);
+}
+
 #[test]
 fn laws(_rt: HostRuntime) {
     phase_law();
     whole_window_law();
+    slip_law();
 }
