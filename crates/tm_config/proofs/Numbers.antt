@@ -12,7 +12,7 @@ use Rattle.tm_config.specs.declared.values.Sought.TheVariants.{Given}
 use Rattle.tm_config.specs.Configuration.{HaveNumbers, configuration_of, numbered, correctable, all_codes, number_of_rate, all_rates}
 use Rattle.tm_config.specs.Configuration.{number_of_switch, all_switches, is_on, number_of_basis, all_bases, number_of_form, all_forms}
 use Rattle.tm_config.specs.Configuration.{number_of_start, all_starts, phase_of, is_followed, number_of_phase, number_of_sought, all_sought}
-use Rattle.tm_config.specs.Accepted.{is_number, fits_if_given, switch_fits, sought_fits, refusal_of}
+use Rattle.tm_config.specs.Accepted.{is_number, fits_if_given, switch_fits, phase_fits, refusal_of}
 use Rattle.tm_config.proofs.Accepting.{all_pass}
 
 -- the value found by a number that one of the list has
@@ -31,11 +31,12 @@ basis-has : (number : ℕ) → is_number number_of_basis all_bases number ≡ tr
 basis-has zero fits = refl
 basis-has (suc n) fits = grind (arith, nat_tests)
 
-phase-has : (number : ℕ) → sought_fits number ≡ true
+phase-has : (number : ℕ) → phase_fits number ≡ true
     → number_of_phase (phase_of number) (is_followed number) ≡ number
 phase-has zero fits = refl
 phase-has (suc zero) fits = refl
-phase-has (suc (suc n)) fits = grind (arith, nat_tests)
+phase-has (suc (suc zero)) fits = refl
+phase-has (suc (suc (suc n))) fits = grind (arith, nat_tests)
 
 invert-has : (number : Option ℕ) → fits_if_given switch_fits number ≡ true
     → option_map number_of_switch (option_map is_on number) ≡ number

@@ -80,6 +80,10 @@ switches_fit raw = fits_if_given switch_fits raw.invert && switch_fits raw.rando
 abbrev pub sought_fits : ℕ → Bool
 sought_fits = is_number number_of_sought all_sought
 
+-- given, to be found, or to be found and followed
+abbrev pub phase_fits : ℕ → Bool
+phase_fits number = nat_le number 2
+
 -- no more symbols are repaired than the code corrects
 abbrev pub repair_fits : Raw → Bool
 repair_fits raw =
@@ -104,7 +108,7 @@ tests raw =
     ∷ (nat_le raw.fly most_fly, Fly)
     ∷ (is_within least_keep most_keep raw.keep, Keep)
     ∷ (nat_le raw.ahead most_ahead, Ahead)
-    ∷ (sought_fits raw.phase, Phase)
+    ∷ (phase_fits raw.phase, Phase)
     ∷ (sought_fits raw.polarity, Polarity)
     ∷ (is_within 1 most_batch raw.batch, Batch)
     ∷ (switch_fits raw.pack, Pack)

@@ -43,7 +43,7 @@ impl Config {
     /// - `Inner`: 0, 12, 23, 34, 56 or 78. `Switch`: `invert` `None`, 0 or 1, and `randomize` 0 or 1. `Basis`: 0 or 1.
     /// - `Tolerance`: 0 to 8. `Repair`: `None`, or 0 to E. `Soft`, `Start`: 0 or 1. `Skip`: 0 to 15.
     /// - `Workers`: 1 to 64. `Limit`: 1 to 2^40. `Fly`: 0 to 15. `Keep`: 64 to 65,536. `Ahead`: 0 to 4,096.
-    /// - `Phase`, `Polarity`: 0 or 1. `Batch`: 1 to 32. `Pack`: 0 or 1. `Verify`: 0 to 7.
+    /// - `Phase`: 0 to 2. `Polarity`: 0 or 1. `Batch`: 1 to 32. `Pack`: 0 or 1. `Verify`: 0 to 7.
     pub fn check(raw: &Raw) -> Result<Config, ConfigError>
         ensures ok { OnOk result (refusal_of raw.now ≡ None) }
         ensures config { IfOk result (λ config. config ≡ configuration_of raw.now) }
@@ -235,7 +235,7 @@ impl Config {
         self.values.ahead
     }
 
-    /// The phase of the symbols: 0 where it is given, 1 where it is to be found.
+    /// The phase of the symbols: 0 where it is given, 1 where it is to be found, 2 where it is to be found and followed.
     pub fn phase(&self) -> u64
         ensures value { result ≡ number_of_phase self.now.phase self.now.follow }
         ensures accepted { IsAccepted self.now }

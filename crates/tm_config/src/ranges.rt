@@ -149,7 +149,7 @@ pub fn refusal(raw: &Raw) -> Option<ConfigError>
             ConfigError::Keep,
         ),
         (raw.ahead <= MOST_AHEAD, ConfigError::Ahead),
-        (is_choice(raw.phase), ConfigError::Phase),
+        (raw.phase <= 2, ConfigError::Phase),
         (is_choice(raw.polarity), ConfigError::Polarity),
         (is_within(1, MOST_BATCH, raw.batch), ConfigError::Batch),
         (is_choice(raw.pack), ConfigError::Pack),

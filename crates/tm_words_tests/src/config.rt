@@ -39,7 +39,8 @@ fly=16 keep=63|fly\n\
 keep=63|keep\n\
 keep=65537 ahead=4097|keep\n\
 ahead=4097|ahead\n\
-phase=2 polarity=2|phase\n\
+phase=3 polarity=2|phase\n\
+phase=2 polarity=2|polarity\n\
 polarity=2 batch=0|polarity\n\
 batch=0|batch\n\
 batch=33 pack=2|batch\n\
@@ -63,7 +64,7 @@ fn check_refused(rt: &impl Abort, alloc: Global) -> Result<(), AllocError> {
 
 #[test]
 fn refuses_the_first_value_out_of_range(rt: HostRuntime) -> Result<(), Fail> {
-    assert_eq!(rt; REFUSED.lines().count(), 31);
+    assert_eq!(rt; REFUSED.lines().count(), 32);
     check_refused(&rt, rt.alloc())?;
     Ok(())
 }
@@ -137,7 +138,7 @@ fn tells_each_value(rt: HostRuntime) {
         fly: 15,
         keep: 65_536,
         ahead: 4096,
-        phase: 1,
+        phase: 2,
         polarity: 1,
         batch: 31,
         pack: 0,
@@ -190,7 +191,7 @@ fn tells_each_value(rt: HostRuntime) {
                     config.phase(),
                     config.polarity()
                 ],
-                [65_536, 4096, 1, 1]
+                [65_536, 4096, 2, 1]
             );
         }
         Err(error) => assert!(rt; false, "{error}"),

@@ -18,7 +18,6 @@ returns c = c.first_error.ensures ∙ (rw (
   c.is_within-2.ensures,
   c.is_within-3.ensures,
   c.is_choice-4.ensures,
-  c.is_choice-5.ensures,
   c.is_within-4.ensures,
-  c.is_choice-6.ensures,
+  c.is_choice-5.ensures,
 ) refl)
