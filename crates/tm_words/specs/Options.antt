@@ -37,6 +37,9 @@ switch_words = (codes "on", 1) ∷ (codes "off", 0) ∷ []
 abbrev pub sought_words : List (Text × ℕ)
 sought_words = (codes "given", 0) ∷ (codes "find", 1) ∷ []
 
+abbrev pub phase_words : List (Text × ℕ)
+phase_words = (codes "given", 0) ∷ (codes "find", 1) ∷ (codes "follow", 2) ∷ []
+
 -- the rates of the convolutional code by their two digits, or no code
 abbrev pub rate_words : List (Text × ℕ)
 rate_words =
@@ -69,7 +72,7 @@ options =
     ∷ (codes "fly", [])
     ∷ (codes "keep", [])
     ∷ (codes "ahead", [])
-    ∷ (codes "phase", sought_words)
+    ∷ (codes "phase", phase_words)
     ∷ (codes "polarity", sought_words)
     ∷ (codes "batch", [])
     ∷ (codes "pack", switch_words)

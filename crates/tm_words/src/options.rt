@@ -41,7 +41,7 @@ pub static OPTIONS: [OptionRow<'static>; 22] = [
     ("fly", &[]),
     ("keep", &[]),
     ("ahead", &[]),
-    ("phase", &[("given", 0), ("find", 1)]),
+    ("phase", &[("given", 0), ("find", 1), ("follow", 2)]),
     ("polarity", &[("given", 0), ("find", 1)]),
     ("batch", &[]),
     ("pack", &[("on", 1), ("off", 0)]),

@@ -36,6 +36,7 @@ tmchan encode --inner 2/3|inner=23\n\
 tmchan encode --inner 3/4|inner=34\n\
 tmchan encode --inner 5/6|inner=56\n\
 tmchan encode --inner 7/8 --invert off|inner=78 invert=0\n\
+tmchan encode --phase follow|phase=2\n\
 tmchan encode --phase given --polarity given --soft u8 --start zero --basis dual --randomize on --pack on|\n";
 
 // The same for each form of a value.
@@ -75,7 +76,7 @@ fn check_values(rt: &impl Abort, alloc: Global, rows: &str) -> Result<(), AllocE
 
 #[test]
 fn reads_each_option(rt: HostRuntime) -> Result<(), Fail> {
-    assert_eq!(rt; EACH_OPTION.lines().count(), 9);
+    assert_eq!(rt; EACH_OPTION.lines().count(), 10);
     check_values(&rt, rt.alloc(), EACH_OPTION)?;
     Ok(())
 }
