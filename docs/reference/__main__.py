@@ -32,7 +32,8 @@ def decode(data, ended, c):
     r = received(data, ended, c)
     found = items(r.bits, c)
     found = found if ended else found[:len(found) // c.batch * c.batch]
-    told = r.head + [line for _, line, _ in found] + [last_line(found, r.bits)] * ended
+    told = r.head + [line for _, line, _ in found]
+    told += (r.slips + [last_line(found, r.bits)]) * ended
     frames = [frame for frame, _, _ in found if frame is not None]
     return b"".join(frames), lines(told), 1 if len(frames) < len(found) else 0
 
@@ -42,15 +43,19 @@ def report(data, ended, c):
 
 def trace(data, ended, c):
     r = received(data, ended, c)
-    told = [BLOCK(k, len(w.soft), w.kept, w.metric) for k, w in enumerate(r.windows)]
-    return lines(r.head + told + [r.end] * ended), b"", 0
+    told, kept = r.head, 0
+    for k, w in enumerate(r.windows):
+        told = told + [f"slip {w.dropped} at {kept}"] * (w.dropped > 0)
+        told, kept = told + [BLOCK(k, len(w.soft), w.kept, w.metric)], kept + w.kept
+    return lines(told + [r.end] * ended), b"", 0
 
 def bits(data, ended, c):
     r = received(data, ended, c)
     whole = r.bits + [0] * (-len(r.bits) % 8) if ended else r.bits[:len(r.bits) // 8 * 8]
-    return octets_of(whole), lines(r.head + [r.end] * ended), 0
+    return octets_of(whole), lines(r.head + (r.slips + [r.end]) * ended), 0
 
 def certify(data, ended, c):
+    c.follow = False  # a certificate has no place for a slip
     return b"".join(certificate(w) for w in received(data, ended, c).windows), b"", 0
 
 def check(data, ended, c):

@@ -40,10 +40,11 @@ def on_the_link(units, c):
     return bytes(units) if c.packed else symbols(bits_of(units), c)
 
 # The soft decoder (Viterbi), by whole windows.
-def cut_steps(octets, c):
-    """The soft octets of each whole step, and how many octets are left over."""
+def cut_steps(octets, c, first=0, most=None):
+    """The soft octets of each whole step from step `first` of the stream on, at most `most` of
+    them, and how many octets are left over."""
     steps, at = [], 0
-    while at + (size := sum(sent(len(steps), c))) <= len(octets):
+    while len(steps) != most and at + (size := sum(sent(first + len(steps), c))) <= len(octets):
         steps.append(octets[at:at + size])
         at += size
     return steps, len(octets) - at
@@ -78,19 +79,12 @@ def traceback(columns, steps, first, c):
         passed.insert(0, a if columns[k][a] + cost[x] == columns[k + 1][passed[0]] else b)
     return passed
 
-def windows(octets, ended, c):
-    """The windows, without the last one where the octets go on; and how many are left over."""
-    steps, leftover = cut_steps(octets, c)
-    found, first, starts = [], 0, range(64) if c.start_any else (0,)
-    while len(steps) - first > (0 if ended else c.keep + c.ahead):
-        w = SimpleNamespace(soft=steps[first:first + c.keep + c.ahead])
-        w.kept = c.keep if len(steps) - first > c.keep + c.ahead else len(w.soft)
-        w.columns = path_metrics(w.soft, first, starts, c)
-        w.passed = traceback(w.columns, w.soft, first, c)
-        w.metric, w.bits = min(w.columns[-1]), [register >> 5 for register in w.passed[1:]]
-        first, starts = first + w.kept, (w.passed[w.kept],)
-        found.append(w)
-    return found, leftover
+def path_costs(octets, first, count, c):
+    """What the best path from any register, from step `first` of the stream on, costs over the
+    octets of so many steps from octet k on, for each k below a period's symbols."""
+    period = sum(map(sum, PATTERNS[c.inner]))
+    return [min(path_metrics(cut_steps(octets[k:], c, first, count)[0], first, range(64), c)[-1])
+            for k in range(period)]
 
 def symbol_phase(octets, ended, c):
     """The phase and what the best path costs from there; None while it can't be chosen."""
@@ -98,10 +92,38 @@ def symbol_phase(octets, ended, c):
     whole = len(cut_steps(octets[:max(0, len(octets) - (period - 1))], c)[0])
     if whole < c.keep + c.ahead and not ended:
         return None
-    count = min(whole, c.keep + c.ahead)
-    costs = [min(path_metrics(cut_steps(octets[k:], c)[0][:count], 0, range(64), c)[-1])
-             for k in range(period)]
+    costs = path_costs(octets, 0, min(whole, c.keep + c.ahead), c)
     return costs.index(min(costs)), min(costs)
+
+def dropped_octets(octets, first, c):
+    """How many octets are dropped before a window, not the first, that would begin at step `first`
+    of the stream with these octets: none where too few are there."""
+    count = min(c.keep + c.ahead - 8, 1024)
+    size = sum(sum(sent(first + t, c)) for t in range(count))
+    if len(octets) < size + sum(map(sum, PATTERNS[c.inner])) - 1:
+        return 0
+    costs = path_costs(octets, first, count, c)
+    excess = [cost - sum(min(octet, 255 - octet) for octet in octets[k:k + size])
+              for k, cost in enumerate(costs)]
+    k = costs.index(min(costs))
+    return k if 4 * excess[k] < 3 * excess[0] else 0
+
+def windows(octets, ended, c):
+    """The windows, without the last one where the octets go on; and how many are left over."""
+    found, first, starts, at, whole = [], 0, range(64) if c.start_any else (0,), 0, c.keep + c.ahead
+    while True:
+        k = dropped_octets(octets[at:], first, c) if c.follow and found else 0
+        at, starts = at + k, range(64) if k else starts
+        steps, leftover = cut_steps(octets[at:], c, first, whole + 1)
+        if len(steps) <= (0 if ended else whole):
+            return found, leftover
+        w = SimpleNamespace(soft=steps[:whole], dropped=k)
+        w.kept = c.keep if len(steps) > whole else len(w.soft)
+        w.columns = path_metrics(w.soft, first, starts, c)
+        w.passed = traceback(w.columns, w.soft, first, c)
+        w.metric, w.bits = min(w.columns[-1]), [register >> 5 for register in w.passed[1:]]
+        first, starts, at = first + w.kept, (w.passed[w.kept],), at + sum(map(len, w.soft[:w.kept]))
+        found.append(w)
 
 def received(data, ended, c):
     """The windows and bits of an input, or where it goes on those that are due, and the first and
@@ -117,6 +139,7 @@ def received(data, ended, c):
         if r.phase:
             r.windows, r.leftover = windows(octets[r.phase[0]:], ended, c)
         r.bits = [bit for w in r.windows for bit in w.bits[:w.kept]]
+    r.slips = [f"slips {sum(w.dropped > 0 for w in r.windows)}"] if c.follow else []
     r.head = [f"phase {r.phase[0]} cost {r.phase[1]}"] if c.find_phase and r.phase else []
     r.end = f"blocks {len(r.windows)} bits {len(r.bits)} leftover {r.leftover}"
     return r

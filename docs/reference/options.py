@@ -73,7 +73,8 @@ def configuration(given):
     c.fly = number(given, "fly", 0, 15, 0)
     c.keep = number(given, "keep", 64, 65536, 8192)
     c.ahead = number(given, "ahead", 0, 4096, 256)
-    c.find_phase = chosen(given, "phase", ("given", "find"), "given") == "find"
+    phase = chosen(given, "phase", ("given", "find", "follow"), "given")
+    c.find_phase, c.follow = phase != "given", phase == "follow"
     c.find_polarity = chosen(given, "polarity", ("given", "find"), "given") == "find"
     c.batch = number(given, "batch", 1, 32, 32)
     pack = chosen(given, "pack", ("on", "off"), "on") == "on"
