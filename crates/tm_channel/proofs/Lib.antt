@@ -9,8 +9,8 @@ pub mod OnlyItems
 mod HasItems
 pub mod ReceivedOctets
 pub mod SentPhase
-mod CleanTotals
 pub mod ComplementedOctets
+mod CleanTotals
 pub mod DueItems
 pub mod FirstItems
 pub mod WorkedItems

@@ -1,25 +1,23 @@
 -- What `decode` makes of octets in which frames were sent, from the laws of what is received.
-use Rattle.std.proofs.Common.{◌≡◌, ◌⊎◌, inr, ℕ, zero, suc, ◌+◌, ◌-◌, ◌*◌, ◌/◌, ◌%◌, Bool, true, false, if◌then◌else◌, List, [], ◌∷◌, ◌++◌, length, map, replicate, Option, Some, None, refl, sym, ap, ◌∙◌, subst, arith}
+use Rattle.std.proofs.Common.{◌≡◌, ◌⊎◌, ℕ, zero, suc, ◌+◌, ◌-◌, ◌*◌, Bool, true, false, if◌then◌else◌, List, [], ◌∷◌, ◌++◌, length, map, replicate, Option, Some, None, refl, sym, ap, ◌∙◌, subst, arith}
 use Rattle.std.specs.List.{concat}
 use Rattle.std.proofs.lemmas.List.{length-map}
-use Rattle.tm_base.specs.Bits.{AreOctets, bits_of}
+use Rattle.tm_base.specs.Bits.{AreOctets}
 use Rattle.tm_base.specs.Handed.{Handed, items_of}
 use Rattle.tm_base.specs.Written.{Wrote}
 use Rattle.tm_base.proofs.HandedItems.{items_of-items}
-use Rattle.tm_base.proofs.Packing.{length-bits_of}
 use Rattle.tm_config.specs.Configuration.{Configuration, codeblock_length, is_uncoded}
 use Rattle.tm_viterbi.specs.declared.block.Start.TheVariants.{Any}
 use Rattle.tm_conv.specs.declared.rates.Rate.TheVariants.{R12}
 use Rattle.tm_config.specs.declared.values.Sought.TheVariants.{Find}
 use Rattle.tm_config.specs.Accepted.{IsAccepted}
 use Rattle.tm_conv.specs.declared.rates.Rate.{Rate}
-use Rattle.tm_conv.specs.Path.{period}
 use Rattle.tm_phase.specs.declared.choosing.Chosen.{Chosen}
-use Rattle.tm_inner.specs.Inner.{Inner, IsStartKnown, plain_count, inner_bits}
+use Rattle.tm_viterbi.specs.WindowBlock.{WindowBlock}
+use Rattle.tm_inner.specs.Inner.{AreInnerBlocks, BlocksAt, Inner, IsStartKnown, plain_count, slips_told}
 use Rattle.tm_inner.specs.Phase.{IsChosen, PhaseAt, phase_octets, skip_of, with_phase}
-use Rattle.tm_inner.specs.Symbols.{symbols_of_octets}
 use Rattle.tm_inner.proofs.WithPhase.{OnePhase, one-choice}
-use Rattle.tm_inner.proofs.ReceivedBits.{bits-coded, bits-plain, whole_steps}
+use Rattle.tm_inner.proofs.ReceivedBits.{bits-plain}
 use Rattle.tm_rs_solve.specs.declared.answers.Answer.{Answer}
 use Rattle.tm_rs_solve.specs.declared.answers.Answer.TheVariants.{Fixed}
 use Rattle.tm_sync.specs.declared.found.Found.{Found}
@@ -28,7 +26,8 @@ use Rattle.tm_codeblock.specs.Frames.{whole_frames}
 use Rattle.tm_codeblock.specs.ReceivedCodeblock.{received_columns}
 use Rattle.tm_channel.specs.Sent.{cadus, sent, sent_phase}
 use Rattle.tm_channel.specs.Items.{ItemValue, are_fixed, frames_of, complemented_item}
-use Rattle.tm_channel.specs.Handing.{AreReceived}
+use Rattle.tm_channel.specs.declared.totals.Totals.{Totals}
+use Rattle.tm_channel.specs.Handing.{AreReceived, clean_totals, totals_of}
 use Rattle.tm_channel.specs.Receive.{Receive}
 use Rattle.tm_channel.specs.SentStream.{SentUnit, IsSent, AreRepaired, AreWithin, AreAsSent, AreNear, sent_columns, unit_codeblock, unit_frames, unit_places, clean_answers, clean_items, found_frames}
 use Rattle.tm_channel.proofs.SentPhase.{sent-skip}
@@ -40,12 +39,13 @@ use Rattle.tm_cli.specs.Decode.{HasBad, decode_meaning}
 use Rattle.tm_cli.specs.Report.{bad, report_text}
 use Rattle.tm_cli.specs.Link.{KeepsCleanLink, KeepsDisturbedLink, KeepsComplementedInput, KeepsComplementedSymbols}
 
--- octets come to one list of bits, which there is, and to one list of items
-abbrev HasBits : Type 0
-HasBits = (c : Configuration) (phase : ℕ) (octets : List ℕ) → IsAccepted c → (bits : List Bool) × Inner c phase octets bits
-
+-- octets come to one list of bits, of blocks and of items
 abbrev OneBits : Type 0
 OneBits = (c : Configuration) (phase : ℕ) (octets : List ℕ) (bits others : List Bool) → Inner c phase octets bits → Inner c phase octets others → bits ≡ others
+
+abbrev OneBlocks : Type 0
+OneBlocks = (c : Configuration) (phase : ℕ) (octets : List ℕ) (blocks others : List WindowBlock) (left rest : ℕ)
+    → AreInnerBlocks c phase octets blocks left → AreInnerBlocks c phase octets others rest → blocks ≡ others
 
 abbrev OneItems : Type 0
 OneItems = (c : Configuration) (phase : ℕ) (octets : List ℕ) (items others : List ItemValue) → IsAccepted c
@@ -53,8 +53,8 @@ OneItems = (c : Configuration) (phase : ℕ) (octets : List ℕ) (items others :
 
 -- and what is handed over is one list
 abbrev OneHanded : Type 0
-OneHanded = (c : Configuration) (octets : List ℕ) (handed others : List (Handed ItemValue)) (bits count : ℕ) → IsAccepted c
-    → AreReceived c octets handed bits → AreReceived c octets others count → handed ≡ others
+OneHanded = (c : Configuration) (octets : List ℕ) (handed others : List (Handed ItemValue)) (totals sums : Totals) → IsAccepted c
+    → AreReceived c octets handed totals → AreReceived c octets others sums → handed ≡ others
 
 -- the phase of what is sent for octets, and of that complemented
 abbrev SentPhase : Type 0
@@ -63,11 +63,16 @@ SentPhase = (c : Configuration) (octets : List ℕ) (chosen : Option Chosen) →
 abbrev ComplementedPhase : Type 0
 ComplementedPhase = (c : Configuration) (octets : List ℕ) (chosen : Option Chosen) → c.skip ≡ 0 → IsChosen c (complemented_octets (sent c octets)) chosen → chosen ≡ sent_phase c
 
--- the bits and the items of what is sent for octets, and the frames of these items
-abbrev CleanBits : Type 0
-CleanBits = (c : Configuration) (octets : List ℕ) (bits : List Bool) → IsAccepted c → c.skip ≡ 0 → IsStartKnown c
-    → Inner c 0 (symbols_of_octets c octets) bits → bits ≡ bits_of octets
+-- what the octets come to that are sent for others, and complemented
+abbrev CleanTotals : Type 0
+CleanTotals = (c : Configuration) (octets : List ℕ) (handed : List (Handed ItemValue)) (totals : Totals) → IsAccepted c → c.skip ≡ 0 → IsStartKnown c
+    → AreReceived c (sent c octets) handed totals → totals ≡ clean_totals c (8 * length (cadus c octets))
 
+abbrev ComplementedTotals : Type 0
+ComplementedTotals = (c : Configuration) (octets : List ℕ) (handed : List (Handed ItemValue)) (totals : Totals) → IsAccepted c → c.inner ≡ Some R12
+    → c.start ≡ Any → c.skip ≡ 0 → AreReceived c (complemented_octets (sent c octets)) handed totals → totals ≡ clean_totals c (8 * length (cadus c octets))
+
+-- the items of what is sent for octets, and the frames of these items
 abbrev CleanItems : Type 0
 CleanItems = (c : Configuration) (octets : List ℕ) (items : List ItemValue) → IsAccepted c → c.skip ≡ 0 → IsStartKnown c → AreOctets octets
     → Receive c 0 (sent c octets) items → items ≡ clean_items c 0 (found_frames c (whole_frames c.frame_length octets))
@@ -151,28 +156,20 @@ bad-complemented (item ∷ items) = ap (λ n. (if are_fixed item.answers then 0 
 
 -- ---- octets of the same length
 
--- they come to as many bits
-same-count : (c : Configuration) (phase : ℕ) (octets others : List ℕ) (bits more : List Bool) → length octets ≡ length others → Inner c phase octets bits → Inner c phase others more
-    → length bits ≡ length more
-same-count c phase octets others bits more long a b = ap length a.are_bits ∙ by-rate c.inner refl
-    ∙ sym (ap length b.are_bits)
+-- with no inner code they come to the same
+same-totals : (c : Configuration) (phase : ℕ) (octets others : List ℕ) (bits more : List Bool) → c.inner ≡ None → length octets ≡ length others
+    → (a : Inner c phase octets bits) (b : Inner c phase others more) → totals_of c bits a.blocks ≡ totals_of c more b.blocks
+same-totals c phase octets others bits more plain long a b =
+    let n : ℕ = length others in
+    let m : ℕ = plain_count c n - c.skip in
+    let count : length bits ≡ length more = ap length a.are_bits ∙ sym (bits-plain c n m octets a.blocks plain long refl)
+    ∙ bits-plain c n m others b.blocks plain refl refl ∙ sym (ap length b.are_bits) in
+    let none : a.blocks ≡ b.blocks = no-blocks c phase octets a.blocks a.left plain a.are_blocks ∙ sym (no-blocks c phase others b.blocks b.left plain b.are_blocks) in
+    λ i. record { bits = count i; slips = slips_told c (none i) }
   where
-    n : ℕ
-    n = length others
-
-    m : ℕ
-    m = plain_count c n - c.skip
-
-    by-rate : (rate : Option Rate) → c.inner ≡ rate
-        → length (inner_bits c octets a.blocks) ≡ length (inner_bits c others b.blocks)
-    by-rate None is = sym (bits-plain c n m octets a.blocks is long refl) ∙ bits-plain c n m others b.blocks is refl refl
-    by-rate (Some rate) is =
-        let p = period rate in
-        let k : ℕ = n - c.skip - phase in
-        let rest : ℕ = k % (p + 1) - 1 in
-        let whole = whole_steps rate k p rest refl refl in
-        sym (bits-coded c rate phase n (k / (p + 1) * p + rest) octets a.blocks a.left is long whole a.are_blocks)
-        ∙ bits-coded c rate phase n (k / (p + 1) * p + rest) others b.blocks b.left is refl whole b.are_blocks
+    no-blocks : (c : Configuration) (phase : ℕ) (octets : List ℕ) (blocks : List WindowBlock) (left : ℕ) → c.inner ≡ None
+        → AreInnerBlocks c phase octets blocks left → blocks ≡ []
+    no-blocks c phase octets blocks left plain are = (subst (λ (r : Option Rate). BlocksAt r c phase octets blocks left) plain are).0
 
 -- with no inner code the phase hangs on no octet
 phase-plain : (rate : Option Rate) (c : Configuration) (soft others : List ℕ) (chosen : Chosen) → rate ≡ None → PhaseAt rate c soft chosen → PhaseAt rate c others chosen
@@ -200,7 +197,11 @@ record Came (status : ℕ) (c : Configuration) (octets : List ℕ) (chosen : Opt
   inner : Inner c (skip_of chosen) octets bits
   receive : Receive c (skip_of chosen) octets items
   out : Wrote taken taken_now (frames_of items)
-  notes : Wrote noted noted_now (report_text (with_phase chosen items) (length bits))
+  handed : List (Handed ItemValue)
+  totals : Totals
+  received : AreReceived c octets handed totals
+  counted : totals ≡ totals_of c bits inner.blocks
+  notes : Wrote noted noted_now (report_text (with_phase chosen items) totals)
   good : bad items ≡ 0 → status ≡ 0
 
 -- the status is 0 where nothing is uncorrectable
@@ -236,16 +237,26 @@ came one_phase one e status c octets chosen taken taken_now noted noted_now ok t
     let same : r.chosen ≡ chosen = one-choice one_phase c octets r.chosen chosen r.choice choice in
     let handed : d.handed ≡ with_phase chosen r.items = r.are ∙ ap (λ (o : Option Chosen). with_phase o r.items) same in
     let items : items_of d.handed ≡ r.items = ap (items_of {I = ItemValue}) handed ∙ items_of-turn chosen r.items in
-    let inner : Inner c (skip_of chosen) octets all.0 = subst (λ (o : Option Chosen). Inner c (skip_of o) octets all.0) same all.1 in
+    let was = all.1 in
+    let inner : Inner c (skip_of chosen) octets all.0 = record {
+      blocks = was.blocks;
+      left = was.left;
+      are_blocks = subst (λ (o : Option Chosen). AreInnerBlocks c (skip_of o) octets was.blocks was.left) same was.are_blocks;
+      are_bits = was.are_bits;
+    } in
     record {
       bits = all.0;
       items = r.items;
       inner = inner;
       receive = record { bits = all.0; inner = inner; are_items = all.3 };
       out = subst (Wrote taken taken_now) (d.are_frames ∙ ap frames_of items) wrote.2.out;
-      notes = subst (Wrote noted noted_now) (d.is_report ∙ ap (λ (l : List (Handed ItemValue)). report_text l d.bits) handed ∙ ap (report_text (with_phase chosen r.items)) all.2) wrote.2.notes;
+      handed = d.handed;
+      totals = d.totals;
+      received = r;
+      counted = all.2;
+      notes = subst (Wrote noted noted_now) (d.is_report ∙ ap (λ (l : List (Handed ItemValue)). report_text l d.totals) handed) wrote.2.notes;
       good = λ none. good-status e status c octets taken taken_now noted noted_now told ends read
-          (λ h. h.2 (ap (λ (l : List (Handed ItemValue)). bad (items_of l)) (one c octets h.0 d.handed h.1.0 d.bits ok h.1.1 r) ∙ ap bad items ∙ none));
+          (λ h. h.2 (ap (λ (l : List (Handed ItemValue)). bad (items_of l)) (one c octets h.0 d.handed h.1.0 d.totals ok h.1.1 r) ∙ ap bad items ∙ none));
     }
 
 -- what came of octets of which the phase is known
@@ -259,33 +270,36 @@ came-free one_phase one e status c octets taken taken_now noted noted_now ok tol
 
 -- ---- links
 
-pub keeps-clean : SentPhase → OnePhase → OneHanded → CleanBits → CleanItems → CleanFrames → (e : Ending) (status : ℕ) (c : Configuration) (octets : List ℕ) (taken taken_now noted noted_now : Option (List ℕ))
+pub keeps-clean : SentPhase → OnePhase → OneHanded → CleanTotals → CleanItems → CleanFrames → (e : Ending) (status : ℕ) (c : Configuration) (octets : List ℕ) (taken taken_now noted noted_now : Option (List ℕ))
     → IsAccepted c → status ≡ status_of e → Ends e (decode_meaning c) c.limit octets (taken_by taken taken_now noted noted_now) → (status ≡ 0) ⊎ (status ≡ 1)
     → KeepsCleanLink status c octets taken taken_now noted noted_now
-keeps-clean sent_phases one_phase one clean_bits clean frames e status c octets taken taken_now noted noted_now ok told ends read = λ input skip start small is.
+keeps-clean sent_phases one_phase one clean_totals_of clean frames e status c octets taken taken_now noted noted_now ok told ends read = λ input skip start small is.
     let r = came-free one_phase one e status c octets taken taken_now noted noted_now ok told ends read
     (λ chosen choice. sent_phases c input chosen skip (subst (λ (l : List ℕ). IsChosen c l chosen) is choice)) in
     let sent_frames = found_frames c (whole_frames c.frame_length input) in
-    let inner : Inner c 0 (sent c input) r.bits = subst (λ (n : ℕ). Inner c n (sent c input) r.bits) (sent-skip c) (subst (λ (l : List ℕ). Inner c (skip_of (sent_phase c)) l r.bits) is r.inner) in
     let receive : Receive c 0 (sent c input) r.items =
     subst (λ (n : ℕ). Receive c n (sent c input) r.items) (sent-skip c) (subst (λ (l : List ℕ). Receive c (skip_of (sent_phase c)) l r.items) is r.receive) in
     let items : r.items ≡ clean_items c 0 sent_frames = clean c input r.items ok skip start small receive in
-    let count : length r.bits ≡ 8 * length (cadus c input) = ap length (clean_bits c (cadus c input) r.bits ok skip start inner) ∙ length-bits_of (cadus c input) in (
+    let count : r.totals ≡ clean_totals c (8 * length (cadus c input)) = clean_totals_of c input r.handed r.totals ok skip start
+    (subst (λ (l : List ℕ). AreReceived c l r.handed r.totals) is r.received) in (
       r.good (ap bad items ∙ clean-good c 0 sent_frames),
       subst (Wrote taken taken_now) (ap frames_of items ∙ frames c 0 sent_frames) r.out,
       subst (Wrote noted noted_now) (λ i. report_text (with_phase (sent_phase c) (items i)) (count i)) r.notes,
     )
 
-pub keeps-disturbed : OnePhase → OneHanded → OneBits → SentItems → SentFrames → (e : Ending) (status : ℕ) (c : Configuration) (octets : List ℕ) (taken taken_now noted noted_now : Option (List ℕ))
+pub keeps-disturbed : OnePhase → OneHanded → OneBits → OneBlocks → SentItems → SentFrames → (e : Ending) (status : ℕ) (c : Configuration) (octets : List ℕ) (taken taken_now noted noted_now : Option (List ℕ))
     → IsAccepted c → status ≡ status_of e → Ends e (decode_meaning c) c.limit octets (taken_by taken taken_now noted noted_now) → (status ≡ 0) ⊎ (status ≡ 1)
     → KeepsDisturbedLink status c octets taken taken_now noted noted_now
-keeps-disturbed one_phase one one_bits sent_items sent_frames e status c octets taken taken_now noted noted_now ok told ends read = λ bits units last chosen choice inner is.
+keeps-disturbed one_phase one one_bits one_blocks sent_items sent_frames e status c octets taken taken_now noted noted_now ok told ends read = λ bits units last chosen choice inner is.
     let r = came one_phase one e status c octets chosen taken taken_now noted noted_now ok told ends read choice in
-    let as_sent = sent_items c (skip_of chosen) octets bits units last r.items ok inner is r.receive in (
+    let as_sent = sent_items c (skip_of chosen) octets bits units last r.items ok inner is r.receive in
+    let same : r.bits ≡ bits = one_bits c (skip_of chosen) octets r.bits bits r.inner inner in
+    let all : r.inner.blocks ≡ inner.blocks =
+    one_blocks c (skip_of chosen) octets r.inner.blocks inner.blocks r.inner.left inner.left r.inner.are_blocks inner.are_blocks in (
       r.items,
       as_sent,
       r.out,
-      subst (Wrote noted noted_now) (ap (λ (l : List Bool). report_text (with_phase chosen r.items) (length l)) (one_bits c (skip_of chosen) octets r.bits bits r.inner inner)) r.notes,
+      subst (λ (t : Totals). Wrote noted noted_now (report_text (with_phase chosen r.items) t)) (r.counted ∙ (λ i. totals_of c (same i) (all i))) r.notes,
       λ near. (
         r.good (near-good c (unit_places c units) units r.items as_sent near),
         subst (Wrote taken taken_now) (sent_frames c (skip_of chosen) octets bits units last r.items ok inner is r.receive near) r.out,
@@ -301,27 +315,25 @@ keeps-complemented_input one_phase one one_items complemented e status c octets 
     subst (λ (l : List ℕ). Receive c (skip_of chosen) l (map complemented_item items)) (sym is)
     (complemented c (skip_of chosen) other items ok plain find small (record { bits = bits; inner = inner; are_items = are })) in
     let same : r.items ≡ map complemented_item items = one_items c (skip_of chosen) octets r.items (map complemented_item items) ok r.receive receive in
-    let count : length r.bits ≡ length bits = same-count c (skip_of chosen) octets other r.bits bits (ap length is ∙ length-map other (λ octet. 255 - octet)) r.inner inner in (
+    let count : r.totals ≡ totals_of c bits inner.blocks =
+    r.counted ∙ same-totals c (skip_of chosen) octets other r.bits bits plain (ap length is ∙ length-map other (λ octet. 255 - octet)) r.inner inner in (
       subst (Wrote taken taken_now) (ap frames_of same ∙ frames-complemented items) r.out,
-      subst (Wrote noted noted_now) (ap (λ (l : List ItemValue). report_text (with_phase chosen l) (length r.bits)) same ∙ ap (report_text (with_phase chosen (map complemented_item items))) count) r.notes,
+      subst (Wrote noted noted_now) (ap (λ (l : List ItemValue). report_text (with_phase chosen l) r.totals) same ∙ ap (report_text (with_phase chosen (map complemented_item items))) count) r.notes,
     )
 
-pub keeps-complemented_symbols : ComplementedPhase → OnePhase → OneHanded → HasBits → CleanBits → CleanFrames → ComplementedSymbols → (e : Ending) (status : ℕ) (c : Configuration) (octets : List ℕ) (taken taken_now noted noted_now : Option (List ℕ))
+pub keeps-complemented_symbols : ComplementedPhase → OnePhase → OneHanded → ComplementedTotals → CleanFrames → ComplementedSymbols → (e : Ending) (status : ℕ) (c : Configuration) (octets : List ℕ) (taken taken_now noted noted_now : Option (List ℕ))
     → IsAccepted c → status ≡ status_of e → Ends e (decode_meaning c) c.limit octets (taken_by taken taken_now noted noted_now) → (status ≡ 0) ⊎ (status ≡ 1)
     → KeepsComplementedSymbols status c octets taken taken_now noted noted_now
-keeps-complemented_symbols complemented_phases one_phase one has_bits clean_bits frames complemented e status c octets taken taken_now noted noted_now ok told ends read = λ input half find any skip small is.
+keeps-complemented_symbols complemented_phases one_phase one totals_of_both frames complemented e status c octets taken taken_now noted noted_now ok told ends read = λ input half find any skip small is.
     let r = came-free one_phase one e status c octets taken taken_now noted noted_now ok told ends read
     (λ chosen choice. complemented_phases c input chosen skip (subst (λ (l : List ℕ). IsChosen c l chosen) is choice)) in
     let sent_frames = found_frames c (whole_frames c.frame_length input) in
     let clean = clean_items c 0 sent_frames in
-    let inner : Inner c 0 octets r.bits = subst (λ (n : ℕ). Inner c n octets r.bits) (sent-skip c) r.inner in
     let receive : Receive c 0 (complemented_octets (sent c input)) r.items =
     subst (λ (n : ℕ). Receive c n (complemented_octets (sent c input)) r.items) (sent-skip c) (subst (λ (l : List ℕ). Receive c (skip_of (sent_phase c)) l r.items) is r.receive) in
     let items : r.items ≡ map complemented_item clean = complemented c input r.items ok half find any skip small receive in
-    let upright = has_bits c 0 (sent c input) ok in
-    let count : length r.bits ≡ 8 * length (cadus c input) =
-    same-count c 0 octets (sent c input) r.bits upright.0 (ap length is ∙ length-map (sent c input) (λ octet. 255 - octet)) inner upright.1
-    ∙ ap length (clean_bits c (cadus c input) upright.0 ok skip (inr (inr half)) upright.1) ∙ length-bits_of (cadus c input) in (
+    let count : r.totals ≡ clean_totals c (8 * length (cadus c input)) = totals_of_both c input r.handed r.totals ok half any skip
+    (subst (λ (l : List ℕ). AreReceived c l r.handed r.totals) is r.received) in (
       r.good (ap bad items ∙ bad-complemented clean ∙ clean-good c 0 sent_frames),
       subst (Wrote taken taken_now) (ap frames_of items ∙ frames-complemented clean ∙ frames c 0 sent_frames) r.out,
       subst (Wrote noted noted_now) (λ i. report_text (with_phase (sent_phase c) (items i)) (count i)) r.notes,

@@ -1,5 +1,5 @@
 -- What was received of the octets that were read.
-use Rattle.std.proofs.Common.{◌≡◌, ◌⊎◌, inl, inr, ℕ, ◌+◌, ◌*◌, ◌<◌, ◌≤◌, ◌^◌, Bool, true, false, cond, List, [], ◌∷◌, ◌++◌, length, take, refl, sym, ap, ◌∙◌, subst, arith, Option, Some, None, length-append, length-take, Err, IsErrOf}
+use Rattle.std.proofs.Common.{◌≡◌, ◌⊎◌, inl, inr, ℕ, ◌+◌, ◌*◌, ◌<◌, ◌≤◌, ◌^◌, Bool, true, false, cond, List, [], ◌∷◌, ◌++◌, length, take, refl, sym, ap, ◌∙◌, subst, arith, None, length-append, length-take, Err, IsErrOf}
 use Rattle.std.proofs.lemmas.List.{take_all}
 use Rattle.tm_base.specs.Takers.{HandedOver, HandedPart}
 use Rattle.tm_base.specs.Handed.{Handed, items_of}
@@ -8,7 +8,6 @@ use Rattle.tm_config.specs.Accepted.{IsAccepted}
 use Rattle.tm_config.proofs.Choices.{never_both, given_or_find}
 use Rattle.tm_config.specs.declared.values.Sought.TheVariants.{Find}
 use Rattle.tm_config.specs.Configuration.{Configuration}
-use Rattle.tm_conv.specs.declared.rates.Rate.{Rate}
 use Rattle.tm_inner.specs.Inner.{Inner, AreInnerDue, inner_bits}
 use Rattle.tm_inner.specs.Phase.{WithPhase, IsSettled, skip_of}
 use Rattle.tm_inner.proofs.FewBits.{first-few, whole-few, first-of-due, due-none as no-blocks}
@@ -22,6 +21,7 @@ use Rattle.tm_codeblock.specs.ReceivedCodeblock.{rules_of}
 use Rattle.tm_channel.specs.Due.{due_count, due}
 use Rattle.tm_channel.specs.Items.{ItemValue, AreItemsOf, AreFirstItemsOf}
 use Rattle.tm_channel.specs.Receive.{ReceiveDue, ReceiveFirst, ReceivePrefix}
+use Rattle.tm_channel.specs.declared.totals.Totals.{Totals}
 use Rattle.tm_channel.specs.Handing.{ReceiveAll, AreReceived, AreReceivedDue, AreReceivedFirst, AreReceivedPrefix}
 use Rattle.tm_channel.specs.OctetReceiving.{OctetReceiving, StandsFor}
 use Rattle.tm_channel.specs.declared.receiver.RecvError.{RecvError}
@@ -77,8 +77,8 @@ few-prefix : (c : Configuration) (octets : List ℕ) (phase : ℕ) (items : List
 few-prefix c octets phase items r =
     omega (arith, first-count c r.bits (places (rules_of c) r.bits) items r.are_items, places-count (rules_of c) r.bits, few-bits c octets phase r.bits r.inner)
 
-few-all : (c : Configuration) (count : ℕ) (octets : List ℕ) (phase : ℕ) (items : List ItemValue) → ReceiveAll c phase octets count items → length items ≤ 8 * length octets
-few-all c count octets phase items r =
+few-all : (c : Configuration) (totals : Totals) (octets : List ℕ) (phase : ℕ) (items : List ItemValue) → ReceiveAll c phase octets totals items → length items ≤ 8 * length octets
+few-all c totals octets phase items r =
     omega (arith, all-count c r.0 (places (rules_of c) r.0) items r.3, places-count (rules_of c) r.0, few-bits c octets phase r.0 r.1)
 
 -- the same of what is handed over, with any phase before them
@@ -98,8 +98,8 @@ few-received_first c octets handed turn = few-with_phase (λ phase. ReceiveFirst
 pub few-received_prefix : (c : Configuration) (octets : List ℕ) (handed : List (Handed ItemValue)) → AreReceivedPrefix c octets handed → length (items_of handed) ≤ 8 * length octets
 few-received_prefix c octets handed = few-with_phase (λ phase. ReceivePrefix c phase octets) c octets handed (8 * length octets) (few-prefix c octets)
 
-pub few-received : (c : Configuration) (count : ℕ) (octets : List ℕ) (handed : List (Handed ItemValue)) → AreReceived c octets handed count → length (items_of handed) ≤ 8 * length octets
-few-received c count octets handed = few-with_phase (λ phase. ReceiveAll c phase octets count) c octets handed (8 * length octets) (few-all c count octets)
+pub few-received : (c : Configuration) (totals : Totals) (octets : List ℕ) (handed : List (Handed ItemValue)) → AreReceived c octets handed totals → length (items_of handed) ≤ 8 * length octets
+few-received c totals octets handed = few-with_phase (λ phase. ReceiveAll c phase octets totals) c octets handed (8 * length octets) (few-all c totals octets)
 
 -- ---- for no octets nothing is due
 
@@ -166,14 +166,14 @@ due-none took c receiver taker accepted same stands = record { handed = []; conf
 pub few : (c : Configuration) (octets : List ℕ) → IsAccepted c → length octets ≤ c.limit → length octets < 2 ^ 60
 few c octets accepted within = let most = accepted.limit in omega arith
 
-pub all-handed : {T : Type 0} (took : T → Handed ItemValue → T → Type 0) (c : Configuration) (receiver : OctetReceiving) (start taker taker_now : T) (octets : List ℕ) (last : List (Handed ItemValue)) (count : ℕ)
+pub all-handed : {T : Type 0} (took : T → Handed ItemValue → T → Type 0) (c : Configuration) (receiver : OctetReceiving) (start taker taker_now : T) (octets : List ℕ) (last : List (Handed ItemValue)) (totals : Totals)
     → length octets < 2 ^ 60 → HandedDue c receiver (λ handed. HandedOver took start handed taker) octets → HandedOver took taker last taker_now
-    → ((given : List ℕ) (done : List (Handed ItemValue)) → StandsFor receiver given done → AreReceived receiver.config given (done ++ last) count)
-    → (handed : List (Handed ItemValue)) × AreReceived c octets handed count × HandedOver took start handed taker_now
-all-handed took c receiver start taker taker_now octets last count small p handed finish =
+    → ((given : List ℕ) (done : List (Handed ItemValue)) → StandsFor receiver given done → AreReceived receiver.config given (done ++ last) totals)
+    → (handed : List (Handed ItemValue)) × AreReceived c octets handed totals × HandedOver took start handed taker_now
+all-handed took c receiver start taker taker_now octets last totals small p handed finish =
     let all = p.handed ++ last in (
       all,
-      subst (λ (k : Configuration). AreReceived k octets all count) p.config (finish octets p.handed (p.stands small).0),
+      subst (λ (k : Configuration). AreReceived k octets all totals) p.config (finish octets p.handed (p.stands small).0),
       HandedOver-append took start taker taker_now p.handed last p.holds handed,
     )
 
@@ -191,12 +191,12 @@ prefix-handed took broke c receiver start taker taker_now octets tried accepted 
 -- ---- from a new receiver
 
 -- what all of the octets come to
-all-received : {T : Type 0} (took : T → Handed ItemValue → T → Type 0) (c : Configuration) (receiver : OctetReceiving) (start taker : T) (end : T → ℕ → Type 0) (octets : List ℕ)
+all-received : {T : Type 0} (took : T → Handed ItemValue → T → Type 0) (c : Configuration) (receiver : OctetReceiving) (start taker : T) (end : T → Totals → Type 0) (octets : List ℕ)
     → IsAccepted c → length octets ≤ c.limit → HandedDue c receiver (λ handed. HandedOver took start handed taker) octets → HandedLast took receiver taker end
     → ReceivedAll took c octets start end
 all-received took c receiver start taker end octets accepted within due last =
-    let all = all-handed took c receiver start taker last.middle octets last.last last.bits (few c octets accepted within) due last.handed last.received in
-    record { handed = all.0; bits = last.bits; middle = last.middle; are_received = all.1; over = all.2; is_end = last.is_end; within = within }
+    let all = all-handed took c receiver start taker last.middle octets last.last last.totals (few c octets accepted within) due last.handed last.received in
+    record { handed = all.0; totals = last.totals; middle = last.middle; are_received = all.1; over = all.2; is_end = last.is_end; within = within }
 
 -- an outcome tells whether something is uncorrectable
 good-of : (is_good : Bool) → Whole ≡ cond is_good Whole Beyond → is_good ≡ true
@@ -218,16 +218,16 @@ Fed receiver taker took x y o = Receives took (receiver x) (receiver y) (taker x
 abbrev FedPart : {F T : Type 0} → (F → OctetReceiving) → (F → T) → (took broke : T → Handed ItemValue → T → Type 0) → F → F → List ℕ → Stop → Type 0
 FedPart receiver taker took broke x y o stop = (stop ≡ FeedFault) × ReceivesPart took broke (receiver x) (taker x) (taker y) o
 
-abbrev Last : {F T : Type 0} → (F → OctetReceiving) → (F → T) → (T → Handed ItemValue → T → Type 0) → (T → ℕ → Bool → T → Type 0) → F → F → Outcome → Type 0
+abbrev Last : {F T : Type 0} → (F → OctetReceiving) → (F → T) → (T → Handed ItemValue → T → Type 0) → (T → Totals → Bool → T → Type 0) → F → F → Outcome → Type 0
 Last receiver taker took told x y outcome =
-    (is_good : Bool) × (outcome ≡ cond is_good Whole Beyond) × HandedLast took (receiver x) (taker x) (λ middle bits. told middle bits is_good (taker y))
+    (is_good : Bool) × (outcome ≡ cond is_good Whole Beyond) × HandedLast took (receiver x) (taker x) (λ middle totals. told middle totals is_good (taker y))
 
-abbrev LastPart : {F T : Type 0} → (F → OctetReceiving) → (F → T) → (took broke : T → Handed ItemValue → T → Type 0) → (T → ℕ → T → Type 0) → F → F → Type 0
+abbrev LastPart : {F T : Type 0} → (F → OctetReceiving) → (F → T) → (took broke : T → Handed ItemValue → T → Type 0) → (T → Totals → T → Type 0) → F → F → Type 0
 LastPart receiver taker took broke broke_end x y =
-    HandedLastPart took broke (receiver x) (taker x) (taker y) ⊎ HandedLast took (receiver x) (taker x) (λ middle bits. broke_end middle bits (taker y))
+    HandedLastPart took broke (receiver x) (taker x) (taker y) ⊎ HandedLast took (receiver x) (taker x) (λ middle totals. broke_end middle totals (taker y))
 
-received-to : {F T : Type 0} (receiver : F → OctetReceiving) (taker : F → T) (took broke : T → Handed ItemValue → T → Type 0) (told : T → ℕ → Bool → T → Type 0)
-    (broke_end : T → ℕ → T → Type 0) (c : Configuration) (a b : F) (ended unended : Type 0) (e : Ending) (octets : List ℕ)
+received-to : {F T : Type 0} (receiver : F → OctetReceiving) (taker : F → T) (took broke : T → Handed ItemValue → T → Type 0) (told : T → Totals → Bool → T → Type 0)
+    (broke_end : T → Totals → T → Type 0) (c : Configuration) (a b : F) (ended unended : Type 0) (e : Ending) (octets : List ℕ)
     → IsAccepted c → (receiver a).config ≡ c → StandsFor (receiver a) [] []
     → DrivenTo (Fed receiver taker took) (FedPart receiver taker took broke) (Last receiver taker took told) (LastPart receiver taker took broke broke_end) c.limit a b ended unended e octets
     → ReceivedTo took broke told broke_end c e octets (taker a) (taker b)
@@ -235,14 +235,14 @@ received-to receiver taker took broke told broke_end c a b ended unended Done oc
     let new = due-none took c (receiver a) (taker a) accepted same stands in
     let m = p.middle in
     let end = p.at_end in
-    all-received took c (receiver m) (taker a) (taker m) (λ middle bits. told middle bits true (taker b)) octets accepted p.within (p.were_fed c (taker a) [] new)
-    (subst (λ g. HandedLast took (receiver m) (taker m) (λ middle bits. told middle bits g (taker b))) (good-of end.0 end.1) end.2)
+    all-received took c (receiver m) (taker a) (taker m) (λ middle totals. told middle totals true (taker b)) octets accepted p.within (p.were_fed c (taker a) [] new)
+    (subst (λ g. HandedLast took (receiver m) (taker m) (λ middle totals. told middle totals g (taker b))) (good-of end.0 end.1) end.2)
 received-to receiver taker took broke told broke_end c a b ended unended Bad octets accepted same stands p =
     let new = due-none took c (receiver a) (taker a) accepted same stands in
     let m = p.middle in
     let end = p.at_end in
-    all-received took c (receiver m) (taker a) (taker m) (λ middle bits. told middle bits false (taker b)) octets accepted p.within (p.were_fed c (taker a) [] new)
-    (subst (λ g. HandedLast took (receiver m) (taker m) (λ middle bits. told middle bits g (taker b))) (bad-of end.0 end.1) end.2)
+    all-received took c (receiver m) (taker a) (taker m) (λ middle totals. told middle totals false (taker b)) octets accepted p.within (p.were_fed c (taker a) [] new)
+    (subst (λ g. HandedLast took (receiver m) (taker m) (λ middle totals. told middle totals g (taker b))) (bad-of end.0 end.1) end.2)
 received-to receiver taker took broke told broke_end c a b ended unended LeftOver octets accepted same stands p = never-left p.at_end.0 p.at_end.1
 received-to receiver taker took broke told broke_end c a b ended unended BadWindow octets accepted same stands p = cc p.0
 received-to receiver taker took broke told broke_end c a b ended unended SourceFault octets accepted same stands p =
@@ -268,11 +268,11 @@ received-to {F} {T} receiver taker took broke told broke_end c a b ended unended
           let prefix = prefix-handed took broke c (receiver m) (taker a) (taker m) (taker b) octets part.tried accepted end.within due part.handed part.prefix in
           inl (prefix.0, inr (subst (λ l. AreReceivedPrefix c l prefix.0) (sym (take_all c.limit octets end.within)) prefix.1), prefix.2)
           )
-      | inr last ↦ inr (all-received took c (receiver m) (taker a) (taker m) (λ middle bits. broke_end middle bits (taker b)) octets accepted end.within due last)
+      | inr last ↦ inr (all-received took c (receiver m) (taker a) (taker m) (λ middle totals. broke_end middle totals (taker b)) octets accepted end.within due last)
     ]
 
-pub received-driven : {F T : Type 0} (receiver : F → OctetReceiving) (taker : F → T) (took broke : T → Handed ItemValue → T → Type 0) (told : T → ℕ → Bool → T → Type 0)
-    (broke_end : T → ℕ → T → Type 0) (c : Configuration) (limit : ℕ) (a b : F) (ended unended : Type 0) (e : Ending) (octets : List ℕ)
+pub received-driven : {F T : Type 0} (receiver : F → OctetReceiving) (taker : F → T) (took broke : T → Handed ItemValue → T → Type 0) (told : T → Totals → Bool → T → Type 0)
+    (broke_end : T → Totals → T → Type 0) (c : Configuration) (limit : ℕ) (a b : F) (ended unended : Type 0) (e : Ending) (octets : List ℕ)
     → IsAccepted c → (receiver a).config ≡ c → StandsFor (receiver a) [] [] → limit ≡ c.limit
     → DrivenTo (Fed receiver taker took) (FedPart receiver taker took broke) (Last receiver taker took told) (LastPart receiver taker took broke broke_end) limit a b ended unended e octets
     → ReceivedTo took broke told broke_end c e octets (taker a) (taker b)

@@ -5,15 +5,16 @@ use Rattle.tm_base.specs.Count.{raised_by}
 use Rattle.tm_base.specs.Takers.{HandedOver, HandedPart}
 use Rattle.tm_base.specs.Handed.{Handed, Phase, Item, items_of}
 use Rattle.tm_base.proofs.HandedItems.{items_of-append}
+use Rattle.tm_channel.specs.declared.totals.Totals.{Totals}
 use Rattle.tm_channel.specs.Items.{ItemValue, are_fixed, frames_of}
 use Rattle.tm_driver.specs.Courses.{SinkState}
-use Rattle.tm_driver.specs.Lines.{phase_text}
+use Rattle.tm_driver.specs.Lines.{phase_text, slips_text}
 use Rattle.tm_driver.specs.Texts.{TookText, BrokeText}
 use Rattle.tm_driver.proofs.HandedAlong.{handed-along}
 use Rattle.tm_driver.proofs.SinkTexts.{took-none, took-more, broke-after, broke-prefix, took-prefix}
-use Rattle.tm_cli.specs.Lines.{item_text}
+use Rattle.tm_cli.specs.Lines.{item_text, report_end_text}
 use Rattle.tm_cli.specs.Receiving.{DecodedAll}
-use Rattle.tm_cli.specs.Report.{fixed_of, good, bad, handed_item_text, items_text}
+use Rattle.tm_cli.specs.Report.{fixed_of, good, bad, fixed, handed_item_text, items_text, items_end_text}
 use Rattle.tm_cli.specs.Taken.{no_counts, number_of, ReportedHanded, ReportedAll, ReportBroke, handed_frames, DecodingBrokeAt, DecodingBroke}
 use Rattle.tm_cli.specs.declared.counts.Counts.{Counts}
 
@@ -149,6 +150,18 @@ report-broke lines last counts handed a b new few part =
       lines = broke-after (lines a) (lines part.middle) (lines b) (last b) (items_text 0 part.prefix) (handed_item_text (length (items_of part.prefix)) part.next) first.lines
           (subst (λ (n : ℕ). BrokeText (lines part.middle) (lines b) (last b) [] (handed_item_text n part.next)) number part.failed);
     }
+
+-- the end of a report that a sink failed in, after the lines
+pub end-broke : (start now end : SinkState) (last : Type 0) (counts : Counts) (handed : List (Handed ItemValue)) (totals : Totals) → ReportedAll start now no_counts counts handed
+    → BrokeText now end last [] (slips_text totals.slips ++ report_end_text counts.good counts.bad counts.fixed totals.bits)
+    → BrokeText start end last (items_text 0 handed) (items_end_text (items_of handed) totals)
+end-broke start now end last counts handed totals all broke =
+    let items = items_of handed in
+    let good_is : counts.good ≡ good items = all.good ∙ omega arith in
+    let bad_is : counts.bad ≡ bad items = all.bad ∙ omega arith in
+    let fixed_is : counts.fixed ≡ fixed items = all.fixed ∙ omega arith in
+    broke-after start now end last (items_text 0 handed) (items_end_text items totals) all.lines
+    (subst (λ (l : List ℕ). BrokeText now end last [] l) (λ i. slips_text totals.slips ++ report_end_text (good_is i) (bad_is i) (fixed_is i) totals.bits) broke)
 
 -- frames, and their report
 pub decoding-wrote : {T : Type 0} (out notes : T → SinkState) (counts : T → Counts) (handed : List (Handed ItemValue)) (a b : T) → counts a ≡ no_counts → length (items_of handed) < 2 ^ 53

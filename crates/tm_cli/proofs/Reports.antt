@@ -8,6 +8,7 @@ use Rattle.tm_base.specs.Handed.{Handed, Phase, Item, on_handed, items_of}
 use Rattle.tm_base.specs.Written.{WrotePrefix}
 use Rattle.tm_config.specs.Accepted.{IsAccepted}
 use Rattle.tm_config.specs.Configuration.{Configuration}
+use Rattle.tm_channel.specs.declared.totals.Totals.{Totals}
 use Rattle.tm_channel.specs.Items.{ItemValue}
 use Rattle.tm_channel.specs.Handing.{AreReceived, AreReceivedDue, AreReceivedFirst, AreReceivedPrefix}
 use Rattle.tm_driver.specs.Courses.{SinkState, SinksCourse}
@@ -115,56 +116,56 @@ decoded-part {T} out_name notes_name out_sink out notes_sink notes out_last note
     )
 
 -- the end of the report, or a part of it
-abbrev Told : {T K L R S : Type 0} → (T → K) → (T → L) → (T → R) → (T → S) → (S → SinkState) → (T → Counts) → T → ℕ → Bool → T → Type 0
-Told out_name notes_name out_sink notes_sink notes counts a bits is_good b = (out_name b ≡ out_name a) × (notes_name b ≡ notes_name a) × (out_sink b ≡ out_sink a)
+abbrev Told : {T K L R S : Type 0} → (T → K) → (T → L) → (T → R) → (T → S) → (S → SinkState) → (T → Counts) → T → Totals → Bool → T → Type 0
+Told out_name notes_name out_sink notes_sink notes counts a totals is_good b = (out_name b ≡ out_name a) × (notes_name b ≡ notes_name a) × (out_sink b ≡ out_sink a)
     × ((start : SinkState) (handed : List (Handed ItemValue)) → ReportedAll start (notes (notes_sink a)) no_counts (counts a) handed
-    → TookText start (notes (notes_sink b)) (report_text handed bits) × ((is_good ≡ true) ↔ (bad (items_of handed) ≡ 0)))
+    → TookText start (notes (notes_sink b)) (report_text handed totals) × ((is_good ≡ true) ↔ (bad (items_of handed) ≡ 0)))
 
-abbrev BrokeEnd : {T K L R S : Type 0} → (T → K) → (T → L) → (T → R) → (T → S) → (S → SinkState) → (T → Type 0) → (T → Counts) → T → ℕ → T → Type 0
-BrokeEnd out_name notes_name out_sink notes_sink notes notes_last counts a bits b = (out_name b ≡ out_name a) × (notes_name b ≡ notes_name a) × (out_sink b ≡ out_sink a)
+abbrev BrokeEnd : {T K L R S : Type 0} → (T → K) → (T → L) → (T → R) → (T → S) → (S → SinkState) → (T → Type 0) → (T → Counts) → T → Totals → T → Type 0
+BrokeEnd out_name notes_name out_sink notes_sink notes notes_last counts a totals b = (out_name b ≡ out_name a) × (notes_name b ≡ notes_name a) × (out_sink b ≡ out_sink a)
     × ((start : SinkState) (handed : List (Handed ItemValue)) → ReportedAll start (notes (notes_sink a)) no_counts (counts a) handed
-    → BrokeText start (notes (notes_sink b)) (notes_last b) (items_text 0 handed) (items_end_text (items_of handed) bits))
+    → BrokeText start (notes (notes_sink b)) (notes_last b) (items_text 0 handed) (items_end_text (items_of handed) totals))
 
 -- ---- what is handed over of a whole input
 
 -- octets have a list of what is handed over
 abbrev pub HasList : Type 0
-HasList = (c : Configuration) (octets : List ℕ) → IsAccepted c → (handed : List (Handed ItemValue)) × ((bits : ℕ) × AreReceived c octets handed bits)
+HasList = (c : Configuration) (octets : List ℕ) → IsAccepted c → (handed : List (Handed ItemValue)) × ((totals : Totals) × AreReceived c octets handed totals)
 
 -- and only one
 abbrev pub OneList : Type 0
-OneList = (c : Configuration) (octets : List ℕ) (handed others : List (Handed ItemValue)) (bits count : ℕ) → IsAccepted c
-    → AreReceived c octets handed bits → AreReceived c octets others count → handed ≡ others
+OneList = (c : Configuration) (octets : List ℕ) (handed others : List (Handed ItemValue)) (totals sums : Totals) → IsAccepted c
+    → AreReceived c octets handed totals → AreReceived c octets others sums → handed ≡ others
 
 -- what is due stands first, whatever octets follow
 abbrev pub DueFirst : Type 0
-DueFirst = (c : Configuration) (octets more : List ℕ) (due all : List (Handed ItemValue)) (bits : ℕ) → IsAccepted c
-    → AreReceivedDue c octets due → AreReceived c (octets ++ more) all bits → (rest : List (Handed ItemValue)) × (all ≡ due ++ rest)
+DueFirst = (c : Configuration) (octets more : List ℕ) (due all : List (Handed ItemValue)) (totals : Totals) → IsAccepted c
+    → AreReceivedDue c octets due → AreReceived c (octets ++ more) all totals → (rest : List (Handed ItemValue)) × (all ≡ due ++ rest)
 
 -- and so do the first
 abbrev pub FirstGo : Type 0
-FirstGo = (c : Configuration) (octets more : List ℕ) (first all : List (Handed ItemValue)) (bits : ℕ) → IsAccepted c
-    → AreReceivedFirst c octets first → AreReceived c (octets ++ more) all bits → (rest : List (Handed ItemValue)) × (all ≡ first ++ rest)
+FirstGo = (c : Configuration) (octets more : List ℕ) (first all : List (Handed ItemValue)) (totals : Totals) → IsAccepted c
+    → AreReceivedFirst c octets first → AreReceived c (octets ++ more) all totals → (rest : List (Handed ItemValue)) × (all ≡ first ++ rest)
 
 -- and the first at the end of the octets
 abbrev pub FirstEnd : Type 0
-FirstEnd = (c : Configuration) (octets : List ℕ) (prefix all : List (Handed ItemValue)) (bits : ℕ) → IsAccepted c
-    → AreReceivedPrefix c octets prefix → AreReceived c octets all bits → (rest : List (Handed ItemValue)) × (all ≡ prefix ++ rest)
+FirstEnd = (c : Configuration) (octets : List ℕ) (prefix all : List (Handed ItemValue)) (totals : Totals) → IsAccepted c
+    → AreReceivedPrefix c octets prefix → AreReceived c octets all totals → (rest : List (Handed ItemValue)) × (all ≡ prefix ++ rest)
 
 -- this stands first in what is handed over of the octets
 abbrev StandFirst : Configuration → List ℕ → List (Handed ItemValue) → Type 0
-StandFirst c octets first = (all : List (Handed ItemValue)) (bits : ℕ) → AreReceived c octets all bits → (rest : List (Handed ItemValue)) × (all ≡ first ++ rest)
+StandFirst c octets first = (all : List (Handed ItemValue)) (totals : Totals) → AreReceived c octets all totals → (rest : List (Handed ItemValue)) × (all ≡ first ++ rest)
 
 some-first : FirstGo → FirstEnd → (c : Configuration) (octets : List ℕ) (first : List (Handed ItemValue)) → IsAccepted c
     → AreReceivedFirst c octets first ⊎ AreReceivedPrefix c octets first → StandFirst c octets first
-some-first go end c octets first accepted are all bits received = elim are as (λ _. (rest : List (Handed ItemValue)) × (all ≡ first ++ rest)) [
-  | inl fed ↦ go c octets [] first all bits accepted fed (subst (λ (l : List ℕ). AreReceived c l all bits) (sym (append-nil octets)) received)
-  | inr prefix ↦ end c octets first all bits accepted prefix received
+some-first go end c octets first accepted are all totals received = elim are as (λ _. (rest : List (Handed ItemValue)) × (all ≡ first ++ rest)) [
+  | inl fed ↦ go c octets [] first all totals accepted fed (subst (λ (l : List ℕ). AreReceived c l all totals) (sym (append-nil octets)) received)
+  | inr prefix ↦ end c octets first all totals accepted prefix received
 ]
 
 -- its frames and its report
-decoded : (c : Configuration) (count : ℕ) (octets : List ℕ) (handed : List (Handed ItemValue)) → AreReceived c octets handed count → IsDecoded c octets (handed_frames handed) (report_text handed count)
-decoded c count octets handed all = record { handed = handed; bits = count; are_received = all; are_frames = refl; is_report = refl }
+decoded : (c : Configuration) (totals : Totals) (octets : List ℕ) (handed : List (Handed ItemValue)) → AreReceived c octets handed totals → IsDecoded c octets (handed_frames handed) (report_text handed totals)
+decoded c totals octets handed all = record { handed = handed; totals = totals; are_received = all; are_frames = refl; is_report = refl }
 
 -- what `decode` writes
 decode-output : HasList → (c : Configuration) (octets : List ℕ) → IsAccepted c → (output : Output) × IsDecoded c octets output.out output.notes
@@ -184,9 +185,9 @@ record Begin (first : List (Handed ItemValue)) (frames report : List ℕ) : Type
 
 begin : (c : Configuration) (octets : List ℕ) (first : List (Handed ItemValue)) (frames report : List ℕ) → StandFirst c octets first → IsDecoded c octets frames report → Begin first frames report
 begin c octets first frames report stand d =
-    let split = stand d.handed d.bits d.are_received in
+    let split = stand d.handed d.totals d.are_received in
     let lines = items_text (length (items_of first)) split.0 in
-    let end = items_end_text (items_of d.handed) d.bits in
+    let end = items_end_text (items_of d.handed) d.totals in
     record {
       rest = handed_frames split.0;
       more = lines ++ end;
@@ -195,17 +196,17 @@ begin c octets first frames report stand d =
     }
 
 -- whether there is a bad one is told by any list
-pub is_bad : (c : Configuration) (count : ℕ) (octets : List ℕ) (handed : List (Handed ItemValue)) → AreReceived c octets handed count → (bad (items_of handed) ≡ 0 → ⊥) → HasBad c octets
-is_bad c count octets handed all some = (handed, (count, all), some)
+pub is_bad : (c : Configuration) (totals : Totals) (octets : List ℕ) (handed : List (Handed ItemValue)) → AreReceived c octets handed totals → (bad (items_of handed) ≡ 0 → ⊥) → HasBad c octets
+is_bad c totals octets handed all some = (handed, (totals, all), some)
 
-pub not_bad : OneList → (c : Configuration) (count : ℕ) (octets : List ℕ) (handed : List (Handed ItemValue)) → IsAccepted c → AreReceived c octets handed count → bad (items_of handed) ≡ 0 → HasBad c octets → ⊥
-not_bad one c count octets handed accepted all none has =
-    has.2 (ap (λ l. bad (items_of l)) (one c octets has.0 handed has.1.0 count accepted has.1.1 all) ∙ none)
+pub not_bad : OneList → (c : Configuration) (totals : Totals) (octets : List ℕ) (handed : List (Handed ItemValue)) → IsAccepted c → AreReceived c octets handed totals → bad (items_of handed) ≡ 0 → HasBad c octets → ⊥
+not_bad one c totals octets handed accepted all none has =
+    has.2 (ap (λ l. bad (items_of l)) (one c octets has.0 handed has.1.0 totals accepted has.1.1 all) ∙ none)
 
-told-prefix : (before now : SinkState) (last : Type 0) (handed : List (Handed ItemValue)) (count : ℕ)
-    → BrokeText before now last (items_text 0 handed) (items_end_text (items_of handed) count) → WrotePrefix before.taken now.taken (report_text handed count)
-told-prefix before now last handed count broke =
-    let end = items_end_text (items_of handed) count in
+told-prefix : (before now : SinkState) (last : Type 0) (handed : List (Handed ItemValue)) (totals : Totals)
+    → BrokeText before now last (items_text 0 handed) (items_end_text (items_of handed) totals) → WrotePrefix before.taken now.taken (report_text handed totals)
+told-prefix before now last handed totals broke =
+    let end = items_end_text (items_of handed) totals in
     subst (λ l. WrotePrefix before.taken now.taken (items_text 0 handed ++ l)) (append-nil end) (broke-prefix before now last (items_text 0 handed) end [] broke)
 
 -- ---- how `decode` ends
@@ -229,15 +230,15 @@ decode-early exists stand c octets handed out out_now notes notes_now counts acc
       λ more. let whole = decode-output exists c (octets ++ more) accepted in (
         whole.0,
         whole.1,
-        decode-prefixes c (octets ++ more) handed out.taken out_now.taken notes.taken notes_now.taken whole.0 (λ all bits received. stand c octets more handed all bits accepted due received)
+        decode-prefixes c (octets ++ more) handed out.taken out_now.taken notes.taken notes_now.taken whole.0 (λ all totals received. stand c octets more handed all totals accepted due received)
             (wrote-prefix out.taken out_now.taken (handed_frames handed) all.0.written) (wrote-prefix notes.taken notes_now.taken (items_text 0 handed) all.1.lines.written) whole.1,
       ),
     )
 
 -- where a sink failed at one of the first, both took what stands before it
-in-order : (handed first after : List (Handed ItemValue)) (bits : ℕ) (out out_now : SinkState) (out_last : Type 0) (notes notes_now : SinkState) (notes_last : Type 0) → handed ≡ first ++ after
-    → DecodingBroke out out_now out_last notes notes_now notes_last first → AreInOrder handed bits (taken_by out.taken out_now.taken notes.taken notes_now.taken)
-in-order handed first after bits out out_now out_last notes notes_now notes_last split broke =
+in-order : (handed first after : List (Handed ItemValue)) (totals : Totals) (out out_now : SinkState) (out_last : Type 0) (notes notes_now : SinkState) (notes_last : Type 0) → handed ≡ first ++ after
+    → DecodingBroke out out_now out_last notes notes_now notes_last first → AreInOrder handed totals (taken_by out.taken out_now.taken notes.taken notes_now.taken)
+in-order handed first after totals out out_now out_last notes notes_now notes_last split broke =
     let prefix = broke.prefix in
     let next = broke.next in
     record {
@@ -260,37 +261,37 @@ decode-failed exists go end c octets handed out out_now out_last notes notes_now
     let first = some-first go end c prefix handed accepted are in
     let prefixes = decoding-prefixes out out_now out_last notes notes_now notes_last handed broke in
     let all = whole.1.handed in
-    let bits = whole.1.bits in
-    let split = first all bits whole.1.are_received in (
+    let totals = whole.1.totals in
+    let split = first all totals whole.1.are_received in (
       whole.0,
       whole.1,
       decode-prefixes c prefix handed out.taken out_now.taken notes.taken notes_now.taken whole.0 first prefixes.0 prefixes.1 whole.1,
-      (all, bits, whole.1.are_received, in-order all handed split.0 bits out out_now out_last notes notes_now notes_last split.1 broke),
+      (all, totals, whole.1.are_received, in-order all handed split.0 totals out out_now out_last notes notes_now notes_last split.1 broke),
     )
 
 -- where the input was read to its end and its report was written
-decode-whole : (c : Configuration) (count : ℕ) (octets : List ℕ) (handed : List (Handed ItemValue)) (out out_now notes notes_now : SinkState)
-    → AreReceived c octets handed count → TookText out out_now (handed_frames handed) → TookText notes notes_now (report_text handed count)
+decode-whole : (c : Configuration) (totals : Totals) (octets : List ℕ) (handed : List (Handed ItemValue)) (out out_now notes notes_now : SinkState)
+    → AreReceived c octets handed totals → TookText out out_now (handed_frames handed) → TookText notes notes_now (report_text handed totals)
     → (output : Output) × IsDecoded c octets output.out output.notes × WroteBoth output (taken_by out.taken out_now.taken notes.taken notes_now.taken)
-decode-whole c count octets handed out out_now notes notes_now all frames told =
-    (record { out = handed_frames handed; notes = report_text handed count }, decoded c count octets handed all, record { out = frames.written; notes = told.written })
+decode-whole c totals octets handed out out_now notes notes_now all frames told =
+    (record { out = handed_frames handed; notes = report_text handed totals }, decoded c totals octets handed all, record { out = frames.written; notes = told.written })
 
 -- and where the notes failed in its end
-decode-broke : (c : Configuration) (count : ℕ) (octets : List ℕ) (handed : List (Handed ItemValue)) (out out_now notes notes_now : SinkState) (last : Type 0)
-    → AreReceived c octets handed count → length octets ≤ c.limit → TookText out out_now (handed_frames handed)
-    → BrokeText notes notes_now last (items_text 0 handed) (items_end_text (items_of handed) count)
+decode-broke : (c : Configuration) (totals : Totals) (octets : List ℕ) (handed : List (Handed ItemValue)) (out out_now notes notes_now : SinkState) (last : Type 0)
+    → AreReceived c octets handed totals → length octets ≤ c.limit → TookText out out_now (handed_frames handed)
+    → BrokeText notes notes_now last (items_text 0 handed) (items_end_text (items_of handed) totals)
     → Ends SinkFault (decode_meaning c) c.limit octets (taken_by out.taken out_now.taken notes.taken notes_now.taken)
-decode-broke c count octets handed out out_now notes notes_now last all within frames told =
-    let text = report_text handed count in
+decode-broke c totals octets handed out out_now notes notes_now last all within frames told =
+    let text = report_text handed totals in
     let output : Output = record { out = handed_frames handed; notes = text } in
     let up_to : octets ≡ take c.limit octets = sym (take_all c.limit octets within) in (
       output,
-      subst (λ (l : List ℕ). IsDecoded c l (handed_frames handed) text) up_to (decoded c count octets handed all),
-      record { out = wrote-prefix out.taken out_now.taken (handed_frames handed) frames.written; notes = told-prefix notes notes_now last handed count told },
+      subst (λ (l : List ℕ). IsDecoded c l (handed_frames handed) text) up_to (decoded c totals octets handed all),
+      record { out = wrote-prefix out.taken out_now.taken (handed_frames handed) frames.written; notes = told-prefix notes notes_now last handed totals told },
       (
         handed,
-        count,
-        subst (λ (l : List ℕ). AreReceived c l handed count) up_to all,
+        totals,
+        subst (λ (l : List ℕ). AreReceived c l handed totals) up_to all,
         record {
           prefix = handed;
           rest = [];
@@ -322,32 +323,32 @@ pub record Ended {K L : Type 0} (e : Ending) (c : Configuration) (octets : List 
 
 -- what was read to its end, and the end of its report, in the words of the sinks
 record AllTaken {K L : Type 0} (c : Configuration) (octets : List ℕ) (out_name out_name_now : K) (notes_name notes_name_now : L) (out out_now notes : SinkState)
-    (Told : List (Handed ItemValue) → ℕ → Type 0) : Type 0 where
+    (Told : List (Handed ItemValue) → Totals → Type 0) : Type 0 where
   handed : List (Handed ItemValue)
-  bits : ℕ
-  are_received : AreReceived c octets handed bits
+  totals : Totals
+  are_received : AreReceived c octets handed totals
   out_same : out_name_now ≡ out_name
   notes_same : notes_name_now ≡ notes_name
   frames : TookText out out_now (handed_frames handed)
-  told : Told handed bits
+  told : Told handed totals
   within : length octets ≤ c.limit
 
 all-taken : {T K L R S : Type 0} (out_name : T → K) (notes_name : T → L) (out_sink : T → R) (out : R → SinkState) (notes_sink : T → S) (notes : S → SinkState)
-    (out_last notes_last : T → Type 0) (counts : T → Counts) (Last : SinkState → List (Handed ItemValue) → ℕ → Type 0)
+    (out_last notes_last : T → Type 0) (counts : T → Counts) (Last : SinkState → List (Handed ItemValue) → Totals → Type 0)
     (c : Configuration) (octets : List ℕ) (a b : T) → counts a ≡ no_counts → IsAccepted c
-    → ReceivedAll (Decodes out_name notes_name out_sink out notes_sink notes counts) c octets a (λ middle bits. (out_name b ≡ out_name middle) × (notes_name b ≡ notes_name middle)
+    → ReceivedAll (Decodes out_name notes_name out_sink out notes_sink notes counts) c octets a (λ middle totals. (out_name b ≡ out_name middle) × (notes_name b ≡ notes_name middle)
     × (out_sink b ≡ out_sink middle) × ((start : SinkState) (handed : List (Handed ItemValue)) → ReportedAll start (notes (notes_sink middle)) no_counts (counts middle) handed
-    → Last start handed bits))
+    → Last start handed totals))
     → AllTaken c octets (out_name a) (out_name b) (notes_name a) (notes_name b) (out (out_sink a)) (out (out_sink b)) (notes (notes_sink a)) (Last (notes (notes_sink a)))
 all-taken out_name notes_name out_sink out notes_sink notes out_last notes_last counts Last c octets a b new accepted p =
     let most = accepted.limit in
     let within = p.within in
-    let few : length (items_of p.handed) < 2 ^ 53 = omega (arith, few-received c p.bits octets p.handed p.are_received) in
+    let few : length (items_of p.handed) < 2 ^ 53 = omega (arith, few-received c p.totals octets p.handed p.are_received) in
     let over = decoded-over out_name notes_name out_sink out notes_sink notes counts p.handed a p.middle new few p.over in
     let end = p.is_end in
     record {
       handed = p.handed;
-      bits = p.bits;
+      totals = p.totals;
       are_received = p.are_received;
       out_same = end.0 ∙ over.0;
       notes_same = end.1 ∙ over.1;
@@ -364,28 +365,28 @@ pub decode-ends : {T K L R S : Type 0} (out_name : T → K) (notes_name : T → 
     → Ended e c octets (out_name a) (out_name b) (notes_name a) (notes_name b) (out (out_sink a)) (out (out_sink b)) (out_last b)
     (notes (notes_sink a)) (notes (notes_sink b)) (notes_last b)
 decode-ends out_name notes_name out_sink out notes_sink notes out_last notes_last counts c Done octets a b exists one stand go end new accepted p =
-    let all = all-taken out_name notes_name out_sink out notes_sink notes out_last notes_last counts (λ start handed bits. TookText start (notes (notes_sink b)) (report_text handed bits) × ((true ≡ true) ↔ (bad (items_of handed) ≡ 0))) c octets a b new accepted p in
+    let all = all-taken out_name notes_name out_sink out notes_sink notes out_last notes_last counts (λ start handed totals. TookText start (notes (notes_sink b)) (report_text handed totals) × ((true ≡ true) ↔ (bad (items_of handed) ≡ 0))) c octets a b new accepted p in
     let none = all.told.1.0 refl in
     record {
       out_same = all.out_same;
       notes_same = all.notes_same;
       ends = (
-        decode-whole c all.bits octets all.handed (out (out_sink a)) (out (out_sink b)) (notes (notes_sink a)) (notes (notes_sink b)) all.are_received all.frames all.told.0,
+        decode-whole c all.totals octets all.handed (out (out_sink a)) (out (out_sink b)) (notes (notes_sink a)) (notes (notes_sink b)) all.are_received all.frames all.told.0,
         all.within,
         λ none. none,
-        not_bad one c all.bits octets all.handed accepted all.are_received none,
+        not_bad one c all.totals octets all.handed accepted all.are_received none,
       );
       sinks = (all.frames.same, all.told.0.same);
     }
 decode-ends out_name notes_name out_sink out notes_sink notes out_last notes_last counts c Bad octets a b exists one stand go end new accepted p =
-    let all = all-taken out_name notes_name out_sink out notes_sink notes out_last notes_last counts (λ start handed bits. TookText start (notes (notes_sink b)) (report_text handed bits) × ((false ≡ true) ↔ (bad (items_of handed) ≡ 0))) c octets a b new accepted p in
+    let all = all-taken out_name notes_name out_sink out notes_sink notes out_last notes_last counts (λ start handed totals. TookText start (notes (notes_sink b)) (report_text handed totals) × ((false ≡ true) ↔ (bad (items_of handed) ≡ 0))) c octets a b new accepted p in
     record {
       out_same = all.out_same;
       notes_same = all.notes_same;
       ends = (
-        decode-whole c all.bits octets all.handed (out (out_sink a)) (out (out_sink b)) (notes (notes_sink a)) (notes (notes_sink b)) all.are_received all.frames all.told.0,
+        decode-whole c all.totals octets all.handed (out (out_sink a)) (out (out_sink b)) (notes (notes_sink a)) (notes (notes_sink b)) all.are_received all.frames all.told.0,
         all.within,
-        is_bad c all.bits octets all.handed all.are_received (λ none. subst IsFalse (all.told.1.1 none) tt),
+        is_bad c all.totals octets all.handed all.are_received (λ none. subst IsFalse (all.told.1.1 none) tt),
       );
       sinks = (all.frames.same, all.told.0.same);
     }
@@ -428,11 +429,11 @@ decode-ends out_name notes_name out_sink out notes_sink notes out_last notes_las
       sinks = broke-course (out (out_sink a)) (out (out_sink b)) (out_last b) (notes (notes_sink a)) (notes (notes_sink b)) (notes_last b) p.0 part.2;
     }
 decode-ends out_name notes_name out_sink out notes_sink notes out_last notes_last counts c SinkFault octets a b exists one stand go end new accepted (inr p) =
-    let all = all-taken out_name notes_name out_sink out notes_sink notes out_last notes_last counts (λ start handed bits. BrokeText start (notes (notes_sink b)) (notes_last b) (items_text 0 handed) (items_end_text (items_of handed) bits)) c octets a b new accepted p in
+    let all = all-taken out_name notes_name out_sink out notes_sink notes out_last notes_last counts (λ start handed totals. BrokeText start (notes (notes_sink b)) (notes_last b) (items_text 0 handed) (items_end_text (items_of handed) totals)) c octets a b new accepted p in
     record {
       out_same = all.out_same;
       notes_same = all.notes_same;
-      ends = decode-broke c all.bits octets all.handed (out (out_sink a)) (out (out_sink b)) (notes (notes_sink a)) (notes (notes_sink b)) (notes_last b) all.are_received all.within all.frames all.told;
+      ends = decode-broke c all.totals octets all.handed (out (out_sink a)) (out (out_sink b)) (notes (notes_sink a)) (notes (notes_sink b)) (notes_last b) all.are_received all.within all.frames all.told;
       sinks = inr ((all.told.rose, all.told.later), all.frames.same);
     }
 

@@ -15,6 +15,7 @@ use Rattle.tm_inner.specs.declared.sender.SendError.TheVariants.{Sink, Stopped}
 use Rattle.tm_inner.specs.Symbols.{symbols_of_octets}
 use Rattle.tm_inner.proofs.Symbols.{symbols-go_on, symbols-none}
 use Rattle.tm_channel.specs.Items.{ItemValue}
+use Rattle.tm_channel.specs.declared.totals.Totals.{Totals}
 use Rattle.tm_channel.specs.Handing.{AreReceived, AreReceivedDue}
 use Rattle.tm_channel.specs.OctetReceiving.{OctetReceiving, StandsFor}
 use Rattle.tm_cli.specs.Generated.{drawn, draw_count, generated_unit, generated_units, generated}
@@ -142,18 +143,18 @@ counted-all handed counts few over =
     ∙ ap (λ (n : ℕ). record { good = good items; bad = bad items; fixed = n }) fixeds
 
 -- at the end all items of the octets are counted
-pub all-counted : (c : Configuration) (receiver : OctetReceiving) (counts now : Counts) (octets : List ℕ) (last : List (Handed ItemValue)) (bits : ℕ) → length octets < 2 ^ 40
+pub all-counted : (c : Configuration) (receiver : OctetReceiving) (counts now : Counts) (octets : List ℕ) (last : List (Handed ItemValue)) (totals : Totals) → length octets < 2 ^ 40
     → HandedDue c receiver (λ handed. HandedOver CountedHanded no_counts handed counts) octets → HandedOver CountedHanded counts last now
-    → ((given : List ℕ) (done : List (Handed ItemValue)) → StandsFor receiver given done → AreReceived receiver.config given (done ++ last) bits)
-    → (handed : List (Handed ItemValue)) × AreReceived c octets handed bits × (now ≡ counts_of (items_of handed))
-all-counted c receiver counts now octets last bits few was more finish =
-    let all = all-handed CountedHanded c receiver no_counts counts now octets last bits (omega (arith, few)) was more finish in
-    (all.0, all.1, counted-all all.0 now (omega (arith, few, few-received c bits octets all.0 all.1)) all.2)
+    → ((given : List ℕ) (done : List (Handed ItemValue)) → StandsFor receiver given done → AreReceived receiver.config given (done ++ last) totals)
+    → (handed : List (Handed ItemValue)) × AreReceived c octets handed totals × (now ≡ counts_of (items_of handed))
+all-counted c receiver counts now octets last totals few was more finish =
+    let all = all-handed CountedHanded c receiver no_counts counts now octets last totals (omega (arith, few)) was more finish in
+    (all.0, all.1, counted-all all.0 now (omega (arith, few, few-received c totals octets all.0 all.1)) all.2)
 
 -- ---- the line
 
-pub counted-line : (c : Configuration) (seed frames hits bits : ℕ) (counts : Counts)
-    → ((handed : List (Handed ItemValue)) × AreReceived c (generated c seed frames hits) handed bits × (counts ≡ counts_of (items_of handed)))
-    → IsSoakLine c seed frames hits (report_end_text counts.good counts.bad counts.fixed bits)
-counted-line c seed frames hits bits counts counted =
-    record { handed = counted.0; bits = bits; are_received = counted.1; is_line = ap (λ (k : Counts). report_end_text k.good k.bad k.fixed bits) counted.2 }
+pub counted-line : (c : Configuration) (seed frames hits : ℕ) (totals : Totals) (counts : Counts)
+    → ((handed : List (Handed ItemValue)) × AreReceived c (generated c seed frames hits) handed totals × (counts ≡ counts_of (items_of handed)))
+    → IsSoakLine c seed frames hits (report_end_text counts.good counts.bad counts.fixed totals.bits)
+counted-line c seed frames hits totals counts counted =
+    record { handed = counted.0; totals = totals; are_received = counted.1; is_line = ap (λ (k : Counts). report_end_text k.good k.bad k.fixed totals.bits) counted.2 }

@@ -3,6 +3,7 @@ use Rattle.std.specs.Prelude.{◌≡◌, ℕ, List, [], ◌∷◌, ◌++◌, len
 use Rattle.tm_base.specs.Handed.{Handed, items_of}
 use Rattle.tm_base.specs.Written.{Wrote}
 use Rattle.tm_config.specs.Configuration.{Configuration}
+use Rattle.tm_channel.specs.declared.totals.Totals.{Totals}
 use Rattle.tm_channel.specs.Items.{ItemValue}
 use Rattle.tm_channel.specs.Handing.{AreReceived, AreReceivedDue}
 use Rattle.tm_driver.specs.Meaning.{Meaning, Taken}
@@ -14,10 +15,10 @@ use Rattle.tm_cli.specs.Taken.{handed_frames}
 -- phase where it is to be found
 pub record IsDecoded (c : Configuration) (octets : List ℕ) (frames report : List ℕ) : Type 0 where
   pub handed : List (Handed ItemValue)
-  pub bits : ℕ
-  pub are_received : AreReceived c octets handed bits
+  pub totals : Totals
+  pub are_received : AreReceived c octets handed totals
   pub are_frames : frames ≡ handed_frames handed
-  pub is_report : report ≡ report_text handed bits
+  pub is_report : report ≡ report_text handed totals
 
 -- the frames and the lines of what is due for the octets, whatever octets come: of the phase, once
 -- it is settled, and of items
@@ -29,8 +30,8 @@ pub record IsDecodedDue (c : Configuration) (octets : List ℕ) (frames lines : 
 
 -- a codeblock that was received with these octets has an uncorrectable column
 abbrev pub HasBad : Configuration → List ℕ → Type 0
-HasBad c octets = (handed : List (Handed ItemValue)) × ((bits : ℕ)
-    × AreReceived c octets handed bits) × (bad (items_of handed) ≡ 0 → ⊥)
+HasBad c octets = (handed : List (Handed ItemValue)) × ((totals : Totals)
+    × AreReceived c octets handed totals) × (bad (items_of handed) ≡ 0 → ⊥)
 
 -- the frame of what is handed over next, and its line; after the last there is no frame, and the
 -- report ends
@@ -38,19 +39,19 @@ abbrev pub next_frame : List (Handed ItemValue) → List ℕ
 next_frame [] = []
 next_frame (next ∷ rest) = handed_frames (next ∷ [])
 
-abbrev pub next_line : (prefix rest : List (Handed ItemValue)) → (bits : ℕ) → List ℕ
-next_line prefix [] bits = items_end_text (items_of prefix) bits
-next_line prefix (next ∷ rest) bits = handed_item_text (length (items_of prefix)) next
+abbrev pub next_line : (prefix rest : List (Handed ItemValue)) → Totals → List ℕ
+next_line prefix [] totals = items_end_text (items_of prefix) totals
+next_line prefix (next ∷ rest) totals = handed_item_text (length (items_of prefix)) next
 
 -- The output took the frames of the first of what was handed over, and the notes their lines, and
 -- no more but a part of what comes next: of the next frame or, once the output has taken that, of
 -- its line. After the last this is the end of the report.
-pub record AreInOrder (handed : List (Handed ItemValue)) (bits : ℕ) (taken : Taken) : Type 0 where
+pub record AreInOrder (handed : List (Handed ItemValue)) (totals : Totals) (taken : Taken) : Type 0 where
   pub prefix : List (Handed ItemValue)
   pub rest : List (Handed ItemValue)
   pub split : handed ≡ prefix ++ rest
   pub stops : StopsAt (handed_frames prefix) (items_text 0 prefix) (next_frame rest)
-      (next_line prefix rest bits) taken.out taken.out_now taken.notes taken.notes_now
+      (next_line prefix rest totals) taken.out taken.out_now taken.notes taken.notes_now
 
 -- `decode`: the frames go to the output and the report to the notes, the line of an item after its
 -- frame.
@@ -60,8 +61,8 @@ decode_meaning c = record {
   is_due = λ octets output. IsDecodedDue c octets output.out output.notes;
   is_partial = λ octets. ⊥;
   is_bad = λ octets. HasBad c octets;
-  is_in_order = λ octets output taken. (handed : List (Handed ItemValue)) × (bits : ℕ)
-      × AreReceived c octets handed bits × AreInOrder handed bits taken;
+  is_in_order = λ octets output taken. (handed : List (Handed ItemValue)) × (totals : Totals)
+      × AreReceived c octets handed totals × AreInOrder handed totals taken;
   stops_at_bad = ⊥;
 }
 

@@ -13,6 +13,7 @@ use Rattle.tm_inner.specs.Phase.{IsChosen, skip_of, with_phase}
 use Rattle.tm_codeblock.specs.Frames.{whole_frames}
 use Rattle.tm_channel.specs.Sent.{cadus, sent, sent_phase}
 use Rattle.tm_viterbi.specs.Clean.{complemented_octets}
+use Rattle.tm_channel.specs.Handing.{clean_totals, totals_of}
 use Rattle.tm_channel.specs.Items.{ItemValue, AreItems, frames_of, complemented_item}
 use Rattle.tm_channel.specs.SentStream.{SentUnit, IsSent, AreAsSent, AreNear, unit_frames, unit_places, clean_items, found_frames}
 use Rattle.tm_cli.specs.Report.{report_text}
@@ -20,7 +21,8 @@ use Rattle.tm_cli.specs.Report.{report_text}
 -- Octets that `encode` sends for an input come back as its whole frames, where nothing was
 -- disturbed, none is skipped and it is known where the first path starts; but of no more frames
 -- than further markers are to verify the first none comes. The report says so of the phase, where it
--- is to be found, and of each frame that nothing was wrong, and the status is 0.
+-- is to be found, and of each frame that nothing was wrong, and that no octet was dropped, where the
+-- phase is followed; the status is 0.
 abbrev pub KeepsCleanLink : ℕ → Configuration → List ℕ
     → (taken taken_now noted noted_now : Option (List ℕ)) → Type 0
 KeepsCleanLink status c octets taken taken_now noted noted_now =
@@ -29,7 +31,7 @@ KeepsCleanLink status c octets taken taken_now noted noted_now =
     × Wrote taken taken_now (concat (found_frames c (whole_frames c.frame_length input)))
     × Wrote noted noted_now (report_text
     (with_phase (sent_phase c) (clean_items c 0 (found_frames c (whole_frames c.frame_length input))))
-    (8 * length (cadus c input)))
+    (clean_totals c (8 * length (cadus c input))))
 
 -- Where the octets after the phase come to the bits of units, however disturbed and with gaps
 -- between them, the output is the frames, and the notes are the report, of items that stand exactly
@@ -39,10 +41,11 @@ abbrev pub KeepsDisturbedLink : ℕ → Configuration → List ℕ
     → (taken taken_now noted noted_now : Option (List ℕ)) → Type 0
 KeepsDisturbedLink status c octets taken taken_now noted noted_now =
     (bits : List Bool) (units : List SentUnit) (last : List Bool) (chosen : Option Chosen)
-    → IsChosen c octets chosen → Inner c (skip_of chosen) octets bits → IsSent c bits units last
+    → IsChosen c octets chosen → (inner : Inner c (skip_of chosen) octets bits)
+    → IsSent c bits units last
     → (items : List ItemValue) × AreAsSent c (unit_places c units) units items
     × Wrote taken taken_now (frames_of items)
-    × Wrote noted noted_now (report_text (with_phase chosen items) (length bits))
+    × Wrote noted noted_now (report_text (with_phase chosen items) (totals_of c bits inner.blocks))
     × (AreNear c (unit_places c units) units → (status ≡ 0)
     × Wrote taken taken_now (unit_frames units))
 
@@ -53,9 +56,10 @@ abbrev pub KeepsComplementedInput : Configuration → List ℕ
 KeepsComplementedInput c octets taken taken_now noted noted_now =
     (other : List ℕ) (bits : List Bool) (items : List ItemValue) (chosen : Option Chosen)
     → c.inner ≡ None → c.polarity ≡ Find → AreOctets other → octets ≡ complemented_octets other
-    → IsChosen c other chosen → Inner c (skip_of chosen) other bits → AreItems c bits items
+    → IsChosen c other chosen → (inner : Inner c (skip_of chosen) other bits) → AreItems c bits items
     → Wrote taken taken_now (frames_of items)
-    × Wrote noted noted_now (report_text (with_phase chosen (map complemented_item items)) (length bits))
+    × Wrote noted noted_now (report_text (with_phase chosen (map complemented_item items))
+    (totals_of c bits inner.blocks))
 
 -- At rate 1/2 with inverted markers, where paths start from any register and none is skipped, the
 -- symbols that `encode` sends for an input, each complemented, come back as its whole frames, as
@@ -70,4 +74,4 @@ KeepsComplementedSymbols status c octets taken taken_now noted noted_now =
     × Wrote noted noted_now (report_text
     (with_phase (sent_phase c) (map complemented_item
     (clean_items c 0 (found_frames c (whole_frames c.frame_length input)))))
-    (8 * length (cadus c input)))
+    (clean_totals c (8 * length (cadus c input))))

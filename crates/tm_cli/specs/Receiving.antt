@@ -3,6 +3,7 @@ use Rattle.std.specs.Prelude.{◌≡◌, ◌⊎◌, ℕ, ◌+◌, ◌^◌, ◌<�
 use Rattle.tm_base.specs.Handed.{Handed}
 use Rattle.tm_base.specs.Takers.{HandedOver, HandedPart}
 use Rattle.tm_config.specs.Configuration.{Configuration}
+use Rattle.tm_channel.specs.declared.totals.Totals.{Totals}
 use Rattle.tm_channel.specs.Items.{ItemValue}
 use Rattle.tm_channel.specs.Handing.{AreReceived, AreReceivedDue, AreReceivedFirst, AreReceivedPrefix}
 use Rattle.tm_channel.specs.OctetReceiving.{OctetReceiving, StandsFor}
@@ -46,17 +47,17 @@ ReceivesPart {T} took broke receiver taker taker_now octets = (c : Configuration
     → HandedDue c receiver (λ handed. HandedOver took start handed taker) given
     → HandedFirst c (λ handed. HandedPart took broke start handed taker_now) (given ++ octets)
 
--- what is left at the end of the octets was taken, with so many bits in all, and then something
+-- what is left at the end of the octets was taken, all of which come to this, and then something
 -- holds; or it was taken in part
 pub record HandedLast {T : Type 0} (took : T → Handed ItemValue → T
-    → Type 0) (receiver : OctetReceiving) (before : T) (end : T → ℕ → Type 0) : Type 0 where
+    → Type 0) (receiver : OctetReceiving) (before : T) (end : T → Totals → Type 0) : Type 0 where
   pub last : List (Handed ItemValue)
-  pub bits : ℕ
+  pub totals : Totals
   pub middle : T
   pub handed : HandedOver took before last middle
   pub received : (given : List ℕ) (done : List (Handed ItemValue)) → StandsFor receiver given done
-      → AreReceived receiver.config given (done ++ last) bits
-  pub is_end : end middle bits
+      → AreReceived receiver.config given (done ++ last) totals
+  pub is_end : end middle totals
 
 pub record HandedLastPart {T : Type 0} (took broke : T → Handed ItemValue → T
     → Type 0) (receiver : OctetReceiving) (before now : T) : Type 0 where
@@ -65,28 +66,28 @@ pub record HandedLastPart {T : Type 0} (took broke : T → Handed ItemValue → 
   pub prefix : (given : List ℕ) (done : List (Handed ItemValue)) → StandsFor receiver given done
       → AreReceivedPrefix receiver.config given (done ++ tried)
 
--- all of the octets of an input within the limit was taken, and then something holds of the number
--- of bits
+-- all of the octets of an input within the limit was taken, and then something holds of what they
+-- come to
 pub record ReceivedAll {T : Type 0} (took : T → Handed ItemValue → T
-    → Type 0) (c : Configuration) (octets : List ℕ) (before : T) (end : T → ℕ → Type 0) : Type 0 where
+    → Type 0) (c : Configuration) (octets : List ℕ) (before : T) (end : T → Totals → Type 0) : Type 0 where
   pub handed : List (Handed ItemValue)
-  pub bits : ℕ
+  pub totals : Totals
   pub middle : T
-  pub are_received : AreReceived c octets handed bits
+  pub are_received : AreReceived c octets handed totals
   pub over : HandedOver took before handed middle
-  pub is_end : end middle bits
+  pub is_end : end middle totals
   pub within : length octets ≤ c.limit
 
 -- How receiving ended, and what was taken then: all of the octets, and the end of their report,
 -- which says whether nothing in them is uncorrectable; what is due for them; or a part, or all and
 -- a part of that end.
 abbrev pub ReceivedTo : {T : Type 0} → (took broke : T → Handed ItemValue → T → Type 0)
-    → (told : T → ℕ → Bool → T → Type 0) → (broke_end : T → ℕ → T → Type 0)
+    → (told : T → Totals → Bool → T → Type 0) → (broke_end : T → Totals → T → Type 0)
     → Configuration → Ending → List ℕ → (before now : T) → Type 0
 ReceivedTo took broke told broke_end c Done octets before now = ReceivedAll took c octets before
-    (λ middle bits. told middle bits true now)
+    (λ middle totals. told middle totals true now)
 ReceivedTo took broke told broke_end c Bad octets before now = ReceivedAll took c octets before
-    (λ middle bits. told middle bits false now)
+    (λ middle totals. told middle totals false now)
 ReceivedTo took broke told broke_end c BadWindow octets before now = ⊥
 ReceivedTo took broke told broke_end c LeftOver octets before now = ⊥
 ReceivedTo took broke told broke_end c SourceFault octets before now = (handed : List
@@ -97,7 +98,7 @@ ReceivedTo took broke told broke_end c SinkFault octets before now =
     × (AreReceivedFirst c (take c.limit octets) handed
     ⊎ AreReceivedPrefix c (take c.limit octets) handed)
     × HandedPart took broke before handed now)
-    ⊎ ReceivedAll took c octets before (λ middle bits. broke_end middle bits now)
+    ⊎ ReceivedAll took c octets before (λ middle totals. broke_end middle totals now)
 ReceivedTo took broke told broke_end c PastLimit octets before now = (handed : List
     (Handed ItemValue)) × AreReceivedDue c (take c.limit octets) handed
     × HandedOver took before handed now × (length octets ≡ c.limit + 1)

@@ -3,8 +3,9 @@ use Rattle.std.specs.Prelude.{ℕ, ◌+◌, if◌then◌else◌, List, [], ◌�
 use Rattle.tm_rs_solve.specs.declared.answers.Answer.{Answer}
 use Rattle.tm_rs_solve.specs.declared.answers.Answer.TheVariants.{Fixed, Beyond}
 use Rattle.tm_base.specs.Handed.{Handed, Phase, Item, items_of}
+use Rattle.tm_channel.specs.declared.totals.Totals.{Totals}
 use Rattle.tm_channel.specs.Items.{ItemValue, are_fixed}
-use Rattle.tm_driver.specs.Lines.{phase_text}
+use Rattle.tm_driver.specs.Lines.{phase_text, slips_text}
 use Rattle.tm_cli.specs.Lines.{item_text, report_end_text}
 
 -- how many codeblocks have no uncorrectable column
@@ -39,10 +40,15 @@ items_text number [] = []
 items_text number (Phase skip cost ∷ handed) = phase_text skip cost ++ items_text number handed
 items_text number (Item item ∷ handed) = item_text number item ++ items_text (number + 1) handed
 
--- the end of the report of these items
-abbrev pub items_end_text : List ItemValue → ℕ → List ℕ
-items_end_text items bits = report_end_text (good items) (bad items) (fixed items) bits
+-- how many codeblocks these are, how many symbols were repaired in them, and so many bits
+abbrev pub counts_text : List ItemValue → ℕ → List ℕ
+counts_text items bits = report_end_text (good items) (bad items) (fixed items) bits
 
--- the report of what was handed over of so many bits
-abbrev pub report_text : List (Handed ItemValue) → ℕ → List ℕ
-report_text handed bits = items_text 0 handed ++ items_end_text (items_of handed) bits
+-- the end of the report of these items: how often octets were dropped, where the phase is followed,
+-- and then that line
+abbrev pub items_end_text : List ItemValue → Totals → List ℕ
+items_end_text items totals = slips_text totals.slips ++ counts_text items totals.bits
+
+-- the report of what was handed over of octets that come to this
+abbrev pub report_text : List (Handed ItemValue) → Totals → List ℕ
+report_text handed totals = items_text 0 handed ++ items_end_text (items_of handed) totals

@@ -3,13 +3,14 @@ use Rattle.std.specs.Prelude.{◌≡◌, ℕ, ◌*◌, ◌^◌, ◌≤◌, if◌
 use Rattle.tm_config.specs.Bounds.{longest_codeblock}
 use Rattle.tm_config.specs.Configuration.{Configuration, correctable}
 use Rattle.tm_base.specs.Handed.{Handed, items_of, on_handed}
+use Rattle.tm_channel.specs.declared.totals.Totals.{Totals}
 use Rattle.tm_channel.specs.Items.{ItemValue}
 use Rattle.tm_channel.specs.Handing.{AreReceived}
 use Rattle.tm_base.specs.Written.{Wrote}
 use Rattle.tm_driver.specs.Meaning.{Meaning}
 use Rattle.tm_cli.specs.Decode.{HasBad}
 use Rattle.tm_cli.specs.Generated.{generated}
-use Rattle.tm_cli.specs.Report.{good, bad, fixed, fixed_of, items_end_text}
+use Rattle.tm_cli.specs.Report.{good, bad, fixed, fixed_of, counts_text}
 use Rattle.tm_cli.specs.Taken.{counts_after}
 use Rattle.tm_cli.specs.declared.counts.Counts.{Counts}
 use Rattle.tm_cli.specs.declared.soak_refusal.SoakRefusal.{SoakRefusal}
@@ -42,12 +43,12 @@ CountedHanded was handed counts = on_handed
 abbrev pub counts_of : List ItemValue → Counts
 counts_of items = record { good = good items; bad = bad items; fixed = fixed items }
 
--- the end of the report of all items that are received of the generated frames
+-- the last line of the report of all items that are received of the generated frames
 pub record IsSoakLine (c : Configuration) (seed frames hits : ℕ) (line : List ℕ) : Type 0 where
   pub handed : List (Handed ItemValue)
-  pub bits : ℕ
-  pub are_received : AreReceived c (generated c seed frames hits) handed bits
-  pub is_line : line ≡ items_end_text (items_of handed) bits
+  pub totals : Totals
+  pub are_received : AreReceived c (generated c seed frames hits) handed totals
+  pub is_line : line ≡ counts_text (items_of handed) totals.bits
 
 -- `soak`: that line goes to the output, and there are no notes. It reads nothing.
 abbrev pub soak_meaning : (seed frames hits : ℕ) → Configuration → Meaning

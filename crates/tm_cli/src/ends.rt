@@ -9,23 +9,24 @@ ghost use Rattle.tm_driver.specs.Courses.{SinkState, sink_state};
 ghost use Rattle.tm_driver.specs.Texts.{TookText, BrokeText};
 
 use crate::counts::Counts;
-use crate::lines::frames_line;
+use crate::lines::totals_line;
 use tm_base::{Failed, Sink};
+use tm_channel::Totals;
 
-/// Writes the end of the report of `bits` received bits, whose items gave these counts and whose lines the sink has
+/// Writes the end of the report of octets that came to this, whose items gave these counts and whose lines the sink has
 /// taken. Answers whether none of them has an uncorrectable column.
-pub fn end_report<N: Sink>(lines: &mut N, counts: Counts, bits: u64) -> Result<bool, Failed>
+pub fn end_report<N: Sink>(lines: &mut N, counts: Counts, totals: Totals) -> Result<bool, Failed>
     ensures whole { IfOk result (λ is_good. (start : SinkState) (handed : List (Handed ItemValue))
         → ReportedAll start (sink_state (N.taken lines.old) (N.faults lines.old)) no_counts counts handed
-        → TookText start (sink_state (N.taken lines.new) (N.faults lines.new)) (report_text handed bits)
+        → TookText start (sink_state (N.taken lines.new) (N.faults lines.new)) (report_text handed totals)
         × ((is_good ≡ true) ↔ (bad (items_of handed) ≡ 0))) }
     ensures broke { OnErr result ((start : SinkState) (handed : List (Handed ItemValue))
         → ReportedAll start (sink_state (N.taken lines.old) (N.faults lines.old)) no_counts counts handed
         → BrokeText start (sink_state (N.taken lines.new) (N.faults lines.new))
-        (N.is_last lines.new) (items_text 0 handed) (items_end_text (items_of handed) bits)) }
+        (N.is_last lines.new) (items_text 0 handed) (items_end_text (items_of handed) totals)) }
     ensures cause { HasCause (N.faults lines.old) (N.faults lines.new) (N.is_last lines.new) result }
 {
-    match frames_line(lines, counts.good, counts.bad, counts.fixed, bits) {
+    match totals_line(lines, counts.good, counts.bad, counts.fixed, totals) {
         Ok(()) => Ok(counts.bad == 0),
         Err(Failed) => Err(Failed),
     }

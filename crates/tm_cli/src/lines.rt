@@ -2,11 +2,12 @@
 ghost use Rattle.std.specs.Prelude.{◌≡◌, ◌+◌, ◌*◌, ◌≤◌, ◌++◌, length, flat_map, OnOk, OnErr};
 ghost use Rattle.tm_base.specs.Outside.{HasCause};
 ghost use Rattle.tm_base.specs.Written.{Wrote, WrotePrefix};
+ghost use Rattle.tm_driver.specs.Lines.{slips_text};
 ghost use Rattle.tm_cli.specs.Lines.{marker_text, answer_text, answers_text, item_text, report_end_text};
 
 use tm_base::{Failed, Sink};
-use tm_channel::{Answer, Item};
-use tm_driver::Line;
+use tm_channel::{Answer, Item, Totals};
+use tm_driver::{Line, add_slips};
 
 // Adds how a marker matched, and in which polarity.
 fn add_marker(line: &mut Line, bridged: bool, distance: u8, inverted: bool)
@@ -95,6 +96,15 @@ pub fn frames_line<O: Sink>(
     ensures cause { HasCause (O.faults out.old) (O.faults out.new) (O.is_last out.new) result }
 {
     let mut line = Line::new();
+    add_frames(&mut line, good, bad, fixed, bits);
+    line.put(out)
+}
+
+// Adds the last line of a report.
+fn add_frames(line: &mut Line, good: u64, bad: u64, fixed: u64, bits: u64)
+    requires { length line.old ≤ 300 }
+    ensures { line.new ≡ line.old ++ report_end_text good bad fixed bits }
+{
     line.text(b"frames ");
     line.number(good);
     line.text(b" bad ");
@@ -104,5 +114,25 @@ pub fn frames_line<O: Sink>(
     line.text(b" bits ");
     line.number(bits);
     line.text(b"\n");
+}
+
+/// Writes the end of a report with `slips N` before it, before how many windows octets were dropped, where the symbol
+/// phase is followed. `Failed` comes only where the sink's count of faults rose.
+pub fn totals_line<O: Sink>(
+    out: &mut O,
+    good: u64,
+    bad: u64,
+    fixed: u64,
+    totals: Totals,
+) -> Result<(), Failed>
+    ensures ok { OnOk result (Wrote (O.taken out.old) (O.taken out.new)
+        (slips_text totals.slips ++ report_end_text good bad fixed totals.bits)) }
+    ensures err { OnErr result (WrotePrefix (O.taken out.old) (O.taken out.new)
+        (slips_text totals.slips ++ report_end_text good bad fixed totals.bits)) }
+    ensures cause { HasCause (O.faults out.old) (O.faults out.new) (O.is_last out.new) result }
+{
+    let mut line = Line::new();
+    add_slips(&mut line, totals.slips);
+    add_frames(&mut line, good, bad, fixed, totals.bits);
     line.put(out)
 }

@@ -9,7 +9,7 @@ ghost use Rattle.tm_driver.specs.Statuses.{status_of};
 ghost use Rattle.tm_driver.specs.declared.ending.Ending.{Ending};
 
 use tm_channel::{clean_law, disturbed_law, items_law, polarity_law, received_law};
-use tm_inner::{clean_inner_law, inner_law};
+use tm_inner::inner_law;
 use tm_phase::phase_law;
 
 /// Where `decode` reads its whole input, sent frames come back, as far as they were not disturbed too much, and in the
@@ -46,6 +46,5 @@ pub fn link_law()
     disturbed_law();
     polarity_law();
     inner_law();
-    clean_inner_law();
     phase_law();
 }

@@ -4,27 +4,28 @@ ghost use Rattle.std.specs.Prelude.{◌≡◌, ℕ, ◌+◌, ◌≤◌, Bool, Li
 ghost use Rattle.tm_base.specs.Handed.{on_handed};
 ghost use Rattle.tm_base.specs.Written.{Gave};
 ghost use Rattle.tm_config.specs.Accepted.{IsAccepted};
+ghost use Rattle.tm_channel.specs.declared.totals.Totals.{Totals};
 ghost use Rattle.tm_cli.specs.Receiving.{ReceivedTo};
 ghost use Rattle.tm_driver.specs.Courses.{SourceWent, source_call};
 
 use std::alloc::Global;
 use std::thread::Threads;
 use tm_base::{Failed, NoMemory, Source};
-use tm_channel::{Config, ItemTaker, OpenGate, Receiver};
+use tm_channel::{Config, ItemTaker, OpenGate, Receiver, Totals};
 use tm_driver::{Ending, Feed, Outcome, Stop, drive};
 
 /// Takes the end of a report, after its items.
 pub trait ReportEnd {
-    /// The end of the report of so many bits was written, and whether no column was uncorrectable.
-    ghost told: { Self → ℕ → Bool → Self → Type 0 };
+    /// The end of the report of octets that came to this was written, and whether no column was uncorrectable.
+    ghost told: { Self → Totals → Bool → Self → Type 0 };
 
     /// A sink failed in it.
-    ghost broke_end: { Self → ℕ → Self → Type 0 };
+    ghost broke_end: { Self → Totals → Self → Type 0 };
 
-    /// Writes the end of the report of so many bits. Answers whether no column was uncorrectable.
-    fn end(&mut self, bits: u64) -> Result<bool, Failed>
-        ensures told { IfOk result (λ is_good. told self.old bits is_good self.new) }
-        ensures broke { OnErr result (broke_end self.old bits self.new) };
+    /// Writes the end of the report of octets that came to this. Answers whether no column was uncorrectable.
+    fn end(&mut self, totals: Totals) -> Result<bool, Failed>
+        ensures told { IfOk result (λ is_good. told self.old totals is_good self.new) }
+        ensures broke { OnErr result (broke_end self.old totals self.new) };
 }
 
 // A receiver, its threads, and what takes what it hands over.
@@ -52,10 +53,10 @@ impl<'a, 'b, 'c, R: Threads + Sync, T: ItemTaker + ReportEnd> Feed for Receiving
         × ReceivesPart (on_handed T.took_phase T.took) (on_handed T.broke_phase T.broke) a.receiver.now a.taker.now b.taker.now octets };
 
     ghost finished = { λ a b outcome. (is_good : Bool) × (outcome ≡ (if is_good then Done else Bad))
-        × HandedLast (on_handed T.took_phase T.took) a.receiver.now a.taker.now (λ middle bits. T.told middle bits is_good b.taker.now) };
+        × HandedLast (on_handed T.took_phase T.took) a.receiver.now a.taker.now (λ middle totals. T.told middle totals is_good b.taker.now) };
 
     ghost failed = { λ a b. HandedLastPart (on_handed T.took_phase T.took) (on_handed T.broke_phase T.broke) a.receiver.now a.taker.now b.taker.now
-        ⊎ HandedLast (on_handed T.took_phase T.took) a.receiver.now a.taker.now (λ middle bits. T.broke_end middle bits b.taker.now) };
+        ⊎ HandedLast (on_handed T.took_phase T.took) a.receiver.now a.taker.now (λ middle totals. T.broke_end middle totals b.taker.now) };
 
     ghost sinks = { λ a b has_failed. ⊤ };
 
@@ -92,7 +93,7 @@ impl<'a, 'b, 'c, R: Threads + Sync, T: ItemTaker + ReportEnd> Feed for Receiving
 
     fn finish(&mut self) -> Result<Outcome, Failed> {
         match self.receiver.finish(self.rt, self.taker, &OpenGate) {
-            Ok(bits) => match self.taker.end(bits) {
+            Ok(totals) => match self.taker.end(totals) {
                 Ok(true) => Ok(Outcome::Done),
                 Ok(false) => Ok(Outcome::Bad),
                 Err(Failed) => Err(Failed),

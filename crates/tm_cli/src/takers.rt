@@ -4,7 +4,7 @@ use crate::ends::end_report;
 use crate::lines::frame_line;
 use crate::receiving::ReportEnd;
 use tm_base::{Failed, Sink, put_all};
-use tm_channel::{Item, ItemTaker};
+use tm_channel::{Item, ItemTaker, Totals};
 use tm_driver::phase_line;
 
 /// Writes a line for the symbol phase and one for each item, and counts the items.
@@ -125,19 +125,19 @@ impl<'a, 'b, O: Sink, N: Sink> ReportEnd for Decoding<'a, 'b, O, N> {
     ghost use Rattle.tm_driver.specs.Courses.{SinkState, sink_state};
     ghost use Rattle.tm_driver.specs.Texts.{TookText, BrokeText};
 
-    ghost told = { λ a bits is_good b. (b.out.ghost_name ≡ a.out.ghost_name) × (b.report.lines.ghost_name ≡ a.report.lines.ghost_name) × (b.out.now ≡ a.out.now)
+    ghost told = { λ a totals is_good b. (b.out.ghost_name ≡ a.out.ghost_name) × (b.report.lines.ghost_name ≡ a.report.lines.ghost_name) × (b.out.now ≡ a.out.now)
         × ((start : SinkState) (handed : List (Handed ItemValue))
         → ReportedAll start (sink_state (N.taken a.report.lines.now) (N.faults a.report.lines.now)) no_counts a.report.counts handed
-        → TookText start (sink_state (N.taken b.report.lines.now) (N.faults b.report.lines.now)) (report_text handed bits) × ((is_good ≡ true) ↔ (bad (items_of handed) ≡ 0))) };
+        → TookText start (sink_state (N.taken b.report.lines.now) (N.faults b.report.lines.now)) (report_text handed totals) × ((is_good ≡ true) ↔ (bad (items_of handed) ≡ 0))) };
 
-    ghost broke_end = { λ a bits b. (b.out.ghost_name ≡ a.out.ghost_name) × (b.report.lines.ghost_name ≡ a.report.lines.ghost_name) × (b.out.now ≡ a.out.now)
+    ghost broke_end = { λ a totals b. (b.out.ghost_name ≡ a.out.ghost_name) × (b.report.lines.ghost_name ≡ a.report.lines.ghost_name) × (b.out.now ≡ a.out.now)
         × ((start : SinkState) (handed : List (Handed ItemValue))
         → ReportedAll start (sink_state (N.taken a.report.lines.now) (N.faults a.report.lines.now)) no_counts a.report.counts handed
         → BrokeText start (sink_state (N.taken b.report.lines.now) (N.faults b.report.lines.now))
-        (N.is_last b.report.lines.now) (items_text 0 handed) (items_end_text (items_of handed) bits)) };
+        (N.is_last b.report.lines.now) (items_text 0 handed) (items_end_text (items_of handed) totals)) };
 
-    fn end(&mut self, bits: u64) -> Result<bool, Failed> {
+    fn end(&mut self, totals: Totals) -> Result<bool, Failed> {
         let counts = self.report.counts;
-        end_report(self.report.lines, counts, bits)
+        end_report(self.report.lines, counts, totals)
     }
 }

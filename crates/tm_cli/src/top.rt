@@ -22,12 +22,13 @@ use tm_path_commands::certificate_law;
 ///   symbols (CCSDS 131.0-B).
 /// - `decode` receives such octets, a soft one for each symbol: `out` gets the frame of each codeblock that is found
 ///   and repaired, and the notes a report, which has a line for each codeblock and one for all, and before them one for
-///   the symbol phase where it is to be found.
+///   the symbol phase where it is to be found; where it is followed, one before the last says how often octets were
+///   dropped.
 /// - `report` does so without the frames, and writes the report to `out`.
 /// - `trace` writes to `out` a line for each window of the soft decoder, and one for all, and before them one for the
-///   symbol phase where it is to be found.
+///   symbol phase where it is to be found; where octets were dropped before a window, a line before its own.
 /// - `bits` writes to `out` the received bits, eight an octet, and to the notes a line for the symbol phase where it is
-///   to be found, and one for all.
+///   to be found, one that says how often octets were dropped where it is followed, and one for all.
 /// - `erased` repairs words with erased symbols, each an octet a symbol and a flag for each after them, and writes a
 ///   line for each to `out`: `fixed A B HEX`, or `beyond`.
 /// - `certify` writes to `out` a certificate of the windows of the soft decoder, which shows that no path costs less

@@ -3,10 +3,10 @@ use std::alloc::{AllocError, Global};
 use std::process::Abort;
 use std::test::Fail;
 use tm_base::{Failed, MemSink};
-use tm_channel::{Answer, Item, ItemTaker};
+use tm_channel::{Answer, Item, ItemTaker, Totals};
 use tm_cli::{
-    Counts, Decoding, Report, Trace, block_line, blocks_line, end_report, end_trace, frame_line,
-    frames_line, phase_line,
+    Counts, Decoding, Report, Tally, Trace, block_line, blocks_line, end_report, end_trace,
+    frame_line, frames_line, phase_line,
 };
 use tm_viterbi::{Block, BlockTaker};
 
@@ -149,6 +149,16 @@ fn item_of<'a>(rt: &impl Abort, row: &Row<'a>) -> Item<'a> {
 }
 
 // A window of the soft decoder.
+// How far windows are told.
+fn after(blocks: u64, bits: u64) -> Tally {
+    Tally { blocks, bits }
+}
+
+// So many bits, where the symbol phase is not followed.
+fn plain(bits: u64) -> Totals {
+    Totals { bits, slips: None }
+}
+
 fn block_of<'a>(steps: u32, kept: u32, metric: u64) -> Block<'a> {
     Block {
         start: 0,
@@ -195,11 +205,14 @@ fn writes_the_other_lines(rt: HostRuntime) -> Result<(), Fail> {
     let mut out = sink(&rt, rt.alloc(), 1024);
     assert_eq!(rt; frames_line(&mut out, 1, 0, 16, 296), Ok(()));
     assert_eq!(rt; frames_line(&mut out, MOST, MOST, MOST, MOST), Ok(()));
-    assert_eq!(rt; block_line(&mut out, 1, &block_of(8448, 8192, 127)), Ok(()));
+    assert_eq!(rt;
+        block_line(&mut out, after(1, 8192), &block_of(8448, 8192, 127)),
+        Ok(())
+    );
     assert_eq!(rt;
         block_line(
             &mut out,
-            MOST,
+            after(MOST, MOST),
             &block_of(4_294_967_295, 4_294_967_295, MOST)
         ),
         Ok(())
@@ -221,11 +234,57 @@ fn writes_the_other_lines(rt: HostRuntime) -> Result<(), Fail> {
     Ok(())
 }
 
+// Octets that are dropped before a window are told in a line before its own, and how often in one before the last.
+#[test]
+fn writes_where_octets_were_dropped(rt: HostRuntime) -> Result<(), Fail> {
+    let mut out = sink(&rt, rt.alloc(), 1024);
+    let mut block = block_of(8448, 8192, 127);
+    block.dropped = 7;
+    assert_eq!(rt; block_line(&mut out, after(1, 8192), &block), Ok(()));
+    let mut trace = Trace {
+        lines: &mut out,
+        tally: after(0, 0),
+    };
+    assert_eq!(rt; trace.block(&block_of(300, 64, 0)), Ok(()));
+    block.dropped = 1;
+    assert_eq!(rt; trace.block(&block), Ok(()));
+    let counts = Counts {
+        good: 1,
+        bad: 0,
+        fixed: 16,
+    };
+    let followed = Totals {
+        bits: 296,
+        slips: Some(2),
+    };
+    assert_eq!(rt; end_report(&mut out, counts, followed), Ok(true));
+    let none = Totals {
+        slips: Some(0),
+        ..followed
+    };
+    assert_eq!(rt; end_report(&mut out, counts, none), Ok(true));
+    assert_eq!(rt; out.calls(), 5, "both lines are one piece");
+    let text = "slip 7 at 8192\n\
+        block 1 steps 8448 kept 8192 metric 127\n\
+        block 0 steps 300 kept 64 metric 0\n\
+        slip 1 at 64\n\
+        block 1 steps 8448 kept 8192 metric 127\n\
+        slips 2\n\
+        frames 1 bad 0 fixed 16 bits 296\n\
+        slips 0\n\
+        frames 1 bad 0 fixed 16 bits 296\n";
+    assert_eq!(rt; out.octets(), text.as_bytes());
+    Ok(())
+}
+
 #[test]
 fn lines_meet_a_full_sink(rt: HostRuntime) -> Result<(), Fail> {
     let mut out = sink(&rt, rt.alloc(), 3);
     assert_eq!(rt; frames_line(&mut out, 1, 2, 3, 4), Err(Failed));
-    assert_eq!(rt; block_line(&mut out, 1, &block_of(2, 2, 0)), Err(Failed));
+    assert_eq!(rt;
+        block_line(&mut out, after(1, 2), &block_of(2, 2, 0)),
+        Err(Failed)
+    );
     assert_eq!(rt; blocks_line(&mut out, 1, 2, 3), Err(Failed));
     assert_eq!(rt; phase_line(&mut out, 1, 2), Err(Failed));
     assert_eq!(rt; out.octets(), "fra".as_bytes());
@@ -253,7 +312,7 @@ fn decodes_frames_and_their_report(rt: HostRuntime) -> Result<(), Fail> {
         fixed: 62,
     };
     assert_eq!(rt; counts, wanted);
-    assert_eq!(rt; end_report(&mut notes, counts, 1_000_296), Ok(false));
+    assert_eq!(rt; end_report(&mut notes, counts, plain(1_000_296)), Ok(false));
     assert_eq!(rt;
         out.octets(),
         [0x7B, 0x7C, 0x7D, 0x7E, 1, 2, 3, 4].as_slice()
@@ -274,7 +333,7 @@ fn reports_after_the_phase(rt: HostRuntime) -> Result<(), Fail> {
     assert_eq!(rt; report.phase(1, 0), Ok(()));
     assert_eq!(rt; report.item(&item_of(&rt, &ROWS[0])), Ok(()));
     let counts = report.counts;
-    assert_eq!(rt; end_report(&mut out, counts, 296), Ok(true));
+    assert_eq!(rt; end_report(&mut out, counts, plain(296)), Ok(true));
     let text = "phase 1 cost 0\nframe 0 at 0 marker 0 words 0\nframes 1 bad 0 fixed 0 bits 296\n";
     assert_eq!(rt; out.octets(), text.as_bytes());
     Ok(())
@@ -285,20 +344,21 @@ fn traces_after_the_phase(rt: HostRuntime) -> Result<(), Fail> {
     let mut out = sink(&rt, rt.alloc(), 1024);
     let mut trace = Trace {
         lines: &mut out,
-        count: 0,
+        tally: after(0, 0),
     };
     assert_eq!(rt; trace.phase(0, 5), Ok(()));
     assert_eq!(rt; trace.block(&block_of(8448, 8192, 0)), Ok(()));
     assert_eq!(rt; trace.block(&block_of(257, 257, 9)), Ok(()));
-    let count = trace.count;
-    assert_eq!(rt; end_trace(&mut out, count, 8449, 0), Ok(()));
+    let tally = trace.tally;
+    assert_eq!(rt; tally, after(2, 8449));
+    assert_eq!(rt; end_trace(&mut out, tally, 8449, 0), Ok(()));
     let text = "phase 0 cost 5\n\
         block 0 steps 8448 kept 8192 metric 0\n\
         block 1 steps 257 kept 257 metric 9\n\
         blocks 2 bits 8449 leftover 0\n";
     assert_eq!(rt; out.octets(), text.as_bytes());
     let mut empty = sink(&rt, rt.alloc(), 1024);
-    assert_eq!(rt; end_trace(&mut empty, 0, 0, 1), Ok(()));
+    assert_eq!(rt; end_trace(&mut empty, after(0, 0), 0, 1), Ok(()));
     assert_eq!(rt; empty.octets(), "blocks 0 bits 0 leftover 1\n".as_bytes());
     Ok(())
 }
