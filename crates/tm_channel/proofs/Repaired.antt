@@ -17,11 +17,11 @@ use Rattle.tm_rs_solve.specs.declared.answers.Answer.TheVariants.{Beyond}
 use Rattle.tm_workers.specs.declared.words.Word.{Word}
 use Rattle.tm_workers.specs.Batch.{EachBecomes}
 use Rattle.tm_workers.specs.Words.{Decodes}
-use Rattle.tm_codeblock.specs.ReceivedCodeblock.{received_columns, frame_of}
+use Rattle.tm_codeblock.specs.ReceivedCodeblock.{column_count, received_columns, frame_of}
 use Rattle.tm_channel.specs.ColumnWords.{symbols_of, all_symbols}
 use Rattle.tm_channel.specs.Items.{AreNearest, IsItem, are_fixed}
 use Rattle.tm_channel.specs.Receiving.{AreItemsFor, IsItemAt}
-use Rattle.tm_channel.specs.Storing.{AreDecoded, AreRead, IsDecoded, IsRead, answers_of, codeblock_in_slot, column_count, item_in, kept_in, words_at}
+use Rattle.tm_channel.specs.Storing.{AreDecoded, AreRead, IsDecoded, IsRead, answers_of, codeblock_in_slot, item_in, kept_in, words_at}
 use Rattle.tm_channel.specs.declared.slot.Slot.{Slot}
 
 -- words that were decoded hold what is nearest to the columns that were read into them

@@ -1,5 +1,5 @@
 -- A search and a batch, one step on.
-use Rattle.std.proofs.Common.{◌≡◌, ℕ, zero, suc, ◌+◌, ◌-◌, ◌*◌, ◌/◌, ◌%◌, ◌^◌, ◌<◌, ◌≤◌, ◌==◌, IsSome, IfNone, Bool, true, false, cond, nat_le, List, [], ◌∷◌, ◌++◌, length, take, drop, map, refl, sym, ap, ◌∙◌, subst, arith, Option, Some, None, unwrap_or, length-append, take-append-drop, mul-le-mul_right, ◌⊎◌, inl, inr}
+use Rattle.std.proofs.Common.{◌≡◌, ℕ, zero, suc, ◌+◌, ◌-◌, ◌*◌, ◌/◌, ◌%◌, ◌^◌, ◌<◌, ◌≤◌, ◌==◌, IfNone, Bool, true, false, cond, nat_le, List, [], ◌∷◌, ◌++◌, length, take, drop, map, refl, sym, ap, ◌∙◌, subst, arith, Option, Some, None, unwrap_or, length-append, take-append-drop, mul-le-mul_right, ◌⊎◌, inl, inr}
 use Rattle.std.specs.Option.{option_map_or}
 use Rattle.std.proofs.lemmas.Bool.{cases_lt}
 use Rattle.std.proofs.lemmas.Bool.Decides.{nat_tests}
@@ -15,9 +15,11 @@ use Rattle.tm_sync.specs.Places.{Rules, places, verify_bits}
 use Rattle.tm_sync.specs.Searching.{Searching, StandsFor, inside_next, inside_of, is_pending, waiting_of}
 use Rattle.tm_sync.proofs.Given.{told-recent}
 use Rattle.tm_codeblock.specs.ReceivedCodeblock.{rules_of}
+use Rattle.tm_codeblock.specs.RoomBits.{room_bits}
 use Rattle.tm_codeblock.proofs.Gathered.{low_bits-split}
-use Rattle.tm_channel.specs.Receiving.{Agree, Batching, Holding, Holds, HoldsMore, HoldsTold, IsGathered, IsReady, Kept, kept_at, kept_of, room_bits}
-use Rattle.tm_channel.proofs.Recalled.{length-room_bits, room_bits-given}
+use Rattle.tm_codeblock.proofs.RoomBits.{length-room_bits}
+use Rattle.tm_channel.specs.Receiving.{Agree, Batching, Holding, Holds, HoldsMore, HoldsTold, IsGathered, IsReady, Kept, kept_at, kept_of}
+use Rattle.tm_channel.proofs.Recalled.{room_bits-given}
 use Rattle.tm_channel.proofs.Streaming.{kept-last, more-begun, more-inside, more-outside, told-kept}
 
 -- ---- what a search, its room and a batch hold
@@ -135,7 +137,7 @@ agree-outside s s' room room' b b' r rules size is first config part =
     sized = size ∙ r.sized ∙ ap verify_bits (sym rules)
 
     go : (unwrap_or (inside_of s') 0 ≡ 0) ⊎ (inside_of s' ≡ Some (verify_bits s'.rules)) → Agree s' room' b'
-    go (inl no) = agree-gathered s' room' b' same sized (omega (arith, no)) (empty ∙ sym no)
+    go (inl outside) = agree-gathered s' room' b' same sized (omega (arith, outside)) (empty ∙ sym outside)
     go (inr lag) = agree-recalled s' room' b' s'.rules.verify same sized (nil_from_length b'.part empty) (omega arith) (ap (λ (o : Option ℕ). unwrap_or o 0) lag)
 
 -- octets of the codeblock under way
@@ -324,13 +326,6 @@ verify-none rules = go rules.verify
     go : (n : ℕ) → n * (32 + rules.block_bits) ≡ 0 → n ≡ 0
     go zero empty = refl
     go (suc n) empty = absurd (omega (arith, empty))
-
--- the octets that are given lie in the codeblock under way
-pub fits-inside : (s : Searching) (piece : List ℕ) (whole : ℕ)
-    → (IsSome (inside_of s) → whole ≡ (s.rules.block_bits - unwrap_or (inside_of s) 0) / 8) → IsSome (inside_of s)
-    → length piece ≤ whole → unwrap_or (inside_of s) 0 ≤ s.rules.block_bits
-    → unwrap_or (inside_of s) 0 + 8 * length piece ≤ s.rules.block_bits
-fits-inside s piece whole lacks inside few within = let w = lacks inside in omega (arith, w, few, within)
 
 -- ---- bits that are octets 0 and 1
 

@@ -1,5 +1,5 @@
 -- What a receiver keeps of the bits that it was given, and which items it has handed over of them.
-use Rattle.std.specs.Prelude.{◌≡◌, ◌==◌, ℕ, zero, suc, ◌+◌, ◌-◌, ◌*◌, ◌%◌, ◌<◌, ◌≤◌, ◌^◌, Bool, false, List, [], ◌∷◌, ◌++◌, length, take, drop, map, get_or, unwrap_or, nat_lt, if◌then◌else◌, ◌⊎◌}
+use Rattle.std.specs.Prelude.{◌≡◌, ℕ, ◌+◌, ◌-◌, ◌*◌, ◌<◌, ◌≤◌, ◌^◌, Bool, false, List, [], ◌∷◌, ◌++◌, length, take, drop, map, get_or, unwrap_or, nat_lt, if◌then◌else◌, ◌⊎◌}
 use Rattle.tm_base.specs.Bits.{bits_of}
 use Rattle.tm_config.specs.Configuration.{Configuration, codeblock_length}
 use Rattle.tm_sync.specs.declared.found.Found.{Found}
@@ -161,9 +161,3 @@ waiting_bits c count = if nat_lt 1 c.workers then count * (32 + (rules_of c).blo
 -- the bits of octets after the first `from` ones, up to bit `to`
 abbrev pub bits_between : ℕ → ℕ → List ℕ → List Bool
 bits_between from to octets = take (to - from) (drop from (bits_of octets))
-
--- so many bits from number `from` on, out of a room that holds bit i as 0 or 1 in octet i % size
-abbrev pub room_bits : List ℕ → ℕ → ℕ → List Bool
-room_bits room from zero = []
-room_bits room from (suc count) =
-    (get_or room (from % length room) 0 == 1) ∷ room_bits room (from + 1) count

@@ -1,10 +1,10 @@
 -- What the store of a batch of codeblocks holds.
 use Rattle.std.specs.Prelude.{◌≡◌, ℕ, ◌*◌, ◌<◌, if◌then◌else◌, List, [], length, map, take, drop, get_or, unwrap_or}
-use Rattle.tm_config.specs.Configuration.{Configuration, codeblock_length, is_uncoded}
+use Rattle.tm_config.specs.Configuration.{Configuration, codeblock_length}
 use Rattle.tm_rs_solve.specs.declared.answers.Answer.{Answer}
 use Rattle.tm_rs_solve.specs.declared.answers.Answer.TheVariants.{Beyond}
 use Rattle.tm_workers.specs.declared.words.Word.{Word}
-use Rattle.tm_codeblock.specs.ReceivedCodeblock.{received_columns}
+use Rattle.tm_codeblock.specs.ReceivedCodeblock.{column_count, received_columns}
 use Rattle.tm_channel.specs.ColumnWords.{all_symbols}
 use Rattle.tm_channel.specs.Items.{ItemValue, AreNearest, are_fixed}
 use Rattle.tm_channel.specs.Receiving.{Kept}
@@ -13,10 +13,6 @@ use Rattle.tm_channel.specs.declared.slot.Slot.{Slot}
 -- the codeblock of so many octets in a slot
 abbrev pub kept_in : ℕ → Slot → Kept
 kept_in size slot = record { found = slot.found; codeblock = take size slot.octets }
-
--- how many columns a codeblock is repaired as: none with no outer code
-abbrev pub column_count : Configuration → ℕ
-column_count c = if is_uncoded c.code then 0 else c.depth
 
 -- the item that is written in a slot
 abbrev pub item_in : Configuration → Slot → ItemValue

@@ -8,8 +8,9 @@ ghost use Rattle.tm_sync.specs.Places.{places};
 ghost use Rattle.tm_sync.specs.Searching.{inside_of, waiting_of};
 ghost use Rattle.tm_config.specs.Configuration.{codeblock_length};
 ghost use Rattle.tm_codeblock.specs.ReceivedCodeblock.{rules_of};
+ghost use Rattle.tm_codeblock.specs.RoomBits.{room_bits};
 ghost use Rattle.tm_channel.specs.Items.{ItemValue};
-ghost use Rattle.tm_channel.specs.Receiving.{Agree, AreItemsFor, Holds, HoldsMore, HoldsTold, IsHanded, IsReady, bits_between, room_bits};
+ghost use Rattle.tm_channel.specs.Receiving.{Agree, AreItemsFor, Holds, HoldsMore, HoldsTold, IsHanded, IsReady, bits_between};
 ghost use Rattle.tm_channel.specs.OctetReceiving.{Received, ReceivedPart, Settles, SettlesPart};
 
 use crate::item::ItemTaker;

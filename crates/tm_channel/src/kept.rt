@@ -1,6 +1,11 @@
 // The bits that blocks keep, and the phase before them, until the search and the taker take them.
-ghost use Rattle.std.specs.Prelude.{◌≡◌, [], None, IfOk};
+ghost use Rattle.std.specs.Prelude.{◌≡◌, [], None, IfOk, OnErr, OnOk};
+ghost use Rattle.tm_base.specs.Handed.{on_handed};
+ghost use Rattle.tm_base.specs.Outside.{HasCause};
+ghost use Rattle.tm_base.specs.Takers.{HandedOver, HandedPart};
+ghost use Rattle.tm_inner.specs.Phase.{with_phase};
 
+use crate::item::ItemTaker;
 use std::alloc::{AllocError, Global};
 use std::marker::Model;
 use tm_base::Failed;
@@ -53,11 +58,18 @@ impl KeptBits {
         &self.room.as_slice()[..self.count]
     }
 
-    /// The symbol phase, where it was handed over.
-    pub fn phase(&self) -> Option<Chosen>
-        ensures { result ≡ self.now.phase }
+    /// Hands over the symbol phase, where the first stage has handed it over.
+    pub fn hand_phase<T: ItemTaker>(&self, taker: &mut T) -> Result<(), Failed>
+        ensures handed { OnOk result (HandedOver (on_handed T.took_phase T.took) taker.old
+            (with_phase self.now.phase []) taker.new) }
+        ensures prefix { OnErr result (HandedPart (on_handed T.took_phase T.took) (on_handed T.broke_phase T.broke)
+            taker.old (with_phase self.now.phase []) taker.new) }
+        ensures cause { HasCause (T.faults taker.old) (T.faults taker.new) (T.is_last taker.new) result }
     {
-        self.phase
+        match self.phase {
+            Some(chosen) => taker.phase(chosen.skip, chosen.cost),
+            None => Ok(()),
+        }
     }
 }
 

@@ -8,7 +8,7 @@ use crate::item::ItemTaker;
 use crate::stream::BitStream;
 use crate::workers::Workers;
 use tm_base::Failed;
-use tm_codeblock::pack;
+use tm_codeblock::{pack, run_length};
 
 // How many octets bits are packed to at a time.
 const RUN: usize = 256;
@@ -30,7 +30,7 @@ pub fn take_bits<P: Workers, T: ItemTaker>(
 {
     let mut done = 0;
     while done < bits.len() {
-        let count = run_length(bits.len() - done);
+        let count = run_length(bits.len() - done, RUN);
         match take_run(stream, by, &bits[done..done + count], taker) {
             Ok(()) => {}
             Err(Failed) => return Err(Failed),
@@ -66,20 +66,4 @@ fn take_run<P: Workers, T: ItemTaker>(
     let octets = &mut octets[..bits.len() / 8];
     pack(bits, octets);
     stream.receive(by, octets, 0, taker)
-}
-
-// How many of the bits that are left are packed at once: as many as are whole octets, up to `RUN` of them, or fewer
-// than eight.
-fn run_length(left: usize) -> usize
-    requires { 0 < left }
-    ensures some { 0 < result }
-    ensures within { result ≤ left }
-    ensures most { result ≤ 8 * 256 }
-    ensures whole { (result < 8) ⊎ (result % 8 ≡ 0) }
-{
-    if left < 8 {
-        left
-    } else {
-        left.min(8 * RUN) / 8 * 8
-    }
 }

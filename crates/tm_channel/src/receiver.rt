@@ -5,7 +5,6 @@ ghost use Rattle.tm_base.specs.Handed.{Handed, on_handed};
 ghost use Rattle.tm_base.specs.Outside.{Rose};
 ghost use Rattle.tm_base.specs.Takers.{HandedOver, HandedPart};
 ghost use Rattle.tm_inner.specs.InnerDecoding.{HasWorkers};
-ghost use Rattle.tm_inner.specs.Handing.{AreSlipsSoFar};
 ghost use Rattle.tm_inner.specs.Phase.{IsChosen, IsChosenSoFar};
 ghost use Rattle.tm_sync.specs.Places.{verify_bits};
 ghost use Rattle.tm_sync.specs.Searching.{StandsFor as SearchStandsFor, inside_of};
@@ -15,14 +14,14 @@ ghost use Rattle.tm_workers.specs.Words.{Decodes};
 ghost use Rattle.tm_channel.specs.Items.{ItemValue};
 ghost use Rattle.tm_channel.specs.Handing.{AreReceived, AreReceivedDue, AreReceivedFirst, AreReceivedPrefix};
 ghost use Rattle.tm_channel.specs.Calls.{Calls, Feeds, Finishes};
-ghost use Rattle.tm_channel.specs.OctetReceiving.{FeedBreaks, FeedChooses, FeedHands, FinishBreaks, FinishChooses, FinishHands, StandsFor};
+ghost use Rattle.tm_channel.specs.OctetReceiving.{AreSlipsSoFar, FeedBreaks, FeedChooses, FeedHands, FinishBreaks, FinishChooses, FinishHands, StandsFor};
 
 use crate::item::ItemTaker;
 use crate::kept::KeptBits;
 use crate::packed::take_bits;
 use crate::store::Codeblocks;
 use crate::stream::BitStream;
-use crate::taking::{PIECE, end, hand_phase, take};
+use crate::taking::{PIECE, end, take};
 use crate::totals::Totals;
 use crate::workers::{InOrder, SideBySide, Workers};
 use std::alloc::Global;
@@ -255,7 +254,7 @@ impl Receiver {
         }
         self.has_stopped = true;
         let totals = end(by, &mut self.inner, &mut self.kept);
-        match hand_phase(&self.kept, taker) {
+        match self.kept.hand_phase(taker) {
             Ok(()) => {}
             Err(Failed) => return Err(RecvError::Taker),
         }
@@ -308,8 +307,8 @@ fn open_search(alloc: Global, config: &Config) -> Result<(Search, Vec<u8>), NoMe
     Ok((search, room))
 }
 
-/// Hands over the symbol phase of octets, fewer than 2^60, where it is to be found, and all their items. Answers what the
-/// octets came to.
+/// Hands over the symbol phase of octets, fewer than 2^60, where it is to be found, and all their items. Answers what
+/// the octets came to.
 ///
 /// `Memory` comes only where there isn't enough of it; nothing is handed over then. `Taker` comes where `taker` fails;
 /// a prefix of all was then handed over. Workers enter `OpenGate`.

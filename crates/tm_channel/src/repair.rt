@@ -1,14 +1,15 @@
 // The repair of codeblocks, all columns at once.
 ghost use Rattle.std.specs.Prelude.{◌≢◌, ◌≡◌, ◌<◌, ◌≤◌, ◌*◌, length, map, take};
 ghost use Rattle.tm_config.specs.Configuration.{codeblock_length};
+ghost use Rattle.tm_codeblock.specs.ReceivedCodeblock.{column_count};
 ghost use Rattle.tm_channel.specs.Receiving.{AreItemsFor};
-ghost use Rattle.tm_channel.specs.Storing.{AreDecoded, AreRead, column_count, item_in, kept_in};
+ghost use Rattle.tm_channel.specs.Storing.{AreDecoded, AreRead, item_in, kept_in};
 
 use crate::columns::read_columns;
-use crate::slot::{Slot, column_count};
+use crate::slot::Slot;
 use crate::workers::Workers;
 use std::alloc::Global;
-use tm_codeblock::{codeblock_size, has_code, params_of};
+use tm_codeblock::{codeblock_size, column_count, has_code, params_of};
 use tm_config::{Config, OuterCode};
 use tm_workers::Word;
 

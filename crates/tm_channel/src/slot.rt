@@ -2,14 +2,15 @@
 ghost use Rattle.std.specs.Prelude.{◌≡◌, ◌<◌, ◌≤◌, length, take};
 ghost use Rattle.tm_base.specs.Bits.{bits_of};
 ghost use Rattle.tm_config.specs.Configuration.{codeblock_length};
+ghost use Rattle.tm_codeblock.specs.ReceivedCodeblock.{column_count};
 ghost use Rattle.tm_channel.specs.Items.{IsItem};
 ghost use Rattle.tm_channel.specs.Receiving.{kept_of};
-ghost use Rattle.tm_channel.specs.Storing.{IsDecoded, answers_of, column_count, item_in, kept_in};
+ghost use Rattle.tm_channel.specs.Storing.{IsDecoded, answers_of, item_in, kept_in};
 
 use crate::columns::write_frame;
 use crate::item::{Item, are_fixed};
-use tm_codeblock::{has_code, read_codeblock};
-use tm_config::{Config, OuterCode};
+use tm_codeblock::{column_count, has_code, read_codeblock};
+use tm_config::Config;
 use tm_rs_solve::Answer;
 use tm_sync::Found;
 use tm_workers::Word;
@@ -24,21 +25,6 @@ pub struct Slot {
 }
 
 impl Slot {
-    /// Room for a codeblock.
-    pub fn empty() -> Slot {
-        Slot {
-            found: Found {
-                place: 0,
-                distance: 0,
-                bridged: false,
-                inverted: false,
-            },
-            octets: [0; 2040],
-            answers: [Answer::Beyond; 8],
-            frame: [0; 2040],
-        }
-    }
-
     /// Writes the codeblock that was received as these octets at this place.
     pub fn fill(&mut self, config: &Config, found: Found, size: usize, received: &[u8])
         requires size { length received.now ≡ size }
@@ -86,17 +72,6 @@ impl Slot {
             answers,
             frame: &self.frame[..size],
         }
-    }
-}
-
-/// How many columns a codeblock is repaired as: none with no outer code.
-pub fn column_count(config: &Config) -> usize
-    ensures value { result ≡ column_count config.now }
-    ensures most { result ≤ 8 }
-{
-    match config.values().code {
-        OuterCode::Uncoded => 0,
-        _ => config.depth() as usize,
     }
 }
 

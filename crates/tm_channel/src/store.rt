@@ -3,17 +3,19 @@ ghost use Rattle.std.specs.Prelude.{◌≡◌, ◌<◌, ◌≤◌, ◌+◌, ◌-
 ghost use Rattle.tm_base.specs.Bits.{bits_of, low_bits};
 ghost use Rattle.tm_config.specs.Bounds.{longest_codeblock, most_batch};
 ghost use Rattle.tm_config.specs.Configuration.{codeblock_length};
-ghost use Rattle.tm_channel.specs.Receiving.{AreItemsFor, IsItemAt, kept_of, room_bits, waiting_bits};
+ghost use Rattle.tm_codeblock.specs.RoomBits.{room_bits};
+ghost use Rattle.tm_channel.specs.Receiving.{AreItemsFor, IsItemAt, kept_of, waiting_bits};
 
 use crate::item::Item;
 use crate::repair::repair;
-use crate::slot::{Slot, column_count};
+use crate::slot::Slot;
 use crate::workers::Workers;
 use std::alloc::{AllocError, Global};
 use std::marker::Model;
-use tm_codeblock::{Gathering, codeblock_size};
+use tm_codeblock::{Gathering, codeblock_size, column_count};
 use tm_config::Config;
 use tm_gf256::Gf;
+use tm_rs_solve::Answer;
 use tm_sync::Found;
 use tm_workers::Word;
 
@@ -36,7 +38,8 @@ impl Model for Codeblocks {
     ghost use Rattle.std.specs.Prelude.{◌≡◌, ◌<◌, ◌≤◌, ◌*◌, take, map, length};
     ghost use Rattle.tm_config.specs.Configuration.{codeblock_length};
     ghost use Rattle.tm_channel.specs.Receiving.{Batching};
-    ghost use Rattle.tm_channel.specs.Storing.{column_count, item_in, kept_in};
+    ghost use Rattle.tm_codeblock.specs.ReceivedCodeblock.{column_count};
+    ghost use Rattle.tm_channel.specs.Storing.{item_in, kept_in};
 
     ghost Value = { Batching };
 
@@ -62,13 +65,24 @@ impl Codeblocks {
             symbols: [Gf(0); 255],
             answer: None,
         };
+        let slot = Slot {
+            found: Found {
+                place: 0,
+                distance: 0,
+                bridged: false,
+                inverted: false,
+            },
+            octets: [0; 2040],
+            answers: [Answer::Beyond; 8],
+            frame: [0; 2040],
+        };
         let room = config.batch() as usize;
         Ok(Codeblocks {
             config,
             alloc,
             size: codeblock_size(&config),
             gathering: Gathering::new(),
-            slots: vec![in alloc; Slot::empty(); room]?,
+            slots: vec![in alloc; slot; room]?,
             count: 0,
             words: vec![in alloc; word; room * column_count(&config)]?,
         })
@@ -115,7 +129,7 @@ impl Codeblocks {
         ensures part { self.new.part ≡ room_bits room.now from (8 * codeblock_length self.old.config) }
         ensures kept { self.new.kept ≡ self.old.kept }
     {
-        recall(&mut self.gathering, 8 * self.size, room, from);
+        self.gathering.recall(8 * self.size, room, from);
     }
 
     /// Keeps the codeblock under way, which is whole, as that of this place.
@@ -202,21 +216,5 @@ impl Codeblocks {
         ensures kept { self.new.kept ≡ [] }
     {
         self.count = 0;
-    }
-}
-
-// Gathers so many bits out of a room, from bit `from` on.
-fn recall(gathering: &mut Gathering, count: usize, room: &[u8], from: u64)
-    requires none { gathering.old ≡ [] }
-    requires some { 0 < length room.now }
-    requires few { count ≤ 16320 }
-    ensures { gathering.new ≡ room_bits room.now from count }
-{
-    let mut at = (from % room.len() as u64) as usize;
-    let mut done = 0;
-    while done < count {
-        gathering.push_bit(room[at] == 1);
-        at = (at + 1) % room.len();
-        done += 1;
     }
 }

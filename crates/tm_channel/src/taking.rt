@@ -92,7 +92,7 @@ fn take_piece<P: Workers, T: ItemTaker>(
     if waits {
         return Ok(());
     }
-    match hand_phase(kept, taker) {
+    match kept.hand_phase(taker) {
         Ok(()) => {}
         Err(Failed) => return Err(Failed),
     }
@@ -135,20 +135,6 @@ fn hold_or_decode<P: Workers>(
     kept.clear();
     by.feed(inner, &octets[taken..], kept);
     false
-}
-
-/// Hands over the symbol phase, where the first stage has handed it over.
-pub fn hand_phase<T: ItemTaker>(kept: &KeptBits, taker: &mut T) -> Result<(), Failed>
-    ensures handed { OnOk result (HandedOver (on_handed T.took_phase T.took) taker.old
-        (with_phase kept.now.phase []) taker.new) }
-    ensures prefix { OnErr result (HandedPart (on_handed T.took_phase T.took) (on_handed T.broke_phase T.broke) taker.old
-        (with_phase kept.now.phase []) taker.new) }
-    ensures cause { HasCause (T.faults taker.old) (T.faults taker.new) (T.is_last taker.new) result }
-{
-    match kept.phase() {
-        Some(chosen) => taker.phase(chosen.skip, chosen.cost),
-        None => Ok(()),
-    }
 }
 
 /// Ends the first stage, keeps the phase and the bits of its last blocks, and answers what all octets came to.

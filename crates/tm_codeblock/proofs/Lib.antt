@@ -2,3 +2,4 @@ pub mod Frames
 pub mod Codeblocks
 pub mod Gathered
 pub mod Complemented
+pub mod RoomBits

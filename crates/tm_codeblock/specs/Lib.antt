@@ -1,3 +1,4 @@
 pub mod Frames
 pub mod Cadu
 pub mod ReceivedCodeblock
+pub mod RoomBits

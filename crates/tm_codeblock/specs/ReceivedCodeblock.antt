@@ -35,6 +35,10 @@ abbrev pub codeblock_at : Configuration → List Bool → Found → List ℕ
 codeblock_at c bits f = codeblock_in c f.inverted
     (take (8 * codeblock_length c) (drop (f.place + 32) bits))
 
+-- how many columns a codeblock is repaired as: none with no outer code
+abbrev pub column_count : Configuration → ℕ
+column_count c = if is_uncoded c.code then 0 else c.depth
+
 -- column i of a codeblock, as elements
 abbrev pub received_column : Configuration → List ℕ → ℕ → List ℕ
 received_column c codeblock i = map (element_of c.basis) (column c.depth i codeblock)

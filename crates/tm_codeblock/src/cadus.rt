@@ -4,6 +4,7 @@ ghost use Rattle.tm_config.specs.Accepted.{IsAccepted};
 ghost use Rattle.tm_config.specs.Configuration.{correctable, word_length, codeblock_length};
 ghost use Rattle.tm_config.specs.Bounds.{longest_codeblock};
 ghost use Rattle.tm_interleave.specs.Column.{column};
+ghost use Rattle.tm_codeblock.specs.ReceivedCodeblock.{column_count};
 ghost use Rattle.tm_codeblock.specs.Cadu.{coded_octets, coded_column, codeblock_of, cadu};
 
 use tm_base::MARKER;
@@ -123,6 +124,17 @@ pub fn has_code(config: &Config) -> bool
     match config.values().code {
         OuterCode::Uncoded => false,
         _ => true,
+    }
+}
+
+/// How many columns a codeblock is repaired as: none with no outer code.
+pub fn column_count(config: &Config) -> usize
+    ensures value { result ≡ column_count config.now }
+    ensures most { result ≤ 8 }
+{
+    match config.values().code {
+        OuterCode::Uncoded => 0,
+        _ => config.depth() as usize,
     }
 }
 

@@ -1,6 +1,7 @@
 // The bits of a codeblock, gathered into octets.
 ghost use Rattle.std.specs.Prelude.{◌≡◌, ◌+◌, ◌*◌, ◌%◌, ◌<◌, ◌≤◌, List, [], ◌∷◌, ◌++◌, length};
 ghost use Rattle.tm_base.specs.Bits.{bits_of, bits_of_octet, low_bits};
+ghost use Rattle.tm_codeblock.specs.RoomBits.{room_bits};
 
 use std::marker::Model;
 
@@ -85,6 +86,22 @@ impl Gathering {
             for octet in octets {
                 self.push_octet(*octet);
             }
+        }
+    }
+
+    /// Adds so many bits to none, out of a room that holds bit i as 0 or 1 in octet i % size: those from bit `from` on.
+    pub fn recall(&mut self, count: usize, room: &[u8], from: u64)
+        requires none { self.old ≡ [] }
+        requires some { 0 < length room.now }
+        requires few { count ≤ 16320 }
+        ensures { self.new ≡ room_bits room.now from count }
+    {
+        let mut at = (from % room.len() as u64) as usize;
+        let mut done = 0;
+        while done < count {
+            self.push_bit(room[at] == 1);
+            at = (at + 1) % room.len();
+            done += 1;
         }
     }
 

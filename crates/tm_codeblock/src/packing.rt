@@ -1,5 +1,5 @@
 // Octets, and their bits as octets 0 and 1.
-ghost use Rattle.std.specs.Prelude.{◌≡◌, ◌*◌, ◌==◌, length, map};
+ghost use Rattle.std.specs.Prelude.{◌≡◌, ◌<◌, ◌≤◌, ◌⊎◌, ◌*◌, ◌%◌, ◌==◌, length, map};
 ghost use Rattle.tm_base.specs.Bits.{bits_of, bits_of_octet};
 
 /// The bits of an octet, the most significant one first, each 0 or 1.
@@ -39,4 +39,20 @@ fn octet_of(bits: &[u8]) -> u8
         octet = octet << 1 | u8::from(bits[k] == 1);
     }
     octet
+}
+
+/// How many of so many bits to pack at once: those of whole octets, up to `most` of these, or fewer than eight.
+pub fn run_length(left: usize, most: usize) -> usize
+    requires left { 0 < left }
+    requires octets { (0 < most) × (most ≤ 4096) }
+    ensures some { 0 < result }
+    ensures within { result ≤ left }
+    ensures most { result ≤ 8 * most }
+    ensures whole { (result < 8) ⊎ (result % 8 ≡ 0) }
+{
+    if left < 8 {
+        left
+    } else {
+        left.min(8 * most) / 8 * 8
+    }
 }

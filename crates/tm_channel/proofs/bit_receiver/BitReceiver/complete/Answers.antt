@@ -1,6 +1,6 @@
-use Rattle.std.proofs.Common.{◌≡◌, ◌<◌, ◌+◌, ◌*◌, ◌%◌, ◌^◌, ◌∙◌, length, refl, ap, arith, inl, inr}
+use Rattle.std.proofs.Common.{◌+◌, ◌*◌, ◌%◌, ◌^◌, ◌∙◌, length, refl, ap, arith, inl, inr}
 use Rattle.tm_config.specs.Configuration.{codeblock_length}
-use Rattle.tm_channel.specs.Receiving.{room_bits}
+use Rattle.tm_codeblock.specs.RoomBits.{room_bits}
 use Rattle.tm_channel.proofs.bit_receiver.BitReceiver.complete.Goals as goal
 
 pub recall-requires-clause-none : goal.recall-requires-clause-none

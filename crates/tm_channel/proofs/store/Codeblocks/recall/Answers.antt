@@ -1,6 +1,7 @@
 use Rattle.std.proofs.Common.{◌∙◌, ◌*◌, ap}
 use Rattle.tm_config.specs.Configuration.{codeblock_length}
-use Rattle.tm_channel.specs.Receiving.{Batching, room_bits}
+use Rattle.tm_codeblock.specs.RoomBits.{room_bits}
+use Rattle.tm_channel.specs.Receiving.{Batching}
 use Rattle.tm_channel.proofs.store.Codeblocks.recall.Goals as goal
 
 pub recall-requires-clause-none : goal.recall-requires-clause-none

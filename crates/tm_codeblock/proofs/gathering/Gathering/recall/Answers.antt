@@ -1,8 +1,8 @@
 use Rattle.std.proofs.Common.{◌≡◌, ◌∙◌, ◌+◌, ◌%◌, ◌==◌, ◌++◌, ◌∷◌, [], length, get_or, sym, ap, arith}
 use Rattle.std.proofs.lemmas.Nat.{mod_below}
-use Rattle.tm_channel.specs.Receiving.{room_bits}
-use Rattle.tm_channel.proofs.Recalled.{length-room_bits, next-index, room_bits-more}
-use Rattle.tm_channel.proofs.store.recall.Goals as goal
+use Rattle.tm_codeblock.specs.RoomBits.{room_bits}
+use Rattle.tm_codeblock.proofs.RoomBits.{length-room_bits, next-index, room_bits-more}
+use Rattle.tm_codeblock.proofs.gathering.Gathering.recall.Goals as goal
 
 pub loop-done-init : goal.loop-done-init
 loop-done-init c =

@@ -1,13 +1,13 @@
 use Rattle.std.proofs.Common.{◌≡◌, ◌+◌, ◌-◌, ◌%◌, ◌<◌, ◌≤◌, length}
-use Rattle.tm_channel.specs.Receiving.{room_bits}
-use Rattle.tm_channel.proofs.store.recall.Given as goal
+use Rattle.tm_codeblock.specs.RoomBits.{room_bits}
+use Rattle.tm_codeblock.proofs.gathering.Gathering.recall.Given as goal
 
 abbrev pub invariant-loop-done : goal.invariant-loop-done
 invariant-loop-done l = record {
   at : l.at ≡ (l.from + l.done) % length l.room;
   below : l.at < length l.room;
   within : l.done ≤ l.count;
-  bits : l.gathering ≡ room_bits l.room l.from l.done;
+  bits : l.self ≡ room_bits l.room l.from l.done;
 }
 
 abbrev pub decreases-loop-done : goal.decreases-loop-done
