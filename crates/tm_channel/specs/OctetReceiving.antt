@@ -7,6 +7,7 @@ use Rattle.tm_config.specs.Configuration.{Configuration}
 use Rattle.tm_sync.specs.Searching.{Searching}
 use Rattle.tm_viterbi.specs.WindowBlock.{WindowBlock}
 use Rattle.tm_viterbi.specs.Clean.{kept_bits}
+use Rattle.tm_windows.specs.Followed.{slips_of}
 use Rattle.tm_conv.specs.declared.rates.Rate.{Rate}
 use Rattle.tm_phase.specs.declared.choosing.Chosen.{Chosen}
 use Rattle.tm_inner.specs.Inner.{inner_bits, plain_bits, plain_count}
@@ -85,6 +86,14 @@ pub record OctetReceiving : Type 0 where
 -- a receiver that was given these octets and no others, fewer than 2^60, and has handed over this
 abbrev pub StandsFor : OctetReceiving → List ℕ → List (Handed ItemValue) → Type 0
 StandsFor r = StagesFor r.stages
+
+-- octets were dropped before so many of the windows whose bits were searched; others that are due
+-- may wait only while their bits are no more than may wait, none with one worker
+abbrev pub AreSlipsSoFar : Configuration → List ℕ → ℕ → Type 0
+AreSlipsSoFar c octets slips = (handed : List (Handed WindowBlock)) × (waiting : List WindowBlock)
+    × AreHandedDue c octets (handed ++ map Item waiting)
+    × (length (kept_bits waiting) ≤ waiting_bits c c.batch)
+    × (slips ≡ slips_of (items_of handed))
 
 -- ---- what a call of a receiver hands over
 

@@ -1,10 +1,9 @@
 -- What is handed over for received octets: the symbol phase, where it is to be found, and then
 -- blocks.
-use Rattle.std.specs.Prelude.{◌≡◌, ◌⊎◌, ◌++◌, ℕ, List, map}
-use Rattle.tm_base.specs.Handed.{Handed, Item, items_of}
+use Rattle.std.specs.Prelude.{◌⊎◌, ℕ, List}
+use Rattle.tm_base.specs.Handed.{Handed}
 use Rattle.tm_config.specs.Configuration.{Configuration}
 use Rattle.tm_viterbi.specs.WindowBlock.{WindowBlock}
-use Rattle.tm_windows.specs.Followed.{slips_of}
 use Rattle.tm_inner.specs.Inner.{AreInnerBlocks, AreInnerDue}
 use Rattle.tm_inner.specs.Phase.{WithPhase, WithPhaseSettled, WithPhaseSoFar}
 use Rattle.tm_inner.specs.Receiving.{AreInnerFirst}
@@ -25,9 +24,3 @@ AreHandedFirst c octets = WithPhaseSettled (λ phase. AreInnerFirst c phase octe
 abbrev pub AreHandedPrefix : Configuration → List ℕ → List (Handed WindowBlock) → Type 0
 AreHandedPrefix c octets = WithPhase (λ phase blocks. AreInnerFirst c phase octets blocks ⊎
     ((left : ℕ) × AreInnerBlocks c phase octets blocks left)) c octets
-
--- octets were dropped before so many of the windows whose blocks were handed over; others that are
--- due may wait
-abbrev pub AreSlipsSoFar : Configuration → List ℕ → ℕ → Type 0
-AreSlipsSoFar c octets slips = (handed : List (Handed WindowBlock)) × (waiting : List WindowBlock)
-    × AreHandedDue c octets (handed ++ map Item waiting) × (slips ≡ slips_of (items_of handed))
