@@ -1,6 +1,7 @@
 -- A receiver whose items go to buffers.
 use Rattle.std.specs.Prelude.{◌≡◌, ℕ, ◌*◌, ◌^◌, ◌≤◌, nat_le, false, if◌then◌else◌, List, ◌++◌, length, Option, Some, None, IsSome}
 use Rattle.tm_base.specs.Handed.{Handed, items_of}
+use Rattle.tm_channel.specs.declared.totals.Totals.{Totals}
 use Rattle.tm_channel.specs.Handing.{AreReceived, AreReceivedDue}
 use Rattle.tm_config.specs.Configuration.{Configuration}
 use Rattle.tm_channel.specs.Items.{ItemValue}
@@ -40,11 +41,11 @@ pub record Receives (receiver now : OctetReceiving) (given octets : List ℕ) (d
   pub tells : Tells count frames reports (items_of more)
   pub enough : IsEnough receiver.config (length octets) count frames reports
 
--- at the end of its octets, which came to so many bits, what is left was written in the same way, and
--- the phase is chosen, where it is to be found
-pub record ReceivesLast (receiver now : OctetReceiving) (given : List ℕ) (done : List (Handed ItemValue)) (count : Option ℕ) (bits : ℕ) (frames : List ℕ) (reports : List Report) : Type 0 where
+-- at the end of its octets, which came to this, what is left was written in the same way, and the
+-- phase is chosen, where it is to be found
+pub record ReceivesLast (receiver now : OctetReceiving) (given : List ℕ) (done : List (Handed ItemValue)) (count : Option ℕ) (totals : Totals) (frames : List ℕ) (reports : List Report) : Type 0 where
   pub last : List (Handed ItemValue)
-  pub all : AreReceived receiver.config given (done ++ last) bits
+  pub all : AreReceived receiver.config given (done ++ last) totals
   pub tells : Tells count frames reports (items_of last)
   pub enough : IsEnough receiver.config 0 count frames reports
   pub chosen : IsChosen receiver.config given now.stages.inner.phased.chosen

@@ -6,6 +6,7 @@ ghost use Rattle.tm_codeblock.specs.ReceivedCodeblock.{rules_of};
 ghost use Rattle.tm_channel.specs.Items.{ItemValue};
 ghost use Rattle.tm_channel.specs.Most.{most_bits};
 ghost use Rattle.tm_channel.specs.Receiving.{waiting_bits};
+ghost use Rattle.tm_channel.specs.OctetReceiving.{AreSlipsSoFar};
 ghost use Rattle.tm_inner.specs.InnerDecoding.{HasWorkers};
 ghost use Rattle.tm_inner.specs.Phase.{IsChosenSoFar};
 ghost use Rattle.tm_buffers.specs.Receiving.{IsReceiving, Receives, ReceivesLast, items_room};
@@ -15,7 +16,7 @@ use crate::room::MOST;
 use std::alloc::Global;
 use std::marker::Model;
 use tm_base::NoMemory;
-use tm_channel::Receiver;
+use tm_channel::{Receiver, Totals};
 use tm_codeblock::codeblock_size;
 use tm_config::Config;
 use tm_phase::Chosen;
@@ -79,18 +80,18 @@ impl BufferReceiver {
         }
     }
 
-    /// Writes what is left, as `feed` does, and answers how many bits were received. It is called once, at the end of
-    /// the octets.
+    /// Writes what is left, as `feed` does, and tells what all octets came to. It is called once, at the end of the
+    /// octets.
     pub fn finish(
         &mut self,
         frames: &mut [u8],
         reports: &mut [Report],
-        bits: &mut u64,
+        totals: &mut Totals,
     ) -> Option<usize>
         ensures config { self.new.config ≡ self.old.config }
         ensures within { IfSome result (λ count. count ≤ length reports.old) }
         ensures received { (given : List ℕ) (done : List (Handed ItemValue)) → IsReceiving self.old given done
-            → ReceivesLast self.old self.new given done result bits.new frames.new reports.new }
+            → ReceivesLast self.old self.new given done result totals.new frames.new reports.new }
     {
         let most = reports.len();
         let mut taker = BufferItems::over(frames, reports);
@@ -102,7 +103,7 @@ impl BufferReceiver {
         } = taker;
         match ended {
             Ok(received) => {
-                *bits = received;
+                *totals = received;
                 counted(count.min(most), is_short)
             }
             Err(_) => None,
@@ -116,6 +117,15 @@ impl BufferReceiver {
             → IsChosenSoFar self.now.config given result }
     {
         self.receiver.chosen()
+    }
+
+    /// Before how many windows of the inner code octets were dropped so far, of those whose bits were searched: none
+    /// where the symbol phase is not followed.
+    pub fn slips(&self) -> u64
+        ensures { (given : List ℕ) (done : List (Handed ItemValue)) → IsReceiving self.now given done
+            → AreSlipsSoFar self.now.config given result }
+    {
+        self.receiver.slips()
     }
 }
 

@@ -1,6 +1,7 @@
 use Rattle.std.proofs.Common.{rules, ◌≡◌, ◌++◌, false, sym, subst}
 use Rattle.tm_base.specs.Handed.{items_of}
 use Rattle.tm_channel.specs.OctetReceiving.{OctetReceiving, StandsFor}
+use Rattle.tm_channel.specs.declared.totals.Totals.{Totals}
 use Rattle.tm_channel.specs.Handing.{AreReceived}
 use Rattle.tm_inner.specs.Phase.{IsChosen}
 use Rattle.tm_channel.specs.Most.{AreFew}
@@ -28,6 +29,6 @@ returns-clause-received c = λ given done is.
           let all_new = subst (λ (a : Collected). All a (collected taker) (items_of h.0)) c.over-taker.ensures.none took.all in
           let written = tells c.args.frames.now c.args.reports.now taker (items_of h.0) all_new in
           let few_items = subst (λ (r : OctetReceiving). AreFew r.config 0 (items_of h.0)) c.self.view_is (h.3 given done stood) in
-          record { last = h.0; all = subst (λ n. AreReceived c.args.self.now.config given (done ++ h.0) n) (sym w.bits-is) all; tells = search rules; enough = enough c.args.self.now.config 0 _ _ _ (items_of h.0) few_items (search rules); chosen = chosen }
+          record { last = h.0; all = subst (λ (t : Totals). AreReceived c.args.self.now.config given (done ++ h.0) t) (sym w.totals-is) all; tells = search rules; enough = enough c.args.self.now.config 0 _ _ _ (items_of h.0) few_items (search rules); chosen = chosen }
       | in-Err w ↦ absurd (search rules)
     ]
