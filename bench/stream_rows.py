@@ -16,7 +16,7 @@ DEFAULTS = dict(code=16, depth=1, length=UNSET, inner=12, invert=UNSET, randomiz
                 workers=1, limit=2**32, fly=0, keep=8192, ahead=256, phase=0, polarity=0, batch=32, pack=1, verify=0)
 WORDS = {"code": {"rs16": 16, "rs8": 8, "none": 0}, "inner": {"none": 0, "1/2": 12, "2/3": 23, "3/4": 34, "5/6": 56, "7/8": 78},
          "invert": {"on": 1, "off": 0}, "randomize": {"on": 1, "off": 0}, "basis": {"dual": 0, "poly": 1}, "soft": {"u8": 0, "i8": 1},
-         "start": {"zero": 0, "any": 1}, "phase": {"given": 0, "find": 1}, "polarity": {"given": 0, "find": 1}, "pack": {"on": 1, "off": 0}}
+         "start": {"zero": 0, "any": 1}, "phase": {"given": 0, "find": 1, "follow": 2}, "polarity": {"given": 0, "find": 1}, "pack": {"on": 1, "off": 0}}
 REFUSALS = {word: -16 - k for k, word in enumerate("code depth length inner switch basis tolerance repair soft start skip workers limit fly keep ahead "
                                                    "phase polarity batch pack verify".split())}
 values = {}

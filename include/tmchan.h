@@ -167,7 +167,7 @@ typedef struct {
     uint64_t fly;       /* flywheel: how many markers in a row may be missing, 0 (default) to 15 */
     uint64_t keep;      /* steps of a decoder's window that are kept: 64 to 65,536, default 8,192 */
     uint64_t ahead;     /* steps after these: 0 to 4,096, default 256 */
-    uint64_t phase;     /* the symbol phase is given: 0 (default), or to be found: 1 */
+    uint64_t phase;     /* the symbol phase is given: 0 (default), or to be found: 1, or to be followed: found, and looked at again: 2 */
     uint64_t polarity;  /* the polarity of the bits is given: 0 (default), or to be found: 1 */
     uint64_t batch;     /* how many codeblocks a receiver repairs and hands over at once: 1 to 32 (default) */
     uint64_t pack;      /* with no inner code, eight bits make an octet: 1 (default), or each bit is an octet of its own, as symbols are: 0 */
@@ -274,10 +274,20 @@ int64_t tmchan_receiver_push(tmchan_stream *stream, const uint8_t *octets, size_
 /* Gives the phase so far. Answers 0; TMCHAN_CLOSED. */
 int32_t tmchan_receiver_phase(tmchan_stream *stream, tmchan_phase *phase);
 
-/* Writes the codeblocks that are left in the same way, gives the number of bits received and the phase, and closes the receiver. Answers how
- * many codeblocks these are; TMCHAN_CLOSED; TMCHAN_ROOM, as of a push: the receiver is closed all the same. */
+/* What all octets came to. */
+typedef struct {
+    uint64_t bits;  /* how many bits were received */
+    uint64_t slips; /* before how many windows of the inner code octets were dropped; 0 where the phase is not followed */
+} tmchan_totals;
+
+/* Writes to *slips before how many windows of the inner code octets were dropped so far, of those whose bits were searched; 0 where the phase is
+ * not followed. Answers 0; TMCHAN_CLOSED. */
+int32_t tmchan_receiver_slips(tmchan_stream *stream, uint64_t *slips);
+
+/* Writes the codeblocks that are left in the same way, gives what all octets came to and the phase, and closes the receiver. Answers how many
+ * codeblocks these are; TMCHAN_CLOSED; TMCHAN_ROOM, as of a push: the receiver is closed all the same. */
 int64_t tmchan_receiver_finish(tmchan_stream *stream, uint8_t *frames, size_t frames_length, tmchan_report *reports, size_t reports_length,
-                               uint64_t *bits, tmchan_phase *phase);
+                               tmchan_totals *totals, tmchan_phase *phase);
 
 /* The search for sync markers: in bits, or in octets, which marker has a whole codeblock after it. It takes no memory: what it keeps stands in
  * the caller's struct, which begins as {0}, and in a room of the caller's, and only calls change them. The room has verify * (32 + block_bits)

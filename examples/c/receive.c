@@ -49,10 +49,11 @@ int main(int argc, char **argv) {
     if (!reports || !frames || !piece) return 5;
     for (size_t count; (count = fread(piece, 1, PIECE, stdin)) > 0;)
         if (show(tmchan_receiver_push(&receiver, piece, count, frames, octets, reports, room), frames, reports)) return 4;
-    uint64_t bits;
+    tmchan_totals totals;
     tmchan_phase phase;
-    if (show(tmchan_receiver_finish(&receiver, frames, octets, reports, room, &bits, &phase), frames, reports)) return 4;
-    fprintf(stderr, "bits %" PRIu64 "\n", bits);
+    if (show(tmchan_receiver_finish(&receiver, frames, octets, reports, room, &totals, &phase), frames, reports)) return 4;
+    fprintf(stderr, "bits %" PRIu64 "\n", totals.bits);
+    if (config.phase == 2) fprintf(stderr, "slips %" PRIu64 "\n", totals.slips);
     free(reports), free(frames), free(piece);
     return 0;
 }

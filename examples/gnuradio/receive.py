@@ -33,6 +33,10 @@ class Report(ctypes.Structure):
                 ("inverted", ctypes.c_uint8), ("columns", ctypes.c_uint8), ("repaired", ctypes.c_uint8 * 8)]
 
 
+class Totals(ctypes.Structure):
+    _fields_ = [("bits", ctypes.c_uint64), ("slips", ctypes.c_uint64)]
+
+
 class Phase(ctypes.Structure):
     _fields_ = [("is_chosen", ctypes.c_uint32), ("skip", ctypes.c_uint32), ("cost", ctypes.c_uint64)]
 
@@ -94,8 +98,8 @@ class Receive(gr.sync_block):
         return len(octets)
 
     def stop(self):
-        bits, phase = ctypes.c_uint64(), Phase()
-        self.keep(LIBRARY.tmchan_receiver_finish(ctypes.byref(self.stream), *self.arrays(), ctypes.byref(bits), ctypes.byref(phase)))
+        totals, phase = Totals(), Phase()
+        self.keep(LIBRARY.tmchan_receiver_finish(ctypes.byref(self.stream), *self.arrays(), ctypes.byref(totals), ctypes.byref(phase)))
         return True
 
 

@@ -65,7 +65,8 @@ static void receive(const tmchan_config *config, const uint8_t *given, size_t gi
     tmchan_stream receiver = {0}, decoder = {0};
     uint8_t *received = room(wanted_length);
     size_t count = 0, decoded = 0;
-    uint64_t bits = 0;
+    uint64_t slips = 0;
+    tmchan_totals totals = {0};
     tmchan_phase phase, decoder_phase;
     int32_t size = tmchan_frame_length(config);
     expect(tmchan_receiver_open(&receiver, config) == 0, "the receiver does not open");
@@ -81,7 +82,8 @@ static void receive(const tmchan_config *config, const uint8_t *given, size_t gi
             expect(most >= 0 && frames_length == (uint64_t)most * size, "a room has a wrong answer");
             uint8_t *frames = room(frames_length);
             tmchan_report *reports = room(most * sizeof *reports);
-            int64_t answer = ending ? tmchan_receiver_finish(&receiver, frames, frames_length, reports, most, &bits, &phase)
+            if (ending) expect(tmchan_receiver_slips(&receiver, &slips) == 0, "no slips are told");
+            int64_t answer = ending ? tmchan_receiver_finish(&receiver, frames, frames_length, reports, most, &totals, &phase)
                                     : tmchan_receiver_push(&receiver, octets, length, frames, frames_length, reports, most);
             expect(answer >= 0 && answer <= most, "the receiver refuses");
             size_t written = 0;
@@ -105,7 +107,8 @@ static void receive(const tmchan_config *config, const uint8_t *given, size_t gi
         free(octets);
     }
     expect(count == wanted_length && !memcmp(received, wanted, count), "other frames were received");
-    expect(config->inner == 0 ? decoded == 0 : decoded == bits, "another number of bits was decoded");
+    expect(config->inner == 0 ? decoded == 0 : decoded == totals.bits, "another number of bits was decoded");
+    expect(slips <= totals.slips && (config->phase == 2 || totals.slips == 0), "other slips at the end");
     expect(!memcmp(&phase, &decoder_phase, sizeof phase) || config->inner == 0, "the phases differ");
     expect(tmchan_close(&receiver) == TMCHAN_CLOSED && tmchan_close(&decoder) == TMCHAN_CLOSED, "one is open after its finish");
     free(received);
@@ -139,6 +142,7 @@ static void make_refusals(void) {
     tmchan_stream s = {0};
     tmchan_config config;
     tmchan_phase phase;
+    tmchan_totals totals;
     uint64_t bits, at = 0;
     uint8_t some[64] = {0};
     tmchan_report reports[1];
@@ -159,8 +163,9 @@ static void make_refusals(void) {
         expect(tmchan_sender_push(&s, some, 1, some, 64) == TMCHAN_CLOSED && tmchan_sender_finish(&s) == TMCHAN_CLOSED, "a closed sender");
         expect(tmchan_decoder_push(&s, some, 1, some, 64) == TMCHAN_CLOSED && tmchan_decoder_finish(&s, some, 64, &phase) == TMCHAN_CLOSED, "a closed decoder");
         expect(tmchan_decoder_phase(&s, &phase) == TMCHAN_CLOSED && tmchan_receiver_phase(&s, &phase) == TMCHAN_CLOSED, "a closed phase");
+        expect(tmchan_receiver_slips(&s, &bits) == TMCHAN_CLOSED, "closed slips");
         expect(tmchan_receiver_push(&s, some, 1, some, 64, reports, 1) == TMCHAN_CLOSED, "a closed receiver");
-        expect(tmchan_receiver_finish(&s, some, 64, reports, 1, &bits, &phase) == TMCHAN_CLOSED && tmchan_close(&s) == TMCHAN_CLOSED, "closed");
+        expect(tmchan_receiver_finish(&s, some, 64, reports, 1, &totals, &phase) == TMCHAN_CLOSED && tmchan_close(&s) == TMCHAN_CLOSED, "closed");
         expect(tmchan_sender_open(&s, &config) == 0 && tmchan_receiver_open(&s, &config) == TMCHAN_OPEN, "open");
         expect(tmchan_sender_open(&s, &config) == TMCHAN_OPEN && tmchan_decoder_open(&s, &config) == TMCHAN_OPEN, "open already");
         expect(tmchan_receiver_push(&s, some, 1, some, 64, reports, 1) == TMCHAN_CLOSED && tmchan_decoder_push(&s, some, 1, some, 64) == TMCHAN_CLOSED, "another kind");

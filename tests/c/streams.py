@@ -35,14 +35,14 @@ def send(config, given):
 
 
 def receive(config, given):
-    stream, received, bits, octets = NUMBERS(), b"", ctypes.c_uint64(), ctypes.c_uint64()
+    stream, received, octets = NUMBERS(), b"", ctypes.c_uint64()
     assert call("receiver_open", stream, config) == 0
     for piece in pieces(given) + [None]:
         room = call("receiver_room", config, SIZE(len(piece or b"")), ctypes.byref(octets))
         frames, reports = ctypes.create_string_buffer(octets.value), (ctypes.c_uint64 * 4 * room)()
         arrays = frames, SIZE(octets.value), reports, SIZE(room)
         count = (call("receiver_push", stream, piece, SIZE(len(piece)), *arrays) if piece is not None
-                 else call("receiver_finish", stream, *arrays, ctypes.byref(bits), NUMBERS()))
+                 else call("receiver_finish", stream, *arrays, NUMBERS(), NUMBERS()))
         assert count >= 0
         received += frames.raw[:sum(report[1] for report in reports[:count])]
     return received

@@ -2,6 +2,7 @@
 use Rattle.std.specs.Prelude.{◌≡◌, ℕ, ℤ, List, ◌++◌, length, Option, Some, None, IsSomeAnd}
 use Rattle.tm_base.specs.Handed.{Handed, items_of}
 use Rattle.tm_config.specs.Configuration.{Configuration}
+use Rattle.tm_channel.specs.declared.totals.Totals.{Totals}
 use Rattle.tm_channel.specs.Handing.{AreReceived, AreReceivedDue}
 use Rattle.tm_channel.specs.Items.{ItemValue}
 use Rattle.tm_channel.specs.OctetReceiving.{OctetReceiving}
@@ -10,8 +11,10 @@ use Rattle.tm_buffers.specs.Items.{Tells}
 use Rattle.tm_buffers.specs.Receiving.{IsEnough, IsReceiving}
 use Rattle.tm_buffers.specs.declared.items.Report.{Report}
 use Rattle.tmchan_c.specs.Phases.{chosen_of}
+use Rattle.tmchan_c.specs.Totals.{totals_state}
 use Rattle.tmchan_c.specs.Refusal.{number_answer}
 use Rattle.tmchan_c.specs.declared.phase.PhaseState.{PhaseState}
+use Rattle.tmchan_c.specs.declared.totals.TotalsState.{TotalsState}
 use Rattle.tmchan_c.specs.declared.stream.Stream.{Stream}
 use Rattle.tmchan_c.specs.declared.stream.Stream.TheVariants.{Sender, Decoder, Receiver}
 
@@ -47,13 +50,15 @@ pub record ReceivesInto (c : Configuration) (given octets : List ℕ)
   pub wrote : WroteItems answer frames reports (items_of more)
   pub enough : IsEnough c (length octets) wrote.count frames reports
 
--- at the end of its octets, which came to so many bits, what is left was written in the same way, and
--- the phase was given
+-- at the end of its octets what is left was written in the same way, and what they came to and the
+-- phase were given
 pub record ReceivesLastInto (c : Configuration) (given : List ℕ)
     (done : List (Handed ItemValue)) (answer : ℤ) (frames : List ℕ) (reports : List Report)
-    (bits : ℕ) (phase : PhaseState) : Type 0 where
+    (sums : TotalsState) (phase : PhaseState) : Type 0 where
   pub last : List (Handed ItemValue)
-  pub all : AreReceived c given (done ++ last) bits
+  pub totals : Totals
+  pub all : AreReceived c given (done ++ last) totals
+  pub told : sums ≡ totals_state totals
   pub wrote : WroteItems answer frames reports (items_of last)
   pub enough : IsEnough c 0 wrote.count frames reports
   pub chosen : IsChosen c given (chosen_of phase)

@@ -20,6 +20,7 @@ mod sender;
 mod stream;
 #[cfg(test)]
 mod tests;
+mod totals;
 mod unit;
 mod version;
 

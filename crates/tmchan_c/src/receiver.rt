@@ -4,6 +4,7 @@ ghost use Rattle.std.specs.Option.{is_some};
 ghost use Rattle.tm_base.specs.Handed.{Handed};
 ghost use Rattle.tm_config.specs.Configuration.{Configuration};
 ghost use Rattle.tm_channel.specs.Items.{ItemValue};
+ghost use Rattle.tm_channel.specs.OctetReceiving.{AreSlipsSoFar};
 ghost use Rattle.tm_inner.specs.Phase.{IsChosenSoFar};
 ghost use Rattle.tm_buffers.specs.Receiving.{items_room};
 ghost use Rattle.tmchan_c.specs.Options.{configuration, raw_of};
@@ -17,8 +18,10 @@ use crate::handle::{Handle, open, put, take, to_open};
 use crate::phase::{PhaseState, phase_state};
 use crate::refusal::{Refusal, number_answer};
 use crate::stream::Stream;
+use crate::totals::{TotalsState, totals_state};
 use std::alloc::Global;
 use tm_buffers::{BufferReceiver, Report, items_room};
+use tm_channel::Totals;
 
 /// For how many reports a push of so many octets, or fewer, and the finish need room, whatever was pushed before; and
 /// for how many octets of frames. Or why no such room is said.
@@ -89,23 +92,23 @@ pub extern "C" fn tmchan_receiver_push(
     put(handle, stream, answer)
 }
 
-/// Writes what is left, gives the symbol phase and how many bits were received, and closes the receiver. Answers how
-/// many items were written, or why it is refused.
+/// Writes what is left, gives what all octets came to and the symbol phase, and closes the receiver. Answers how many
+/// items were written, or why it is refused.
 #[unsafe(no_mangle)]
 pub extern "C" fn tmchan_receiver_finish(
     alloc: Global,
     handle: &mut Handle,
     frames: &mut [u8],
     reports: &mut [Report],
-    bits: &mut u64,
+    totals: &mut TotalsState,
     phase: &mut PhaseState,
 ) -> i64
     ensures refused { Refuses (closed_refusal (receiver_in handle.old.kept.value)) result
         ((handle.new.kept.value ≡ handle.old.kept.value) × (frames.new ≡ frames.old) × (reports.new ≡ reports.old)
-        × (bits.new ≡ bits.old) × (phase.new ≡ phase.old)) }
+        × (totals.new ≡ totals.old) × (phase.new ≡ phase.old)) }
     ensures finished { (c : Configuration) (given : List ℕ) (done : List (Handed ItemValue))
         → IsReceiver handle.old.kept.value c given done
-        → ReceivesLastInto c given done result frames.new reports.new bits.new phase.new
+        → ReceivesLastInto c given done result frames.new reports.new totals.new phase.new
         × (handle.new.kept.value ≡ None) }
 {
     let Some(mut stream) = take(alloc, handle) else {
@@ -113,7 +116,12 @@ pub extern "C" fn tmchan_receiver_finish(
     };
     match &mut *stream {
         Stream::Receiver(receiver) => {
-            let count = receiver.finish(frames, reports, bits);
+            let mut all = Totals {
+                bits: 0,
+                slips: None,
+            };
+            let count = receiver.finish(frames, reports, &mut all);
+            *totals = totals_state(&all);
             *phase = phase_state(receiver.chosen());
             drop(stream);
             number_answer(count)
@@ -141,6 +149,29 @@ pub extern "C" fn tmchan_receiver_phase(
     let answer = match &*stream {
         Stream::Receiver(receiver) => {
             *phase = phase_state(receiver.chosen());
+            0
+        }
+        _ => Refusal::Closed.answer(),
+    };
+    put(handle, stream, answer)
+}
+
+/// Tells before how many windows of the inner code octets were dropped so far, of those whose bits were searched: none
+/// where the symbol phase is not followed. Answers 0, or why it is refused.
+#[unsafe(no_mangle)]
+pub extern "C" fn tmchan_receiver_slips(alloc: Global, handle: &mut Handle, count: &mut u64) -> i32
+    ensures same { handle.new.kept.value ≡ handle.old.kept.value }
+    ensures refused { Refuses (closed_refusal (receiver_in handle.old.kept.value)) result (count.new ≡ count.old) }
+    ensures told { (c : Configuration) (given : List ℕ) (done : List (Handed ItemValue))
+        → IsReceiver handle.old.kept.value c given done
+        → (result ≡ pos 0) × AreSlipsSoFar c given count.new }
+{
+    let Some(stream) = take(alloc, handle) else {
+        return Refusal::Closed.answer();
+    };
+    let answer = match &*stream {
+        Stream::Receiver(receiver) => {
+            *count = receiver.slips();
             0
         }
         _ => Refusal::Closed.answer(),

@@ -7,11 +7,13 @@ use crate::kept::Kept;
 use crate::phase::PhaseState;
 use crate::receiver::{
     tmchan_receiver_finish, tmchan_receiver_open, tmchan_receiver_push, tmchan_receiver_room,
+    tmchan_receiver_slips,
 };
 use crate::reed_solomon::{tmchan_rs_decode, tmchan_rs_decode_erased, tmchan_rs_encode};
 use crate::sender::{
     tmchan_sender_finish, tmchan_sender_open, tmchan_sender_push, tmchan_sender_room,
 };
+use crate::totals::TotalsState;
 use crate::unit::{tmchan_cadu, tmchan_cadu_length};
 use crate::version::tmchan_version;
 use tm_buffers::Report;
@@ -132,30 +134,34 @@ fn frames_are_sent_and_received_after_handles(rt: HostRuntime) {
     };
     let mut reports = [none; 2];
     let mut frames = [0; 6];
-    let mut bits = 0;
+    let mut octets = 0;
+    let mut totals = TotalsState { bits: 1, slips: 1 };
     let mut phase = PhaseState {
         is_chosen: 1,
         skip: 1,
         cost: 1,
     };
-    assert_eq!(rt; tmchan_receiver_room(&options, 7, &mut bits), 33);
-    assert_eq!(rt; bits, 99);
+    assert_eq!(rt; tmchan_receiver_room(&options, 7, &mut octets), 33);
+    assert_eq!(rt; octets, 99);
     assert_eq!(rt; tmchan_receiver_open(alloc, &mut handle, &options), 0);
     let received = &symbols[..7];
     assert_eq!(rt;
         tmchan_receiver_push(alloc, &mut handle, received, &mut frames, &mut reports),
         0
     );
+    assert_eq!(rt; tmchan_receiver_slips(alloc, &mut handle, &mut octets), 0);
+    assert_eq!(rt; octets, 0);
     let count = tmchan_receiver_finish(
         alloc,
         &mut handle,
         &mut frames,
         &mut reports,
-        &mut bits,
+        &mut totals,
         &mut phase,
     );
     assert_eq!(rt; count, 1);
-    assert_eq!(rt; bits, 56);
+    assert_eq!(rt; totals.bits, 56);
+    assert_eq!(rt; totals.slips, 0);
     assert_eq!(rt; phase.is_chosen, 0);
     assert_eq!(rt; reports[0].frame_length, 3);
     assert_eq!(rt; &frames[..3], &[1, 2, 3][..]);

@@ -19,7 +19,9 @@ returns-in-Receiver-clause-finished c = λ config given done is.
     let chosen = subst (λ (o : Option Chosen). IsChosen c.in-Receiver.receiver.config given o) (sym (c.phase_state.ensures ∙ c.chosen.ensures.value)) there.chosen in (
       record {
         last = there.last;
-        all = subst (λ (k : Configuration). AreReceived k given (done ++ there.last) c.finish-count.new.bits) receiver.0 there.all;
+        totals = c.finish-count.new.totals;
+        all = subst (λ (k : Configuration). AreReceived k given (done ++ there.last) c.finish-count.new.totals) receiver.0 there.all;
+        told = c.totals_state.ensures;
         wrote = record { count = c.finish-count.result; answers = answers; tells = there.tells };
         enough = λ most more room. there.enough most more (search rules);
         chosen = subst (λ (k : Configuration). IsChosen k given (chosen_of c.phase_state.result)) receiver.0 chosen;
