@@ -20,9 +20,9 @@ use Rattle.tm_cli.specs.Report.{report_text}
 
 -- Octets that `encode` sends for an input come back as its whole frames, where nothing was
 -- disturbed, none is skipped and it is known where the first path starts; but of no more frames
--- than further markers are to verify the first none comes. The report says so of the phase, where it
--- is to be found, and of each frame that nothing was wrong, and that no octet was dropped, where the
--- phase is followed; the status is 0.
+-- than further markers are to verify the first none comes. The report says so of the phase, where
+-- it is to be found, and of each frame that nothing was wrong, and that no octet was dropped, where
+-- the phase is followed; the status is 0.
 abbrev pub KeepsCleanLink : ℕ → Configuration → List ℕ
     → (taken taken_now noted noted_now : Option (List ℕ)) → Type 0
 KeepsCleanLink status c octets taken taken_now noted noted_now =

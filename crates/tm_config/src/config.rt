@@ -235,7 +235,8 @@ impl Config {
         self.values.ahead
     }
 
-    /// The phase of the symbols: 0 where it is given, 1 where it is to be found, 2 where it is to be found and followed.
+    /// The phase of the symbols: 0 where it is given, 1 where it is to be found, 2 where it is to be found and
+    /// followed.
     pub fn phase(&self) -> u64
         ensures value { result ≡ number_of_phase self.now.phase self.now.follow }
         ensures accepted { IsAccepted self.now }

@@ -43,7 +43,8 @@ pub struct Raw {
     pub keep: u64,
     /// The steps that a window has beyond those that are kept: up to 4,096.
     pub ahead: u64,
-    /// The phase of the symbols: 0 where it is given, 1 where it is to be found, 2 where it is to be found and followed.
+    /// The phase of the symbols: 0 where it is given, 1 where it is to be found, 2 where it is to be found and
+    /// followed.
     pub phase: u64,
     /// The polarity of the symbols: 0 where it is given, 1 where it is to be found.
     pub polarity: u64,

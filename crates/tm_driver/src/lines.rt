@@ -52,7 +52,8 @@ pub fn phase_line<O: Sink>(out: &mut O, skip: u8, cost: u64) -> Result<(), Faile
     line.put(out)
 }
 
-/// Adds before how many windows octets were dropped, a line of its own: `slips N`; nothing where the symbol phase is not followed.
+/// Adds before how many windows octets were dropped, a line of its own: `slips N`; nothing where the symbol phase is
+/// not followed.
 pub fn add_slips(line: &mut Line, slips: Option<u64>)
     requires { length line.old ≤ 500 }
     ensures text { line.new ≡ line.old ++ slips_text slips }

@@ -1,5 +1,5 @@
 -- The bits that blocks keep in windows before which octets may be dropped.
-use Rattle.std.proofs.Common.{◌≡◌, inl, inr, ℕ, zero, suc, ◌+◌, ◌-◌, ◌*◌, ◌<◌, ◌≤◌, ◌∙◌, ◌++◌, refl, sym, ap, subst, arith, List, [], ◌∷◌, length, take, drop, length-append, length-drop, length-take}
+use Rattle.std.proofs.Common.{◌≡◌, inl, inr, ℕ, zero, suc, ◌+◌, ◌-◌, ◌*◌, ◌<◌, ◌≤◌, ◌∙◌, ◌++◌, refl, sym, ap, subst, arith, List, [], ◌∷◌, length, take, length-append, length-drop, length-take}
 use Rattle.std.proofs.lemmas.Bool.{cases_lt}
 use Rattle.tm_conv.specs.Path.{steps_size}
 use Rattle.tm_conv.proofs.Paths.{steps_size-zero}
@@ -11,7 +11,7 @@ use Rattle.tm_viterbi.specs.Clean.{kept_bits}
 use Rattle.tm_viterbi.proofs.Closing.{kept_is, more_octets}
 use Rattle.tm_viterbi.proofs.OneList.{OneBest}
 use Rattle.tm_viterbi.proofs.WholeBlocks.{last_kept}
-use Rattle.tm_windows.specs.Followed.{Windows, Beginning, Spot, first_spot, BeginsLast, undropped, spot_after, Followed, AreFollowedFirst, closing_size, IsOpenAt, AreFollowedDue, IsLast, AreFollowedOf, kept_of}
+use Rattle.tm_windows.specs.Followed.{Windows, Beginning, Spot, first_spot, BeginsLast, undropped, spot_after, Followed, AreFollowedFirst, IsOpenAt, AreFollowedDue, IsLast, AreFollowedOf, kept_of}
 use Rattle.tm_windows.proofs.Beginnings.{begins-one, begins-more, begins-within, longer_beginning, longer_spot}
 use Rattle.tm_windows.proofs.FollowedOnce.{closed-more, one-longer, open-stops, last-stops, both-stop}
 use Rattle.tm_windows.proofs.FollowedRuns.{kept-append}
@@ -218,7 +218,7 @@ followed-last_few one w given done all left due whole =
     let last = last-keeps s whole.window whole.count whole.last whole.steps.whole whole.few whole.is_last in
     omega (arith, ap kept_of whole.are, kept-append whole.done whole.last, last.steps, whole.few, ap kept_of same.0)
 
--- ---- closed windows behind others
+-- ---- closed windows after others
 
 pub followed-later : (w : Windows) (from to : Spot) (prefix blocks : List WindowBlock) → Followed w from (prefix ++ blocks) to
     → length (kept_bits blocks) ≡ length blocks * w.settings.keep

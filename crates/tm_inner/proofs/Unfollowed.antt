@@ -1,4 +1,4 @@
--- Where the phase is not followed, windows stand one behind the other, and nothing is dropped before any.
+-- Where the phase is not followed, windows stand one after another, and nothing is dropped before any.
 use Rattle.std.proofs.Common.{◌≡◌, ℕ, Bool, true, false, List, Option, Some, None, if◌then◌else◌, refl, sym, ap, ◌∙◌, subst}
 use Rattle.tm_config.specs.Configuration.{Configuration}
 use Rattle.tm_conv.specs.declared.rates.Rate.{Rate}

@@ -187,8 +187,8 @@ impl InnerReceiver {
         taken
     }
 
-    /// How many blocks are due and were not handed over yet, as octets were gathered. Where the symbol phase is followed
-    /// there may be fewer, since octets may be dropped.
+    /// How many blocks are due and were not handed over yet, as octets were gathered. Where the symbol phase is
+    /// followed there may be fewer, since octets may be dropped.
     pub fn count_due(&self) -> usize
         ensures { (given : List ℕ) (done : List (Handed WindowBlock)) → StandsFor self.now given done
             → (more : List WindowBlock) × IsCount self.now.config (length more) result
@@ -207,8 +207,8 @@ impl InnerReceiver {
     }
 
     /// Hands over what is left: the symbol phase, where it is to be found and was not chosen yet, and the last blocks.
-    /// Answers how many bits were received, how often octets were dropped, and how many are left over. It is called once,
-    /// at the end of the octets.
+    /// Answers how many bits were received, how often octets were dropped, and how many are left over. It is called
+    /// once, at the end of the octets.
     ///
     /// `Taker` comes where `blocks` fails; a prefix of all was then handed over. `Stopped` comes where an earlier call
     /// answered `Taker` or `finish` was called; nothing is handed over then.
@@ -279,8 +279,8 @@ impl InnerReceiver {
         self.phased.chosen()
     }
 
-    /// Before how many windows octets were dropped, of those whose blocks were handed over: none where the symbol phase is
-    /// not followed.
+    /// Before how many windows octets were dropped, of those whose blocks were handed over: none where the symbol phase
+    /// is not followed.
     pub fn slips(&self) -> u64
         ensures { (given : List ℕ) (done : List (Handed WindowBlock)) → StandsFor self.now given done
             → result ≡ slips_of (items_of done) }

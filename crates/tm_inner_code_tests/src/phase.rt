@@ -125,7 +125,11 @@ fn slips_in_drawn_octets(rt: HostRuntime) {
         let octets = drawn(seed);
         assert!(rt; steps <= 1024 && t < 1 << 60);
         assert!(rt; octets_seen(rate, t, steps) <= octets.len());
-        assert_eq!(rt; slip(rate, invert, t, steps, &octets), dropped, "{rate:?}, {seed}");
+        assert_eq!(rt;
+            slip(rate, invert, t, steps, &octets),
+            dropped,
+            "{rate:?}, {seed}"
+        );
     }
 }
 
@@ -167,7 +171,11 @@ fn slips_of_lost_symbols(rt: HostRuntime) -> Result<(), Fail> {
                 let octets = &octets[from..];
                 assert!(rt; octets_seen(rate, 5, 400) <= octets.len());
                 let dropped = if lost == 0 { 0 } else { period - lost };
-                assert_eq!(rt; slip(rate, false, 5, 400, octets), dropped, "{rate:?}, {lost}");
+                assert_eq!(rt;
+                    slip(rate, false, 5, 400, octets),
+                    dropped,
+                    "{rate:?}, {lost}"
+                );
             }
         }
     }

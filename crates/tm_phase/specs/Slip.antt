@@ -4,7 +4,8 @@ use Rattle.tm_conv.specs.declared.rates.Rate.{Rate}
 use Rattle.tm_conv.specs.Path.{steps_size}
 use Rattle.tm_phase.specs.Phase.{period_size, octets_at, IsCostAt, IsFirstLeast}
 
--- how many steps are looked at: no more than that, and so few that a window which is closed has been looked at
+-- how many steps are looked at: no more than that, and so few that a window which is closed has
+-- been looked at
 abbrev pub steps_seen : ℕ → ℕ → ℕ
 steps_seen keep ahead = min (keep + ahead - 8) 1024
 
@@ -25,8 +26,9 @@ excess amount octets = amount - least_distances octets
 abbrev pub decided : (number moved unmoved : ℕ) → ℕ
 decided number moved unmoved = if nat_lt (4 * moved) (3 * unmoved) then number else 0
 
--- How many octets are dropped before a window from step t on that would begin with these octets: of as many candidates as a
--- period sends symbols the first of least cost over so many steps, where its excess is so much less than that of 0.
+-- How many octets are dropped before a window from step t on that would begin with these octets: of
+-- as many candidates as a period sends symbols the first of least cost over so many steps, where
+-- its excess is so much less than that of 0.
 pub record IsSlip (rate : Rate) (invert : Bool) (t steps : ℕ) (octets : List ℕ) (slip : ℕ) : Type 0 where
   pub number : ℕ
   pub amount : ℕ

@@ -54,8 +54,8 @@ fn compared(rate: Rate, window: u32, soft: &[u8]) -> usize
     whole.min(symbols_of(rate, u64::from(window)) as usize)
 }
 
-// Of as many candidates as a period sends symbols, the first whose best path costs least over `size` octets: those of whole
-// steps from step `t` on. That of the first candidate costs `first`.
+// Of as many candidates as a period sends symbols, the first whose best path costs least over `size` octets: those of
+// whole steps from step `t` on. That of the first candidate costs `first`.
 pub(crate) fn first_least(
     rate: Rate,
     invert: bool,

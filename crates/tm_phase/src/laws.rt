@@ -27,8 +27,8 @@ pub fn whole_window_law()
         → IsPhase rate invert window octets chosen → IsPhase rate invert window (octets ++ more) chosen }
 {}
 
-/// Where enough octets are there they have one slip, below the symbols of a period, and whatever octets come after these it stays
-/// the same. Symbols that were not disturbed have none. It does nothing.
+/// Where enough octets are there they have one slip, below the symbols of a period, and whatever octets come after
+/// these it stays the same. Symbols that were not disturbed have none. It does nothing.
 pub fn slip_law()
     ensures exists { (rate : Rate) (invert : Bool) (t steps : ℕ) (octets : List ℕ) → octets_seen rate t steps ≤ length octets
         → (slip : ℕ) × IsSlip rate invert t steps octets slip }

@@ -1,6 +1,6 @@
-//! The symbol phase: how many soft octets stand before the first step's symbols, chosen so that the best path costs least
-//! (CCSDS 131.0-B, Convolutional Coding), and how many are dropped where it slips. It stands on the paths of tm_conv and the
-//! least costs of tm_viterbi, and takes no memory.
+//! The symbol phase: how many soft octets stand before the first step's symbols, chosen so that the best path costs
+//! least (CCSDS 131.0-B, Convolutional Coding), and how many are dropped where it slips. It stands on the paths of
+//! tm_conv and the least costs of tm_viterbi, and takes no memory.
 #![tactic(auto)]
 
 mod choosing;

@@ -8,11 +8,11 @@ ghost use Rattle.tm_phase.specs.Slip.{steps_seen, octets_seen, least_distances, 
 use crate::choosing::{cost_at, first_least, period_size};
 use tm_conv::{Rate, steps_len};
 
-/// How many octets are to be dropped before a window from step `t` on, below 2^60, that would begin with these octets: of as
-/// many candidates as a period sends symbols, the first whose best path costs least, where four times its excess is below
-/// three times that of 0, and else none. A path starts from any register, and goes over `steps` steps, at most 1,024. Its
-/// excess is what it costs beyond the sum of the lesser distance of each octet, so that data with a period, and noise alone,
-/// seldom pass for a slip. It takes no memory.
+/// How many octets are to be dropped before a window from step `t` on, below 2^60, that would begin with these octets:
+/// of as many candidates as a period sends symbols, the first whose best path costs least, where four times its excess
+/// is below three times that of 0, and else none. A path starts from any register, and goes over `steps` steps, at most
+/// 1,024. Its excess is what it costs beyond the sum of the lesser distance of each octet, so that data with a period,
+/// and noise alone, seldom pass for a slip. It takes no memory.
 pub fn slip(rate: Rate, invert: bool, t: u64, steps: usize, soft: &[u8]) -> u8
     requires steps { steps ≤ 1024 }
     requires few { t < 2 ^ 60 }
@@ -38,8 +38,8 @@ pub fn octets_seen(rate: Rate, t: u64, steps: usize) -> usize
     steps_len(rate, t, steps) + usize::from(period_size(rate)) - 1
 }
 
-/// Over how many steps a slip is looked for where windows keep `keep` steps and `ahead` follow them: at most 1,024, and at
-/// least 8 fewer than those.
+/// Over how many steps a slip is looked for where windows keep `keep` steps and `ahead` follow them: at most 1,024, and
+/// at least 8 fewer than those.
 pub fn steps_seen(keep: usize, ahead: usize) -> usize
     requires { keep + ahead ≤ 69632 }
     ensures { result ≡ steps_seen keep ahead }

@@ -5,8 +5,8 @@ use Rattle.tm_gf256.specs.Poly.{numbers, value_at}
 use Rattle.tm_rs_code.specs.Code.{place_of}
 use Rattle.tm_rs_code.specs.ErrorValues.{IsLocated}
 
--- the locator is that of an error pattern with these syndromes, and has this value at the element of
--- place p
+-- the locator is that of an error pattern with these syndromes, and has this value at the element
+-- of place p
 pub record NamesSymbol (e : ℕ) (locator : List Gf) (syndromes : ℕ → ℕ) (p found : ℕ) : Type 0 where
   pub most : e ≤ 16
   pub some : 1 ≤ length locator

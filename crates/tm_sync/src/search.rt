@@ -153,8 +153,8 @@ impl Search {
         }
     }
 
-    /// Takes the next bit of the stream. The codeblocks that are whole must have been asked for, by `next`. `room` is the
-    /// search's own, of `room()` octets.
+    /// Takes the next bit of the stream. The codeblocks that are whole must have been asked for, by `next`. `room` is
+    /// the search's own, of `room()` octets.
     ///
     /// The bits given in all are to be below 2^63.
     pub fn push_bit(&mut self, room: &mut [u8], bit: bool)
@@ -377,8 +377,8 @@ impl Search {
         }
     }
 
-    /// The next place, once its codeblock is whole. Of places that were verified together each call gives one. `room` is
-    /// the search's own.
+    /// The next place, once its codeblock is whole. Of places that were verified together each call gives one. `room`
+    /// is the search's own.
     pub fn next(&mut self, room: &[u8]) -> Option<Found>
         ensures rules { self.new.rules ≡ self.old.rules }
         ensures pending { IsSome result ↔ IsTrue (is_pending self.old) }

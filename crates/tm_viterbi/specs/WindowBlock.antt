@@ -1,8 +1,8 @@
 -- A window's block as contracts see it.
 use Rattle.std.specs.Prelude.{ℕ, List}
 
--- the register its path starts from, its steps and how many are kept, its path's cost and bits, the register after the kept
--- ones, and how many octets were dropped before the window
+-- the register its path starts from, its steps and how many are kept, its path's cost and bits, the
+-- register after the kept ones, and how many octets were dropped before the window
 pub record WindowBlock : Type 0 where
   pub start : ℕ
   pub steps : ℕ

@@ -1,5 +1,5 @@
 -- Octets have blocks in windows before which octets may be dropped.
-use Rattle.std.proofs.Common.{◌≡◌, ◌⊎◌, inl, inr, ℕ, zero, suc, ◌+◌, ◌-◌, ◌<◌, ◌≤◌, ◌∙◌, ◌++◌, refl, sym, ap, subst, arith, List, [], ◌∷◌, Option, Some, None, length, length-drop}
+use Rattle.std.proofs.Common.{◌≡◌, inl, inr, ℕ, zero, suc, ◌+◌, ◌-◌, ◌<◌, ◌≤◌, ◌++◌, refl, sym, ap, subst, arith, List, [], ◌∷◌, Option, Some, None, length, length-drop}
 use Rattle.std.specs.Option.{ForSome}
 use Rattle.std.proofs.lemmas.Bool.{cases_lt}
 use Rattle.tm_conv.specs.Path.{steps_size}
@@ -71,7 +71,7 @@ beginning best w None at may = drops-exists best w at w.seen refl may
 abbrev shape_of : Settings → WindowShape
 shape_of s = record { rate = s.rate; invert = s.invert; keep = s.keep; ahead = s.ahead }
 
--- the closed windows behind a spot, and where the last one begins
+-- the closed windows after a spot, and where the last one begins
 pub record Ends (w : Windows) (from : Spot) : Type 0 where
   pub done : List WindowBlock
   pub to : Spot
@@ -117,7 +117,7 @@ unseen-open w spot seen unseen =
     let found = unseen.1 in
     omega (arith, found.2, seen-first w.settings spot.place.t found.0 ((seen found.0 found.1).1))
 
--- where the windows behind a spot with fewer octets have an end, those behind this one have one
+-- where the windows after a spot with fewer octets have an end, those after this one have one
 abbrev Further : Windows → Spot → Type 0
 Further w from = (next : Spot) → MayStart next.place → length next.place.octets < length from.place.octets → Ends w next
 
@@ -169,7 +169,7 @@ ends best w seen wide zero from may within =
 ends best w seen wide (suc bound) from may within =
     ends_by best w seen wide from may (λ next start less. ends best w seen wide bound next start (omega (arith, less, within)))
 
--- the same behind a spot at which a window begins
+-- the same after a spot at which a window begins
 pub ends_from : HasBest → (w : Windows) → IsSeen w → 0 < w.settings.keep → (spot : Spot) (b : Beginning) → Begins w spot b → MayStart b.place → Ends w spot
 ends_from best w seen wide spot b begins may =
     let s = w.settings in

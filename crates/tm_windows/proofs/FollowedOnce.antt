@@ -1,5 +1,5 @@
 -- Octets have one list of blocks in windows before which octets may be dropped.
-use Rattle.std.proofs.Common.{◌≡◌, ◌⊎◌, inl, inr, ℕ, zero, suc, ◌+◌, ◌-◌, ◌<◌, ◌≤◌, ◌∙◌, ◌++◌, refl, sym, ap, subst, arith, append_assoc, List, [], ◌∷◌, Option, Some, None, length, length-drop, drop}
+use Rattle.std.proofs.Common.{◌≡◌, ◌⊎◌, inl, inr, ℕ, zero, suc, ◌+◌, ◌<◌, ◌≤◌, ◌∙◌, ◌++◌, refl, sym, ap, subst, arith, append_assoc, List, [], ◌∷◌, Option, Some, None, length, length-drop, drop}
 use Rattle.std.specs.Option.{ForSome}
 use Rattle.std.proofs.lemmas.List.{append-nil}
 use Rattle.tm_conv.specs.Path.{steps_size}
@@ -8,7 +8,7 @@ use Rattle.tm_conv.proofs.Sizes.{steps_size-le, steps_size-add, steps_size-least
 use Rattle.tm_viterbi.specs.Settings.{Settings}
 use Rattle.tm_viterbi.specs.WindowBlock.{WindowBlock}
 use Rattle.tm_viterbi.specs.Blocks.{AreSteps}
-use Rattle.tm_viterbi.specs.Due.{Place, after_block}
+use Rattle.tm_viterbi.specs.Due.{Place}
 use Rattle.tm_viterbi.proofs.Closing.{more_octets, kept_is, Closes-append, after-append}
 use Rattle.tm_viterbi.proofs.OneList.{OneBest, one_block, many}
 use Rattle.tm_phase.proofs.Slips.{IsSlip-within}
@@ -48,7 +48,7 @@ one-longer one w from to at (x ∷ xs) (y ∷ ys) h k =
 
 -- ---- where windows end
 
--- no window behind a spot is closed
+-- no window after a spot is closed
 abbrev pub Stops : Windows → Spot → Type 0
 Stops w spot = (b : Beginning) (x : WindowBlock) → Begins w spot b → ClosesAt w.settings b x → ⊥
 
@@ -155,7 +155,7 @@ followed-left w from to x [] h =
     subst (λ (v : Spot). (v.decided ≡ None) × (steps_size s.rate v.place.t 1 ≤ length v.place.octets)) h.3 (refl, some)
 followed-left w from to x (y ∷ ys) h = followed-left w (spot_after w.settings h.0 x) to y ys h.3
 
--- a step is left behind octets that are dropped
+-- a step is left after octets that are dropped
 drops-some : (s : Settings) (seen : Option ℕ) (at : Place) (b : Beginning) → ForSome seen (λ steps. (1 ≤ steps) × (steps + 8 ≤ s.keep + s.ahead))
     → steps_size s.rate at.t 1 ≤ length at.octets → DropsBy s seen at b → steps_size s.rate b.place.t 1 ≤ length b.place.octets
 drops-some s None at b few some h = subst (λ (v : Beginning). steps_size s.rate v.place.t 1 ≤ length v.place.octets) (sym h) some

@@ -1,5 +1,5 @@
--- Closed windows one behind the other, where octets may be dropped before each.
-use Rattle.std.proofs.Common.{◌≡◌, inl, inr, ℕ, zero, suc, ◌+◌, ◌-◌, ◌*◌, ◌<◌, ◌≤◌, ◌∙◌, ◌++◌, refl, sym, ap, subst, arith, unwrap_or, List, [], ◌∷◌, Option, Some, None, length, length-drop, length-append, drop}
+-- Closed windows one after another, where octets may be dropped before each.
+use Rattle.std.proofs.Common.{◌≡◌, inl, inr, ℕ, zero, suc, ◌+◌, ◌*◌, ◌<◌, ◌≤◌, ◌∙◌, ◌++◌, refl, sym, ap, subst, arith, unwrap_or, List, [], ◌∷◌, Option, Some, None, length, length-drop, length-append, drop}
 use Rattle.std.proofs.lemmas.List.{append-nil, drop-append-le}
 use Rattle.tm_conv.specs.Path.{steps_size}
 use Rattle.tm_conv.proofs.Sizes.{steps_size-le, steps_size-add}
@@ -34,7 +34,7 @@ pub followed-both : (w : Windows) (from middle to : Spot) (xs ys : List WindowBl
 followed-both w from middle to [] ys h k = subst (λ (v : Spot). Followed w v ys to) (sym h) k
 followed-both w from middle to (x ∷ xs) ys h k = (h.0, h.1, h.2, followed-both w (spot_after w.settings h.0 x) middle to xs ys h.3 k)
 
--- a window that closes is closed behind dropped octets as well
+-- a window that closes is closed after dropped octets as well
 pub closes-dropped : (s : Settings) (b : Beginning) (block : WindowBlock) → Closes s.rate s.invert s.keep s.ahead b.place block
     → ClosesAt s b (dropped_at b.dropped block)
 closes-dropped s b block closes = (
@@ -98,7 +98,7 @@ run-followed w none spot at to x (y ∷ ys) begins h =
       run-followed w none (record { place = next; decided = None }) next to y ys (unfollowed-begins w none next) h.1,
     )
 
--- windows that are closed at once, behind those before
+-- windows that are closed at once, after those before
 pub record RunsTo (w : Windows) (from : Spot) (blocks : List WindowBlock) (at : Place) : Type 0 where
   pub to : Spot
   pub closed : Followed w from blocks to
@@ -188,6 +188,7 @@ followed-long w from to x (y ∷ ys) h =
     let size : ℕ = n * s.keep + s.ahead + 1 in
     let kept : x.kept ≡ s.keep = h.2.0.is_block.kept ∙ kept_is s.keep s.ahead in
     let sum : s.keep + size ≡ (n + 1) * s.keep + s.ahead + 1 = omega (arith, more_times n s.keep) in
+    let count : length (x ∷ y ∷ ys) ≡ n + 1 = omega arith in
     let next = h.3 in
     let within = begins-within w (spot_after s h.0 x) next.0 next.1 in
     omega (
@@ -200,11 +201,12 @@ followed-long w from to x (y ∷ ys) h =
       ap (λ (k : ℕ). steps_size s.rate (at.t + k) size) kept,
       steps_size-add s.rate at.t s.keep size,
       ap (steps_size s.rate at.t) sum,
+      ap (λ (m : ℕ). steps_size s.rate at.t (m * s.keep + s.ahead + 1)) count,
       h.2.0.room,
       steps_size-le s.rate at.t s.keep (s.keep + s.ahead + 1) (omega arith),
     )
 
--- a beginning behind a spot stands there, with no more octets
+-- a beginning after a spot stands there, with no more octets
 pub at-within : (w : Windows) (spot : Spot) (dropped : Option ℕ) (at : Place) → IsAt w spot dropped at → (b : Beginning) → Begins w spot b
     → (b.place.t ≡ at.t) × (length b.place.octets ≤ length at.octets)
 at-within w spot None at h b begins = begins-within w (record { place = at; decided = None }) b (subst (λ (v : Spot). Begins w v b) h begins)

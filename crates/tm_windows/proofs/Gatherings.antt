@@ -15,7 +15,7 @@ use Rattle.tm_viterbi.proofs.Closing.{Closed-append, more_octets}
 use Rattle.tm_viterbi.proofs.HasBlocks.{HasBest}
 use Rattle.tm_phase.specs.Slip.{octets_seen}
 use Rattle.tm_windows.specs.Candidates.{ClosedWith, after_windows}
-use Rattle.tm_windows.specs.Followed.{Windows, Beginning, Spot, first_spot, Begins, BeginsLast, dropped_at, Followed, AreFollowedFirst, closing_size, IsOpenAt, AreFollowedDue, IsLast, AreFollowedOf}
+use Rattle.tm_windows.specs.Followed.{Windows, Beginning, Spot, first_spot, BeginsLast, dropped_at, Followed, AreFollowedFirst, closing_size, IsOpenAt, AreFollowedDue, IsLast, AreFollowedOf}
 use Rattle.tm_windows.specs.Windows.{AreBlocksBy, AreDueBy, AreFirstBy, IsSeen}
 use Rattle.tm_windows.specs.Gathered.{settings_of, windows_of, room_of, HasRoom, IsOpen, IsDecided, IsAt, Reaches}
 use Rattle.tm_windows.specs.declared.gathering.Gathering.{Gathering}
@@ -221,7 +221,7 @@ pub blocks-in : (seen : Option ℕ) (w : Windows) (octets : List ℕ) (blocks : 
 blocks-in None w octets blocks left is h = unseen-blocks w is octets blocks left h
 blocks-in (Some steps) w octets blocks left is h = h
 
--- the closed windows behind a spot whose octets go on there
+-- the closed windows after a spot whose octets go on there
 ends_at : HasBest → (w : Windows) → IsSeen w → 0 < w.settings.keep → (spot : Spot) (dropped : Option ℕ) (at : Place) → IsAt w spot dropped at
     → MayStart at → Ends w spot
 ends_at best w seen wide spot None at h may =
@@ -258,7 +258,7 @@ ends-few w spot to dropped at (x ∷ xs) count h most closed =
       | inr le ↦ le
     ]
 
--- what is due behind the blocks that were handed over
+-- what is due after the blocks that were handed over
 abbrev DueAfter : Gathering → List ℕ → List WindowBlock → ℕ → Type 0
 DueAfter g all done count = (more : List WindowBlock) × (length more ≤ count) × (g.seen ≡ None → length more ≡ count)
     × AreFollowedDue (windows_of g) all (done ++ more)

@@ -1,8 +1,7 @@
--- Where no octet is ever dropped, the blocks are those of windows one behind the other: where the phase is not followed, and
+-- Where no octet is ever dropped, the blocks are those of windows one after another: where the phase is not followed, and
 -- where symbols were not disturbed.
-use Rattle.std.proofs.Common.{◌≡◌, ◌⊎◌, inl, inr, ℕ, zero, suc, ◌+◌, ◌-◌, ◌<◌, ◌≤◌, ◌∙◌, ◌++◌, refl, sym, ap, subst, arith, List, [], ◌∷◌, Bool, Option, Some, None, length, take, drop}
-use Rattle.std.proofs.lemmas.Bool.{cases_lt}
-use Rattle.std.proofs.lemmas.List.Elements.{All-take, All-drop}
+use Rattle.std.proofs.Common.{◌≡◌, ◌⊎◌, inl, inr, ℕ, zero, suc, ◌+◌, ◌<◌, ◌≤◌, ◌∙◌, refl, sym, ap, subst, arith, List, [], ◌∷◌, Option, Some, None, length, take, drop}
+use Rattle.std.proofs.lemmas.List.Elements.{All-drop}
 use Rattle.tm_conv.specs.Path.{AreBits, path, register_after, steps_size}
 use Rattle.tm_conv.specs.Cost.{sure}
 use Rattle.tm_conv.proofs.Clean.{digits, length-sure}
@@ -20,20 +19,19 @@ use Rattle.tm_viterbi.proofs.OneList.{many}
 use Rattle.tm_viterbi.proofs.WholeBlocks.{all_blocks}
 use Rattle.tm_phase.specs.Slip.{IsSlip}
 use Rattle.tm_phase.proofs.Slips.{IsSlip-sure}
-use Rattle.tm_windows.specs.Followed.{Windows, Beginning, Spot, first_spot, moved, DropsBy, BeginsBy, Begins, IsUnseen, BeginsLast, ClosesAt, spot_after, Followed, AreFollowedFirst, AreFollowedDue, closing_size, IsOpenAt, IsLast, AreFollowedOf}
-use Rattle.tm_windows.proofs.Beginnings.{begins-within}
+use Rattle.tm_windows.specs.Followed.{Windows, Beginning, Spot, first_spot, moved, DropsBy, BeginsBy, Begins, BeginsLast, ClosesAt, spot_after, Followed, AreFollowedFirst, AreFollowedDue, closing_size, IsOpenAt, IsLast, AreFollowedOf}
 use Rattle.tm_windows.proofs.Endings.{one_block}
 use Rattle.tm_windows.proofs.FollowedExists.{undropped-same}
 
 abbrev unmoved : Place → Beginning
 unmoved at = record { dropped = 0; place = at }
 
--- places at which nothing is dropped, and behind a closed window there is again such a place
+-- places at which nothing is dropped, and after a closed window there is again such a place
 record NeverDrops (w : Windows) (P : Place → Type 0) : Type 0 where
   none : (at : Place) (b : Beginning) → P at → DropsBy w.settings w.seen at b → b ≡ unmoved at
   next : (at : Place) (x : WindowBlock) → P at → ClosesAt w.settings (unmoved at) x → P (after_block w.settings.rate at x)
 
--- nothing was dropped behind the spot before
+-- no octet was dropped after the spot
 abbrev IsUndropped : Option ℕ → Type 0
 IsUndropped decided = (decided ≡ None) ⊎ (decided ≡ Some 0)
 
@@ -48,7 +46,7 @@ last-unmoved : (w : Windows) (P : Place → Type 0) → NeverDrops w P → (spot
 last-unmoved w P never spot b here undropped (inl begins) = begins-unmoved w P never spot b here undropped begins
 last-unmoved w P never spot b here undropped (inr unseen) = unseen.1
 
--- closed windows one behind the other, and such a place behind them
+-- closed windows one after another, and such a place after them
 record Plain (w : Windows) (P : Place → Type 0) (from to : Spot) (blocks : List WindowBlock) : Type 0 where
   closed : Closed w.settings.rate w.settings.invert w.settings.keep w.settings.ahead from.place blocks to.place
   place : P to.place

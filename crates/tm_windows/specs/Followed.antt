@@ -18,7 +18,7 @@ pub record Beginning : Type 0 where
   pub dropped : ℕ
   pub place : Place
 
--- where the kept steps of a window end, and how many octets were dropped behind them already, or
+-- where the kept steps of a window end, and how many octets were dropped after them already, or
 -- None where this was not decided yet; nothing is dropped before the first window
 pub record Spot : Type 0 where
   pub place : Place
@@ -27,12 +27,12 @@ pub record Spot : Type 0 where
 abbrev pub first_spot : Windows → List ℕ → Spot
 first_spot w octets = record { place = first_place w.settings octets; decided = Some 0 }
 
--- behind octets that are dropped a window starts from any register
+-- after octets that are dropped a window starts from any register
 abbrev pub starts_after : ℕ → Option ℕ → Option ℕ
 starts_after zero starts = starts
 starts_after (suc k) starts = None
 
--- behind so many octets, at the same step
+-- after so many octets, at the same step
 abbrev pub moved : ℕ → Place → Place
 moved k at = record { starts = starts_after k at.starts; t = at.t; octets = drop k at.octets }
 
@@ -47,7 +47,7 @@ abbrev pub BeginsBy : Windows → Option ℕ → Place → Beginning → Type 0
 BeginsBy w (Some dropped) at b = b ≡ record { dropped = dropped; place = at }
 BeginsBy w None at b = DropsBy w.settings w.seen at b
 
--- the window behind a spot begins there, whatever octets come
+-- the window after a spot begins there, whatever octets come
 abbrev pub Begins : Windows → Spot → Beginning → Type 0
 Begins w spot b = BeginsBy w spot.decided spot.place b
 
@@ -92,7 +92,7 @@ AreFollowedFirst w octets blocks = (to : Spot) × Followed w (first_spot w octet
 abbrev pub closing_size : Settings → ℕ → ℕ
 closing_size s t = steps_size s.rate t (s.keep + s.ahead + 1)
 
--- the window behind a spot is not closed: too few octets are there, or too few behind those that
+-- the window after a spot is not closed: too few octets are there, or too few after those that
 -- are dropped
 abbrev pub IsOpenAt : Windows → Spot → Type 0
 IsOpenAt w spot =

@@ -30,6 +30,6 @@ AreFirstBy (Some steps) w octets blocks = AreFollowedFirst w octets blocks
 abbrev pub AreFirstIn : Windows → List ℕ → List WindowBlock → Type 0
 AreFirstIn w octets blocks = AreFirstBy w.seen w octets blocks
 
--- a window that is closed has been looked at, and a step is left behind octets that are dropped
+-- a window that is closed has been looked at, and a step is left after octets that are dropped
 abbrev pub IsSeen : Windows → Type 0
 IsSeen w = ForSome w.seen (λ steps. (1 ≤ steps) × (steps + 8 ≤ w.settings.keep + w.settings.ahead))

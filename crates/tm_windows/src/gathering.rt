@@ -17,8 +17,8 @@ use tm_conv::{Rate, best_path_law, steps_len};
 use tm_phase::{octets_seen, slip};
 use tm_viterbi::{BlockTaker, Start, WindowShape, first_start};
 
-/// A stream whose windows before step `t` are closed, and the octets from there on, before which `dropped` octets were dropped,
-/// where this was decided.
+/// A stream whose windows before step `t` are closed, and the octets from there on, before which `dropped` octets were
+/// dropped, where this was decided.
 #[derive(Drop)]
 pub(crate) struct Gathering {
     pub(crate) start: Start,
@@ -79,16 +79,13 @@ fn closed_windows(shape: WindowShape, t: u64, len: usize, most: usize) -> usize
     steps.saturating_sub(shape.ahead + 1) / shape.keep
 }
 
-// From which registers a window may start behind so many dropped octets: from any, where octets are dropped.
+// From which registers a window may start after so many dropped octets: from any, where octets are dropped.
 fn starts_after(starts: Option<u8>, dropped: u8) -> Option<u8>
     requires { ForSome starts (λ register. register < 64) }
     ensures value { result ≡ starts_after dropped starts }
     ensures small { ForSome result (λ register. register < 64) }
 {
-    match dropped {
-        0 => starts,
-        _ => None,
-    }
+    if dropped == 0 { starts } else { None }
 }
 
 // 1 where octets were dropped, and else 0.
@@ -244,8 +241,8 @@ impl Gathering {
         }
     }
 
-    // The same where it is followed, with a slip over so many steps: one window after another, since where one begins hangs on
-    // what was dropped before it.
+    // The same where it is followed, with a slip over so many steps: one window after another, since where one begins
+    // hangs on what was dropped before it.
     fn close_each<B: BlockTaker>(&mut self, steps: usize, blocks: &mut B) -> Result<(), Failed>
         requires followed { self.old.seen ≡ Option.Some steps }
         requires few { reached self.old < 2 ^ 60 }
@@ -290,8 +287,8 @@ impl Gathering {
         self.held.as_slice().len() >= steps_len(self.shape.rate, self.t, limit)
     }
 
-    // Decides how many octets are dropped before the next window, and drops them, where enough are there to look for a slip over
-    // so many steps. Answers whether it is decided.
+    // Decides how many octets are dropped before the next window, and drops them, where enough are there to look for a
+    // slip over so many steps. Answers whether it is decided.
     fn decide(&mut self, steps: usize) -> bool
         requires followed { self.old.seen ≡ Option.Some steps }
         requires few { self.old.t < 2 ^ 60 }
@@ -490,8 +487,8 @@ impl Gathering {
         }
     }
 
-    // The same where no window is closed: nothing is dropped where too few octets are there to look for a slip. The steps of the
-    // last window are counted with those before it, and no octet is held any more.
+    // The same where no window is closed: nothing is dropped where too few octets are there to look for a slip. The
+    // steps of the last window are counted with those before it, and no octet is held any more.
     fn end_open<B: BlockTaker>(&mut self, blocks: &mut B) -> Result<u8, Failed>
         requires is_open { IsOpen self.old }
         requires decided { IsDecided self.old }

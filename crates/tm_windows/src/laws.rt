@@ -1,7 +1,7 @@
 // What holds of the blocks of soft octets in windows, whether the phase is followed or not, over the definitions alone.
 ghost use Rattle.std.specs.Prelude.{◌≡◌, ◌<◌, ◌⊎◌, ℕ, List, [], ◌∷◌, ◌++◌};
 ghost use Rattle.tm_conv.specs.Path.{AreBits};
-ghost use Rattle.tm_viterbi.specs.Clean.{sure_symbols, turned_octets};
+ghost use Rattle.tm_viterbi.specs.Clean.{sure_symbols, complemented_octets};
 ghost use Rattle.tm_viterbi.specs.WindowBlock.{WindowBlock};
 ghost use Rattle.tm_viterbi.specs.Blocks.{AreBlocksOf};
 ghost use Rattle.tm_windows.specs.Followed.{Windows};
@@ -9,8 +9,8 @@ ghost use Rattle.tm_windows.specs.Windows.{AreBlocksIn, AreDueIn, AreFirstIn, Is
 
 use tm_conv::best_path_law;
 
-/// Octets have one list of blocks, and one number of octets left over, where each window keeps a step or more, and a window that
-/// is closed has been looked at. No octets have no blocks. It does nothing.
+/// Octets have one list of blocks, and one number of octets left over, where each window keeps a step or more, and a
+/// window that is closed has been looked at. No octets have no blocks. It does nothing.
 pub fn one_windows_law()
     ensures none { (w : Windows) → AreBlocksIn w [] [] 0 }
     ensures exists { (w : Windows) (octets : List ℕ) → 0 < w.settings.keep → IsSeen w
@@ -21,8 +21,8 @@ pub fn one_windows_law()
     best_path_law();
 }
 
-/// The blocks of closed windows are the first of all blocks. Those that are due are all but the last, where there are blocks. Those
-/// that are due for octets that go on begin with those that are due for a prefix. It does nothing.
+/// The blocks of closed windows are the first of all blocks. Those that are due are all but the last, where there are
+/// blocks. Those that are due for octets that go on begin with those that are due for a prefix. It does nothing.
 pub fn due_windows_law()
     ensures none { (w : Windows) → AreDueIn w [] [] }
     ensures first { (w : Windows) (octets : List ℕ) (first blocks : List WindowBlock) (left : ℕ)
@@ -41,13 +41,13 @@ pub fn closed_prefix_law()
     ensures { (w : Windows) (octets more : List ℕ) (first : List WindowBlock) → AreFirstIn w octets first → AreFirstIn w (octets ++ more) first }
 {}
 
-/// Of symbols that were not disturbed, or that were each complemented and not else disturbed, no octet is dropped: their blocks are
-/// those of a phase that is not followed, at every rate, start and window size. It does nothing.
+/// Of symbols that were not disturbed, or that were each complemented and not else disturbed, no octet is dropped:
+/// their blocks are those of a phase that is not followed, at every rate, start and window size. It does nothing.
 pub fn undisturbed_law()
     ensures sent { (w : Windows) (register : ℕ) (bits : List ℕ) (blocks : List WindowBlock) (left : ℕ) → AreBits bits → register < 64
         → AreBlocksIn w (sure_symbols w.settings register bits) blocks left
         → AreBlocksOf w.settings (sure_symbols w.settings register bits) blocks left }
-    ensures turned { (w : Windows) (register : ℕ) (bits : List ℕ) (blocks : List WindowBlock) (left : ℕ) → AreBits bits → register < 64
-        → AreBlocksIn w (turned_octets (sure_symbols w.settings register bits)) blocks left
-        → AreBlocksOf w.settings (turned_octets (sure_symbols w.settings register bits)) blocks left }
+    ensures complemented { (w : Windows) (register : ℕ) (bits : List ℕ) (blocks : List WindowBlock) (left : ℕ) → AreBits bits → register < 64
+        → AreBlocksIn w (complemented_octets (sure_symbols w.settings register bits)) blocks left
+        → AreBlocksOf w.settings (complemented_octets (sure_symbols w.settings register bits)) blocks left }
 {}

@@ -115,8 +115,8 @@ impl ParallelDecoder {
     /// A decoder that was given nothing yet, with 1 to 64 workers, for windows of `keep` steps, 64 to 65,536, and
     /// `ahead` more, at most 4,096. Where `invert` is set each second sum was sent inverted. Of each window but the
     /// last `keep` steps are kept. Where fewer than 1,024 steps are kept or fewer than 64 stand ahead, one worker
-    /// decodes all windows. Where `follow` is set a slip is looked for before each window but the first, and as many octets
-    /// are dropped; one worker decodes all windows then, too.
+    /// decodes all windows. Where `follow` is set a slip is looked for before each window but the first, and as many
+    /// octets are dropped; one worker decodes all windows then, too.
     ///
     /// It fails only where there isn't enough memory.
     pub fn open(
@@ -249,8 +249,8 @@ impl ParallelDecoder {
         true
     }
 
-    /// How many blocks are due and were not handed over yet: those of the windows that the octets gathered close. Where the phase
-    /// is followed there may be fewer, since octets may be dropped.
+    /// How many blocks are due and were not handed over yet: those of the windows that the octets gathered close. Where
+    /// the phase is followed there may be fewer, since octets may be dropped.
     pub fn count_closed(&self) -> usize
         ensures { (given : List ℕ) (done : List WindowBlock) → StandsFor self.now given done
             → (more : List WindowBlock) × (length more ≤ result) × (self.now.windows.seen ≡ None → length more ≡ result)

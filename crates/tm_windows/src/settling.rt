@@ -27,8 +27,8 @@ fn is_from(candidate: &Candidate, starts: Option<u8>) -> bool
     }
 }
 
-// Hands over the block that a candidate is, before whose window so many octets were dropped, and answers the register after
-// its kept steps.
+// Hands over the block that a candidate is, before whose window so many octets were dropped, and answers the register
+// after its kept steps.
 fn hand_block<B: BlockTaker>(
     candidate: &Candidate,
     shape: WindowShape,
@@ -89,8 +89,8 @@ fn settle<B: BlockTaker>(
     hand_block(candidate, shape, 0, blocks)
 }
 
-/// Decodes the window from step t on that starts from these registers, before which so many octets were dropped, and hands
-/// its block over. Answers the register after its kept steps.
+/// Decodes the window from step t on that starts from these registers, before which so many octets were dropped, and
+/// hands its block over. Answers the register after its kept steps.
 pub(crate) fn hand_window<B: BlockTaker>(
     candidate: &mut Candidate,
     decoder: &mut WindowDecoder,

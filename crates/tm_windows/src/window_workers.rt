@@ -240,8 +240,8 @@ impl WindowWorkers {
     }
 
     /// Closes the next window alone, before which `dropped` octets were dropped, and hands over its block. Answers the
-    /// register from which the window after it starts. It begins at step `t`, below 2^61, with `octets`, and starts from the
-    /// register `starts` or from any.
+    /// register from which the window after it starts. It begins at step `t`, below 2^61, with `octets`, and starts
+    /// from the register `starts` or from any.
     ///
     /// `Failed` comes only where the taker's count of faults rose.
     pub fn close_one<B: BlockTaker>(
@@ -279,8 +279,8 @@ impl WindowWorkers {
         )
     }
 
-    /// Hands over the block of the last window, of `steps` steps, all of them kept: it begins at step `t`, below
-    /// 2^61, with `octets`, before which `dropped` octets were dropped, and starts from the register `starts` or from any.
+    /// Hands over the block of the last window, of `steps` steps, all of them kept: it begins at step `t`, below 2^61,
+    /// with `octets`, before which `dropped` octets were dropped, and starts from the register `starts` or from any.
     ///
     /// `Failed` comes only where the taker's count of faults rose.
     pub fn close_last<B: BlockTaker>(

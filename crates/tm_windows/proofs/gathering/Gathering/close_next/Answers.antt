@@ -1,4 +1,4 @@
-use Rattle.std.proofs.Common.{◌≡◌, ◌≤◌, ◌<◌, ◌+◌, ◌-◌, ◌∙◌, ◌++◌, ◌∷◌, [], ℕ, List, Option, Some, sym, ap, subst, arith, length, length-drop, unwrap_or}
+use Rattle.std.proofs.Common.{◌≡◌, ◌≤◌, ◌+◌, ◌∙◌, ◌++◌, ◌∷◌, [], ℕ, Option, Some, sym, ap, subst, arith, length, length-drop, unwrap_or}
 use Rattle.tm_conv.proofs.Sizes.{steps_size-le, steps_size-least}
 use Rattle.tm_conv.specs.Path.{steps_size}
 use Rattle.tm_viterbi.specs.declared.window_decoder.WindowShape.{WindowShape}
@@ -21,7 +21,7 @@ close_one-requires-clause-room g c =
       ap (λ (v : WindowShape). steps_size v.rate s.t (v.keep + v.ahead + 1)) s.workers_shape,
     )
 
--- the window behind the octets that were dropped is closed
+-- the window after the octets that were dropped is closed
 pub returns-in-Ok-clause-ok : goal.returns-in-Ok-clause-ok
 returns-in-Ok-clause-ok g c =
     let s = c.args.self.now in
@@ -105,7 +105,7 @@ returns-in-Err-clause-err g c =
     )
 
 pub returns-in-Err-clause-left_open : goal.returns-in-Err-clause-left_open
-returns-in-Err-clause-left_open g c = λ _.
+returns-in-Err-clause-left_open g c =
     let s = c.args.self.now in (
       omega (arith, ap length c.clear.ensures.octets, steps_size-least s.shape.rate s.t (s.shape.keep + s.shape.ahead + 1)),
       λ none. absurd (let known = sym c.requires.decided.1 ∙ none in cc),
