@@ -20,7 +20,8 @@ _tmchan() {
         --basis) words=(dual poly) ;;
         --soft) words=(u8 i8) ;;
         --start) words=(zero any) ;;
-        --phase | --polarity) words=(given find) ;;
+        --phase) words=(given find follow) ;;
+        --polarity) words=(given find) ;;
         --*) ;;
         *)
             words=(--code --depth --length --inner --invert --randomize --basis --tolerance --repair --soft --start --skip --workers
