@@ -10,11 +10,11 @@
 # compiler to link. A program that is built and not older than its sources is installed without `rt`.
 
 PREFIX = /usr/local
-VERSION = 0.1.0
+VERSION = 0.2.0
 CC = cc
 
 LIBRARIES = out/libtmchan.a out/libtmchan.so out/tmchan.pc
-SONAME = libtmchan.so.0
+SONAME = libtmchan.so.0.2
 
 MAN = share/man
 BASH_COMPLETIONS = share/bash-completion/completions

@@ -35,8 +35,10 @@
 extern "C" {
 #endif
 
-/* The version that this header describes: 65,536 times the first number, 256 times the second, and the third. */
-#define TMCHAN_VERSION 0x000100
+/* The version that this header describes: 65,536 times the first number, 256 times the second, and the third. While the first is 0, a program
+ * is compiled anew for each second number: in 0.2 tmchan_config and tmchan_search are longer, and the calls of a search and
+ * tmchan_receiver_finish take other arguments than in 0.1. */
+#define TMCHAN_VERSION 0x000200
 
 /* The codes. TMCHAN_NO_CODE is for tmchan_cadu and tmchan_cadu_length alone. */
 #define TMCHAN_NO_CODE 0

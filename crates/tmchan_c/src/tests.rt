@@ -66,7 +66,7 @@ fn units_are_written_and_taken_apart(rt: HostRuntime) {
     assert_eq!(rt; tmchan_put_column(2, 1, block, &word), 0);
     assert_eq!(rt; &block[..6], &[0x01, 0x01, 0x5B, 0x5B, 0x7F, 0x7F][..]);
     assert_eq!(rt; tmchan_put_column(2, 2, block, &word), -4);
-    assert_eq!(rt; tmchan_version(), 256);
+    assert_eq!(rt; tmchan_version(), 512);
 }
 
 #[test]
