@@ -138,6 +138,40 @@ static void make_row(char *line) {
     free(given), free(wanted);
 }
 
+/* Twelve frames at rate 1/2, and a symbol of the fifth is lost: where the phase is found once the codeblocks after it are lost as well, and where
+ * it is followed one more at most. The numbers are those of docs/reference. */
+static void lose_a_symbol(void) {
+    tmchan_stream s = {0};
+    tmchan_config config;
+    uint8_t sent[12 * 16];
+    tmchan_config_defaults(&config);
+    line_number = 0;
+    config.code = TMCHAN_NO_CODE, config.length = 16, config.keep = 64, config.ahead = 64;
+    for (size_t i = 0; i < sizeof sent; i++) sent[i] = 7 * (i % 16) + 31 * (i / 16) + i % 16 * (i % 16);
+    int64_t needed = tmchan_sender_room(&config, sizeof sent);
+    uint8_t *symbols = room(needed);
+    expect(tmchan_sender_open(&s, &config) == 0 && tmchan_sender_push(&s, sent, sizeof sent, symbols, needed) == 3840, "symbols of twelve frames");
+    expect(tmchan_close(&s) == 0, "the sender is closed");
+    memmove(symbols + 1500, symbols + 1501, 3840 - 1501);
+    for (config.phase = 1; config.phase <= 2; config.phase++) {
+        int follows = config.phase == 2;
+        uint64_t frames_length, slips;
+        tmchan_totals totals;
+        tmchan_phase phase;
+        int64_t most = tmchan_receiver_room(&config, 3839, &frames_length);
+        uint8_t *frames = room(frames_length);
+        tmchan_report *reports = room(most * sizeof *reports);
+        expect(tmchan_receiver_open(&s, &config) == 0, "the receiver does not open");
+        expect(tmchan_receiver_push(&s, symbols, 3839, frames, frames_length, reports, most) == 0, "no whole batch");
+        expect(tmchan_receiver_slips(&s, &slips) == 0 && slips == (uint64_t)follows, "slips so far");
+        expect(tmchan_receiver_finish(&s, frames, frames_length, reports, most, &totals, &phase) == (follows ? 11 : 5), "codeblocks");
+        expect(totals.bits == 1919 && totals.slips == (uint64_t)follows, "totals");
+        expect(!memcmp(frames, sent, 4 * 16) && (!follows || !memcmp(frames + 5 * 16, sent + 6 * 16, 6 * 16)), "frames before and after");
+        free(frames), free(reports);
+    }
+    free(symbols);
+}
+
 static void make_refusals(void) {
     tmchan_stream s = {0};
     tmchan_config config;
@@ -251,6 +285,7 @@ int main(void) {
         make_row(line);
     }
     free(line);
+    lose_a_symbol();
     make_refusals();
     make_searches();
     printf("%ld tests of streams, %ld fail\n", calls, differing);
