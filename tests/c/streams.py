@@ -1,5 +1,6 @@
 #!/usr/bin/env python3
-"""Makes the calls of the streams of each row on standard input (bench/stream_rows.py writes them) by ctypes.
+"""Makes the calls of the streams of each row on standard input (bench/stream_rows.py writes them) by ctypes, and those of the decoder and of the
+search over what each row receives: their places are to be those of the receiver.
 
     tests/c/streams.py out/libtmchan.so < rows.txt
 """
@@ -7,8 +8,9 @@ import ctypes
 import sys
 
 LIBRARY = ctypes.CDLL(sys.argv[1])
-SIZE, NUMBERS = ctypes.c_size_t, ctypes.c_uint64 * 22
-PIECE = 3000
+SIZE, NUMBERS, COUNT = ctypes.c_size_t, ctypes.c_uint64 * 22, ctypes.c_uint64
+PIECE, CLOSED = 3000, -5
+CODE, DEPTH, INNER, TOLERANCE, SOFT, SKIP, FLY, PHASE, POLARITY, PACK, VERIFY = 0, 1, 3, 7, 9, 11, 14, 17, 18, 20, 21
 for name in ("sender_room", "sender_push", "sender_finish", "decoder_room", "decoder_push", "decoder_finish", "receiver_room",
              "receiver_push", "receiver_finish"):
     getattr(LIBRARY, "tmchan_" + name).restype = ctypes.c_int64
@@ -35,26 +37,81 @@ def send(config, given):
 
 
 def receive(config, given):
-    stream, received, octets = NUMBERS(), b"", ctypes.c_uint64()
+    """The frames, the place of each with what is said of its marker, the number of bits, and the phase."""
+    stream, received, places, octets, slips, totals, phase = NUMBERS(), b"", [], COUNT(), COUNT(), NUMBERS(), NUMBERS()
     assert call("receiver_open", stream, config) == 0
     for piece in pieces(given) + [None]:
         room = call("receiver_room", config, SIZE(len(piece or b"")), ctypes.byref(octets))
         frames, reports = ctypes.create_string_buffer(octets.value), (ctypes.c_uint64 * 4 * room)()
         arrays = frames, SIZE(octets.value), reports, SIZE(room)
         count = (call("receiver_push", stream, piece, SIZE(len(piece)), *arrays) if piece is not None
-                 else call("receiver_finish", stream, *arrays, NUMBERS(), NUMBERS()))
+                 else call("receiver_finish", stream, *arrays, totals, phase))
         assert count >= 0
         received += frames.raw[:sum(report[1] for report in reports[:count])]
-    return received
+        places += [(report[0], report[2] & 0xFFFFFF) for report in reports[:count]]
+        if piece is not None:
+            assert call("receiver_phase", stream, phase) == call("receiver_slips", stream, ctypes.byref(slips)) == 0
+    assert slips.value <= totals[1] and (config[PHASE] == 2 or totals[1] == 0)
+    assert call("receiver_slips", stream, ctypes.byref(slips)) == CLOSED
+    return received, places, totals[0], list(phase[:2])
+
+
+def decode(config, given):
+    """The bits, and the phase."""
+    stream, bits, phase = NUMBERS(), b"", NUMBERS()
+    assert call("decoder_open", stream, config) == 0
+    for piece in pieces(given) + [None]:
+        room = call("decoder_room", config, SIZE(len(piece or b"")))
+        made = ctypes.create_string_buffer(room)
+        count = (call("decoder_push", stream, piece, SIZE(len(piece)), made, SIZE(room)) if piece is not None
+                 else call("decoder_finish", stream, made, SIZE(room), phase))
+        assert count >= 0 and (piece is None or call("decoder_phase", stream, phase) == 0)
+        bits += made.raw[:count]
+    return bits, list(phase[:2])
+
+
+def plain_bits(config, given):
+    """The bits where there is no inner code."""
+    bits = [octet >> k & 1 for octet in given for k in range(7, -1, -1)] if config[PACK] else [octet >> 7 ^ config[SOFT] for octet in given]
+    return bytes(bits[config[SKIP]:])
+
+
+def search(config, name, array):
+    """The places in bits, or in octets."""
+    search, place, at, found = NUMBERS(), NUMBERS(), COUNT(), []
+    size = 8 * (call("cadu_length", *config[CODE:DEPTH + 1], SIZE(call("frame_length", config))) - 4)
+    room = ctypes.create_string_buffer(config[VERIFY] * (32 + size))
+    assert call("search_open", search, *[config[option] for option in (TOLERANCE, FLY, POLARITY)], size, config[VERIFY]) == 0
+    while call(name, search, room, SIZE(len(room)), array, SIZE(len(array)), ctypes.byref(at), place) == 1:
+        found.append((place[0], place[1] & 0xFFFFFF))
+    return found
+
+
+def receives(config, given, wanted):
+    frames, places, count, phase = receive(config, given)
+    bits, decoded_phase = decode(config, given)
+    bits = bits if config[INNER] else plain_bits(config, given)
+    whole = bits[:len(bits) // 8 * 8]
+    octets = bytes(int("".join(map(str, whole[at:at + 8])), 2) for at in range(0, len(whole), 8))
+    return (frames == wanted and len(bits) == count and decoded_phase == phase and search(config, "search_bits", bits) == places
+            and search(config, "search_octets", octets) == search(config, "search_bits", whole))
+
+
+def has_defaults():
+    """The version and the defaults; and a handle that is closed answers so."""
+    config, stream = NUMBERS(), NUMBERS()
+    call("config_defaults", config)
+    return (call("version") == 0x000200 and call("config_check", config) == 0 and call("frame_length", config) == 223
+            and call("receiver_open", stream, config) == 0 and call("close", stream) == 0 and call("close", stream) == CLOSED)
 
 
 rows = [line.split() for line in sys.stdin]
-wrong = []
+wrong = [] if has_defaults() else [0]
 for number, (kind, *words) in enumerate(rows, 1):
     config = NUMBERS(*map(int, words[:22]))
     given = [b"" if digits == "-" else bytes.fromhex(digits) for digits in words[22:]] if kind != "check" else None
     right = (call("config_check", config) == int(words[22]) if kind == "check"
-             else {"send": send, "receive": receive}[kind](config, given[0]) == given[1])
+             else send(config, given[0]) == given[1] if kind == "send" else receives(config, *given))
     wrong += [] if right else [number]
 print(f"{len(rows)} rows of streams by ctypes, {len(wrong)} differ", *wrong[:9])
 sys.exit(bool(wrong))
