@@ -169,7 +169,8 @@ typedef struct {
     uint64_t fly;       /* flywheel: how many markers in a row may be missing, 0 (default) to 15 */
     uint64_t keep;      /* steps of a decoder's window that are kept: 64 to 65,536, default 8,192 */
     uint64_t ahead;     /* steps after these: 0 to 4,096, default 256 */
-    uint64_t phase;     /* the symbol phase is given: 0 (default), or to be found: 1, or to be followed: found, and looked at again: 2 */
+    uint64_t phase;     /* the symbol phase is given: 0 (default), or to be found: 1, or to be found and followed: 2. Then it is looked at again
+                           before each later window of the decoder, and a few octets are dropped there where symbols were lost or doubled */
     uint64_t polarity;  /* the polarity of the bits is given: 0 (default), or to be found: 1 */
     uint64_t batch;     /* how many codeblocks a receiver repairs and hands over at once: 1 to 32 (default) */
     uint64_t pack;      /* with no inner code, eight bits make an octet: 1 (default), or each bit is an octet of its own, as symbols are: 0 */
