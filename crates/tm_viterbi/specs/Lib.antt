@@ -12,5 +12,6 @@ pub mod Carries
 pub mod Summing
 pub mod Filling
 pub mod Flowing
+pub mod NextSteps
 pub mod Streaming
 pub mod Decoding

@@ -5,6 +5,7 @@ ghost use Rattle.tm_base.specs.Takers.{HandedOver, HandedPart};
 ghost use Rattle.tm_base.specs.Outside.{HasCause};
 ghost use Rattle.tm_conv.specs.Path.{period, step_size, steps_size};
 ghost use Rattle.tm_viterbi.specs.Starts.{starts_from, first_start};
+ghost use Rattle.tm_viterbi.specs.NextSteps.{AreNextSteps};
 ghost use Rattle.tm_viterbi.specs.WindowBlock.{WindowBlock};
 
 use crate::block::{Block, BlockTaker, Start, first_start};
@@ -32,9 +33,7 @@ fn count_steps(rate: Rate, t: u64, limit: usize, len: usize) -> (usize, usize)
     requires step { step_size rate t ≤ len }
     requires limit { 0 < limit }
     requires few { t + limit < 2 ^ 62 }
-    ensures some { (0 < result.0) × (result.0 ≤ limit) }
-    ensures size { result.1 ≡ steps_size rate t result.0 }
-    ensures fits { result.1 ≤ len }
+    ensures { AreNextSteps rate t limit len result.0 result.1 }
 {
     // A period sends one symbol more than it has steps, wherever it begins.
     let period = usize::from(period(rate));
@@ -60,9 +59,7 @@ pub(crate) fn whole_steps(rate: Rate, t: u64, limit: usize, len: usize) -> (usiz
     requires step { step_size rate t ≤ len }
     requires limit { 0 < limit }
     requires few { t + limit < 2 ^ 62 }
-    ensures some { (0 < result.0) × (result.0 ≤ limit) }
-    ensures size { result.1 ≡ steps_size rate t result.0 }
-    ensures fits { result.1 ≤ len }
+    ensures { AreNextSteps rate t limit len result.0 result.1 }
 {
     match rate {
         Rate::R12 => count_steps(Rate::R12, t, limit, len),
