@@ -1,5 +1,5 @@
 -- Paths with the newest bit first, as the decoder walks them.
-use Rattle.std.specs.Prelude.{ℕ, ◌≡◌, ◌+◌, ◌*◌, ◌/◌, ◌%◌, ◌^◌, ◌<◌, ◌≤◌, List, [], ◌∷◌, length, slice_index}
+use Rattle.std.specs.Prelude.{ℕ, ◌≡◌, ◌+◌, ◌*◌, ◌/◌, ◌%◌, ◌^◌, ◌<◌, ◌≤◌, List, [], ◌∷◌, length, reverse, slice_index}
 use Rattle.std.specs.List.{All}
 use Rattle.tm_conv.specs.Path.{next_register}
 
@@ -49,6 +49,17 @@ start_of (c ∷ survivors) s = start_of survivors (before c s)
 abbrev pub history : List ℕ → ℕ → ℕ
 history [] h = h
 history (c ∷ survivors) h = history survivors (2 * h + c / 2 ^ (h % 64) % 2)
+
+-- there is a bit for each column of survivors, and the path ends at this register
+pub record CanTrace (survivors bits : List ℕ) (last : ℕ) : Type 0 where
+  pub size : length bits ≡ length survivors
+  pub register : last < 64
+
+-- the bits, the oldest first, and the first register of the path that the columns keep for the last
+pub record IsTraced (survivors : List ℕ) (last : ℕ) (traced : List ℕ) (first : ℕ) : Type 0 where
+  pub bits : traced ≡ reverse (past_of (reverse survivors) last)
+  pub start : first ≡ start_of (reverse survivors) last
+  pub small : first < 64
 
 -- the path metrics and the survivors have the best path to each register
 abbrev pub AreBest : (ℕ → List ℕ → ℕ) → ℕ → List ℕ → List ℕ → Type 0

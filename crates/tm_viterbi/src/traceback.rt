@@ -1,7 +1,7 @@
 // The path that the survivors keep, from its last register back.
 ghost use Rattle.std.specs.Prelude.{◌≡◌, ℕ, ◌+◌, ◌*◌, ◌/◌, ◌%◌, ◌^◌, ◌<◌, reverse, length, slice_index};
 ghost use Rattle.tm_conv.specs.Path.{register_after};
-ghost use Rattle.tm_viterbi.specs.Walk.{past_of, start_of, history};
+ghost use Rattle.tm_viterbi.specs.Walk.{CanTrace, IsTraced, past_of, start_of, history};
 
 mod eight_bits;
 
@@ -51,11 +51,8 @@ fn trace_eight(survivors: &[u64], register: usize, bits: &mut [u8]) -> usize
 
 // The traceback column by column.
 fn trace_each(survivors: &[u64], register: usize, bits: &mut [u8]) -> usize
-    requires size { length bits.old ≡ length survivors.now }
-    requires register { register < 64 }
-    ensures bits { bits.new ≡ reverse (past_of (reverse survivors.now) register) }
-    ensures start { result ≡ start_of (reverse survivors.now) register }
-    ensures small { result < 64 }
+    requires { CanTrace survivors.now bits.old register }
+    ensures { IsTraced survivors.now register bits.new result }
 {
     let mut s = register;
     let mut i = survivors.len();
@@ -70,11 +67,8 @@ fn trace_each(survivors: &[u64], register: usize, bits: &mut [u8]) -> usize
 // The traceback: writes the bits of the path that columns of survivors keep for `register`, at which it ends, and
 // answers the register from which it starts.
 pub(crate) fn trace_back(survivors: &[u64], register: usize, bits: &mut [u8]) -> usize
-    requires size { length bits.old ≡ length survivors.now }
-    requires register { register < 64 }
-    ensures bits { bits.new ≡ reverse (past_of (reverse survivors.now) register) }
-    ensures start { result ≡ start_of (reverse survivors.now) register }
-    ensures small { result < 64 }
+    requires { CanTrace survivors.now bits.old register }
+    ensures { IsTraced survivors.now register bits.new result }
 {
     let mut s = register;
     let mut i = survivors.len();
