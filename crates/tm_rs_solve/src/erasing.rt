@@ -193,7 +193,6 @@ fn repaired<L: Ledger>(
     ensures nearest { IsNearestErased params.now.e repair erased.now (numbers word.old)
         (found_erased result (numbers word.new)) }
     ensures unchanged { result ≡ ErasedAnswer.Beyond → word.new ≡ word.old }
-    ensures same_size { length word.new ≡ length word.old }
     ensures cost { steps.new ≤ steps.old
         + (2 * params.now.e * (4 * params.now.e + 3) + 8 * params.now.e * params.now.e) }
     ensures least { let count = count_of_erased erased.now in count ≤ 2 * params.now.e

@@ -73,7 +73,6 @@ fn repaired<L: Ledger>(
         → entry values.now k ≡ value_at (numbers word.old) (root params.now.e k) }
     ensures nearest { IsNearest params.now.e repair (numbers word.old) (found result (numbers word.new)) }
     ensures unchanged { result ≡ Answer.Beyond → word.new ≡ word.old }
-    ensures same_size { length word.new ≡ length word.old }
     ensures cost { steps.new ≤ steps.old + 2 * params.now.e * (4 * params.now.e + 3) }
 {
     see_range(word);
