@@ -18,10 +18,18 @@ pub record IsLocatorOf (coefs : List Gf) (degree : ℕ) (w : List ℕ) : Type 0 
 abbrev pub Locates : ℕ → ℕ → (ℕ → ℕ) → List Gf → ℕ → Type 0
 Locates e n s coefs degree = (w : List ℕ) × IsPattern e n s w × IsLocatorOf coefs degree w
 
+-- no word of n symbols is an error pattern with these syndromes
+abbrev pub NoPattern : ℕ → ℕ → (ℕ → ℕ) → Type 0
+NoPattern e n s = (w : List ℕ) → IsPattern e n s w → ⊥
+
 -- there is an error pattern with erased places, and this is the locator of its other places
 abbrev pub LocatesErased : ℕ → List Bool → (ℕ → ℕ) → List Gf → ℕ → Type 0
 LocatesErased e erased s coefs degree =
     (w : List ℕ) × IsErasedPattern e erased s w × IsLocatorOf coefs degree (outside erased w)
+
+-- none with erased places has these syndromes
+abbrev pub NoErasedPattern : ℕ → List Bool → (ℕ → ℕ) → Type 0
+NoErasedPattern e erased s = (w : List ℕ) → IsErasedPattern e erased s w → ⊥
 
 -- the polynomial g is not 0 at an erased place
 abbrev pub AvoidsErased : List ℕ → List Bool → Type 0

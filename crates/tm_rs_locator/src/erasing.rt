@@ -1,11 +1,12 @@
 // The locator of the wrong symbols of a word with erased places.
-ghost use Rattle.std.specs.Prelude.{◌≡◌, ◌<◌, ◌≤◌, ◌+◌, ◌-◌, ◌*◌, ◌↔◌, ℕ, suc, List, length, IfNone, IfSome, IsTrue};
+ghost use Rattle.std.specs.Prelude.{◌≡◌, ◌<◌, ◌≤◌, ◌+◌, ◌*◌, ◌↔◌, ℕ, suc, List, length, IfNone, IfSome, IsTrue};
 ghost use Rattle.tm_gf256.specs.Poly.{entry};
-ghost use Rattle.tm_rs_code.specs.Erasures.{IsErasedPattern, count_erased as count_of_erased, marks};
+ghost use Rattle.tm_rs_code.specs.Erasures.{count_erased as count_of_erased, marks};
 ghost use Rattle.tm_rs_code.specs.Pattern.{locator_of};
 ghost use Rattle.tm_rs_code.specs.PlaceValues.{AreValues};
 ghost use Rattle.tm_rs_code.specs.Recurrence.{discrepancy, listing};
-ghost use Rattle.tm_rs_locator.specs.Locator.{AvoidsErased, LocatesErased};
+ghost use Rattle.tm_rs_locator.specs.Counts.{TakesAtLeast, TakesAtMost, most_products};
+ghost use Rattle.tm_rs_locator.specs.Locator.{AvoidsErased, LocatesErased, NoErasedPattern};
 
 use crate::counter::Steps;
 use crate::factors::times_factor;
@@ -89,19 +90,14 @@ pub fn locate_erased<L: Ledger>(
     steps: &mut Steps<L>,
 ) -> Option<Locator>
     requires { length erased.now ≡ params.now.n }
-    ensures none { IfNone result ((w : List ℕ)
-        → IsErasedPattern params.now.e erased.now (entry syndromes.now) w → ⊥) }
-    ensures some { IfSome result (λ l.
-        LocatesErased params.now.e erased.now (entry syndromes.now) l.coefs l.degree) }
+    ensures none { IfNone result (NoErasedPattern params.now.e erased.now (entry syndromes.now)) }
+    ensures some { IfSome result (λ l. LocatesErased params.now.e erased.now (entry syndromes.now) l.coefs l.degree) }
     ensures room { length places.new ≡ 33 }
     ensures places { IfSome result (λ l. listing (entry places.new) 0 (suc (count_of_erased erased.now)) ≡ locator_of (marks erased.now)) }
     ensures beyond { IfSome result (λ l. (i : ℕ) → suc (count_of_erased erased.now) ≤ i → entry places.new i ≡ 0) }
-    ensures cost { steps.new ≤ steps.old
-        + (2 * params.now.e * (4 * params.now.e + 3) + 8 * params.now.e * params.now.e) }
-    ensures most { let count = count_of_erased erased.now in count ≤ 2 * params.now.e
-        → steps.new ≤ steps.old + (count * (count + 1) + (2 * params.now.e - count) * (2 * params.now.e + 4)) }
-    ensures least { let count = count_of_erased erased.now in count ≤ 2 * params.now.e
-        → 2 * steps.old + count * (count + 1) + 2 * ((2 * params.now.e - count) * (count + 1)) ≤ 2 * steps.new }
+    ensures cost { steps.new ≤ steps.old + most_products params.now.e }
+    ensures most { TakesAtMost params.now.e (count_of_erased erased.now) steps.old steps.new }
+    ensures least { TakesAtLeast params.now.e (count_of_erased erased.now) steps.old steps.new }
 {
     let all = 2 * params.e() as usize;
     let n = params.n() as usize;
@@ -139,16 +135,11 @@ pub fn solve_erased<L: Ledger>(
     steps: &mut Steps<L>,
 ) -> Option<Locator>
     requires { length erased.now ≡ params.now.n }
-    ensures none { IfNone result ((w : List ℕ)
-        → IsErasedPattern params.now.e erased.now (entry syndromes.now) w → ⊥) }
-    ensures some { IfSome result (λ l.
-        LocatesErased params.now.e erased.now (entry syndromes.now) l.coefs l.degree) }
-    ensures cost { steps.new ≤ steps.old
-        + (2 * params.now.e * (4 * params.now.e + 3) + 8 * params.now.e * params.now.e) }
-    ensures most { let count = count_of_erased erased.now in count ≤ 2 * params.now.e
-        → steps.new ≤ steps.old + (count * (count + 1) + (2 * params.now.e - count) * (2 * params.now.e + 4)) }
-    ensures least { let count = count_of_erased erased.now in count ≤ 2 * params.now.e
-        → 2 * steps.old + count * (count + 1) + 2 * ((2 * params.now.e - count) * (count + 1)) ≤ 2 * steps.new }
+    ensures none { IfNone result (NoErasedPattern params.now.e erased.now (entry syndromes.now)) }
+    ensures some { IfSome result (λ l. LocatesErased params.now.e erased.now (entry syndromes.now) l.coefs l.degree) }
+    ensures cost { steps.new ≤ steps.old + most_products params.now.e }
+    ensures most { TakesAtMost params.now.e (count_of_erased erased.now) steps.old steps.new }
+    ensures least { TakesAtLeast params.now.e (count_of_erased erased.now) steps.old steps.new }
 {
     let mut places = [Gf(0); 33];
     locate_erased(params, syndromes, erased, &mut places, steps)

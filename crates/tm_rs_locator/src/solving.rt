@@ -1,9 +1,8 @@
 // The locator of the error pattern that has given syndromes.
-ghost use Rattle.std.specs.Prelude.{◌≡◌, ◌≤◌, ◌+◌, ◌*◌, ℕ, List, length, take, IfNone, IfSome};
+ghost use Rattle.std.specs.Prelude.{◌≡◌, ◌≤◌, ◌+◌, ◌*◌, length, take, IfNone, IfSome};
 ghost use Rattle.tm_gf256.specs.Poly.{entry, numbers};
-ghost use Rattle.tm_rs_code.specs.Pattern.{IsPattern};
 ghost use Rattle.tm_rs_code.specs.PlaceValues.{AreValues};
-ghost use Rattle.tm_rs_locator.specs.Locator.{Locates};
+ghost use Rattle.tm_rs_locator.specs.Locator.{Locates, NoPattern};
 
 use crate::counter::Steps;
 use crate::recurrence::shortest;
@@ -30,10 +29,8 @@ pub fn locate<L: Ledger>(
     values: &mut [u8; 256],
     steps: &mut Steps<L>,
 ) -> Option<Locator>
-    ensures none { IfNone result ((w : List ℕ)
-        → IsPattern params.now.e params.now.n (entry syndromes.now) w → ⊥) }
-    ensures some { IfSome result (λ l.
-        Locates params.now.e params.now.n (entry syndromes.now) l.coefs l.degree) }
+    ensures none { IfNone result (NoPattern params.now.e params.now.n (entry syndromes.now)) }
+    ensures some { IfSome result (λ l. Locates params.now.e params.now.n (entry syndromes.now) l.coefs l.degree) }
     ensures room { length values.new ≡ 256 }
     ensures values { IfSome result (λ l.
         AreValues (numbers (take (l.degree + 1) l.coefs)) params.now.n values.new) }
@@ -62,10 +59,8 @@ pub fn solve<L: Ledger>(
     syndromes: &[Gf; 32],
     steps: &mut Steps<L>,
 ) -> Option<Locator>
-    ensures none { IfNone result ((w : List ℕ)
-        → IsPattern params.now.e params.now.n (entry syndromes.now) w → ⊥) }
-    ensures some { IfSome result (λ l.
-        Locates params.now.e params.now.n (entry syndromes.now) l.coefs l.degree) }
+    ensures none { IfNone result (NoPattern params.now.e params.now.n (entry syndromes.now)) }
+    ensures some { IfSome result (λ l. Locates params.now.e params.now.n (entry syndromes.now) l.coefs l.degree) }
     ensures cost { steps.new ≤ steps.old + 2 * params.now.e * (4 * params.now.e + 3) }
 {
     let mut values = [0; 256];

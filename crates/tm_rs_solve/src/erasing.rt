@@ -1,5 +1,5 @@
 // The nearest codeword of a word with erased places.
-ghost use Rattle.std.specs.Prelude.{◌≡◌, ◌<◌, ◌≤◌, ◌+◌, ◌-◌, ◌*◌, ◌==◌, ◌&&◌, ℕ, suc, not, List, length, if◌then◌else◌, slice_index_or, false};
+ghost use Rattle.std.specs.Prelude.{◌≡◌, ◌<◌, ◌≤◌, ◌+◌, ◌*◌, ◌==◌, ◌&&◌, ℕ, suc, not, List, length, if◌then◌else◌, slice_index_or, false};
 ghost use Rattle.tm_gf256.specs.Poly.{entry, numbers, value_at};
 ghost use Rattle.tm_rs_code.specs.Code.{root, weight};
 ghost use Rattle.tm_rs_code.specs.Erasures.{IsNearestErased, count_erased as count_of_erased, inside, marks, places_named};
@@ -7,6 +7,7 @@ ghost use Rattle.tm_rs_code.specs.ErrorValues.{IsLocated, symbol_at};
 ghost use Rattle.tm_rs_code.specs.Pattern.{locator_of};
 ghost use Rattle.tm_rs_code.specs.PlaceValues.{AreValues};
 ghost use Rattle.tm_rs_code.specs.Recurrence.{listing};
+ghost use Rattle.tm_rs_locator.specs.Counts.{TakesAtLeast, most_products};
 ghost use Rattle.tm_rs_solve.specs.Answers.{found_erased};
 ghost use Rattle.tm_rs_solve.specs.Naming.{NamesSymbol};
 
@@ -133,10 +134,9 @@ pub fn decode_erased<L: Ledger>(
         (found_erased result (numbers word.new)) }
     ensures unchanged { result ≡ ErasedAnswer.Beyond → word.new ≡ word.old }
     ensures same_size { length word.new ≡ length word.old }
-    ensures cost { steps.new ≤ steps.old
-        + (2 * params.now.e * (4 * params.now.e + 3) + 8 * params.now.e * params.now.e) }
-    ensures least { let count = count_of_erased erased.now in (result ≡ ErasedAnswer.Fixed 0 0 → ⊥) → count ≤ 2 * params.now.e
-        → 2 * steps.old + count * (count + 1) + 2 * ((2 * params.now.e - count) * (count + 1)) ≤ 2 * steps.new }
+    ensures cost { steps.new ≤ steps.old + most_products params.now.e }
+    ensures least { (result ≡ ErasedAnswer.Fixed 0 0 → ⊥)
+        → TakesAtLeast params.now.e (count_of_erased erased.now) steps.old steps.new }
 {
     see_range(word);
     let e = params.e() as usize;
@@ -167,10 +167,8 @@ pub fn plain_decode_erased<L: Ledger>(
         (found_erased result (numbers word.new)) }
     ensures unchanged { result ≡ ErasedAnswer.Beyond → word.new ≡ word.old }
     ensures same_size { length word.new ≡ length word.old }
-    ensures cost { steps.new ≤ steps.old
-        + (2 * params.now.e * (4 * params.now.e + 3) + 8 * params.now.e * params.now.e) }
-    ensures least { let count = count_of_erased erased.now in count ≤ 2 * params.now.e
-        → 2 * steps.old + count * (count + 1) + 2 * ((2 * params.now.e - count) * (count + 1)) ≤ 2 * steps.new }
+    ensures cost { steps.new ≤ steps.old + most_products params.now.e }
+    ensures least { TakesAtLeast params.now.e (count_of_erased erased.now) steps.old steps.new }
 {
     let values = syndromes(params, word);
     repaired(params, repair, erased, word, &values, steps)
@@ -193,10 +191,8 @@ fn repaired<L: Ledger>(
     ensures nearest { IsNearestErased params.now.e repair erased.now (numbers word.old)
         (found_erased result (numbers word.new)) }
     ensures unchanged { result ≡ ErasedAnswer.Beyond → word.new ≡ word.old }
-    ensures cost { steps.new ≤ steps.old
-        + (2 * params.now.e * (4 * params.now.e + 3) + 8 * params.now.e * params.now.e) }
-    ensures least { let count = count_of_erased erased.now in count ≤ 2 * params.now.e
-        → 2 * steps.old + count * (count + 1) + 2 * ((2 * params.now.e - count) * (count + 1)) ≤ 2 * steps.new }
+    ensures cost { steps.new ≤ steps.old + most_products params.now.e }
+    ensures least { TakesAtLeast params.now.e (count_of_erased erased.now) steps.old steps.new }
 {
     see_range(word);
     let e = params.e() as usize;

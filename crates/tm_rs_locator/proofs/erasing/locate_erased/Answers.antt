@@ -68,7 +68,7 @@ returns-in_default-clause-most g c =
     c.erasure_locator-erasures.ensures.cost c.modified-terms.ensures.cost c.in_default.ensures.cost
 
 pub returns-in_default-clause-least : goal.returns-in_default-clause-least
-returns-in_default-clause-least g c few =
+returns-in_default-clause-least g c = λ few.
     least_steps c.args.params.now.e (count_erased c.args.erased.now) _ _ _ _ _ _ c.e.ensures.value c.count_erased-count.ensures
     c.erasure_locator-erasures.ensures.cost c.modified-terms.ensures.cost c.in_default.ensures.later
 
@@ -78,7 +78,7 @@ returns-then-count_roots-found-clause-most g c =
     c.erasure_locator-erasures.ensures.cost c.modified-terms.ensures.cost c.in-Some.ensures.cost
 
 pub returns-then-count_roots-found-clause-least : goal.returns-then-count_roots-found-clause-least
-returns-then-count_roots-found-clause-least g c few =
+returns-then-count_roots-found-clause-least g c = λ few.
     least_steps c.args.params.now.e (count_erased c.args.erased.now) _ _ _ _ _ _ c.e.ensures.value c.count_erased-count.ensures
     c.erasure_locator-erasures.ensures.cost c.modified-terms.ensures.cost c.in-Some.ensures.later
 
@@ -88,7 +88,7 @@ returns-then-not-avoids_erased-clause-most g c =
     c.erasure_locator-erasures.ensures.cost c.modified-terms.ensures.cost c.in-Some.ensures.cost
 
 pub returns-then-not-avoids_erased-clause-least : goal.returns-then-not-avoids_erased-clause-least
-returns-then-not-avoids_erased-clause-least g c few =
+returns-then-not-avoids_erased-clause-least g c = λ few.
     least_steps c.args.params.now.e (count_erased c.args.erased.now) _ _ _ _ _ _ c.e.ensures.value c.count_erased-count.ensures
     c.erasure_locator-erasures.ensures.cost c.modified-terms.ensures.cost c.in-Some.ensures.later
 
@@ -98,6 +98,6 @@ returns-clause-most g c =
     c.erasure_locator-erasures.ensures.cost c.modified-terms.ensures.cost c.in-Some.ensures.cost
 
 pub returns-clause-least : goal.returns-clause-least
-returns-clause-least g c few =
+returns-clause-least g c = λ few.
     least_steps c.args.params.now.e (count_erased c.args.erased.now) _ _ _ _ _ _ c.e.ensures.value c.count_erased-count.ensures
     c.erasure_locator-erasures.ensures.cost c.modified-terms.ensures.cost c.in-Some.ensures.later

@@ -115,7 +115,7 @@ returns-else-l-repair-clause-cost g c =
     c.count_erased.ensures c.all_places-places.ensures.cost)
 
 pub returns-else-l-repair-clause-least : goal.returns-else-l-repair-clause-least
-returns-else-l-repair-clause-least g c few =
+returns-else-l-repair-clause-least g c = λ few.
     let found : List ℕ = numbers (take (c.in-Some.l.degree + 1) c.in-Some.l.coefs) in
     let e = c.args.params.now.e in
     let count = count_erased c.args.erased.now in

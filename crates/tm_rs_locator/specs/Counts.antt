@@ -1,0 +1,16 @@
+-- How many products are counted where erased places are taken out.
+use Rattle.std.specs.Prelude.{ℕ, ◌+◌, ◌-◌, ◌*◌, ◌≤◌}
+
+-- at most so many for any word
+abbrev pub most_products : ℕ → ℕ
+most_products e = 2 * e * (4 * e + 3) + 8 * e * e
+
+-- where `count` places are erased, at most so many between two counts of steps
+abbrev pub TakesAtMost : ℕ → ℕ → ℕ → ℕ → Type 0
+TakesAtMost e count before now = count ≤ 2 * e
+    → now ≤ before + (count * (count + 1) + (2 * e - count) * (2 * e + 4))
+
+-- and at least so many
+abbrev pub TakesAtLeast : ℕ → ℕ → ℕ → ℕ → Type 0
+TakesAtLeast e count before now = count ≤ 2 * e
+    → 2 * before + count * (count + 1) + 2 * ((2 * e - count) * (count + 1)) ≤ 2 * now
