@@ -16,7 +16,7 @@ use tm_codeblock::{Gathering, codeblock_size, column_count};
 use tm_config::Config;
 use tm_gf256::Gf;
 use tm_rs_solve::Answer;
-use tm_sync::Found;
+use tm_sync::{Found, NO_PLACE};
 use tm_workers::Word;
 
 /// Room for the codeblock under way and for a batch of whole ones, which are repaired at once. A batch has as many as
@@ -66,12 +66,7 @@ impl Codeblocks {
             answer: None,
         };
         let slot = Slot {
-            found: Found {
-                place: 0,
-                distance: 0,
-                bridged: false,
-                inverted: false,
-            },
+            found: NO_PLACE,
             octets: [0; 2040],
             answers: [Answer::Beyond; 8],
             frame: [0; 2040],

@@ -13,6 +13,14 @@ pub struct Found {
     pub inverted: bool,
 }
 
+/// What stands for a place where there is none.
+pub const NO_PLACE: Found = Found {
+    place: 0,
+    distance: 0,
+    bridged: false,
+    inverted: false,
+};
+
 /// What ends right before a bit: a codeblock.
 #[derive(Clone, Copy, Debug, PartialEq, Eq)]
 pub struct Before {

@@ -9,7 +9,7 @@ mod found;
 mod laws;
 mod search;
 
-pub use found::{Awaited, Before, Found, Paused};
+pub use found::{Awaited, Before, Found, NO_PLACE, Paused};
 pub use laws::{
     clean_law, few_places_law, longer_law, marked_law, no_verify_law, one_polarity_law,
     polarity_law,

@@ -8,7 +8,7 @@ ghost use Rattle.tmchan_c.specs.Searches.{Begins, FindsInto, awaited_of, before_
 use crate::refusal::Refusal;
 use tm_buffers::{find_in_bits, find_in_octets};
 use tm_config::ConfigError;
-use tm_sync::{Awaited, Before, Found, Paused, Search};
+use tm_sync::{Awaited, Before, Found, NO_PLACE, Paused, Search};
 
 // The most octets that are taken at a time.
 const MOST: usize = 1 << 40;
@@ -214,12 +214,7 @@ fn state(paused: &Paused) -> SearchState
         bridged: 0,
     });
     let awaited = paused.awaited.unwrap_or(Awaited {
-        found: Found {
-            place: 0,
-            distance: 0,
-            bridged: false,
-            inverted: false,
-        },
+        found: NO_PLACE,
         next: Before {
             inverted: false,
             bridged: 0,
