@@ -48,6 +48,10 @@ abbrev pub inside_next : Rules → ℕ → Option ℕ
 inside_next rules count =
     if nat_le (32 + rules.block_bits) count then Some (count - (32 + rules.block_bits)) else None
 
+-- a place that is told anew has no bits after its marker, or those by which it is verified
+abbrev pub IsNewlyTold : Searching → Type 0
+IsNewlyTold s = (unwrap_or (inside_of s) 0 ≡ 0) ⊎ (inside_of s ≡ Some (verify_bits s.rules))
+
 -- how many codeblocks are whole and were not given
 abbrev pub waiting_of : Searching → ℕ
 waiting_of s = option_map_or (λ count. (count + 32) / (32 + s.rules.block_bits)) (inside_of s) 0

@@ -6,7 +6,7 @@ ghost use Rattle.tm_sync.specs.declared.found.Found.{Found};
 ghost use Rattle.tm_sync.specs.declared.found.Before.{Before};
 ghost use Rattle.tm_sync.specs.Places.{Rules, wrong_bits, match_of, are_verified, way_of, verify_bits, found_at, place_by, places};
 ghost use Rattle.tm_sync.specs.Paused.{is_resumable, resumed};
-ghost use Rattle.tm_sync.specs.Searching.{Counts, Recalls, Remembers, Searching, StandsFor, awaited_at, far_count, end_of, inside_ahead, inside_by, inside_next, inside_of, is_pending, is_right_after, most_inside, waiting_of};
+ghost use Rattle.tm_sync.specs.Searching.{Counts, IsNewlyTold, Recalls, Remembers, Searching, StandsFor, awaited_at, far_count, end_of, inside_ahead, inside_by, inside_next, inside_of, is_pending, is_right_after, most_inside, waiting_of};
 
 use crate::found::{Awaited, Before, Found, Paused};
 use std::marker::Model;
@@ -161,8 +161,7 @@ impl Search {
         requires { is_pending self.old ≡ false }
         ensures rules { self.new.rules ≡ self.old.rules }
         ensures more { IfSome (inside_of self.old) (λ count. inside_of self.new ≡ Some (count + 1)) }
-        ensures first { IfNone (inside_of self.old) ((unwrap_or (inside_of self.new) 0 ≡ 0)
-            ⊎ (inside_of self.new ≡ Some (verify_bits self.new.rules))) }
+        ensures first { IfNone (inside_of self.old) (IsNewlyTold self.new) }
         ensures within { unwrap_or (inside_of self.new) 0 ≤ most_inside self.new.rules }
         ensures size { length room.new ≡ length room.old }
         ensures stands { (bits : List Bool) (found : List Found) → length bits < 2 ^ 63
@@ -243,8 +242,7 @@ impl Search {
         requires { is_pending self.old ≡ false }
         ensures rules { self.new.rules ≡ self.old.rules }
         ensures more { IfSome (inside_of self.old) (λ count. inside_of self.new ≡ Some (count + 1)) }
-        ensures first { IfNone (inside_of self.old) ((unwrap_or (inside_of self.new) 0 ≡ 0)
-            ⊎ (inside_of self.new ≡ Some (verify_bits self.new.rules))) }
+        ensures first { IfNone (inside_of self.old) (IsNewlyTold self.new) }
         ensures within { unwrap_or (inside_of self.new) 0 ≤ most_inside self.new.rules }
         ensures stands { (s : Searching) (was : List ℕ) (bit : Bool) (bits : List Bool) (found : List Found)
             → length bits < 2 ^ 63 → Counts s self.old bit → Remembers was room.now bits bit
