@@ -1,11 +1,13 @@
 -- How far a stream of soft octets has come, and with which blocks.
-use Rattle.std.specs.Prelude.{ℕ, ◌≡◌, ◌+◌, ◌*◌, ◌<◌, ◌≤◌, List, ◌++◌, Option, Some, None, length}
+use Rattle.std.specs.Prelude.{ℕ, ◌≡◌, ◌+◌, ◌*◌, ◌<◌, ◌≤◌, List, ◌++◌, Option, Some, None, Result, OnOk, OnErr, length}
+use Rattle.tm_base.specs.Calls.{TakerCall}
+use Rattle.tm_base.specs.Outside.{HasCause}
 use Rattle.tm_conv.specs.Path.{steps_size}
 use Rattle.tm_phase.specs.Slip.{octets_seen}
 use Rattle.tm_viterbi.specs.Settings.{Settings}
 use Rattle.tm_viterbi.specs.WindowBlock.{WindowBlock}
 use Rattle.tm_viterbi.specs.Due.{Place}
-use Rattle.tm_windows.specs.Followed.{Windows, Spot, first_spot, Begins, Followed, slips_of, kept_of}
+use Rattle.tm_windows.specs.Followed.{Windows, Spot, first_spot, AreFollowedFirst, Begins, Followed, slips_of, kept_of}
 use Rattle.tm_windows.specs.declared.gathering.Gathering.{Gathering}
 
 -- how the octets are decoded
@@ -58,3 +60,24 @@ pub record Reaches (g : Gathering) (all rest : List ℕ) (done : List WindowBloc
       (record { starts = g.starts; t = g.t; octets = g.held.octets ++ rest })
   pub kept : kept_of done ≡ g.t
   pub slips : slips_of done ≡ g.slips
+
+-- whatever it stood for, it stands for as many octets with these blocks more
+abbrev pub Advances : Gathering → Gathering → List WindowBlock → Type 0
+Advances before now more = (all rest : List ℕ) (done : List WindowBlock)
+    → Reaches before all rest done → Reaches now all rest (done ++ more)
+
+-- whatever it stood for, these blocks are the next, and others may follow
+abbrev pub AreNext : Gathering → List WindowBlock → Type 0
+AreNext before tried = (all rest : List ℕ) (done : List WindowBlock)
+    → Reaches before all rest done → AreFollowedFirst (windows_of before) all (done ++ tried)
+
+-- the blocks of the windows that the octets held close went to the taker; or it failed at one of them
+pub record ClosesHeld {R E : Type 0} (before now : Gathering) (taker : TakerCall WindowBlock)
+    (result : Result R E) : Type 0 where
+  pub ok : OnOk result ((more : List WindowBlock) × taker.took more × Advances before now more)
+  pub err : OnErr result ((tried : List WindowBlock) × taker.broke tried × AreNext before tried)
+  pub is_open : IsOpen now
+  pub decided : IsDecided now
+  pub counted : reached now ≤ reached before
+  pub windows : windows_of now ≡ windows_of before
+  pub cause : HasCause taker.before taker.now taker.is_last result

@@ -1,6 +1,7 @@
 // The octets of windows whose blocks were not handed over yet, and the workers that decode them.
 ghost use Rattle.std.specs.Prelude.{◌≡◌, ◌↔◌, ◌++◌, ◌∷◌, ◌⊎◌, ℕ, ◌+◌, ◌-◌, ◌*◌, ◌^◌, ◌<◌, ◌≤◌, IsTrue, List, [], false, IfOk, OnOk, OnErr, Option, None, drop, length, min};
 ghost use Rattle.std.specs.Option.{ForSome};
+ghost use Rattle.tm_base.specs.Calls.{taker_call};
 ghost use Rattle.tm_base.specs.Outside.{HasCause};
 ghost use Rattle.tm_base.specs.Takers.{HandedOver, HandedPart};
 ghost use Rattle.tm_conv.specs.Path.{steps_size};
@@ -98,7 +99,7 @@ fn slip_at(dropped: u8) -> u64
 
 impl Gathering {
     ghost use Rattle.tm_windows.specs.Followed.{AreFollowedOf, AreFollowedDue, AreFollowedFirst, slips_of, kept_of};
-    ghost use Rattle.tm_windows.specs.Gathered.{windows_of, room_of, reached, HasRoom, IsOpen, IsDecided, Reaches};
+    ghost use Rattle.tm_windows.specs.Gathered.{windows_of, room_of, reached, Advances, AreNext, ClosesHeld, HasRoom, IsOpen, IsDecided, Reaches};
 
     /// A stream of which no octet was given yet, and so many workers with room for `most` windows at a time. All
     /// memory is taken here.
@@ -171,17 +172,8 @@ impl Gathering {
         requires ready { (count : ℕ) → count ≤ 2 ^ 62 → C.is_ready closing.now count }
         requires room { HasRoom self.old }
         requires few { reached self.old < 2 ^ 60 }
-        ensures ok { OnOk result ((more : List WindowBlock) × HandedOver B.took blocks.old more blocks.new
-            × ((all rest : List ℕ) (done : List WindowBlock) → Reaches self.old all rest done
-            → Reaches self.new all rest (done ++ more))) }
-        ensures err { OnErr result ((tried : List WindowBlock) × HandedPart B.took B.broke blocks.old tried blocks.new
-            × ((all rest : List ℕ) (done : List WindowBlock) → Reaches self.old all rest done
-            → AreFollowedFirst (windows_of self.old) all (done ++ tried))) }
-        ensures is_open { IsOpen self.new }
-        ensures decided { IsDecided self.new }
-        ensures counted { reached self.new ≤ reached self.old }
-        ensures windows { windows_of self.new ≡ windows_of self.old }
-        ensures cause { HasCause (B.faults blocks.old) (B.faults blocks.new) (B.is_last blocks.new) result }
+        ensures { ClosesHeld self.old self.new
+            (taker_call B.took B.broke B.faults B.is_last blocks.old blocks.new) result }
     {
         match self.seen {
             None => match self.close_run(closing, blocks) {
@@ -206,13 +198,10 @@ impl Gathering {
         requires room { HasRoom self.old }
         requires few { self.old.t < 2 ^ 60 }
         ensures ok { OnOk result ((more : List WindowBlock) × HandedOver B.took blocks.old more blocks.new
-            × ((all rest : List ℕ) (done : List WindowBlock) → Reaches self.old all rest done
-            → Reaches self.new all rest (done ++ more))) }
+            × Advances self.old self.new more) }
         ensures err { OnErr result ((tried : List WindowBlock) × HandedPart B.took B.broke blocks.old tried blocks.new
-            × ((all rest : List ℕ) (done : List WindowBlock) → Reaches self.old all rest done
-            → AreFollowedFirst (windows_of self.old) all (done ++ tried))) }
+            × AreNext self.old tried) }
         ensures is_open { IsOpen self.new }
-        ensures decided { IsDecided self.new }
         ensures counted { reached self.new ≤ reached self.old }
         ensures windows { windows_of self.new ≡ windows_of self.old }
         ensures cause { HasCause (B.faults blocks.old) (B.faults blocks.new) (B.is_last blocks.new) result }
@@ -247,11 +236,9 @@ impl Gathering {
         requires followed { self.old.seen ≡ Option.Some steps }
         requires few { reached self.old < 2 ^ 60 }
         ensures ok { OnOk result ((more : List WindowBlock) × HandedOver B.took blocks.old more blocks.new
-            × ((all rest : List ℕ) (done : List WindowBlock) → Reaches self.old all rest done
-            → Reaches self.new all rest (done ++ more))) }
+            × Advances self.old self.new more) }
         ensures err { OnErr result ((tried : List WindowBlock) × HandedPart B.took B.broke blocks.old tried blocks.new
-            × ((all rest : List ℕ) (done : List WindowBlock) → Reaches self.old all rest done
-            → AreFollowedFirst (windows_of self.old) all (done ++ tried))) }
+            × AreNext self.old tried) }
         ensures is_open { IsOpen self.new }
         ensures decided { IsDecided self.new }
         ensures counted { reached self.new ≤ reached self.old }
@@ -321,11 +308,9 @@ impl Gathering {
         requires room { steps_size self.old.shape.rate self.old.t (self.old.shape.keep + self.old.shape.ahead + 1) ≤ length self.old.held.octets }
         requires few { self.old.t < 2 ^ 60 }
         ensures ok { OnOk result ((block : WindowBlock) × B.took blocks.old block blocks.new
-            × ((all rest : List ℕ) (done : List WindowBlock) → Reaches self.old all rest done
-            → Reaches self.new all rest (done ++ block ∷ []))) }
+            × Advances self.old self.new (block ∷ [])) }
         ensures err { OnErr result ((block : WindowBlock) × B.broke blocks.old block blocks.new
-            × ((all rest : List ℕ) (done : List WindowBlock) → Reaches self.old all rest done
-            → AreFollowedFirst (windows_of self.old) all (done ++ block ∷ []))) }
+            × AreNext self.old (block ∷ [])) }
         ensures left_open { OnErr result (IsOpen self.new × IsDecided self.new) }
         ensures shorter { length self.new.held.octets < length self.old.held.octets }
         ensures counted { reached self.new ≤ reached self.old }

@@ -23,9 +23,6 @@ returns-then-count-eq0-clause-ok g c = (
       },
 )
 
-pub returns-then-count-eq0-clause-decided : goal.returns-then-count-eq0-clause-decided
-returns-then-count-eq0-clause-decided g c = λ none. absurd (let known = sym (c.args.self.now.unfollowed c.requires.unfollowed) ∙ none in cc)
-
 pub returns-in-Ok-clause-ok : goal.returns-in-Ok-clause-ok
 returns-in-Ok-clause-ok g c =
     let s = c.args.self.now in
@@ -51,9 +48,6 @@ returns-in-Ok-clause-ok g c =
             slips = omega (arith, r.slips, slips-append done ok.0, closed-slips (settings_of s) at to ok.0 here);
           },
     )
-
-pub returns-in-Ok-clause-decided : goal.returns-in-Ok-clause-decided
-returns-in-Ok-clause-decided g c = λ none. absurd (let known = sym (c.args.self.now.unfollowed c.requires.unfollowed) ∙ none in cc)
 
 pub returns-in-Ok-clause-is_open : goal.returns-in-Ok-clause-is_open
 returns-in-Ok-clause-is_open g c =
@@ -98,9 +92,6 @@ returns-in-Err-clause-err g c =
           (subst (λ (o : Option ℕ). IsAt w r.to o at) (s.unfollowed c.requires.unfollowed) r.at) there.1 in
           (runs.to, runs.closed),
     )
-
-pub returns-in-Err-clause-decided : goal.returns-in-Err-clause-decided
-returns-in-Err-clause-decided g c = λ none. absurd (let known = sym (c.args.self.now.unfollowed c.requires.unfollowed) ∙ none in cc)
 
 pub returns-in-Err-clause-is_open : goal.returns-in-Err-clause-is_open
 returns-in-Err-clause-is_open g c =
