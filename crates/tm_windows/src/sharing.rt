@@ -28,7 +28,6 @@ fn decode_part<G: Gate>(
     requires shape { decoder.old ≡ shape }
     requires bits { HaveRoom (shape.keep + shape.ahead) candidates.old }
     requires start { ForSome known (λ starts. ForSome starts (λ register. register < 64)) }
-    requires within { at ≤ length octets.now }
     requires room { at + steps_size shape.rate t
         (length candidates.old * shape.keep + shape.ahead + 1) ≤ length octets.now }
     requires few { t + length candidates.old * shape.keep < 2 ^ 61 }
