@@ -71,6 +71,12 @@ abbrev pub AreNext : Gathering → List WindowBlock → Type 0
 AreNext before tried = (all rest : List ℕ) (done : List WindowBlock)
     → Reaches before all rest done → AreFollowedFirst (windows_of before) all (done ++ tried)
 
+-- no window is closed any more, and no octet came
+pub record LeavesOpen (before now : Gathering) : Type 0 where
+  pub windows : windows_of now ≡ windows_of before
+  pub counted : reached now ≤ reached before
+  pub is_open : IsOpen now
+
 -- the blocks of the windows that the octets held close went to the taker; or it failed at one of them
 pub record ClosesHeld {R E : Type 0} (before now : Gathering) (taker : TakerCall WindowBlock)
     (result : Result R E) : Type 0 where

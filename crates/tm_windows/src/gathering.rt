@@ -99,7 +99,7 @@ fn slip_at(dropped: u8) -> u64
 
 impl Gathering {
     ghost use Rattle.tm_windows.specs.Followed.{AreFollowedOf, AreFollowedDue, AreFollowedFirst, slips_of, kept_of};
-    ghost use Rattle.tm_windows.specs.Gathered.{windows_of, room_of, reached, Advances, AreNext, ClosesHeld, HasRoom, IsOpen, IsDecided, Reaches};
+    ghost use Rattle.tm_windows.specs.Gathered.{windows_of, room_of, reached, Advances, AreNext, ClosesHeld, HasRoom, IsOpen, IsDecided, LeavesOpen, Reaches};
 
     /// A stream of which no octet was given yet, and so many workers with room for `most` windows at a time. All
     /// memory is taken here.
@@ -457,9 +457,7 @@ impl Gathering {
             → AreFollowedFirst (windows_of self.old) all (done ++ tried) ⊎ ((left : ℕ)
             × AreFollowedOf (windows_of self.old) all (done ++ tried) left))) }
         ensures left { IfOk result (λ left. left ≤ 1) }
-        ensures windows { windows_of self.new ≡ windows_of self.old }
-        ensures counted { reached self.new ≤ reached self.old }
-        ensures is_open { IsOpen self.new }
+        ensures ended { LeavesOpen self.old self.new }
         ensures cause { HasCause (B.faults blocks.old) (B.faults blocks.new) (B.is_last blocks.new) result }
     {
         match self.close(closing, blocks) {

@@ -1,4 +1,4 @@
-use Rattle.std.proofs.Common.{◌++◌, ◌∷◌, ◌∙◌, [], inl, inr, sym, ap, append_assoc}
+use Rattle.std.proofs.Common.{◌++◌, ◌∷◌, ◌∙◌, [], inl, inr, sym, ap, arith, append_assoc}
 use Rattle.tm_base.proofs.Handing.{HandedOver-append, HandedPart-after, HandedPart-first}
 use Rattle.tm_windows.specs.Followed.{slips_of, kept_of}
 use Rattle.tm_windows.specs.Gathered.{windows_of}
@@ -40,3 +40,24 @@ returns-in-Err-end_open-clause-err g c =
 pub returns-in-Err-clause-err : goal.returns-in-Err-clause-err
 returns-in-Err-clause-err g c =
     let err = c.in-Err.ensures.err in (err.0, err.1, λ all done r. inl (err.2 all [] done r))
+
+pub returns-in-Ok-end_open-clause-ended : goal.returns-in-Ok-end_open-clause-ended
+returns-in-Ok-end_open-clause-ended g c = record {
+  windows = c.end_open.ensures.windows ∙ c.close.ensures.windows;
+  counted = omega (arith, c.end_open.ensures.counted, c.close.ensures.counted);
+  is_open = c.end_open.ensures.is_open;
+}
+
+pub returns-in-Err-end_open-clause-ended : goal.returns-in-Err-end_open-clause-ended
+returns-in-Err-end_open-clause-ended g c = record {
+  windows = c.end_open.ensures.windows ∙ c.close.ensures.windows;
+  counted = omega (arith, c.end_open.ensures.counted, c.close.ensures.counted);
+  is_open = c.end_open.ensures.is_open;
+}
+
+pub returns-in-Err-clause-ended : goal.returns-in-Err-clause-ended
+returns-in-Err-clause-ended g c = record {
+  windows = c.close.ensures.windows;
+  counted = c.close.ensures.counted;
+  is_open = c.close.ensures.is_open;
+}

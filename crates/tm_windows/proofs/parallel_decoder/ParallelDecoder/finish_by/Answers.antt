@@ -8,16 +8,16 @@ use Rattle.tm_windows.proofs.parallel_decoder.ParallelDecoder.finish_by.Goals as
 
 pub invariant_of-self : goal.invariant_of-self
 invariant_of-self g c = (
-  omega (arith, c.end.ensures.counted, c.self.invariant.0),
+  omega (arith, c.end.ensures.ended.counted, c.self.invariant.0),
   c.self.invariant.1,
-  has_room c.end.new.self c.end.ensures.is_open,
+  has_room c.end.new.self c.end.ensures.ended.is_open,
 )
 
 pub invariant_of-self-2 : goal.invariant_of-self-2
 invariant_of-self-2 g c = (
-  omega (arith, c.end.ensures.counted, c.self.invariant.0),
+  omega (arith, c.end.ensures.ended.counted, c.self.invariant.0),
   c.self.invariant.1,
-  has_room c.end.new.self c.end.ensures.is_open,
+  has_room c.end.new.self c.end.ensures.ended.is_open,
 )
 
 pub returns-clause-handed : goal.returns-clause-handed
