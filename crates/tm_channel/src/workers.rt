@@ -16,9 +16,15 @@ use crate::kept::KeptBits;
 use crate::totals::Totals;
 use std::alloc::Global;
 use std::thread::Threads;
-use tm_inner::InnerReceiver;
+use tm_inner::{InnerEnd, InnerReceiver};
 use tm_rs_code::Params;
 use tm_workers::{Word, decode_in_order};
+
+// What no octets come to.
+const NOTHING: Totals = Totals {
+    bits: 0,
+    slips: None,
+};
 
 /// Who decodes the windows of the first stage, and the words of a batch.
 pub trait Workers {
@@ -98,14 +104,8 @@ impl<'a, R: Threads + Sync, F: Fn(Global, &Params, u8, &mut [Word], u8)> Workers
 
     fn finish(&self, inner: &mut InnerReceiver, kept: &mut KeptBits) -> Totals {
         match inner.finish_with(self.rt, kept) {
-            Ok(end) => Totals {
-                bits: end.bits,
-                slips: end.slips,
-            },
-            Err(_) => Totals {
-                bits: 0,
-                slips: None,
-            },
+            Ok(InnerEnd { bits, slips, .. }) => Totals { bits, slips },
+            Err(_) => NOTHING,
         }
     }
 
@@ -135,14 +135,8 @@ impl Workers for InOrder {
 
     fn finish(&self, inner: &mut InnerReceiver, kept: &mut KeptBits) -> Totals {
         match inner.finish(kept) {
-            Ok(end) => Totals {
-                bits: end.bits,
-                slips: end.slips,
-            },
-            Err(_) => Totals {
-                bits: 0,
-                slips: None,
-            },
+            Ok(InnerEnd { bits, slips, .. }) => Totals { bits, slips },
+            Err(_) => NOTHING,
         }
     }
 
