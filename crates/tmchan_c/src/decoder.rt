@@ -123,12 +123,11 @@ pub extern "C" fn tmchan_decoder_phase(
     let Some(stream) = take(alloc, handle) else {
         return Refusal::Closed.answer();
     };
-    let answer = match &*stream {
+    match &*stream {
         Stream::Decoder(decoder) => {
             *phase = phase_state(decoder.chosen());
-            0
+            put(handle, stream, 0)
         }
-        _ => Refusal::Closed.answer(),
-    };
-    put(handle, stream, answer)
+        _ => put(handle, stream, Refusal::Closed.answer()),
+    }
 }

@@ -146,14 +146,13 @@ pub extern "C" fn tmchan_receiver_phase(
     let Some(stream) = take(alloc, handle) else {
         return Refusal::Closed.answer();
     };
-    let answer = match &*stream {
+    match &*stream {
         Stream::Receiver(receiver) => {
             *phase = phase_state(receiver.chosen());
-            0
+            put(handle, stream, 0)
         }
-        _ => Refusal::Closed.answer(),
-    };
-    put(handle, stream, answer)
+        _ => put(handle, stream, Refusal::Closed.answer()),
+    }
 }
 
 /// Tells before how many windows of the inner code octets were dropped so far, of those whose bits were searched: none
@@ -169,12 +168,11 @@ pub extern "C" fn tmchan_receiver_slips(alloc: Global, handle: &mut Handle, coun
     let Some(stream) = take(alloc, handle) else {
         return Refusal::Closed.answer();
     };
-    let answer = match &*stream {
+    match &*stream {
         Stream::Receiver(receiver) => {
             *count = receiver.slips();
-            0
+            put(handle, stream, 0)
         }
-        _ => Refusal::Closed.answer(),
-    };
-    put(handle, stream, answer)
+        _ => put(handle, stream, Refusal::Closed.answer()),
+    }
 }

@@ -2,21 +2,14 @@ use Rattle.std.proofs.Common.{rules, ◌≡◌, Option, Some, sym, subst}
 use Rattle.tm_config.specs.Configuration.{Configuration}
 use Rattle.tm_inner.specs.Phase.{IsChosenSoFar}
 use Rattle.tm_phase.specs.declared.choosing.Chosen.{Chosen}
-use Rattle.tmchan_c.specs.Phases.{chosen_of}
 use Rattle.tmchan_c.specs.Receivers.{IsReceiver}
 use Rattle.tmchan_c.specs.declared.stream.Stream.{Stream}
 use Rattle.tmchan_c.specs.declared.stream.Stream.TheVariants.{Receiver}
 use Rattle.tmchan_c.proofs.receiver.tmchan_receiver_phase.Goals as goal
-use Rattle.tmchan_c.proofs.receiver.tmchan_receiver_phase.Goals.{in-Receiver, in_default-deref}
 
-pub returns-clause-told : goal.returns-clause-told
-returns-clause-told c = λ config given done is.
-    elim c.match-deref.branch [
-      | in-Receiver w ↦
-          let held : c.args.handle.now.kept.value ≡ Some (Receiver w.in-Receiver.receiver) = search rules in
-          let receiver = subst (λ (o : Option Stream). IsReceiver o config given done) held is in
-          let told : chosen_of c.match-deref.phase ≡ w.chosen.result = search rules in
-          let so_far = subst (λ (k : Configuration). IsChosenSoFar k given w.chosen.result) receiver.0 (w.chosen.ensures.so_far given done receiver.1) in
-          (search rules, subst (λ (o : Option Chosen). IsChosenSoFar config given o) (sym told) so_far)
-      | in_default-deref w ↦ absurd (search rules)
-    ]
+pub returns-in-Receiver-clause-told : goal.returns-in-Receiver-clause-told
+returns-in-Receiver-clause-told c = λ config given done is.
+    let held : c.args.handle.now.kept.value ≡ Some (Receiver c.in-Receiver.receiver) = search rules in
+    let receiver = subst (λ (o : Option Stream). IsReceiver o config given done) held is in
+    let so_far = subst (λ (k : Configuration). IsChosenSoFar k given c.chosen.result) receiver.0 (c.chosen.ensures.so_far given done receiver.1) in
+    (search rules, subst (λ (o : Option Chosen). IsChosenSoFar config given o) (sym c.phase_state.ensures) so_far)
