@@ -10,7 +10,7 @@ use std::alloc::Global;
 use std::marker::Model;
 use tm_base::{Failed, Held, NoMemory, Sink};
 use tm_conv::{Rate, symbols_of};
-use tm_viterbi::{Block, BlockTaker, Start, first_start};
+use tm_viterbi::{Block, BlockTaker, Start, WindowShape, first_start};
 
 /// The most octets that are given at a time.
 pub const PIECE: usize = 256;
@@ -47,33 +47,26 @@ impl Model for Certifying {
 }
 
 impl Certifying {
-    /// Before the first octet, for windows of `keep` steps, 64 to 65,536, and `ahead` more, at most 4,096. It fails only where there isn't
-    /// enough memory.
-    pub fn open(
-        alloc: Global,
-        rate: Rate,
-        invert: bool,
-        start: Start,
-        keep: u32,
-        ahead: u32,
-    ) -> Result<Certifying, NoMemory>
-        requires keep { keep ≤ 65536 }
-        requires ahead { ahead ≤ 4096 }
+    /// Before the first octet, for windows of this shape, which keeps at most 65,536 steps and has at most 4,096 ahead.
+    /// It fails only where there isn't enough memory.
+    pub fn open(alloc: Global, start: Start, shape: WindowShape) -> Result<Certifying, NoMemory>
+        requires keep { shape.keep ≤ 65536 }
+        requires ahead { shape.ahead ≤ 4096 }
         ensures { IfOk result (λ c. c ≡ record {
-          rate = rate;
-          invert = invert;
+          rate = shape.rate;
+          invert = shape.invert;
           place = record { starts = first_start start; t = 0; octets = [] };
-          room = 2 * (keep + ahead) + 264;
+          room = 2 * (shape.keep + shape.ahead) + 264;
         }) }
     {
         // The octets of a window and of a step after it, or those by which the symbol phase is chosen, and a piece.
-        let room = 2 * (keep + ahead) as usize + 8 + PIECE;
+        let room = 2 * (shape.keep + shape.ahead) + 8 + PIECE;
         let Ok(octets) = Held::open(alloc, room) else {
             return Err(NoMemory);
         };
         Ok(Certifying {
-            rate,
-            invert,
+            rate: shape.rate,
+            invert: shape.invert,
             start: first_start(start),
             t: 0,
             octets,

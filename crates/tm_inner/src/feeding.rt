@@ -16,7 +16,7 @@ use crate::workers::{Feeding, count_closed, gather, slip_count, step_count};
 use std::alloc::Global;
 use tm_base::{Failed, NoMemory};
 use tm_config::Config;
-use tm_viterbi::{BlockTaker, Decoder};
+use tm_viterbi::{BlockTaker, Decoder, WindowShape};
 use tm_windows::{ParallelDecoder, closed_prefix_law};
 
 // How many signed octets are converted to unsigned ones at a time.
@@ -48,7 +48,13 @@ pub fn decoder_of(
             Err(_) => Err(NoMemory),
         };
     }
-    match ParallelDecoder::open(alloc, rate, invert, start, keep, ahead, workers, follow) {
+    let shape = WindowShape {
+        rate,
+        invert,
+        keep: keep as usize,
+        ahead: ahead as usize,
+    };
+    match ParallelDecoder::open(alloc, start, shape, workers, follow) {
         Ok(decoder) => Ok(Some(InnerDecoder::Many(decoder))),
         Err(_) => Err(NoMemory),
     }

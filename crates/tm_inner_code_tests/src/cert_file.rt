@@ -5,14 +5,18 @@ use std::process::Abort;
 use tm_base::MemSink;
 use tm_cert_file::{Certifier, Certifying};
 use tm_conv::Rate;
-use tm_viterbi::{Block, BlockTaker, Start};
+use tm_viterbi::{Block, BlockTaker, Start, WindowShape};
 
 // The certificate.
 fn certificate(rt: &impl Abort, alloc: Global) -> MemSink {
     let mut out = MemSink::new(alloc, 1000, Vec::new(alloc)).expect(rt, "memory");
-    let mut certifying = Certifying::open(alloc, Rate::R12, true, Start::Zero, 64, 3).expect(
-        rt, "memory",
-    );
+    let shape = WindowShape {
+        rate: Rate::R12,
+        invert: true,
+        keep: 64,
+        ahead: 3,
+    };
+    let mut certifying = Certifying::open(alloc, Start::Zero, shape).expect(rt, "memory");
     certifying.give(&[0x80, 0x00]);
     let mut certifier = Certifier {
         certifying: &mut certifying,

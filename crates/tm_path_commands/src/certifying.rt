@@ -17,6 +17,7 @@ use tm_conv::Rate;
 use tm_driver::{Ending, Feed, Outcome, Stop, drive};
 use tm_inner::{InnerReceiver, is_inverted, rate_of};
 use tm_phase::{phase_law, whole_window_law};
+use tm_viterbi::WindowShape;
 use tm_windows::{closed_prefix_law, due_windows_law, one_windows_law};
 
 // What is kept to write the certificate of a configuration that does not follow a phase, which was given nothing yet.
@@ -29,16 +30,16 @@ fn open(alloc: Global, config: &Config) -> Result<Certifying, NoMemory>
 {
     let rate = rate_of(config).unwrap_or(Rate::R12);
     let values = config.values();
-    let keep = config.keep() as u32;
-    let ahead = config.ahead() as u32;
-    Certifying::open(
-        alloc,
+    let invert = is_inverted(rate, values.invert);
+    let keep = config.keep() as usize;
+    let ahead = config.ahead() as usize;
+    let shape = WindowShape {
         rate,
-        is_inverted(rate, values.invert),
-        values.start,
+        invert,
         keep,
         ahead,
-    )
+    };
+    Certifying::open(alloc, values.start, shape)
 }
 
 // Gives the soft octets of the next at most 256 octets, before a receiver is given these.

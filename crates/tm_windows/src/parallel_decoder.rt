@@ -17,7 +17,6 @@ use std::alloc::Global;
 use std::marker::Model;
 use std::thread::Threads;
 use tm_base::{Failed, NoMemory};
-use tm_conv::Rate;
 use tm_phase::steps_seen;
 use tm_viterbi::{BlockTaker, FeedError, Start, WindowShape};
 
@@ -26,9 +25,9 @@ const STEPS_EACH: usize = 131_072;
 
 // The least windows for which workers pay: a guess runs over some hundred steps, and is often wrong where few stand
 // ahead.
-const LEAST_KEEP: u32 = 1_024;
+const LEAST_KEEP: usize = 1_024;
 
-const LEAST_AHEAD: u32 = 64;
+const LEAST_AHEAD: usize = 64;
 
 /// The soft decoder (CCSDS 131.0-B, Convolutional Coding), fed in pieces of soft octets as `tm_viterbi::Decoder` is,
 /// whose windows many workers decode side by side: all those that octets close. Octets may also be gathered, so that
@@ -59,7 +58,7 @@ impl Model for ParallelDecoder {
 }
 
 // How many of so many workers windows are shared out among.
-fn worker_count(workers: u8, keep: u32, ahead: u32) -> u8
+fn worker_count(workers: u8, keep: usize, ahead: usize) -> u8
     ensures { result ≡ workers_for workers keep ahead }
 {
     if keep < LEAST_KEEP || ahead < LEAST_AHEAD {
@@ -70,28 +69,28 @@ fn worker_count(workers: u8, keep: u32, ahead: u32) -> u8
 }
 
 // How many windows so many workers have at a time.
-fn window_count(workers: u8, keep: u32) -> usize
+fn window_count(workers: u8, keep: usize) -> usize
     requires workers { (0 < workers) × (workers ≤ 64) }
     requires keep { (64 ≤ keep) × (keep ≤ 65536) }
     ensures value { result ≡ windows_for workers keep }
     ensures small { (0 < result) × (result ≤ 2 ^ 17) }
 {
     if workers > 1 {
-        usize::from(workers) * (STEPS_EACH / keep as usize)
+        usize::from(workers) * (STEPS_EACH / keep)
     } else {
         1
     }
 }
 
 // Over how many steps a slip is looked for, where the phase is followed.
-fn seen_of(follow: bool, keep: u32, ahead: u32) -> Option<usize>
+fn seen_of(follow: bool, keep: usize, ahead: usize) -> Option<usize>
     requires keep { (64 ≤ keep) × (keep ≤ 65536) }
     requires ahead { ahead ≤ 4096 }
     ensures value { result ≡ (if follow then Some (steps_seen keep ahead) else None) }
     ensures looks { ForSome result (λ steps. (1 ≤ steps) × (steps ≤ 1024) × (steps + 8 ≤ keep + ahead)) }
 {
     if follow {
-        Some(steps_seen(keep as usize, ahead as usize))
+        Some(steps_seen(keep, ahead))
     } else {
         None
     }
@@ -112,44 +111,36 @@ fn counted(count: u64, piece: &[u8]) -> &[u8]
 }
 
 impl ParallelDecoder {
-    /// A decoder that was given nothing yet, with 1 to 64 workers, for windows of `keep` steps, 64 to 65,536, and
-    /// `ahead` more, at most 4,096. Where `invert` is set each second sum was sent inverted. Of each window but the
-    /// last `keep` steps are kept. Where fewer than 1,024 steps are kept or fewer than 64 stand ahead, one worker
-    /// decodes all windows. Where `follow` is set a slip is looked for before each window but the first, and as many
-    /// octets are dropped; one worker decodes all windows then, too.
+    /// A decoder that was given nothing yet, with 1 to 64 workers, for windows of this shape, which keeps 64 to 65,536
+    /// steps, of the last window all, and has at most 4,096 ahead. Where fewer than 1,024 steps are kept or fewer than
+    /// 64 stand ahead, one worker decodes all windows. Where `follow` is set a slip is looked for before each window but
+    /// the first, and as many octets are dropped; one worker decodes all windows then, too.
     ///
     /// It fails only where there isn't enough memory.
     pub fn open(
         alloc: Global,
-        rate: Rate,
-        invert: bool,
         start: Start,
-        keep: u32,
-        ahead: u32,
+        shape: WindowShape,
         workers: u8,
         follow: bool,
     ) -> Result<ParallelDecoder, NoMemory>
-        requires keep { (64 ≤ keep) × (keep ≤ 65536) }
-        requires ahead { ahead ≤ 4096 }
+        requires keep { (64 ≤ shape.keep) × (shape.keep ≤ 65536) }
+        requires ahead { shape.ahead ≤ 4096 }
         requires workers { (0 < workers) × (workers ≤ 64) }
         ensures windows { IfOk result (λ d. d.windows ≡ record {
-          settings = record { rate = rate; invert = invert; start = start; keep = keep; ahead = ahead };
-          seen = if follow then Some (steps_seen keep ahead) else None;
+          settings = record { rate = shape.rate; invert = shape.invert; start = start; keep = shape.keep; ahead = shape.ahead };
+          seen = if follow then Some (steps_seen shape.keep shape.ahead) else None;
         }) }
-        ensures workers { IfOk result (λ d. d.gathering.workers.workers ≡ workers_for workers keep ahead) }
-        ensures most { IfOk result (λ d. d.gathering.workers.most ≡ windows_for (workers_for workers keep ahead) keep) }
+        ensures workers { IfOk result (λ d.
+            d.gathering.workers.workers ≡ workers_for workers shape.keep shape.ahead) }
+        ensures most { IfOk result (λ d.
+            d.gathering.workers.most ≡ windows_for (workers_for workers shape.keep shape.ahead) shape.keep) }
         ensures fresh { IfOk result (λ d. d.has_stopped ≡ false) }
         ensures stands { IfOk result (λ d. StandsFor d [] []) }
     {
-        let workers = worker_count(workers, keep, ahead);
-        let most = window_count(workers, keep);
-        let shape = WindowShape {
-            rate,
-            invert,
-            keep: keep as usize,
-            ahead: ahead as usize,
-        };
-        let seen = seen_of(follow, keep, ahead);
+        let workers = worker_count(workers, shape.keep, shape.ahead);
+        let most = window_count(workers, shape.keep);
+        let seen = seen_of(follow, shape.keep, shape.ahead);
         let gathering = Gathering::new(alloc, start, shape, seen, workers, most)?;
         Ok(ParallelDecoder {
             gathering,

@@ -74,23 +74,9 @@ fn opened(
     workers: u8,
     follow: bool,
 ) -> Result<ParallelDecoder, Fail> {
-    let WindowShape {
-        rate,
-        invert,
-        keep,
-        ahead,
-    } = shape;
+    let WindowShape { keep, ahead, .. } = shape;
     assert!(rt; 64 <= keep && keep <= 65536 && ahead <= 4096 && 0 < workers && workers <= 64);
-    Ok(ParallelDecoder::open(
-        alloc,
-        rate,
-        invert,
-        start,
-        keep as u32,
-        ahead as u32,
-        workers,
-        follow,
-    )?)
+    Ok(ParallelDecoder::open(alloc, start, shape, workers, follow)?)
 }
 
 fn with_workers<R: Abort + Threads + Sync>(

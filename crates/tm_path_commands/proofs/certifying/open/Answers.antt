@@ -9,6 +9,6 @@ pub returns : goal.returns
 returns c = IfOk-weaker c.open.result _ _ (λ v is receiver taken same stands.
     certifies-new c.args.config.now receiver v taken c.values-values.ensures.accepted c.requires same stands (λ rate some.
     let other : c.unwrap_or-rate.result ≡ rate = search rules in
-    new-is c.args.config.now rate v c.unwrap_or-rate.result c.is_inverted.result c.values-values.result.now.start c.keep-keep.result c.ahead-ahead.result is other
-    (c.is_inverted.ensures ∙ ap (λ (v : Configuration). is_inverted c.unwrap_or-rate.result v.invert) c.values-values.ensures.value)
+    new-is c.args.config.now rate v c.unwrap_or-rate.result c.is_inverted-invert.result c.values-values.result.now.start c.keep-keep.result c.ahead-ahead.result is other
+    (c.is_inverted-invert.ensures ∙ ap (λ (v : Configuration). is_inverted c.unwrap_or-rate.result v.invert) c.values-values.ensures.value)
     (ap (λ (v : Configuration). v.start) c.values-values.ensures.value) c.keep-keep.ensures.value c.ahead-ahead.ensures.value)) c.open.ensures
