@@ -1,11 +1,13 @@
 // The inner code of a configuration.
 ghost use Rattle.std.specs.Prelude.{◌≡◌, []};
+ghost use Rattle.tm_config.specs.Accepted.{IsAccepted};
 ghost use Rattle.tm_config.specs.Configuration.{is_signed};
 ghost use Rattle.tm_inner.specs.Symbols.{is_inverted, low_level};
 ghost use Rattle.tm_inner.specs.Sending.{IsEncoderOf, KeepsFor};
 
 use tm_config::{Config, SoftForm};
 use tm_conv::{Encoder, Rate};
+use tm_viterbi::WindowShape;
 
 /// The rate of the inner code of a configuration, or None where there is none.
 pub fn rate_of(config: &Config) -> Option<Rate>
@@ -22,6 +24,22 @@ pub fn is_inverted(rate: Rate, chosen: Option<bool>) -> bool
     match chosen {
         Some(invert) => invert,
         None => rate == Rate::R12,
+    }
+}
+
+/// The shape of the windows of a configuration at this rate.
+pub fn shape_of(rate: Rate, config: &Config) -> WindowShape
+    ensures rate { result.rate ≡ rate }
+    ensures invert { result.invert ≡ is_inverted rate config.now.invert }
+    ensures keep { result.keep ≡ config.now.keep }
+    ensures ahead { result.ahead ≡ config.now.ahead }
+    ensures accepted { IsAccepted config.now }
+{
+    WindowShape {
+        rate,
+        invert: is_inverted(rate, config.values().invert),
+        keep: config.keep() as usize,
+        ahead: config.ahead() as usize,
     }
 }
 

@@ -10,13 +10,13 @@ ghost use Rattle.tm_inner.specs.Inner.{AreInnerBlocks, AreInnerDue, soft_octets}
 ghost use Rattle.tm_inner.specs.InnerDecoding.{HasClosed, HasWorkers, windows_in, has_stopped_in, StandsIn};
 ghost use Rattle.tm_inner.specs.Receiving.{AreInnerFirst, HasClosedAll, HasCountedAll, IsCount, IsDecoderOf, HasStopped, DecodesFor, FindsFirst, Hands, HandsPrefix, from_form};
 
-use crate::code::{is_inverted, rate_of};
+use crate::code::{rate_of, shape_of};
 use crate::inner_decoder::InnerDecoder;
 use crate::workers::{Feeding, count_closed, gather, slip_count, step_count};
 use std::alloc::Global;
 use tm_base::{Failed, NoMemory};
 use tm_config::Config;
-use tm_viterbi::{BlockTaker, Decoder, WindowShape};
+use tm_viterbi::{BlockTaker, Decoder};
 use tm_windows::{ParallelDecoder, closed_prefix_law};
 
 // How many signed octets are converted to unsigned ones at a time.
@@ -37,23 +37,16 @@ pub fn decoder_of(
     let Some(rate) = rate_of(config) else {
         return Ok(None);
     };
-    let keep = config.keep() as u32;
-    let ahead = config.ahead() as u32;
-    let invert = is_inverted(rate, config.values().invert);
+    let shape = shape_of(rate, config);
     let start = config.values().start;
     let follow = config.values().follow;
     if workers == 1 && !follow {
-        return match Decoder::open(alloc, rate, invert, start, keep, ahead) {
+        let (keep, ahead) = (shape.keep as u32, shape.ahead as u32);
+        return match Decoder::open(alloc, rate, shape.invert, start, keep, ahead) {
             Ok(decoder) => Ok(Some(InnerDecoder::One(decoder))),
             Err(_) => Err(NoMemory),
         };
     }
-    let shape = WindowShape {
-        rate,
-        invert,
-        keep: keep as usize,
-        ahead: ahead as usize,
-    };
     match ParallelDecoder::open(alloc, start, shape, workers, follow) {
         Ok(decoder) => Ok(Some(InnerDecoder::Many(decoder))),
         Err(_) => Err(NoMemory),

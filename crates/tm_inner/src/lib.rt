@@ -17,7 +17,7 @@ mod spreading;
 mod whole;
 mod workers;
 
-pub use code::{is_inverted, rate_of};
+pub use code::{is_inverted, rate_of, shape_of};
 pub use laws::{clean_inner_law, due_bits_law, inner_law, metric_law};
 pub use receiver::{InnerEnd, InnerReceiver};
 pub use sender::{InnerSender, SendError};

@@ -15,9 +15,8 @@ use tm_cert_file::{Certifier, Certifying, PIECE, certified_law};
 use tm_config::Config;
 use tm_conv::Rate;
 use tm_driver::{Ending, Feed, Outcome, Stop, drive};
-use tm_inner::{InnerReceiver, is_inverted, rate_of};
+use tm_inner::{InnerReceiver, rate_of, shape_of};
 use tm_phase::{phase_law, whole_window_law};
-use tm_viterbi::WindowShape;
 use tm_windows::{closed_prefix_law, due_windows_law, one_windows_law};
 
 // What is kept to write the certificate of a configuration that does not follow a phase, which was given nothing yet.
@@ -30,15 +29,7 @@ fn open(alloc: Global, config: &Config) -> Result<Certifying, NoMemory>
 {
     let rate = rate_of(config).unwrap_or(Rate::R12);
     let values = config.values();
-    let invert = is_inverted(rate, values.invert);
-    let keep = config.keep() as usize;
-    let ahead = config.ahead() as usize;
-    let shape = WindowShape {
-        rate,
-        invert,
-        keep,
-        ahead,
-    };
+    let shape = shape_of(rate, config);
     Certifying::open(alloc, values.start, shape)
 }
 

@@ -10,6 +10,7 @@ ghost use Rattle.tm_viterbi.specs.Decoding.{Calls, StandsFor};
 
 use crate::block::{BlockTaker, Start};
 use crate::stream::Stream;
+use crate::window_decoder::WindowShape;
 use std::alloc::Global;
 use std::marker::Model;
 use thiserror::Error;
@@ -67,7 +68,13 @@ impl Decoder {
         ensures fresh { IfOk result (λ d. d.has_stopped ≡ false) }
         ensures stands { IfOk result (λ d. StandsFor d [] []) }
     {
-        match Stream::new(alloc, rate, invert, start, keep as usize, ahead as usize) {
+        let shape = WindowShape {
+            rate,
+            invert,
+            keep: keep as usize,
+            ahead: ahead as usize,
+        };
+        match Stream::new(alloc, start, shape) {
             Ok(stream) => Ok(Decoder {
                 stream,
                 count: 0,

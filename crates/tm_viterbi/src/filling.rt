@@ -7,6 +7,7 @@ ghost use Rattle.tm_viterbi.specs.Totals.{AreAtMost};
 use crate::passes::run;
 use crate::traceback::{end_register, trace_back};
 use crate::window::{first_sums, least_register};
+use crate::window_decoder::WindowShape;
 use std::alloc::{AllocError, Global};
 use tm_conv::Rate;
 
@@ -55,23 +56,21 @@ impl Window {
     #[tactic(auto, unfolding(tm_conv::specs::Path::steps_size))]
     pub(crate) fn new(
         alloc: Global,
-        rate: Rate,
-        invert: bool,
-        keep: usize,
-        ahead: usize,
+        shape: WindowShape,
         starts: Option<u8>,
     ) -> Result<Window, AllocError>
-        requires { keep + ahead ≤ 69632 }
+        requires { shape.keep + shape.ahead ≤ 69632 }
         ensures holds { IfOk result (λ w. Holds w []) }
-        ensures began { IfOk result (λ w. (w.rate ≡ rate) × (w.invert ≡ invert) × (w.keep ≡ keep) × (w.ahead ≡ ahead) × (w.starts ≡ starts) × (w.t ≡ 0) × (w.filled ≡ 0)) }
+        ensures began { IfOk result (λ w. (w.rate ≡ shape.rate) × (w.invert ≡ shape.invert) × (w.keep ≡ shape.keep)
+            × (w.ahead ≡ shape.ahead) × (w.starts ≡ starts) × (w.t ≡ 0) × (w.filled ≡ 0)) }
     {
-        let survivors = zeros(alloc, keep + ahead)?;
+        let survivors = zeros(alloc, shape.keep + shape.ahead)?;
         let sums = first_sums(starts);
         Ok(Window {
-            rate,
-            invert,
-            keep,
-            ahead,
+            rate: shape.rate,
+            invert: shape.invert,
+            keep: shape.keep,
+            ahead: shape.ahead,
             starts,
             t: 0,
             filled: 0,

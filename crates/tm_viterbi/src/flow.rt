@@ -4,9 +4,10 @@ ghost use Rattle.tm_conv.specs.Path.{steps_size};
 ghost use Rattle.tm_viterbi.specs.Starts.{starts_from};
 
 use crate::filling::{BestPath, Window};
+use crate::window_decoder::WindowShape;
 use std::alloc::{AllocError, Global};
 use tm_base::Held;
-use tm_conv::{Rate, steps_len};
+use tm_conv::steps_len;
 
 /// A window, and the octets after its kept steps.
 #[derive(Drop)]
@@ -26,18 +27,17 @@ impl Flow {
     /// The first window, from step 0. It takes its memory here.
     pub(crate) fn new(
         alloc: Global,
-        rate: Rate,
-        invert: bool,
-        keep: usize,
-        ahead: usize,
+        shape: WindowShape,
         starts: Option<u8>,
     ) -> Result<Flow, AllocError>
-        requires { keep + ahead ≤ 69632 }
+        requires { shape.keep + shape.ahead ≤ 69632 }
         ensures keeps { IfOk result (λ f. Keeps f []) }
-        ensures began { IfOk result (λ f. (f.window.rate ≡ rate) × (f.window.invert ≡ invert) × (f.window.keep ≡ keep) × (f.window.ahead ≡ ahead) × (f.window.starts ≡ starts) × (f.window.t ≡ 0) × (f.window.filled ≡ 0)) }
+        ensures began { IfOk result (λ f. (f.window.rate ≡ shape.rate) × (f.window.invert ≡ shape.invert)
+            × (f.window.keep ≡ shape.keep) × (f.window.ahead ≡ shape.ahead) × (f.window.starts ≡ starts)
+            × (f.window.t ≡ 0) × (f.window.filled ≡ 0)) }
     {
-        let window = Window::new(alloc, rate, invert, keep, ahead, starts)?;
-        let tail = Held::open(alloc, 2 * (ahead + 1))?;
+        let window = Window::new(alloc, shape, starts)?;
+        let tail = Held::open(alloc, 2 * (shape.ahead + 1))?;
         Ok(Flow { window, tail })
     }
 

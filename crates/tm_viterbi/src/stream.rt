@@ -11,6 +11,7 @@ ghost use Rattle.tm_viterbi.specs.WindowBlock.{WindowBlock};
 use crate::block::{Block, BlockTaker, Start, first_start};
 use crate::filling::BestPath;
 use crate::flow::Flow;
+use crate::window_decoder::WindowShape;
 use std::alloc::{AllocError, Global};
 use tm_base::{Failed, zeros};
 use tm_conv::{Rate, period, step_len};
@@ -103,20 +104,19 @@ impl Stream {
     ghost use Rattle.tm_viterbi.specs.Streaming.{Reaches, IsOpenStep, reached, settings_of, waiting_octets};
 
     /// A stream of which no octet was given yet. It takes its memory here.
-    pub(crate) fn new(
-        alloc: Global,
-        rate: Rate,
-        invert: bool,
-        start: Start,
-        keep: usize,
-        ahead: usize,
-    ) -> Result<Stream, AllocError>
-        requires { (64 ≤ keep) × (keep + ahead ≤ 69632) }
-        ensures settings { IfOk result (λ s. settings_of s ≡ record { rate = rate; invert = invert; start = start; keep = keep; ahead = ahead }) }
+    pub(crate) fn new(alloc: Global, start: Start, shape: WindowShape) -> Result<Stream, AllocError>
+        requires { (64 ≤ shape.keep) × (shape.keep + shape.ahead ≤ 69632) }
+        ensures settings { IfOk result (λ s. settings_of s ≡ record {
+          rate = shape.rate;
+          invert = shape.invert;
+          start = start;
+          keep = shape.keep;
+          ahead = shape.ahead;
+        }) }
         ensures began { IfOk result (λ s. (reached s ≡ 0) × IsOpenStep s × Reaches s [] [] []) }
     {
-        let flow = Flow::new(alloc, rate, invert, keep, ahead, first_start(start))?;
-        let bits = zeros(alloc, keep + ahead)?;
+        let flow = Flow::new(alloc, shape, first_start(start))?;
+        let bits = zeros(alloc, shape.keep + shape.ahead)?;
         Ok(Stream {
             start,
             flow,

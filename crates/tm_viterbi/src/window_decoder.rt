@@ -48,13 +48,7 @@ impl WindowDecoder {
         requires { shape.keep + shape.ahead ≤ 69632 }
         ensures { IfOk result (λ d. d ≡ shape) }
     {
-        let WindowShape {
-            rate,
-            invert,
-            keep,
-            ahead,
-        } = shape;
-        match Window::new(alloc, rate, invert, keep, ahead, None) {
+        match Window::new(alloc, shape, None) {
             Ok(window) => Ok(WindowDecoder { shape, window }),
             Err(_) => Err(NoMemory),
         }
