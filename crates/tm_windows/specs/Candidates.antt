@@ -1,11 +1,13 @@
 -- Windows that were decoded from registers which were only taken to be their starts.
-use Rattle.std.specs.Prelude.{ℕ, ◌≡◌, ◌+◌, ◌*◌, ◌<◌, ◌≤◌, List, Option, drop, slice_index_or, vec_len}
+use Rattle.std.specs.Prelude.{ℕ, ◌≡◌, ◌+◌, ◌*◌, ◌<◌, ◌≤◌, List, Option, drop, length, slice_index_or, vec_len}
 use Rattle.std.specs.List.{All}
 use Rattle.tm_conv.specs.Path.{steps_size}
 use Rattle.tm_viterbi.specs.WindowBlock.{WindowBlock}
+use Rattle.tm_viterbi.specs.Blocks.{IsBlock}
 use Rattle.tm_viterbi.specs.Due.{Place, Closes, Closed}
 use Rattle.tm_viterbi.specs.declared.window_decoder.WindowShape.{WindowShape}
 use Rattle.tm_windows.specs.declared.candidate.Candidate.{Candidate}
+use Rattle.tm_windows.specs.declared.stretch.Stretch.{Stretch}
 
 -- the window closes with this block
 abbrev pub ClosesWith : WindowShape → Place → WindowBlock → Type 0
@@ -45,6 +47,20 @@ AreCandidates shape t octets from to candidates =
 -- each has room for the bits of so many steps
 abbrev pub HaveRoom : ℕ → List Candidate → Type 0
 HaveRoom steps candidates = All (λ c. vec_len c.bits ≡ steps) candidates
+
+-- the octets have the steps of so many windows, and one more
+abbrev pub HoldsWindows : Stretch → ℕ → Type 0
+HoldsWindows from count = steps_size from.shape.rate from.t
+    (count * from.shape.keep + from.shape.ahead + 1) ≤ length from.octets.now
+
+-- where the first of them begins
+abbrev pub stretch_place : Stretch → Place
+stretch_place from = record { starts = from.starts; t = from.t; octets = from.octets.now }
+
+-- the block of the last window, which has so many steps, all of them kept
+abbrev pub IsLastBlock : Stretch → ℕ → WindowBlock → Type 0
+IsLastBlock from steps last = IsBlock from.shape.rate from.shape.invert from.shape.keep
+    from.shape.ahead from.starts from.t steps from.octets.now last
 
 -- where a window begins, `count` windows after the one from step t on with the octets
 abbrev pub after_windows : WindowShape → ℕ → List ℕ → ℕ → Option ℕ → Place

@@ -1,16 +1,15 @@
 // How windows are decoded that close: side by side, by many workers, or one after another, with no thread.
 ghost use Rattle.std.specs.Prelude.{◌≡◌, ◌+◌, ◌*◌, ◌^◌, ◌<◌, ◌≤◌, ℕ, length};
 ghost use Rattle.std.specs.List.{All};
-ghost use Rattle.std.specs.Option.{ForSome};
-ghost use Rattle.tm_conv.specs.Path.{steps_size};
-ghost use Rattle.tm_windows.specs.Candidates.{AreCandidates, HaveRoom};
+ghost use Rattle.tm_windows.specs.Candidates.{AreCandidates, HaveRoom, HoldsWindows};
 
 use crate::candidate::Candidate;
 use crate::decoding::decode_run;
 use crate::sharing::decode_evenly;
+use crate::stretch::Stretch;
 use std::thread::Threads;
 use tm_base::OpenGate;
-use tm_viterbi::{WindowDecoder, WindowShape};
+use tm_viterbi::WindowDecoder;
 
 // The least steps of windows that are shared out: one worker decodes fewer in the millisecond that a thread may take to
 // begin.
@@ -20,29 +19,19 @@ pub(crate) trait Closing {
     /// Whether windows of so many octets can be decoded in this way.
     ghost is_ready: { Self → ℕ → Type 0 };
 
-    /// Decodes a window for each candidate: the first from step t on and from these registers, and each other one from
-    /// the register after the one before it, or from a guess of it.
-    fn decode(
-        &self,
-        shape: WindowShape,
-        decoders: &mut [WindowDecoder],
-        candidates: &mut [Candidate],
-        starts: Option<u8>,
-        t: u64,
-        octets: &[u8],
-    )
-        requires ready { is_ready self.now (length octets.now) }
+    /// Decodes a window for each candidate of a run, each but the first from the register after the one before it, or
+    /// from a guess of it.
+    fn decode(&self, decoders: &mut [WindowDecoder], run: &mut [Candidate], from: &Stretch<'_>)
+        requires ready { is_ready self.now (length from.now.octets.now) }
         requires some { (0 < length decoders.old) × (length decoders.old ≤ 64) }
-        requires shape { All (λ d. d ≡ shape) decoders.old }
-        requires bits { HaveRoom (shape.keep + shape.ahead) candidates.old }
-        requires most { length candidates.old ≤ 2 ^ 32 }
-        requires start { ForSome starts (λ register. register < 64) }
-        requires room { steps_size shape.rate t (length candidates.old * shape.keep + shape.ahead + 1)
-            ≤ length octets.now }
-        requires few { t + length candidates.old * shape.keep < 2 ^ 61 }
-        ensures candidates { AreCandidates shape t octets.now 0 (length candidates.old) candidates.new }
-        ensures bits { HaveRoom (shape.keep + shape.ahead) candidates.new }
-        ensures shape { All (λ d. d ≡ shape) decoders.new };
+        requires shape { All (λ d. d ≡ from.now.shape) decoders.old }
+        requires most { length run.old ≤ 2 ^ 32 }
+        requires bits { HaveRoom (from.now.shape.keep + from.now.shape.ahead) run.old }
+        requires room { HoldsWindows from.now (length run.old) }
+        requires few { from.now.t + length run.old * from.now.shape.keep < 2 ^ 61 }
+        ensures candidates { AreCandidates from.now.shape from.now.t from.now.octets.now 0 (length run.old) run.new }
+        ensures bits { HaveRoom (from.now.shape.keep + from.now.shape.ahead) run.new }
+        ensures shape { All (λ d. d ≡ from.now.shape) decoders.new };
 }
 
 /// By all workers, where there is enough to share out.
@@ -57,29 +46,21 @@ impl<'a, R: Threads + Sync> Closing for SideBySide<'a, R> {
 
     ghost is_ready = { λ by count. IsSync R.row × (count ≤ 2 ^ 62) };
 
-    fn decode(
-        &self,
-        shape: WindowShape,
-        decoders: &mut [WindowDecoder],
-        candidates: &mut [Candidate],
-        starts: Option<u8>,
-        t: u64,
-        octets: &[u8],
-    ) {
-        if candidates.len() * shape.keep < LEAST_SHARED {
-            OneByOne.decode(shape, decoders, candidates, starts, t, octets);
+    fn decode(&self, decoders: &mut [WindowDecoder], run: &mut [Candidate], from: &Stretch<'_>) {
+        if run.len() * from.shape.keep < LEAST_SHARED {
+            OneByOne.decode(decoders, run, from);
             return;
         }
         decode_evenly(
             self.rt,
             &OpenGate,
-            shape,
+            from.shape,
             decoders,
-            Some(starts),
-            t,
-            octets,
+            Some(from.starts),
+            from.t,
+            from.octets,
             0,
-            candidates,
+            run,
         );
     }
 }
@@ -91,23 +72,7 @@ pub(crate) struct OneByOne;
 impl Closing for OneByOne {
     ghost is_ready = { λ by count. Unit {0} };
 
-    fn decode(
-        &self,
-        shape: WindowShape,
-        decoders: &mut [WindowDecoder],
-        candidates: &mut [Candidate],
-        starts: Option<u8>,
-        t: u64,
-        octets: &[u8],
-    ) {
-        decode_run(
-            &OpenGate,
-            &mut decoders[0],
-            shape,
-            candidates,
-            starts,
-            t,
-            octets,
-        );
+    fn decode(&self, decoders: &mut [WindowDecoder], run: &mut [Candidate], from: &Stretch<'_>) {
+        decode_run(&OpenGate, &mut decoders[0], run, from);
     }
 }

@@ -1,75 +1,67 @@
 // Windows decoded one after another.
 ghost use Rattle.std.specs.Prelude.{◌≡◌, ◌+◌, ◌*◌, ◌^◌, ◌<◌, ◌≤◌, length, vec_len};
-ghost use Rattle.std.specs.Option.{ForSome};
 ghost use Rattle.tm_conv.specs.Path.{steps_size};
-ghost use Rattle.tm_windows.specs.Candidates.{IsCandidate, AreCandidates, HaveRoom};
+ghost use Rattle.tm_windows.specs.Candidates.{IsCandidate, AreCandidates, HaveRoom, HoldsWindows};
 
 use crate::candidate::Candidate;
+use crate::stretch::Stretch;
 use tm_base::Gate;
 use tm_conv::steps_len;
-use tm_viterbi::{WindowDecoder, WindowShape};
+use tm_viterbi::WindowDecoder;
 
-/// Decodes the window from step t on from these registers. The octets begin with its own, and have one more step.
+/// Decodes the first window. The octets begin with its own, and have one more step.
 pub(crate) fn decode_window(
     decoder: &mut WindowDecoder,
-    shape: WindowShape,
     candidate: &mut Candidate,
-    starts: Option<u8>,
-    t: u64,
-    octets: &[u8],
+    from: &Stretch<'_>,
 )
-    requires shape { decoder.old ≡ shape }
-    requires bits { vec_len candidate.old.bits ≡ shape.keep + shape.ahead }
-    requires start { ForSome starts (λ register. register < 64) }
-    requires room { steps_size shape.rate t (shape.keep + shape.ahead + 1) ≤ length octets.now }
-    requires few { t < 2 ^ 61 }
-    ensures candidate { IsCandidate shape t octets.now candidate.new }
-    ensures starts { candidate.new.starts ≡ starts }
+    requires shape { decoder.old ≡ from.now.shape }
+    requires bits { vec_len candidate.old.bits ≡ from.now.shape.keep + from.now.shape.ahead }
+    requires room { steps_size from.now.shape.rate from.now.t (from.now.shape.keep + from.now.shape.ahead + 1)
+        ≤ length from.now.octets.now }
+    requires few { from.now.t < 2 ^ 61 }
+    ensures candidate { IsCandidate from.now.shape from.now.t from.now.octets.now candidate.new }
+    ensures starts { candidate.new.starts ≡ from.now.starts }
     ensures bits { vec_len candidate.new.bits ≡ vec_len candidate.old.bits }
-    ensures same { decoder.new ≡ shape }
+    ensures same { decoder.new ≡ from.now.shape }
 {
     let bits = candidate.bits.as_mut_slice();
-    candidate.path = decoder.decode(starts, t, shape.keep, octets, bits);
-    candidate.starts = starts;
+    candidate.path = decoder.decode(from.starts, from.t, from.shape.keep, from.octets, bits);
+    candidate.starts = from.starts;
 }
 
-/// Decodes a window for each candidate, one after another: the first from step t on and from these registers, and each
-/// other one from the register after the one before it. The gate is entered before each with the window's number in
-/// the stream, up to 2^32-1.
+/// Decodes a window for each candidate, one after another, each but the first from the register after the one before
+/// it. The gate is entered before each with the window's number in the stream, up to 2^32-1.
 pub(crate) fn decode_run<G: Gate>(
     gate: &G,
     decoder: &mut WindowDecoder,
-    shape: WindowShape,
     candidates: &mut [Candidate],
-    starts: Option<u8>,
-    t: u64,
-    octets: &[u8],
+    from: &Stretch<'_>,
 )
-    requires shape { decoder.old ≡ shape }
-    requires bits { HaveRoom (shape.keep + shape.ahead) candidates.old }
-    requires start { ForSome starts (λ register. register < 64) }
-    requires room { steps_size shape.rate t (length candidates.old * shape.keep + shape.ahead + 1) ≤ length octets.now }
-    requires few { t + length candidates.old * shape.keep < 2 ^ 61 }
-    ensures candidates { AreCandidates shape t octets.now 0 (length candidates.old) candidates.new }
-    ensures bits { HaveRoom (shape.keep + shape.ahead) candidates.new }
-    ensures same { decoder.new ≡ shape }
+    requires shape { decoder.old ≡ from.now.shape }
+    requires bits { HaveRoom (from.now.shape.keep + from.now.shape.ahead) candidates.old }
+    requires room { HoldsWindows from.now (length candidates.old) }
+    requires few { from.now.t + length candidates.old * from.now.shape.keep < 2 ^ 61 }
+    ensures candidates { AreCandidates from.now.shape from.now.t from.now.octets.now 0 (length candidates.old)
+        candidates.new }
+    ensures bits { HaveRoom (from.now.shape.keep + from.now.shape.ahead) candidates.new }
+    ensures same { decoder.new ≡ from.now.shape }
 {
-    let mut starts = starts;
-    let mut now = t;
+    let mut starts = from.starts;
+    let mut now = from.t;
     let mut at = 0usize;
     for j in 0..candidates.len() {
-        let number = now / shape.keep.max(1) as u64;
+        let number = now / from.shape.keep.max(1) as u64;
         gate.enter(number.min(u64::from(u32::MAX)) as u32);
-        decode_window(
-            decoder,
-            shape,
-            &mut candidates[j],
+        let window = Stretch {
+            shape: from.shape,
             starts,
-            now,
-            &octets[at..],
-        );
+            t: now,
+            octets: &from.octets[at..],
+        };
+        decode_window(decoder, &mut candidates[j], &window);
         starts = Some(candidates[j].path.end_state);
-        at += steps_len(shape.rate, now, shape.keep);
-        now += shape.keep as u64;
+        at += steps_len(from.shape.rate, now, from.shape.keep);
+        now += from.shape.keep as u64;
     }
 }

@@ -12,6 +12,7 @@ mod laws;
 mod parallel_decoder;
 mod settling;
 mod sharing;
+mod stretch;
 mod window_workers;
 #[cfg(test)]
 mod wrong_registers;

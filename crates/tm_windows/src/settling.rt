@@ -5,13 +5,13 @@ ghost use Rattle.tm_conv.specs.Path.{steps_size};
 ghost use Rattle.tm_base.specs.Takers.{HandedOver, HandedPart};
 ghost use Rattle.tm_base.specs.Outside.{HasCause};
 ghost use Rattle.tm_viterbi.specs.WindowBlock.{WindowBlock};
-ghost use Rattle.tm_viterbi.specs.Blocks.{IsBlock};
 ghost use Rattle.tm_viterbi.specs.Due.{Place};
-ghost use Rattle.tm_windows.specs.Candidates.{IsCandidate, AreCandidates, HaveRoom, ClosesWith, ClosedWith, block_of, after_windows};
+ghost use Rattle.tm_windows.specs.Candidates.{IsCandidate, AreCandidates, HaveRoom, HoldsWindows, ClosesWith, ClosedWith, IsLastBlock, block_of, after_windows, stretch_place};
 ghost use Rattle.tm_windows.specs.Followed.{dropped_at};
 
 use crate::candidate::Candidate;
 use crate::decoding::decode_window;
+use crate::stretch::Stretch;
 use tm_base::Failed;
 use tm_conv::steps_len;
 use tm_viterbi::{Block, BlockTaker, WindowDecoder, WindowShape};
@@ -56,117 +56,105 @@ fn hand_block<B: BlockTaker>(
     }
 }
 
-// Hands over the block of the window from step t on that starts from these registers: the candidate, where it was
-// decoded from them, and else it is decoded again. Answers the register after its kept steps.
+// Hands over the block of the first window: the candidate, where it was decoded from the window's start set, and else it
+// is decoded again. Answers the register after its kept steps.
 fn settle<B: BlockTaker>(
     candidate: &mut Candidate,
     decoder: &mut WindowDecoder,
-    shape: WindowShape,
-    starts: Option<u8>,
-    t: u64,
-    octets: &[u8],
+    from: &Stretch<'_>,
     blocks: &mut B,
 ) -> Result<u8, Failed>
-    requires candidate { IsCandidate shape t octets.now candidate.old }
-    requires shape { decoder.old ≡ shape }
-    requires small { shape.keep + shape.ahead ≤ 69632 }
-    requires bits { vec_len candidate.old.bits ≡ shape.keep + shape.ahead }
-    requires start { ForSome starts (λ register. register < 64) }
-    requires few { t < 2 ^ 61 }
+    requires candidate { IsCandidate from.now.shape from.now.t from.now.octets.now candidate.old }
+    requires shape { decoder.old ≡ from.now.shape }
+    requires small { from.now.shape.keep + from.now.shape.ahead ≤ 69632 }
+    requires bits { vec_len candidate.old.bits ≡ from.now.shape.keep + from.now.shape.ahead }
+    requires few { from.now.t < 2 ^ 61 }
     ensures ok { IfOk result (λ next. (block : WindowBlock) × B.took blocks.old block blocks.new
-        × (block.end_state ≡ next) × (block.kept ≡ shape.keep)
-        × ClosesWith shape (record { starts = starts; t = t; octets = octets.now }) block) }
+        × (block.end_state ≡ next) × (block.kept ≡ from.now.shape.keep)
+        × ClosesWith from.now.shape (stretch_place from.now) block) }
     ensures small { IfOk result (λ next. next < 64) }
     ensures err { OnErr result ((block : WindowBlock) × B.broke blocks.old block blocks.new
-        × ClosesWith shape (record { starts = starts; t = t; octets = octets.now }) block) }
+        × ClosesWith from.now.shape (stretch_place from.now) block) }
     ensures cause { HasCause (B.faults blocks.old) (B.faults blocks.new) (B.is_last blocks.new) result }
     ensures bits { vec_len candidate.new.bits ≡ vec_len candidate.old.bits }
-    ensures same { decoder.new ≡ shape }
+    ensures same { decoder.new ≡ from.now.shape }
 {
-    if !is_from(candidate, starts) {
-        decode_window(decoder, shape, candidate, starts, t, octets);
+    if !is_from(candidate, from.starts) {
+        decode_window(decoder, candidate, from);
     }
-    hand_block(candidate, shape, 0, blocks)
+    hand_block(candidate, from.shape, 0, blocks)
 }
 
-/// Decodes the window from step t on that starts from these registers, before which so many octets were dropped, and
-/// hands its block over. Answers the register after its kept steps.
+/// Decodes the first window, before which so many octets were dropped, and hands its block over. Answers the register
+/// after its kept steps.
 pub(crate) fn hand_window<B: BlockTaker>(
     candidate: &mut Candidate,
     decoder: &mut WindowDecoder,
-    shape: WindowShape,
-    starts: Option<u8>,
-    t: u64,
-    octets: &[u8],
+    from: &Stretch<'_>,
     dropped: u8,
     blocks: &mut B,
 ) -> Result<u8, Failed>
-    requires shape { decoder.old ≡ shape }
-    requires small { shape.keep + shape.ahead ≤ 69632 }
-    requires bits { vec_len candidate.old.bits ≡ shape.keep + shape.ahead }
-    requires start { ForSome starts (λ register. register < 64) }
-    requires room { steps_size shape.rate t (shape.keep + shape.ahead + 1) ≤ length octets.now }
-    requires few { t < 2 ^ 61 }
+    requires shape { decoder.old ≡ from.now.shape }
+    requires small { from.now.shape.keep + from.now.shape.ahead ≤ 69632 }
+    requires bits { vec_len candidate.old.bits ≡ from.now.shape.keep + from.now.shape.ahead }
+    requires room { steps_size from.now.shape.rate from.now.t (from.now.shape.keep + from.now.shape.ahead + 1)
+        ≤ length from.now.octets.now }
+    requires few { from.now.t < 2 ^ 61 }
     ensures ok { IfOk result (λ next. (block : WindowBlock) × B.took blocks.old (dropped_at dropped block) blocks.new
-        × (block.end_state ≡ next) × (block.kept ≡ shape.keep)
-        × ClosesWith shape (record { starts = starts; t = t; octets = octets.now }) block) }
+        × (block.end_state ≡ next) × (block.kept ≡ from.now.shape.keep)
+        × ClosesWith from.now.shape (stretch_place from.now) block) }
     ensures small { IfOk result (λ next. next < 64) }
     ensures err { OnErr result ((block : WindowBlock) × B.broke blocks.old (dropped_at dropped block) blocks.new
-        × ClosesWith shape (record { starts = starts; t = t; octets = octets.now }) block) }
+        × ClosesWith from.now.shape (stretch_place from.now) block) }
     ensures cause { HasCause (B.faults blocks.old) (B.faults blocks.new) (B.is_last blocks.new) result }
     ensures bits { vec_len candidate.new.bits ≡ vec_len candidate.old.bits }
-    ensures same { decoder.new ≡ shape }
+    ensures same { decoder.new ≡ from.now.shape }
 {
-    decode_window(decoder, shape, candidate, starts, t, octets);
-    hand_block(candidate, shape, dropped, blocks)
+    decode_window(decoder, candidate, from);
+    hand_block(candidate, from.shape, dropped, blocks)
 }
 
-/// Hands over the blocks of windows one after another, of which the first starts from these registers, and answers the
-/// register after the kept steps of the last. A window that was decoded from another register is decoded again.
+/// Hands over the blocks of windows one after another, and answers the register after the kept steps of the last. A
+/// window that was decoded from another register is decoded again.
 pub(crate) fn settle_run<B: BlockTaker>(
     candidates: &mut [Candidate],
     decoder: &mut WindowDecoder,
-    shape: WindowShape,
-    starts: Option<u8>,
-    t: u64,
-    octets: &[u8],
+    from: &Stretch<'_>,
     blocks: &mut B,
 ) -> Result<Option<u8>, Failed>
-    requires candidates { AreCandidates shape t octets.now 0 (length candidates.old) candidates.old }
-    requires room { steps_size shape.rate t (length candidates.old * shape.keep + shape.ahead + 1) ≤ length octets.now }
-    requires shape { decoder.old ≡ shape }
-    requires small { shape.keep + shape.ahead ≤ 69632 }
-    requires bits { HaveRoom (shape.keep + shape.ahead) candidates.old }
-    requires start { ForSome starts (λ register. register < 64) }
-    requires few { t + length candidates.old * shape.keep < 2 ^ 61 }
+    requires candidates { AreCandidates from.now.shape from.now.t from.now.octets.now 0 (length candidates.old)
+        candidates.old }
+    requires bits { HaveRoom (from.now.shape.keep + from.now.shape.ahead) candidates.old }
+    requires room { HoldsWindows from.now (length candidates.old) }
+    requires few { from.now.t + length candidates.old * from.now.shape.keep < 2 ^ 61 }
+    requires shape { decoder.old ≡ from.now.shape }
+    requires small { from.now.shape.keep + from.now.shape.ahead ≤ 69632 }
     ensures ok { IfOk result (λ next. (more : List WindowBlock) × HandedOver B.took blocks.old more blocks.new
-        × ClosedWith shape (record { starts = starts; t = t; octets = octets.now }) more
-        (after_windows shape t octets.now (length candidates.old) next)) }
+        × ClosedWith from.now.shape (stretch_place from.now) more
+        (after_windows from.now.shape from.now.t from.now.octets.now (length candidates.old) next)) }
     ensures small { IfOk result (λ next. ForSome next (λ register. register < 64)) }
     ensures err { OnErr result ((tried : List WindowBlock) × HandedPart B.took B.broke blocks.old tried blocks.new
-        × (to : Place) × ClosedWith shape (record { starts = starts; t = t; octets = octets.now }) tried to) }
+        × (to : Place) × ClosedWith from.now.shape (stretch_place from.now) tried to) }
     ensures cause { HasCause (B.faults blocks.old) (B.faults blocks.new) (B.is_last blocks.new) result }
-    ensures bits { HaveRoom (shape.keep + shape.ahead) candidates.new }
-    ensures same { decoder.new ≡ shape }
+    ensures bits { HaveRoom (from.now.shape.keep + from.now.shape.ahead) candidates.new }
+    ensures same { decoder.new ≡ from.now.shape }
 {
-    let mut starts = starts;
-    let mut now = t;
+    let mut starts = from.starts;
+    let mut now = from.t;
     let mut at = 0usize;
     for j in 0..candidates.len() {
-        match settle(
-            &mut candidates[j],
-            decoder,
-            shape,
+        let window = Stretch {
+            shape: from.shape,
             starts,
-            now,
-            &octets[at..],
-            blocks,
-        ) {
+            t: now,
+            octets: &from.octets[at..],
+        };
+        match settle(&mut candidates[j], decoder, &window, blocks) {
             Ok(next) => starts = Some(next),
             Err(Failed) => return Err(Failed),
         }
-        at += steps_len(shape.rate, now, shape.keep);
-        now += shape.keep as u64;
+        at += steps_len(from.shape.rate, now, from.shape.keep);
+        now += from.shape.keep as u64;
     }
     Ok(starts)
 }
@@ -175,32 +163,28 @@ pub(crate) fn settle_run<B: BlockTaker>(
 pub(crate) fn hand_last<B: BlockTaker>(
     candidate: &mut Candidate,
     decoder: &mut WindowDecoder,
-    shape: WindowShape,
-    starts: Option<u8>,
-    t: u64,
-    octets: &[u8],
+    from: &Stretch<'_>,
     steps: usize,
     dropped: u8,
     blocks: &mut B,
 ) -> Result<(), Failed>
-    requires shape { decoder.old ≡ shape }
-    requires small { shape.keep + shape.ahead ≤ 69632 }
-    requires bits { vec_len candidate.old.bits ≡ shape.keep + shape.ahead }
-    requires steps { steps ≤ shape.keep + shape.ahead }
-    requires start { ForSome starts (λ register. register < 64) }
-    requires octets { steps_size shape.rate t steps ≤ length octets.now }
-    requires few { t < 2 ^ 61 }
+    requires shape { decoder.old ≡ from.now.shape }
+    requires small { from.now.shape.keep + from.now.shape.ahead ≤ 69632 }
+    requires bits { vec_len candidate.old.bits ≡ from.now.shape.keep + from.now.shape.ahead }
+    requires steps { steps ≤ from.now.shape.keep + from.now.shape.ahead }
+    requires octets { steps_size from.now.shape.rate from.now.t steps ≤ length from.now.octets.now }
+    requires few { from.now.t < 2 ^ 61 }
     ensures ok { OnOk result ((last : WindowBlock) × B.took blocks.old (dropped_at dropped last) blocks.new
-        × IsBlock shape.rate shape.invert shape.keep shape.ahead starts t steps octets.now last) }
+        × IsLastBlock from.now steps last) }
     ensures err { OnErr result ((last : WindowBlock) × B.broke blocks.old (dropped_at dropped last) blocks.new
-        × IsBlock shape.rate shape.invert shape.keep shape.ahead starts t steps octets.now last) }
+        × IsLastBlock from.now steps last) }
     ensures cause { HasCause (B.faults blocks.old) (B.faults blocks.new) (B.is_last blocks.new) result }
     ensures bits { vec_len candidate.new.bits ≡ vec_len candidate.old.bits }
-    ensures same { decoder.new ≡ shape }
+    ensures same { decoder.new ≡ from.now.shape }
 {
     let bits = candidate.bits.as_mut_slice();
     let bits = &mut bits[..steps];
-    let path = decoder.decode(starts, t, steps, octets, bits);
+    let path = decoder.decode(from.starts, from.t, steps, from.octets, bits);
     let block = Block {
         start: path.start,
         steps: steps as u32,

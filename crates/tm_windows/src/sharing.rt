@@ -9,6 +9,7 @@ ghost use Rattle.tm_windows.specs.Candidates.{AreCandidates, HaveRoom};
 use crate::candidate::Candidate;
 use crate::decoding::decode_run;
 use crate::guessing::known_or_guessed;
+use crate::stretch::Stretch;
 use std::thread::{Threads, join_mut};
 use tm_base::Gate;
 use tm_conv::steps_len;
@@ -39,7 +40,13 @@ fn decode_part<G: Gate>(
         return;
     }
     let starts = known_or_guessed(decoder, shape, &mut candidates[0], known, t, octets, at);
-    decode_run(gate, decoder, shape, candidates, starts, t, &octets[at..]);
+    let from = Stretch {
+        shape,
+        starts,
+        t,
+        octets: &octets[at..],
+    };
+    decode_run(gate, decoder, candidates, &from);
 }
 
 /// Decodes a window for each candidate, by at most as many workers as there are decoders: each has one part of the

@@ -7,14 +7,14 @@ ghost use Rattle.tm_base.specs.Outside.{HasCause};
 ghost use Rattle.tm_conv.specs.Path.{steps_size};
 ghost use Rattle.tm_viterbi.specs.WindowBlock.{WindowBlock};
 ghost use Rattle.tm_viterbi.specs.Blocks.{IsBlock};
-ghost use Rattle.tm_windows.specs.Candidates.{HaveRoom, ClosesWith};
+ghost use Rattle.tm_windows.specs.Candidates.{HaveRoom, HoldsWindows, ClosesWith};
 ghost use Rattle.tm_windows.specs.ClosedRun.{CanClose, ClosedRun};
 ghost use Rattle.tm_windows.specs.Followed.{dropped_at};
 
 use crate::candidate::Candidate;
-use crate::closing::{Closing, OneByOne};
+use crate::closing::{Closing, OneByOne, PastGate};
 use crate::settling::{hand_last, hand_window, settle_run};
-use crate::sharing::decode_evenly;
+use crate::stretch::Stretch;
 use std::alloc::{AllocError, Global};
 use std::marker::Model;
 use std::thread::Threads;
@@ -82,64 +82,28 @@ pub(crate) fn new_candidates(
 // Closes the next `count` windows and hands over their blocks.
 fn close_run<C: Closing, B: BlockTaker>(
     by: &C,
-    shape: WindowShape,
     decoders: &mut [WindowDecoder],
     candidates: &mut [Candidate],
-    starts: Option<u8>,
-    t: u64,
-    octets: &[u8],
+    from: &Stretch<'_>,
     count: usize,
     blocks: &mut B,
 ) -> Result<Option<u8>, Failed>
     requires some { (0 < length decoders.old) × (length decoders.old ≤ 64) }
-    requires ready { C.is_ready by.now (length octets.now) }
-    requires shape { All (λ d. d ≡ shape) decoders.old }
-    requires small { shape.keep + shape.ahead ≤ 69632 }
+    requires ready { C.is_ready by.now (length from.now.octets.now) }
+    requires shape { All (λ d. d ≡ from.now.shape) decoders.old }
+    requires small { from.now.shape.keep + from.now.shape.ahead ≤ 69632 }
     requires most { (count ≤ length candidates.old) × (length candidates.old ≤ 2 ^ 32) }
-    requires bits { HaveRoom (shape.keep + shape.ahead) candidates.old }
-    requires start { ForSome starts (λ register. register < 64) }
-    requires room { steps_size shape.rate t (count * shape.keep + shape.ahead + 1) ≤ length octets.now }
-    requires few { t + count * shape.keep < 2 ^ 61 }
-    ensures closed { ClosedRun shape starts t octets.now count
+    requires bits { HaveRoom (from.now.shape.keep + from.now.shape.ahead) candidates.old }
+    requires room { HoldsWindows from.now count }
+    requires few { from.now.t + count * from.now.shape.keep < 2 ^ 61 }
+    ensures closed { ClosedRun from.now.shape from.now.starts from.now.t from.now.octets.now count
         (taker_call B.took B.broke B.faults B.is_last blocks.old blocks.new) result }
-    ensures bits { HaveRoom (shape.keep + shape.ahead) candidates.new }
-    ensures shape { All (λ d. d ≡ shape) decoders.new }
+    ensures bits { HaveRoom (from.now.shape.keep + from.now.shape.ahead) candidates.new }
+    ensures shape { All (λ d. d ≡ from.now.shape) decoders.new }
 {
     let (run, _) = candidates.split_at_mut(count);
-    by.decode(shape, decoders, run, starts, t, octets);
-    settle_run(run, &mut decoders[0], shape, starts, t, octets, blocks)
-}
-
-// The same side by side, past a gate. No method of a `Closing` could hand a gate on to threads.
-fn close_side_by_side<R: Threads + Sync, B: BlockTaker, G: Gate + Sync>(
-    rt: &R,
-    gate: &G,
-    shape: WindowShape,
-    decoders: &mut [WindowDecoder],
-    candidates: &mut [Candidate],
-    starts: Option<u8>,
-    t: u64,
-    octets: &[u8],
-    count: usize,
-    blocks: &mut B,
-) -> Result<Option<u8>, Failed>
-    requires some { (0 < length decoders.old) × (length decoders.old ≤ 64) }
-    requires long { length octets.now ≤ 2 ^ 62 }
-    requires shape { All (λ d. d ≡ shape) decoders.old }
-    requires small { shape.keep + shape.ahead ≤ 69632 }
-    requires most { (count ≤ length candidates.old) × (length candidates.old ≤ 2 ^ 32) }
-    requires bits { HaveRoom (shape.keep + shape.ahead) candidates.old }
-    requires start { ForSome starts (λ register. register < 64) }
-    requires room { steps_size shape.rate t (count * shape.keep + shape.ahead + 1) ≤ length octets.now }
-    requires few { t + count * shape.keep < 2 ^ 61 }
-    ensures closed { ClosedRun shape starts t octets.now count
-        (taker_call B.took B.broke B.faults B.is_last blocks.old blocks.new) result }
-    ensures bits { HaveRoom (shape.keep + shape.ahead) candidates.new }
-    ensures shape { All (λ d. d ≡ shape) decoders.new }
-{
-    let (part, _) = candidates.split_at_mut(count);
-    decode_evenly(rt, gate, shape, decoders, Some(starts), t, octets, 0, part);
-    settle_run(part, &mut decoders[0], shape, starts, t, octets, blocks)
+    by.decode(decoders, run, from);
+    settle_run(run, &mut decoders[0], from, blocks)
 }
 
 impl WindowWorkers {
@@ -192,11 +156,7 @@ impl WindowWorkers {
             (taker_call B.took B.broke B.faults B.is_last blocks.old blocks.new) result }
         ensures same { self.new ≡ self.old }
     {
-        let decoders = self.decoders.as_mut_slice();
-        let candidates = self.candidates.as_mut_slice();
-        close_side_by_side(
-            rt, gate, self.shape, decoders, candidates, starts, t, octets, count, blocks,
-        )
+        self.close_by(&PastGate { rt, gate }, starts, t, octets, count, blocks)
     }
 
     /// Closes the next `count` windows as `close` does, but one after another, with no thread.
@@ -234,9 +194,13 @@ impl WindowWorkers {
     {
         let decoders = self.decoders.as_mut_slice();
         let candidates = self.candidates.as_mut_slice();
-        close_run(
-            by, self.shape, decoders, candidates, starts, t, octets, count, blocks,
-        )
+        let from = Stretch {
+            shape: self.shape,
+            starts,
+            t,
+            octets,
+        };
+        close_run(by, decoders, candidates, &from, count, blocks)
     }
 
     /// Closes the next window alone, before which `dropped` octets were dropped, and hands over its block. Answers the
@@ -267,16 +231,13 @@ impl WindowWorkers {
     {
         let decoders = self.decoders.as_mut_slice();
         let candidates = self.candidates.as_mut_slice();
-        hand_window(
-            &mut candidates[0],
-            &mut decoders[0],
-            self.shape,
+        let from = Stretch {
+            shape: self.shape,
             starts,
             t,
             octets,
-            dropped,
-            blocks,
-        )
+        };
+        hand_window(&mut candidates[0], &mut decoders[0], &from, dropped, blocks)
     }
 
     /// Hands over the block of the last window, of `steps` steps, all of them kept: it begins at step `t`, below 2^61,
@@ -306,13 +267,16 @@ impl WindowWorkers {
     {
         let decoders = self.decoders.as_mut_slice();
         let candidates = self.candidates.as_mut_slice();
-        hand_last(
-            &mut candidates[0],
-            &mut decoders[0],
-            self.shape,
+        let from = Stretch {
+            shape: self.shape,
             starts,
             t,
             octets,
+        };
+        hand_last(
+            &mut candidates[0],
+            &mut decoders[0],
+            &from,
             steps,
             dropped,
             blocks,

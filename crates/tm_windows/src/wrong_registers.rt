@@ -1,11 +1,11 @@
 // Windows of which each was begun from a wrong register, settled: the blocks are those of the decoder of one thread.
-ghost use Rattle.std.specs.Prelude.{◌+◌, ◌*◌, ◌^◌, ◌<◌, ◌≤◌, ◌≡◌, length};
-ghost use Rattle.tm_conv.specs.Path.{steps_size};
-ghost use Rattle.tm_windows.specs.Candidates.{AreCandidates, HaveRoom};
+ghost use Rattle.std.specs.Prelude.{◌+◌, ◌*◌, ◌^◌, ◌<◌, ◌≡◌, length};
+ghost use Rattle.tm_windows.specs.Candidates.{AreCandidates, HaveRoom, HoldsWindows};
 
 use crate::candidate::Candidate;
 use crate::decoding::decode_window;
 use crate::settling::settle_run;
+use crate::stretch::Stretch;
 use crate::window_workers::new_candidates;
 use std::test::Fail;
 use tm_base::Failed;
@@ -68,36 +68,30 @@ fn mixed(value: u64, part: u64) -> u64 {
 
 // Decodes a window for each candidate: the first from register 63, and each other one from another register than that
 // after the one before it.
-fn decode_wrongly(
-    decoder: &mut WindowDecoder,
-    shape: WindowShape,
-    candidates: &mut [Candidate],
-    t: u64,
-    octets: &[u8],
-)
-    requires shape { decoder.old ≡ shape }
-    requires bits { HaveRoom (shape.keep + shape.ahead) candidates.old }
-    requires room { steps_size shape.rate t (length candidates.old * shape.keep + shape.ahead + 1) ≤ length octets.now }
-    requires few { t + length candidates.old * shape.keep < 2 ^ 61 }
-    ensures candidates { AreCandidates shape t octets.now 0 (length candidates.old) candidates.new }
-    ensures bits { HaveRoom (shape.keep + shape.ahead) candidates.new }
-    ensures same { decoder.new ≡ shape }
+fn decode_wrongly(decoder: &mut WindowDecoder, candidates: &mut [Candidate], from: &Stretch<'_>)
+    requires shape { decoder.old ≡ from.now.shape }
+    requires bits { HaveRoom (from.now.shape.keep + from.now.shape.ahead) candidates.old }
+    requires room { HoldsWindows from.now (length candidates.old) }
+    requires few { from.now.t + length candidates.old * from.now.shape.keep < 2 ^ 61 }
+    ensures candidates { AreCandidates from.now.shape from.now.t from.now.octets.now 0 (length candidates.old)
+        candidates.new }
+    ensures bits { HaveRoom (from.now.shape.keep + from.now.shape.ahead) candidates.new }
+    ensures same { decoder.new ≡ from.now.shape }
 {
     let mut starts = Some(63);
-    let mut now = t;
+    let mut now = from.t;
     let mut at = 0usize;
     for j in 0..candidates.len() {
-        decode_window(
-            decoder,
-            shape,
-            &mut candidates[j],
+        let window = Stretch {
+            shape: from.shape,
             starts,
-            now,
-            &octets[at..],
-        );
+            t: now,
+            octets: &from.octets[at..],
+        };
+        decode_window(decoder, &mut candidates[j], &window);
         starts = Some(63 - candidates[j].path.end_state);
-        at += steps_len(shape.rate, now, shape.keep);
-        now += shape.keep as u64;
+        at += steps_len(from.shape.rate, now, from.shape.keep);
+        now += from.shape.keep as u64;
     }
 }
 
@@ -131,7 +125,13 @@ fn windows_from_wrong_registers_are_decoded_again(rt: HostRuntime) -> Result<(),
         let mut decoder = WindowDecoder::new(alloc, shape)?;
         let mut room = new_candidates(alloc, KEEP + AHEAD, WINDOWS)?;
         let candidates = room.as_mut_slice();
-        decode_wrongly(&mut decoder, shape, candidates, 0, octets);
+        let from = Stretch {
+            shape,
+            starts: Some(0),
+            t: 0,
+            octets,
+        };
+        decode_wrongly(&mut decoder, candidates, &from);
         let mut taken = [None; WINDOWS];
         for k in 0..WINDOWS {
             taken[k] = candidates[k].starts;
@@ -140,15 +140,7 @@ fn windows_from_wrong_registers_are_decoded_again(rt: HostRuntime) -> Result<(),
             blocks: 0,
             value: 1,
         };
-        settle_run(
-            candidates,
-            &mut decoder,
-            shape,
-            Some(0),
-            0,
-            octets,
-            &mut digest,
-        )?;
+        settle_run(candidates, &mut decoder, &from, &mut digest)?;
         for k in 0..WINDOWS {
             assert!(rt; candidates[k].starts != taken[k]);
         }

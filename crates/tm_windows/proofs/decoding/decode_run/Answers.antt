@@ -10,14 +10,14 @@ use Rattle.tm_windows.proofs.decoding.decode_run.Goals as goal
 
 pub loop-j-init : goal.loop-j-init
 loop-j-init g c =
-    let s = c.args.shape in
+    let s = c.args.from.now.shape in
     let none : 0 * s.keep ≡ 0 = omega arith in
     record {
       shape = c.requires.shape;
       now = omega arith;
-      at = sym (ap (λ (n : ℕ). steps_size s.rate c.args.t n) none ∙ steps_size-zero s.rate c.args.t);
+      at = sym (ap (λ (n : ℕ). steps_size s.rate c.args.from.now.t n) none ∙ steps_size-zero s.rate c.args.from.now.t);
       within = omega arith;
-      some = c.requires.start;
+      some = c.args.from.now.start;
       bits = c.requires.bits;
       candidates = λ k d from lt. absurd (let h : k < 0 = lt in omega arith);
     }
@@ -25,22 +25,22 @@ loop-j-init g c =
 pub decode_window-requires-clause-room : goal.decode_window-requires-clause-room
 decode_window-requires-clause-room g c =
     let l = c.loop-j in
-    let octets = c.args.octets.now in
-    let room = room_of c.args.shape c.args.t (length c.args.candidates.now) l.j l.now l.at octets l.invariant.now l.invariant.at (omega (arith, c.loop-j-test.true, l.auto.j-end)) c.requires.room in
+    let octets = c.args.from.now.octets.now in
+    let room = room_of c.args.from.now.shape c.args.from.now.t (length c.args.candidates.now) l.j l.now l.at octets l.invariant.now l.invariant.at (omega (arith, c.loop-j-test.true, l.auto.j-end)) c.requires.room in
     omega (arith, room.room, ap length (take_rest octets l.at))
 
 pub overflow_add-at : goal.overflow_add-at
 overflow_add-at g c =
-    let s = c.args.shape in
+    let s = c.args.from.now.shape in
     let l = c.loop-j in
-    let sum = further s c.args.t l.j l.now l.at c.steps_len-at.result l.invariant.now l.invariant.at c.steps_len-at.ensures in
-    record { fits = few_symbols s c.args.t l.j (length c.args.candidates.now) _ sum (omega (arith, c.loop-j-test.true, l.auto.j-end)) c.requires.few }
+    let sum = further s c.args.from.now.t l.j l.now l.at c.steps_len-at.result l.invariant.now l.invariant.at c.steps_len-at.ensures in
+    record { fits = few_symbols s c.args.from.now.t l.j (length c.args.candidates.now) _ sum (omega (arith, c.loop-j-test.true, l.auto.j-end)) c.requires.few }
 
 pub loop-j-preserved : goal.loop-j-preserved
 loop-j-preserved g c =
-    let s = c.args.shape in
-    let t = c.args.t in
-    let octets = c.args.octets.now in
+    let s = c.args.from.now.shape in
+    let t = c.args.from.now.t in
+    let octets = c.args.from.now.octets.now in
     let l = c.loop-j in
     let i = l.invariant in
     let one = c.decode_window.new.candidate in

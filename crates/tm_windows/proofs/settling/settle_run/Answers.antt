@@ -13,14 +13,14 @@ use Rattle.tm_windows.proofs.settling.settle_run.Goals as goal
 
 pub loop-j-init : goal.loop-j-init
 loop-j-init g c =
-    let s = c.args.shape in
+    let s = c.args.from.now.shape in
     let none : 0 * s.keep ≡ 0 = omega arith in
     record {
       shape = c.requires.shape;
       now = omega arith;
-      at = sym (ap (λ (n : ℕ). steps_size s.rate c.args.t n) none ∙ steps_size-zero s.rate c.args.t);
+      at = sym (ap (λ (n : ℕ). steps_size s.rate c.args.from.now.t n) none ∙ steps_size-zero s.rate c.args.from.now.t);
       within = omega arith;
-      some = c.requires.start;
+      some = c.args.from.now.start;
       bits = c.requires.bits;
       candidates = c.requires.candidates;
       faults = refl;
@@ -29,11 +29,11 @@ loop-j-init g c =
 
 pub returns-in-Err-clause-err : goal.returns-in-Err-clause-err
 returns-in-Err-clause-err g c =
-    let s = c.args.shape in
+    let s = c.args.from.now.shape in
     let l = c.loop-j in
     let more = l.invariant.handed.0 in
     let failed = c.in-Err.ensures.err in
-    let octets = c.args.octets.now in
+    let octets = c.args.from.now.octets.now in
     let place : List ℕ → Place = λ o. record { starts = l.starts; t = l.now; octets = o } in
     let here = place (drop l.at octets) in (
       more ++ failed.0 ∷ [],
@@ -44,16 +44,16 @@ returns-in-Err-clause-err g c =
 
 pub overflow_add-at : goal.overflow_add-at
 overflow_add-at g c =
-    let s = c.args.shape in
+    let s = c.args.from.now.shape in
     let l = c.loop-j in
-    let sum = further s c.args.t l.j l.now l.at c.steps_len-at.result l.invariant.now l.invariant.at c.steps_len-at.ensures in
-    record { fits = few_symbols s c.args.t l.j (length c.args.candidates.now) _ sum (omega (arith, c.loop-j-test.true, l.auto.j-end)) c.requires.few }
+    let sum = further s c.args.from.now.t l.j l.now l.at c.steps_len-at.result l.invariant.now l.invariant.at c.steps_len-at.ensures in
+    record { fits = few_symbols s c.args.from.now.t l.j (length c.args.candidates.now) _ sum (omega (arith, c.loop-j-test.true, l.auto.j-end)) c.requires.few }
 
 pub loop-j-preserved : goal.loop-j-preserved
 loop-j-preserved g c =
-    let s = c.args.shape in
-    let t = c.args.t in
-    let octets = c.args.octets.now in
+    let s = c.args.from.now.shape in
+    let t = c.args.from.now.t in
+    let octets = c.args.from.now.octets.now in
     let l = c.loop-j in
     let i = l.invariant in
     let one = c.settle.new.candidate in

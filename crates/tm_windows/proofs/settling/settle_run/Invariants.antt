@@ -8,14 +8,14 @@ use Rattle.tm_windows.proofs.settling.settle_run.Given as goal
 
 abbrev pub invariant-loop-j : goal.invariant-loop-j
 invariant-loop-j g l = record {
-  shape : l.decoder ≡ l.shape;
-  now : l.now ≡ l.t + l.j * l.shape.keep;
-  at : l.at ≡ steps_size l.shape.rate l.t (l.j * l.shape.keep);
-  within : l.at ≤ length l.octets;
+  shape : l.decoder ≡ l.from.shape;
+  now : l.now ≡ l.from.t + l.j * l.from.shape.keep;
+  at : l.at ≡ steps_size l.from.shape.rate l.from.t (l.j * l.from.shape.keep);
+  within : l.at ≤ length l.from.octets.now;
   some : ForSome l.starts (λ register. register < 64);
-  bits : HaveRoom (l.shape.keep + l.shape.ahead) l.candidates;
-  candidates : AreCandidates l.shape l.t l.octets l.j (length l.fn.candidates) l.candidates;
+  bits : HaveRoom (l.from.shape.keep + l.from.shape.ahead) l.candidates;
+  candidates : AreCandidates l.from.shape l.from.t l.from.octets.now l.j (length l.fn.candidates) l.candidates;
   faults : g.B.BlockTaker.faults l.blocks ≡ g.B.BlockTaker.faults l.fn.blocks;
   handed : (more : List WindowBlock) × HandedOver g.B.BlockTaker.took l.fn.blocks more l.blocks
-      × ClosedWith l.shape (record { starts = l.fn.starts; t = l.t; octets = l.octets }) more (record { starts = l.starts; t = l.now; octets = drop l.at l.octets });
+      × ClosedWith l.from.shape (record { starts = l.from.starts; t = l.from.t; octets = l.from.octets.now }) more (record { starts = l.starts; t = l.now; octets = drop l.at l.from.octets.now });
 }

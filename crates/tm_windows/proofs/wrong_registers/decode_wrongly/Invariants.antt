@@ -6,11 +6,11 @@ use Rattle.tm_windows.proofs.wrong_registers.decode_wrongly.Given as goal
 
 abbrev pub invariant-loop-j : goal.invariant-loop-j
 invariant-loop-j l = record {
-  shape : l.decoder ≡ l.shape;
-  now : l.now ≡ l.t + l.j * l.shape.keep;
-  at : l.at ≡ steps_size l.shape.rate l.t (l.j * l.shape.keep);
-  within : l.at ≤ length l.octets;
+  shape : l.decoder ≡ l.from.shape;
+  now : l.now ≡ l.from.t + l.j * l.from.shape.keep;
+  at : l.at ≡ steps_size l.from.shape.rate l.from.t (l.j * l.from.shape.keep);
+  within : l.at ≤ length l.from.octets.now;
   some : ForSome l.starts (λ register. register < 64);
-  bits : HaveRoom (l.shape.keep + l.shape.ahead) l.candidates;
-  candidates : AreCandidates l.shape l.t l.octets 0 l.j l.candidates;
+  bits : HaveRoom (l.from.shape.keep + l.from.shape.ahead) l.candidates;
+  candidates : AreCandidates l.from.shape l.from.t l.from.octets.now 0 l.j l.candidates;
 }
