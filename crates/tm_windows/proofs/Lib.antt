@@ -1,4 +1,5 @@
 mod Runs
+mod Stretches
 mod Endings
 mod Existing
 pub mod Beginnings

@@ -1,15 +1,12 @@
 -- Windows one after another.
-use Rattle.std.proofs.Common.{◌≡◌, ℕ, ◌+◌, ◌-◌, ◌*◌, ◌^◌, ◌<◌, ◌≤◌, ◌∙◌, ◌++◌, ◌∷◌, [], ◌⊎◌, inl, inr, All, length-append, sym, ap, subst, arith, List, Option, Some, length, drop, drop-drop, length-drop, get_or, get_or-append-add, set, add-mul, mul-le-mul_right}
+use Rattle.std.proofs.Common.{◌≡◌, ℕ, ◌+◌, ◌-◌, ◌*◌, ◌^◌, ◌<◌, ◌≤◌, ◌∙◌, ◌++◌, ◌⊎◌, inl, inr, All, length-append, sym, ap, subst, arith, List, Some, length, drop, drop-drop, length-drop, get_or, get_or-append-add, set, add-mul, mul-le-mul_right}
 use Rattle.std.specs.Option.{ForSome}
 use Rattle.std.proofs.lemmas.Bool.{cases_lt}
 use Rattle.std.proofs.lemmas.List.{get_or-set_same, get_or-set_other, get_or_append_left}
 use Rattle.tm_conv.specs.Path.{steps_size}
-use Rattle.tm_conv.proofs.Sizes.{steps_size-le, steps_size-add, steps_size-most}
-use Rattle.tm_viterbi.specs.WindowBlock.{WindowBlock}
-use Rattle.tm_viterbi.specs.Due.{Place, after_block}
+use Rattle.tm_conv.proofs.Sizes.{steps_size-le, steps_size-add}
 use Rattle.tm_viterbi.specs.declared.window_decoder.WindowShape.{WindowShape}
-use Rattle.tm_viterbi.proofs.Closing.{Closed-push}
-use Rattle.tm_windows.specs.Candidates.{IsCandidate, AreCandidates, ClosesWith, ClosedWith}
+use Rattle.tm_windows.specs.Candidates.{IsCandidate, AreCandidates}
 use Rattle.tm_windows.specs.declared.candidate.Candidate.{Candidate}
 
 pub more_times : (j k : ℕ) → (j + 1) * k ≡ j * k + k
@@ -43,12 +40,6 @@ further s t j now at size en eat es =
     let same : steps_size s.rate now s.keep ≡ steps_size s.rate (t + j * s.keep) s.keep = ap (λ (u : ℕ). steps_size s.rate u s.keep) en in
     let whole : steps_size s.rate t ((j + 1) * s.keep) ≡ steps_size s.rate t (j * s.keep + s.keep) = ap (λ (m : ℕ). steps_size s.rate t m) (more_times j s.keep) in
     omega (arith, eat, es, same, whole, steps_size-add s.rate t (j * s.keep) s.keep)
-
--- their symbols are few
-pub few_symbols : (s : WindowShape) (t j n sum : ℕ) → sum ≡ steps_size s.rate t ((j + 1) * s.keep) → j < n → t + n * s.keep < 2 ^ 61 → sum < 2 ^ 64
-few_symbols s t j n sum is lt few =
-    let last : (j + 1) * s.keep ≤ n * s.keep = mul-le-mul_right s.keep (let le : j + 1 ≤ n = omega (arith, lt) in le) in
-    omega (arith, is, last, steps_size-most s.rate t ((j + 1) * s.keep), few)
 
 -- the candidate of number j
 at_number : (s : WindowShape) (t : ℕ) (octets : List ℕ) (j now at : ℕ) (c : Candidate) → now ≡ t + j * s.keep → at ≡ steps_size s.rate t (j * s.keep)
@@ -84,23 +75,6 @@ pub those_left : (s : WindowShape) (t : ℕ) (octets : List ℕ) (j n : ℕ) (ca
 those_left s t octets j n candidates c are k d from less =
     subst (λ (x : Candidate). IsCandidate s (t + k * s.keep) (drop (steps_size s.rate t (k * s.keep)) octets) x)
     (sym (get_or-set_other candidates j k c d (λ e. omega (arith, e, from)))) (are k d (omega (arith, from)) less)
-
--- one more window is closed after others
-pub push_closed : (s : WindowShape) (from : Place) (more : List WindowBlock) (starts : Option ℕ) (now at size next : ℕ) (octets : List ℕ) (block : WindowBlock)
-    → block.end_state ≡ next → block.kept ≡ s.keep → size ≡ steps_size s.rate now s.keep
-    → ClosedWith s from more (record { starts = starts; t = now; octets = drop at octets })
-    → ClosesWith s (record { starts = starts; t = now; octets = drop at octets }) block
-    → ClosedWith s from (more ++ block ∷ []) (record { starts = Some next; t = now + s.keep; octets = drop (at + size) octets })
-push_closed s from more starts now at size next octets block ee ek es closed closes =
-    let here : Place = record { starts = starts; t = now; octets = drop at octets } in
-    let place : Option ℕ → ℕ → List ℕ → Place = λ r u o. record { starts = r; t = u; octets = o } in
-    let kept : steps_size s.rate now block.kept ≡ size = ap (λ (m : ℕ). steps_size s.rate now m) ek ∙ sym es in
-    let rest : drop (steps_size s.rate now block.kept) (drop at octets) ≡ drop (at + size) octets = ap (λ (m : ℕ). drop m (drop at octets)) kept ∙ drop-drop size at octets in
-    let there : after_block s.rate here block ≡ place (Some next) (now + s.keep) (drop (at + size) octets)
-    = ap (λ (o : List ℕ). place (Some block.end_state) (now + block.kept) o) rest
-    ∙ ap (λ (k : ℕ). place (Some block.end_state) (now + k) (drop (at + size) octets)) ek
-    ∙ ap (λ (e : ℕ). place (Some e) (now + s.keep) (drop (at + size) octets)) ee in
-    subst (λ (p : Place). ClosedWith s from (more ++ block ∷ []) p) there (Closed-push s.rate s.invert s.keep s.ahead from here more block closed closes)
 
 -- ---- two parts, side by side
 pub All-front : (P : Candidate → Type 0) (all front back : List Candidate) → all ≡ front ++ back → All P all → All P front

@@ -6,7 +6,6 @@ ghost use Rattle.tm_windows.specs.Candidates.{IsCandidate, AreCandidates, HaveRo
 use crate::candidate::Candidate;
 use crate::stretch::Stretch;
 use tm_base::Gate;
-use tm_conv::steps_len;
 use tm_viterbi::WindowDecoder;
 
 /// Decodes the first window. The octets begin with its own, and have one more step.
@@ -47,21 +46,11 @@ pub(crate) fn decode_run<G: Gate>(
     ensures bits { HaveRoom (from.now.shape.keep + from.now.shape.ahead) candidates.new }
     ensures same { decoder.new ≡ from.now.shape }
 {
-    let mut starts = from.starts;
-    let mut now = from.t;
-    let mut at = 0usize;
+    let mut here = *from;
     for j in 0..candidates.len() {
-        let number = now / from.shape.keep.max(1) as u64;
+        let number = here.t / here.shape.keep.max(1) as u64;
         gate.enter(number.min(u64::from(u32::MAX)) as u32);
-        let window = Stretch {
-            shape: from.shape,
-            starts,
-            t: now,
-            octets: &from.octets[at..],
-        };
-        decode_window(decoder, &mut candidates[j], &window);
-        starts = Some(candidates[j].path.end_state);
-        at += steps_len(from.shape.rate, now, from.shape.keep);
-        now += from.shape.keep as u64;
+        decode_window(decoder, &mut candidates[j], &here);
+        here = here.next(candidates[j].path.end_state);
     }
 }

@@ -13,7 +13,6 @@ use crate::candidate::Candidate;
 use crate::decoding::decode_window;
 use crate::stretch::Stretch;
 use tm_base::Failed;
-use tm_conv::steps_len;
 use tm_viterbi::{Block, BlockTaker, WindowDecoder, WindowShape};
 
 // Whether a window was decoded from this start set.
@@ -139,24 +138,14 @@ pub(crate) fn settle_run<B: BlockTaker>(
     ensures bits { HaveRoom (from.now.shape.keep + from.now.shape.ahead) candidates.new }
     ensures same { decoder.new ≡ from.now.shape }
 {
-    let mut starts = from.starts;
-    let mut now = from.t;
-    let mut at = 0usize;
+    let mut here = *from;
     for j in 0..candidates.len() {
-        let window = Stretch {
-            shape: from.shape,
-            starts,
-            t: now,
-            octets: &from.octets[at..],
-        };
-        match settle(&mut candidates[j], decoder, &window, blocks) {
-            Ok(next) => starts = Some(next),
+        match settle(&mut candidates[j], decoder, &here, blocks) {
+            Ok(register) => here = here.next(register),
             Err(Failed) => return Err(Failed),
         }
-        at += steps_len(from.shape.rate, now, from.shape.keep);
-        now += from.shape.keep as u64;
     }
-    Ok(starts)
+    Ok(here.starts)
 }
 
 /// Decodes the last window, of so many steps, all of them kept, and hands its block over, as `hand_window` does.

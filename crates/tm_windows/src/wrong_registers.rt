@@ -66,8 +66,7 @@ fn mixed(value: u64, part: u64) -> u64 {
     (value ^ part).wrapping_mul(1099511628211)
 }
 
-// Decodes a window for each candidate: the first from register 63, and each other one from another register than that
-// after the one before it.
+// Decodes a window for each candidate, each but the first from another register than that after the one before it.
 fn decode_wrongly(decoder: &mut WindowDecoder, candidates: &mut [Candidate], from: &Stretch<'_>)
     requires shape { decoder.old ≡ from.now.shape }
     requires bits { HaveRoom (from.now.shape.keep + from.now.shape.ahead) candidates.old }
@@ -78,20 +77,10 @@ fn decode_wrongly(decoder: &mut WindowDecoder, candidates: &mut [Candidate], fro
     ensures bits { HaveRoom (from.now.shape.keep + from.now.shape.ahead) candidates.new }
     ensures same { decoder.new ≡ from.now.shape }
 {
-    let mut starts = Some(63);
-    let mut now = from.t;
-    let mut at = 0usize;
+    let mut here = *from;
     for j in 0..candidates.len() {
-        let window = Stretch {
-            shape: from.shape,
-            starts,
-            t: now,
-            octets: &from.octets[at..],
-        };
-        decode_window(decoder, &mut candidates[j], &window);
-        starts = Some(63 - candidates[j].path.end_state);
-        at += steps_len(from.shape.rate, now, from.shape.keep);
-        now += from.shape.keep as u64;
+        decode_window(decoder, &mut candidates[j], &here);
+        here = here.next(63 - candidates[j].path.end_state);
     }
 }
 
@@ -125,13 +114,13 @@ fn windows_from_wrong_registers_are_decoded_again(rt: HostRuntime) -> Result<(),
         let mut decoder = WindowDecoder::new(alloc, shape)?;
         let mut room = new_candidates(alloc, KEEP + AHEAD, WINDOWS)?;
         let candidates = room.as_mut_slice();
-        let from = Stretch {
+        let wrong = Stretch {
             shape,
-            starts: Some(0),
+            starts: Some(63),
             t: 0,
             octets,
         };
-        decode_wrongly(&mut decoder, candidates, &from);
+        decode_wrongly(&mut decoder, candidates, &wrong);
         let mut taken = [None; WINDOWS];
         for k in 0..WINDOWS {
             taken[k] = candidates[k].starts;
@@ -139,6 +128,12 @@ fn windows_from_wrong_registers_are_decoded_again(rt: HostRuntime) -> Result<(),
         let mut digest = Digest {
             blocks: 0,
             value: 1,
+        };
+        let from = Stretch {
+            shape,
+            starts: Some(0),
+            t: 0,
+            octets,
         };
         settle_run(candidates, &mut decoder, &from, &mut digest)?;
         for k in 0..WINDOWS {

@@ -1,31 +1,66 @@
-use Rattle.std.proofs.Common.{◌≡◌, ◌+◌, ◌*◌, ◌<◌, ◌∙◌, ◌++◌, ◌∷◌, [], ℕ, List, sym, ap, subst, arith, refl, length, drop, vec_len}
-use Rattle.std.proofs.lemmas.List.{take_rest}
+use Rattle.std.proofs.Common.{◌≡◌, ◌+◌, ◌*◌, ◌<◌, ◌∙◌, ◌++◌, ◌∷◌, [], ℕ, List, sym, ap, subst, arith, refl, length, vec_len}
 use Rattle.std.proofs.lemmas.List.Elements.{All-set}
 use Rattle.tm_base.proofs.Handing.{HandedOver-push, HandedPart-first, HandedPart-after}
-use Rattle.tm_conv.specs.Path.{steps_size}
-use Rattle.tm_conv.proofs.Paths.{steps_size-zero}
 use Rattle.tm_viterbi.specs.Due.{Place, after_block}
+use Rattle.tm_viterbi.specs.declared.window_decoder.WindowShape.{WindowShape}
 use Rattle.tm_viterbi.proofs.Closing.{Closed-push}
-use Rattle.tm_windows.specs.Candidates.{ClosesWith}
+use Rattle.tm_windows.specs.Candidates.{ClosesWith, ClosedWith, stretch_place}
 use Rattle.tm_windows.specs.declared.candidate.Candidate.{Candidate}
-use Rattle.tm_windows.proofs.Runs.{more_times, room_of, further, few_symbols, those_left, push_closed, small_some}
+use Rattle.tm_windows.proofs.Runs.{those_left}
+use Rattle.tm_windows.proofs.Stretches.{candidate_there, from_first, from_next, has_next, place_there, push_next}
 use Rattle.tm_windows.proofs.settling.settle_run.Goals as goal
 
 pub loop-j-init : goal.loop-j-init
 loop-j-init g c =
-    let s = c.args.from.now.shape in
-    let none : 0 * s.keep ≡ 0 = omega arith in
     record {
       shape = c.requires.shape;
-      now = omega arith;
-      at = sym (ap (λ (n : ℕ). steps_size s.rate c.args.from.now.t n) none ∙ steps_size-zero s.rate c.args.from.now.t);
-      within = omega arith;
-      some = c.args.from.now.start;
+      here = from_first c.args.from.now;
       bits = c.requires.bits;
       candidates = c.requires.candidates;
       faults = refl;
       handed = ([], refl, refl);
     }
+
+pub settle-requires-clause-candidate : goal.settle-requires-clause-candidate
+settle-requires-clause-candidate g c =
+    let l = c.loop-j in
+    candidate_there c.args.from.now l.here l.j (length c.args.candidates.now) l.candidates c.index-candidates-j.result l.invariant.here
+    (omega (arith, c.loop-j-test.true, l.auto.j-end)) l.invariant.candidates
+
+pub settle-requires-clause-shape : goal.settle-requires-clause-shape
+settle-requires-clause-shape g c = c.loop-j.invariant.shape ∙ sym c.loop-j.invariant.here.shape
+
+pub settle-requires-clause-small : goal.settle-requires-clause-small
+settle-requires-clause-small g c =
+    let same = ap (λ (w : WindowShape). w.keep + w.ahead) c.loop-j.invariant.here.shape in omega (arith, same, c.requires.small)
+
+pub settle-requires-clause-bits : goal.settle-requires-clause-bits
+settle-requires-clause-bits g c =
+    let l = c.loop-j in
+    let long : l.j < length l.candidates = omega (arith, c.loop-j-test.true, l.auto.j-end, l.auto.candidates) in
+    l.invariant.bits l.j c.index-candidates-j.result long
+    ∙ ap (λ (w : WindowShape). w.keep + w.ahead) (sym l.invariant.here.shape)
+
+pub settle-requires-clause-few : goal.settle-requires-clause-few
+settle-requires-clause-few g c =
+    let l = c.loop-j in
+    let next = has_next c.args.from.now l.here l.j (length c.args.candidates.now) l.invariant.here
+    (omega (arith, c.loop-j-test.true, l.auto.j-end)) c.requires.room c.requires.few in
+    omega (arith, next.few)
+
+pub next-here-requires-clause-within : goal.next-here-requires-clause-within
+next-here-requires-clause-within g c =
+    let l = c.loop-j in
+    let next = has_next c.args.from.now l.here l.j (length c.args.candidates.now) l.invariant.here
+    (omega (arith, c.loop-j-test.true, l.auto.j-end)) c.requires.room c.requires.few in
+    next.kept
+
+pub next-here-requires-clause-few : goal.next-here-requires-clause-few
+next-here-requires-clause-few g c =
+    let l = c.loop-j in
+    let next = has_next c.args.from.now l.here l.j (length c.args.candidates.now) l.invariant.here
+    (omega (arith, c.loop-j-test.true, l.auto.j-end)) c.requires.room c.requires.few in
+    next.few
 
 pub returns-in-Err-clause-err : goal.returns-in-Err-clause-err
 returns-in-Err-clause-err g c =
@@ -33,51 +68,46 @@ returns-in-Err-clause-err g c =
     let l = c.loop-j in
     let more = l.invariant.handed.0 in
     let failed = c.in-Err.ensures.err in
-    let octets = c.args.from.now.octets.now in
-    let place : List ℕ → Place = λ o. record { starts = l.starts; t = l.now; octets = o } in
-    let here = place (drop l.at octets) in (
+    let here = stretch_place l.here in
+    let closes = subst (λ (w : WindowShape). ClosesWith w here failed.0) l.invariant.here.shape failed.2 in (
       more ++ failed.0 ∷ [],
       HandedPart-after _ _ c.args.blocks.now l.blocks c.settle.new.blocks more (failed.0 ∷ []) l.invariant.handed.1 (HandedPart-first _ _ l.blocks c.settle.new.blocks failed.0 [] failed.1),
       after_block s.rate here failed.0,
-      Closed-push s.rate s.invert s.keep s.ahead _ here more failed.0 l.invariant.handed.2 (subst (λ (o : List ℕ). ClosesWith s (place o) failed.0) (take_rest octets l.at) failed.2),
+      Closed-push s.rate s.invert s.keep s.ahead _ here more failed.0 l.invariant.handed.2 closes,
     )
 
-pub overflow_add-at : goal.overflow_add-at
-overflow_add-at g c =
-    let s = c.args.from.now.shape in
+pub returns-clause-ok : goal.returns-clause-ok
+returns-clause-ok g c =
+    let from = c.args.from.now in
     let l = c.loop-j in
-    let sum = further s c.args.from.now.t l.j l.now l.at c.steps_len-at.result l.invariant.now l.invariant.at c.steps_len-at.ensures in
-    record { fits = few_symbols s c.args.from.now.t l.j (length c.args.candidates.now) _ sum (omega (arith, c.loop-j-test.true, l.auto.j-end)) c.requires.few }
+    let more = l.invariant.handed.0 in
+    let all : l.j ≡ length c.args.candidates.now = omega (arith, c.loop-j-test.false, l.auto.j-end) in
+    let there = place_there from l.here l.j (length c.args.candidates.now) l.invariant.here all in
+    (more, l.invariant.handed.1, subst (λ (p : Place). ClosedWith from.shape (stretch_place from) more p) there l.invariant.handed.2)
 
 pub loop-j-preserved : goal.loop-j-preserved
 loop-j-preserved g c =
-    let s = c.args.from.now.shape in
-    let t = c.args.from.now.t in
-    let octets = c.args.from.now.octets.now in
+    let from = c.args.from.now in
+    let s = from.shape in
     let l = c.loop-j in
     let i = l.invariant in
     let one = c.settle.new.candidate in
     let all = length c.args.candidates.now in
-    let size = c.steps_len-at.result in
     let ok = c.in-Ok.ensures.ok in
     let more = i.handed.0 in
-    let below : l.j < all = omega (arith, c.loop-j-test.true, l.auto.j-end) in
-    let long : l.j < length l.candidates = omega (arith, below, l.auto.candidates) in
-    let room = room_of s t all l.j l.now l.at octets i.now i.at below c.requires.room in
-    let place : List ℕ → Place = λ o. record { starts = l.starts; t = l.now; octets = o } in
-    let closes = subst (λ (o : List ℕ). ClosesWith s (place o) ok.0) (take_rest octets l.at) ok.4 in
+    let next = c.next-here.ensures in
+    let long : l.j < length l.candidates = omega (arith, c.loop-j-test.true, l.auto.j-end, l.auto.candidates) in
     record {
-      shape = c.settle.ensures.same;
-      now = omega (arith, i.now, more_times l.j s.keep);
-      at = further s t l.j l.now l.at size i.now i.at c.steps_len-at.ensures;
-      within = omega (arith, room.next, c.steps_len-at.ensures);
-      some = small_some c.in-Ok.next c.in-Ok.ensures.small;
-      bits = All-set (λ (x : Candidate). vec_len x.bits ≡ s.keep + s.ahead) l.candidates l.j one (c.settle.ensures.bits ∙ i.bits l.j c.index-candidates-j.result long) i.bits;
-      candidates = those_left s t octets l.j all l.candidates one i.candidates;
+      shape = c.settle.ensures.same ∙ i.here.shape;
+      here = from_next from l.here c.next-here.result l.j i.here next.shape next.t next.octets;
+      bits = All-set (λ (x : Candidate). vec_len x.bits ≡ s.keep + s.ahead) l.candidates l.j one
+          (c.settle.ensures.bits ∙ i.bits l.j c.index-candidates-j.result long) i.bits;
+      candidates = those_left s from.t from.octets.now l.j all l.candidates one i.candidates;
       faults = c.in-Ok.ensures.cause.same ∙ i.faults;
       handed = (
         more ++ ok.0 ∷ [],
         HandedOver-push _ c.args.blocks.now l.blocks c.settle.new.blocks more ok.0 i.handed.1 ok.1,
-        push_closed s _ more l.starts l.now l.at size c.in-Ok.next octets ok.0 ok.2 ok.3 c.steps_len-at.ensures i.handed.2 closes,
+        push_next from l.here c.next-here.result _ more ok.0 c.in-Ok.register i.here.shape ok.2 ok.3
+            next.starts next.t next.octets i.handed.2 ok.4,
       );
     }
