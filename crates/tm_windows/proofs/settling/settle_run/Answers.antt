@@ -1,4 +1,4 @@
-use Rattle.std.proofs.Common.{◌≡◌, ◌+◌, ◌*◌, ◌<◌, ◌∙◌, ◌++◌, ◌∷◌, [], ℕ, List, sym, ap, subst, arith, refl, length, vec_len}
+use Rattle.std.proofs.Common.{◌≡◌, ◌+◌, ◌<◌, ◌∙◌, ◌++◌, ◌∷◌, [], sym, ap, subst, arith, refl, length, vec_len}
 use Rattle.std.proofs.lemmas.List.Elements.{All-set}
 use Rattle.tm_base.proofs.Handing.{HandedOver-push, HandedPart-first, HandedPart-after}
 use Rattle.tm_viterbi.specs.Due.{Place, after_block}

@@ -1,4 +1,4 @@
-use Rattle.std.proofs.Common.{◌≡◌, ◌+◌, ◌*◌, ◌<◌, ◌∙◌, ℕ, sym, ap, arith, refl, length, vec_len}
+use Rattle.std.proofs.Common.{◌≡◌, ◌+◌, ◌*◌, ◌<◌, ◌∙◌, sym, ap, arith, refl, length, vec_len}
 use Rattle.std.proofs.lemmas.List.Elements.{All-set}
 use Rattle.tm_conv.specs.Path.{steps_size}
 use Rattle.tm_viterbi.specs.declared.window_decoder.WindowShape.{WindowShape}
