@@ -13,9 +13,9 @@ mod parallel_decoder;
 mod settling;
 mod sharing;
 mod stretch;
-mod window_workers;
 #[cfg(test)]
-mod wrong_registers;
+mod tests;
+mod window_workers;
 
 pub use laws::{closed_prefix_law, due_windows_law, one_windows_law, undisturbed_law};
 pub use parallel_decoder::ParallelDecoder;

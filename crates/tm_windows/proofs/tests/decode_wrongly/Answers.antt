@@ -5,7 +5,7 @@ use Rattle.tm_viterbi.specs.declared.window_decoder.WindowShape.{WindowShape}
 use Rattle.tm_windows.specs.declared.candidate.Candidate.{Candidate}
 use Rattle.tm_windows.proofs.Runs.{one_more}
 use Rattle.tm_windows.proofs.Stretches.{from_first, from_next, has_next, is_there}
-use Rattle.tm_windows.proofs.wrong_registers.decode_wrongly.Goals as goal
+use Rattle.tm_windows.proofs.tests.decode_wrongly.Goals as goal
 
 pub loop-j-init : goal.loop-j-init
 loop-j-init c =

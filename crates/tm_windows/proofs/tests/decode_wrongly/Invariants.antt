@@ -1,7 +1,7 @@
 use Rattle.std.proofs.Common.{◌≡◌, ◌+◌}
 use Rattle.tm_windows.specs.Candidates.{AreCandidates, HaveRoom}
 use Rattle.tm_windows.proofs.Stretches.{IsFrom}
-use Rattle.tm_windows.proofs.wrong_registers.decode_wrongly.Given as goal
+use Rattle.tm_windows.proofs.tests.decode_wrongly.Given as goal
 
 abbrev pub invariant-loop-j : goal.invariant-loop-j
 invariant-loop-j l = record {

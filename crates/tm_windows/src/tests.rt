@@ -1,4 +1,4 @@
-// Windows of which each was begun from a wrong register, settled: the blocks are those of the decoder of one thread.
+// Tests of windows that were each begun from a wrong register: settled, their blocks are those of one thread.
 ghost use Rattle.std.specs.Prelude.{◌+◌, ◌*◌, ◌^◌, ◌<◌, ◌≡◌, length};
 ghost use Rattle.tm_windows.specs.Candidates.{AreCandidates, HaveRoom, HoldsWindows};
 
