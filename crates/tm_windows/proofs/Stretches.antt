@@ -22,22 +22,27 @@ pub from_first : (from : Stretch) → IsFrom from 0 from
 from_first from =
     let s = from.shape in
     let none : 0 * s.keep ≡ 0 = omega arith in
-    let size : steps_size s.rate from.t (0 * s.keep) ≡ 0 = ap (λ (n : ℕ). steps_size s.rate from.t n) none ∙ steps_size-zero s.rate from.t in
+    let size : steps_size s.rate from.t (0 * s.keep) ≡ 0
+    = ap (λ (n : ℕ). steps_size s.rate from.t n) none ∙ steps_size-zero s.rate from.t in
     record {
       shape = refl;
       t = omega (arith, none);
       octets = sym (ap (λ (n : ℕ). drop n from.octets.now) size);
     }
 
-pub from_next : (from here now : Stretch) (j : ℕ) → IsFrom from j here → now.shape ≡ here.shape → now.t ≡ here.t + here.shape.keep
-    → now.octets.now ≡ drop (steps_size here.shape.rate here.t here.shape.keep) here.octets.now → IsFrom from (j + 1) now
+pub from_next : (from here now : Stretch) (j : ℕ) → IsFrom from j here → now.shape ≡ here.shape
+    → now.t ≡ here.t + here.shape.keep
+    → now.octets.now ≡ drop (steps_size here.shape.rate here.t here.shape.keep) here.octets.now
+    → IsFrom from (j + 1) now
 from_next from here now j is es et eo =
     let s = from.shape in
     let at = steps_size s.rate from.t (j * s.keep) in
     let size = steps_size s.rate here.t s.keep in
     let keep : here.shape.keep ≡ s.keep = ap (λ (w : WindowShape). w.keep) is.shape in
-    let same : steps_size here.shape.rate here.t here.shape.keep ≡ size = ap (λ (w : WindowShape). steps_size w.rate here.t w.keep) is.shape in
-    let sum : at + size ≡ steps_size s.rate from.t ((j + 1) * s.keep) = further s from.t j here.t at size is.t refl refl in
+    let same : steps_size here.shape.rate here.t here.shape.keep ≡ size
+    = ap (λ (w : WindowShape). steps_size w.rate here.t w.keep) is.shape in
+    let sum : at + size ≡ steps_size s.rate from.t ((j + 1) * s.keep)
+    = further s from.t j here.t at size is.t refl refl in
     record {
       shape = es ∙ is.shape;
       t = omega (arith, et, keep, is.t, more_times j s.keep);
@@ -57,31 +62,36 @@ pub has_next : (from here : Stretch) (j n : ℕ) → IsFrom from j here → j < 
 has_next from here j n is lt room few =
     let s = from.shape in
     let there = room_of s from.t n j here.t (steps_size s.rate from.t (j * s.keep)) from.octets.now is.t refl lt room in
-    let whole : steps_size s.rate here.t (s.keep + s.ahead + 1) ≤ length here.octets.now = omega (arith, there.room, ap length is.octets) in
+    let whole : steps_size s.rate here.t (s.keep + s.ahead + 1) ≤ length here.octets.now
+    = omega (arith, there.room, ap length is.octets) in
     let part = steps_size-le s.rate here.t s.keep (s.keep + s.ahead + 1) (omega arith) in
     let some : steps_size s.rate here.t s.keep ≤ length here.octets.now = omega (arith, whole, part) in
     let keep : here.shape.keep ≡ s.keep = ap (λ (w : WindowShape). w.keep) is.shape in
     let last : (j + 1) * s.keep ≤ n * s.keep = mul-le-mul_right s.keep (let le : j + 1 ≤ n = omega (arith, lt) in le) in
     record {
-      room = subst (λ (w : WindowShape). steps_size w.rate here.t (w.keep + w.ahead + 1) ≤ length here.octets.now) (sym is.shape) whole;
+      room = subst (λ (w : WindowShape). steps_size w.rate here.t (w.keep + w.ahead + 1) ≤ length here.octets.now)
+          (sym is.shape) whole;
       kept = subst (λ (w : WindowShape). steps_size w.rate here.t w.keep ≤ length here.octets.now) (sym is.shape) some;
       few = omega (arith, is.t, keep, last, more_times j s.keep, few);
     }
 
 -- the candidate of the next window
-pub is_there : (from here : Stretch) (j : ℕ) (c : Candidate) → IsFrom from j here → IsCandidate here.shape here.t here.octets.now c
+pub is_there : (from here : Stretch) (j : ℕ) (c : Candidate) → IsFrom from j here
+    → IsCandidate here.shape here.t here.octets.now c
     → IsCandidate from.shape here.t (drop (steps_size from.shape.rate from.t (j * from.shape.keep)) from.octets.now) c
 is_there from here j c is h =
     subst (λ (o : List ℕ). IsCandidate from.shape here.t o c) is.octets
     (subst (λ (w : WindowShape). IsCandidate w here.t here.octets.now c) is.shape h)
 
-pub candidate_there : (from here : Stretch) (j n : ℕ) (candidates : List Candidate) (d : Candidate) → IsFrom from j here → j < n
+pub candidate_there : (from here : Stretch) (j n : ℕ) (candidates : List Candidate) (d : Candidate)
+    → IsFrom from j here → j < n
     → AreCandidates from.shape from.t from.octets.now j n candidates
     → IsCandidate here.shape here.t here.octets.now (get_or candidates j d)
 candidate_there from here j n candidates d is lt are =
     let s = from.shape in
     let c = get_or candidates j d in
-    let there = candidate_at s from.t from.octets.now j n here.t (steps_size s.rate from.t (j * s.keep)) candidates d is.t refl lt are in
+    let there = candidate_at s from.t from.octets.now j n here.t (steps_size s.rate from.t (j * s.keep))
+    candidates d is.t refl lt are in
     subst (λ (w : WindowShape). IsCandidate w here.t here.octets.now c) (sym is.shape)
     (subst (λ (o : List ℕ). IsCandidate s here.t o c) (sym is.octets) there)
 

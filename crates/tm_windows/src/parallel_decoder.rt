@@ -113,8 +113,8 @@ fn counted(count: u64, piece: &[u8]) -> &[u8]
 impl ParallelDecoder {
     /// A decoder that was given nothing yet, with 1 to 64 workers, for windows of this shape, which keeps 64 to 65,536
     /// steps, of the last window all, and has at most 4,096 ahead. Where fewer than 1,024 steps are kept or fewer than
-    /// 64 stand ahead, one worker decodes all windows. Where `follow` is set a slip is looked for before each window but
-    /// the first, and as many octets are dropped; one worker decodes all windows then, too.
+    /// 64 stand ahead, one worker decodes all windows. Where `follow` is set a slip is looked for before each window
+    /// but the first, and as many octets are dropped; one worker decodes all windows then, too.
     ///
     /// It fails only where there isn't enough memory.
     pub fn open(
@@ -128,7 +128,13 @@ impl ParallelDecoder {
         requires ahead { shape.ahead ≤ 4096 }
         requires workers { (0 < workers) × (workers ≤ 64) }
         ensures windows { IfOk result (λ d. d.windows ≡ record {
-          settings = record { rate = shape.rate; invert = shape.invert; start = start; keep = shape.keep; ahead = shape.ahead };
+          settings = record {
+            rate = shape.rate;
+            invert = shape.invert;
+            start = start;
+            keep = shape.keep;
+            ahead = shape.ahead;
+          };
           seen = if follow then Some (steps_seen shape.keep shape.ahead) else None;
         }) }
         ensures workers { IfOk result (λ d.

@@ -55,8 +55,8 @@ fn hand_block<B: BlockTaker>(
     }
 }
 
-// Hands over the block of the first window: the candidate, where it was decoded from the window's start set, and else it
-// is decoded again. Answers the register after its kept steps.
+// Hands over the block of the first window: the candidate, where it was decoded from the window's start set, and else
+// it is decoded again. Answers the register after its kept steps.
 fn settle<B: BlockTaker>(
     candidate: &mut Candidate,
     decoder: &mut WindowDecoder,

@@ -12,6 +12,7 @@ returns c = IfOk-weaker c.open.result _ _ (λ v is receiver taken same stands.
     let other : c.unwrap_or-rate.result ≡ rate = search rules in
     let shape = c.shape_of-shape.result in
     let is_shape = c.shape_of-shape.ensures in
-    new-is c.args.config.now rate v shape.rate shape.invert c.values-values.result.now.start shape.keep shape.ahead is (is_shape.rate ∙ other)
+    new-is c.args.config.now rate v shape.rate shape.invert c.values-values.result.now.start shape.keep shape.ahead
+    is (is_shape.rate ∙ other)
     (is_shape.invert ∙ ap (λ (r : Rate). is_inverted r c.args.config.now.invert) (sym is_shape.rate))
     (ap (λ (v : Configuration). v.start) c.values-values.ensures.value) is_shape.keep is_shape.ahead)) c.open.ensures

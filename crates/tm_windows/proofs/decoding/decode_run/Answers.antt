@@ -43,7 +43,8 @@ decode_window-requires-clause-few g c =
 pub next-here-requires-clause-register : goal.next-here-requires-clause-register
 next-here-requires-clause-register g c =
     let at = c.loop-j.j in
-    (slice_index_or (slice_set c.loop-j.candidates at c.decode_window.new.candidate) at c.index-candidates-j-in-loop-j.result).path.small
+    (slice_index_or (slice_set c.loop-j.candidates at c.decode_window.new.candidate) at
+    c.index-candidates-j-in-loop-j.result).path.small
 
 pub next-here-requires-clause-within : goal.next-here-requires-clause-within
 next-here-requires-clause-within g c =
@@ -73,6 +74,7 @@ loop-j-preserved g c =
       here = from_next from l.here c.next-here.result l.j i.here next.shape next.t next.octets;
       bits = All-set (λ (x : Candidate). vec_len x.bits ≡ s.keep + s.ahead) l.candidates l.j one
           (c.decode_window.ensures.bits ∙ i.bits l.j c.index-candidates-j.result long) i.bits;
-      candidates = one_more s from.t from.octets.now l.candidates one l.j l.here.t (steps_size s.rate from.t (l.j * s.keep))
+      candidates = one_more s from.t from.octets.now l.candidates one l.j
+          l.here.t (steps_size s.rate from.t (l.j * s.keep))
           i.here.t refl long (is_there from l.here l.j one i.here c.decode_window.ensures.candidate) i.candidates;
     }

@@ -12,9 +12,16 @@ decode-candidate-requires-clause-octets c =
     let s = c.args.from.now.shape in
     let n = length c.as_mut_slice-bits.result.now in
     let long : n ≡ s.keep + s.ahead = omega (arith, c.as_mut_slice-bits.ensures.len, c.requires.bits) in
-    let same : steps_size c.args.decoder.now.rate c.args.from.now.t n ≡ steps_size s.rate c.args.from.now.t (s.keep + s.ahead)
-    = ap (λ (w : WindowShape). steps_size w.rate c.args.from.now.t n) c.requires.shape ∙ ap (λ (m : ℕ). steps_size s.rate c.args.from.now.t m) long in
-    omega (arith, same, c.requires.room, steps_size-le s.rate c.args.from.now.t (s.keep + s.ahead) (s.keep + s.ahead + 1) (omega arith))
+    let same : steps_size c.args.decoder.now.rate c.args.from.now.t n
+    ≡ steps_size s.rate c.args.from.now.t (s.keep + s.ahead)
+    = ap (λ (w : WindowShape). steps_size w.rate c.args.from.now.t n) c.requires.shape
+    ∙ ap (λ (m : ℕ). steps_size s.rate c.args.from.now.t m) long in
+    omega (
+      arith,
+      same,
+      c.requires.room,
+      steps_size-le s.rate c.args.from.now.t (s.keep + s.ahead) (s.keep + s.ahead + 1) (omega arith),
+    )
 
 pub returns-clause-candidate : goal.returns-clause-candidate
 returns-clause-candidate c =
@@ -26,7 +33,9 @@ returns-clause-candidate c =
     let n = length c.as_mut_slice-bits.result.now in
     let long : n ≡ s.keep + s.ahead = omega (arith, c.as_mut_slice-bits.ensures.len, c.requires.bits) in
     let all = s.keep + s.ahead + 1 in
-    let P : WindowShape → ℕ → List ℕ → Type 0 = λ w m v. IsBlock w.rate w.invert w.keep w.ahead c.args.from.now.starts c.args.from.now.t all c.args.from.now.octets.now
+    let P : WindowShape → ℕ → List ℕ → Type 0
+    = λ w m v. IsBlock w.rate w.invert w.keep w.ahead c.args.from.now.starts c.args.from.now.t all
+    c.args.from.now.octets.now
     (record { start = path.start; steps = m; kept = s.keep; metric = path.metric; bits = v; end_state = path.end_state; dropped = 0 }) in
     let steps : n ≡ window_steps d.keep d.ahead all = omega (arith, long, ap (λ (w : WindowShape). w.keep) c.requires.shape, ap (λ (w : WindowShape). w.ahead) c.requires.shape) in
     let kept : s.keep ≡ kept_steps d.keep d.ahead all = full_kept s.keep s.ahead ∙ ap (λ (w : WindowShape). kept_steps w.keep w.ahead all) (sym c.requires.shape) in

@@ -24,7 +24,8 @@ loop-j-init g c =
 pub settle-requires-clause-candidate : goal.settle-requires-clause-candidate
 settle-requires-clause-candidate g c =
     let l = c.loop-j in
-    candidate_there c.args.from.now l.here l.j (length c.args.candidates.now) l.candidates c.index-candidates-j.result l.invariant.here
+    candidate_there c.args.from.now l.here l.j (length c.args.candidates.now)
+    l.candidates c.index-candidates-j.result l.invariant.here
     (omega (arith, c.loop-j-test.true, l.auto.j-end)) l.invariant.candidates
 
 pub settle-requires-clause-shape : goal.settle-requires-clause-shape
@@ -32,7 +33,8 @@ settle-requires-clause-shape g c = c.loop-j.invariant.shape ∙ sym c.loop-j.inv
 
 pub settle-requires-clause-small : goal.settle-requires-clause-small
 settle-requires-clause-small g c =
-    let same = ap (λ (w : WindowShape). w.keep + w.ahead) c.loop-j.invariant.here.shape in omega (arith, same, c.requires.small)
+    let same = ap (λ (w : WindowShape). w.keep + w.ahead) c.loop-j.invariant.here.shape in
+    omega (arith, same, c.requires.small)
 
 pub settle-requires-clause-bits : goal.settle-requires-clause-bits
 settle-requires-clause-bits g c =
@@ -82,8 +84,11 @@ returns-clause-ok g c =
     let l = c.loop-j in
     let more = l.invariant.handed.0 in
     let all : l.j ≡ length c.args.candidates.now = omega (arith, c.loop-j-test.false, l.auto.j-end) in
-    let there = place_there from l.here l.j (length c.args.candidates.now) l.invariant.here all in
-    (more, l.invariant.handed.1, subst (λ (p : Place). ClosedWith from.shape (stretch_place from) more p) there l.invariant.handed.2)
+    let there = place_there from l.here l.j (length c.args.candidates.now) l.invariant.here all in (
+      more,
+      l.invariant.handed.1,
+      subst (λ (p : Place). ClosedWith from.shape (stretch_place from) more p) there l.invariant.handed.2,
+    )
 
 pub loop-j-preserved : goal.loop-j-preserved
 loop-j-preserved g c =

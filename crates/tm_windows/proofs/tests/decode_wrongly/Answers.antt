@@ -68,6 +68,7 @@ loop-j-preserved c =
       here = from_next from l.here c.next-here.result l.j i.here next.shape next.t next.octets;
       bits = All-set (λ (x : Candidate). vec_len x.bits ≡ s.keep + s.ahead) l.candidates l.j one
           (c.decode_window.ensures.bits ∙ i.bits l.j c.index-candidates-j.result long) i.bits;
-      candidates = one_more s from.t from.octets.now l.candidates one l.j l.here.t (steps_size s.rate from.t (l.j * s.keep))
+      candidates = one_more s from.t from.octets.now l.candidates one l.j
+          l.here.t (steps_size s.rate from.t (l.j * s.keep))
           i.here.t refl long (is_there from l.here l.j one i.here c.decode_window.ensures.candidate) i.candidates;
     }

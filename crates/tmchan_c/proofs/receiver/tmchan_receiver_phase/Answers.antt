@@ -11,5 +11,6 @@ pub returns-in-Receiver-clause-told : goal.returns-in-Receiver-clause-told
 returns-in-Receiver-clause-told c = λ config given done is.
     let held : c.args.handle.now.kept.value ≡ Some (Receiver c.in-Receiver.receiver) = search rules in
     let receiver = subst (λ (o : Option Stream). IsReceiver o config given done) held is in
-    let so_far = subst (λ (k : Configuration). IsChosenSoFar k given c.chosen.result) receiver.0 (c.chosen.ensures.so_far given done receiver.1) in
+    let so_far = subst (λ (k : Configuration). IsChosenSoFar k given c.chosen.result) receiver.0
+    (c.chosen.ensures.so_far given done receiver.1) in
     (search rules, subst (λ (o : Option Chosen). IsChosenSoFar config given o) (sym c.phase_state.ensures) so_far)

@@ -9,5 +9,8 @@ use Rattle.tmchan_c.proofs.receiver.tmchan_receiver_slips.Goals as goal
 pub returns-in-Receiver-clause-told : goal.returns-in-Receiver-clause-told
 returns-in-Receiver-clause-told c = λ config given done is.
     let held : c.args.handle.now.kept.value ≡ Some (Receiver c.in-Receiver.receiver) = search rules in
-    let receiver = subst (λ (o : Option Stream). IsReceiver o config given done) held is in
-    (search rules, subst (λ (k : Configuration). AreSlipsSoFar k given c.slips.result) receiver.0 (c.slips.ensures given done receiver.1))
+    let receiver = subst (λ (o : Option Stream). IsReceiver o config given done) held is in (
+      search rules,
+      subst (λ (k : Configuration). AreSlipsSoFar k given c.slips.result)
+          receiver.0 (c.slips.ensures given done receiver.1),
+    )
