@@ -9,8 +9,9 @@
  *
  * - It starts no thread and calls nothing outside but memcpy, memmove, memset, and where it is said malloc, realloc and free. Calls that are
  *   passed different handles, or none, may be made by different threads at the same time; a handle is passed to one call at a time.
- * - An array is passed as a pointer followed by its length, always in octets. A call reads and writes no octet beyond that length.
- * - Any length may be passed, 0 too, and any number. What does not fit is answered by a negative number, and nothing is written then.
+ * - An array is passed as a pointer followed by its length, in octets, and of reports in reports. A call reads and writes nothing beyond it.
+ * - Any length may be passed, 0 too, and any number. What does not fit is answered by a negative number, and nothing is written then, but by
+ *   a receiver's push and finish what had room (TMCHAN_ROOM).
  * - What the caller owes, since no call can test it: a pointer is never null, not even where the length is 0; the memory that it points to
  *   is readable, or writable where it is not const, for the length passed; an array that a call writes overlaps no other array of that call.
  *
@@ -50,7 +51,7 @@ extern "C" {
 #define TMCHAN_POLYNOMIAL 1
 
 /* Answers below 0. Each call lists its own; where several apply it gives the first of its list. After any of them all arrays are as they
- * were. */
+ * were, but for those of a receiver's push or finish after TMCHAN_ROOM. */
 #define TMCHAN_BEYOND (-1)      /* uncorrectable: no codeword is within the repair bound. No mistake of the caller */
 #define TMCHAN_ROOM (-2)        /* the length of an array does not fit those of the others, or the code */
 #define TMCHAN_FLAGS (-3)       /* there are not as many flags as symbols */
