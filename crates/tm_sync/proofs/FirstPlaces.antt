@@ -16,7 +16,7 @@ abbrev pub here : Rules → ℕ → Option Before → List Bool → Option Found
 here rules at before bits = place_by rules at before bits (way_of rules before bits)
 
 -- a marker is among the bits that tell a place, and the markers that verify it where it is searched for
-telling-marker : (rules : Rules) (before : Option Before) → 32 ≤ telling_bits rules before
+pub telling-marker : (rules : Rules) (before : Option Before) → 32 ≤ telling_bits rules before
 telling-marker rules None = omega arith
 telling-marker rules (Some before) = omega arith
 

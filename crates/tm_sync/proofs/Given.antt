@@ -16,7 +16,7 @@ use Rattle.tm_sync.proofs.Numbers.{value_from, number-value}
 use Rattle.tm_sync.proofs.Sliding.{byte-number, word-push}
 use Rattle.tm_sync.proofs.Steps.{places_from-short, places_from-hit, wrong_bits-append, match_of-append, is_way-is, are_verified-more, way_of-far, place_at-room}
 use Rattle.tm_sync.proofs.Longer.{Seen, none, some, seen, place_by-place}
-use Rattle.tm_sync.proofs.FirstPlaces.{here, hit, first_place-nil, first_place-short, first_place-stays, first_place-right, first_place-settles, first_place-unmatched, first_place-waits, first_place-start, first_place-room, places_from-ahead, places_from-none, places_from-none_ahead, places_from-whole, places_from-unfinished, not-bridged-here, after-matched}
+use Rattle.tm_sync.proofs.FirstPlaces.{here, hit, first_place-nil, first_place-short, first_place-stays, first_place-right, first_place-settles, first_place-unmatched, first_place-waits, first_place-start, first_place-room, telling-marker, places_from-ahead, places_from-none, places_from-none_ahead, places_from-whole, places_from-unfinished, not-bridged-here, after-matched}
 use Rattle.tm_sync.proofs.Recent.{recent-inside, recent-from, last-32, word-last}
 use Rattle.tm_sync.proofs.Looks.{none-or}
 use Rattle.tm_sync.proofs.Ends.{end_after, end_after-is, end_after-append, end-there, first-stays, places-after}
@@ -467,6 +467,19 @@ told_right s now room room' b a bits found c kept was right looks stood =
     looks l size word ∙ (λ i. option_map (awaited_at (c.before i)) (place_by (c.rules i) (place i) (c.before i) l (match_of (c.rules i) l))) in
     told s s' room room' b bits found h g kept was (place_by s.rules (length h.prefix) s.before l (match_of s.rules l)) r.1 is
     (told-zero s' (bits ++ b ∷ []) s.rules (length h.prefix) s.before l (match_of s.rules l) refl (omega arith))
+
+-- too few bits follow the last codeblock to be a marker
+pub push_short : (s now : Searching) (room room' : List ℕ) (b : Bool) (bits : List Bool) (found : List Found) → Counts s now b → Remembers room room' bits b
+    → s.awaited ≡ None → now.pushed - now.start < 32 → StandsFor s room bits found → StandsFor now room' (bits ++ b ∷ []) found
+push_short s now room room' b bits found c kept was few stood =
+    let h = parts_of s room bits found stood in
+    let pushed = c.pushed in
+    let start = c.start in
+    let many = after-is s room bits found h in
+    let enough = telling-marker s.rules s.before in
+    let short : length (h.rest ++ b ∷ []) < 32 = omega (arith, length-append h.rest (b ∷ [])) in
+    told s now room room' b bits found h (grows s now now b c refl refl refl refl refl) kept was None
+    (first_place-short s.rules (length h.prefix) s.before (h.rest ++ b ∷ []) (omega arith)) (c.awaited ∙ was) (c.after ∙ subst (Fresh s) was h.fresh)
 
 pub told_waits : (s now : Searching) (room room' : List ℕ) (b : Bool) (bits : List Bool) (found : List Found) → Counts s now b → Remembers room room' bits b
     → s.awaited ≡ None → is_right_after (now.pushed - now.start) now.before ≡ false → now.pushed - now.start < 32 + verify_bits now.rules

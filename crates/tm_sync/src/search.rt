@@ -157,6 +157,7 @@ impl Search {
     /// the search's own, of `room()` octets.
     ///
     /// The bits given in all are to be below 2^63.
+    #[inline(always)]
     pub fn push_bit(&mut self, room: &mut [u8], bit: bool)
         requires { is_pending self.old ≡ false }
         ensures rules { self.new.rules ≡ self.old.rules }
@@ -252,6 +253,10 @@ impl Search {
             self.after += 1;
             return;
         }
+        let since = self.pushed.wrapping_sub(self.start);
+        if since < 32 {
+            return;
+        }
         let (awaited, after) = self.place_told(room);
         self.awaited = awaited;
         self.after = after;
@@ -334,6 +339,7 @@ impl Search {
     }
 
     // The 32 bits that end `back` bits before the last: the last 32, or bits of the room.
+    #[inline(never)]
     fn word_at(&self, room: &[u8], back: u64) -> u32
         ensures { (bits : List Bool) (from : ℕ) → Recalls self.now room.now bits from
             → (back ≡ 0) ⊎ ((32 ≤ back) × (back ≤ verify_bits self.now.rules)) → from + 32 + back ≤ length bits
