@@ -1056,6 +1056,14 @@ left-after s room free bits found stood =
 pub most_after : (s other : Searching) → other ≡ s → other.after ≤ inside_by other.rules.verify other.rules.block_bits → s.after ≤ inside_by s.rules.verify s.rules.block_bits
 most_after s other same most = subst (λ (v : Searching). v.after ≤ inside_by v.rules.verify v.rules.block_bits) same most
 
+-- and no more than a codeblock has, where none are to verify it
+pub whole-once : (s : Searching) (m : Awaited) → s.awaited ≡ Some m → is_pending s ≡ true → s.after ≤ inside_by s.rules.verify s.rules.block_bits → s.rules.verify ≡ 0
+    → s.after ≡ s.rules.block_bits
+whole-once s m was pending most alone =
+    let full = whole s m was pending in
+    let few : s.after ≤ s.rules.block_bits = subst (λ (n : ℕ). s.after ≤ inside_by n s.rules.block_bits) alone most in
+    omega arith
+
 pub block-most : (verify size : ℕ) → size ≤ inside_by verify size
 block-most zero size = omega arith
 block-most (suc verify) size = omega arith

@@ -390,6 +390,8 @@ impl Search {
         ensures unchanged { IfNone result (self.new ≡ self.old) }
         ensures whole { IfSome result (λ f. (count : ℕ) × (inside_of self.old ≡ Some count)
             × (self.old.rules.block_bits ≤ count) × (inside_of self.new ≡ inside_next self.old.rules count)) }
+        ensures once { IfSome result (λ f. self.old.rules.verify ≡ 0
+            → (inside_of self.old ≡ Some self.old.rules.block_bits) × (inside_of self.new ≡ None)) }
         ensures none { IfNone result ((bits : List Bool) (found : List Found)
             → StandsFor self.old room.now bits found → places self.old.rules bits ≡ found) }
         ensures some { IfSome result (λ f. (bits : List Bool) (found : List Found)

@@ -1,11 +1,32 @@
 use Rattle.std.proofs.Common.{◌≡◌, ℕ, ◌≤◌, ◌-◌, ◌⊎◌, ◌∙◌, Some, true, sym, refl, ap, subst, arith}
+use Rattle.std.specs.Option.{option_map}
 use Rattle.tm_sync.specs.Places.{Rules, verify_bits}
 use Rattle.tm_sync.specs.Searching.{Searching, is_pending}
-use Rattle.tm_sync.proofs.Given.{told_last, told_next, told_all, told-fits, most_after, recalls-same}
+use Rattle.tm_sync.proofs.Given.{told_last, told_next, told_all, told-fits, most_after, recalls-same, whole-once}
 use Rattle.tm_sync.proofs.search.Search.next.Goals as goal
 
 pub returns-then-not-pending-clause-none : goal.returns-then-not-pending-clause-none
 returns-then-not-pending-clause-none c bits found h = told_all c.args.self.now c.args.room.now (sym c.pending.ensures ∙ c.if-not-pending.true) bits found h
+
+pub returns-then-left-lt32-clause-once : goal.returns-then-left-lt32-clause-once
+returns-then-left-lt32-clause-once c = λ alone.
+    let s = c.args.self.now in
+    let m = c.in-Some.awaited in
+    let was : s.awaited ≡ Some m = ap (λ (v : Searching). v.awaited) (sym c.self.view_is) ∙ c.in-Some.is in
+    let is = whole-once s m was (sym c.pending.ensures ∙ c.if-not-pending.false) (most_after s _ c.self.view_is c.self.invariant.0) alone in (
+      (λ i. option_map (λ _. is i) (was i)),
+      refl,
+    )
+
+pub returns-else-left-lt32-clause-once : goal.returns-else-left-lt32-clause-once
+returns-else-left-lt32-clause-once c = λ alone.
+    let s = c.args.self.now in
+    let m = c.in-Some.awaited in
+    let was : s.awaited ≡ Some m = ap (λ (v : Searching). v.awaited) (sym c.self.view_is) ∙ c.in-Some.is in
+    let is = whole-once s m was (sym c.pending.ensures ∙ c.if-not-pending.false) (most_after s _ c.self.view_is c.self.invariant.0) alone in
+    let after : c.self.inside.after ≡ s.after = ap (λ (v : Searching). v.after) c.self.view_is in
+    let block : c.from-block.result ≡ s.rules.block_bits = c.from-block.ensures ∙ ap (λ (v : Searching). v.rules.block_bits) c.self.view_is in
+    absurd (omega (arith, c.if-left-lt32.false))
 
 pub returns-then-left-lt32-clause-some : goal.returns-then-left-lt32-clause-some
 returns-then-left-lt32-clause-some c bits found h =
