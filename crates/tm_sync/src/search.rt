@@ -271,6 +271,7 @@ impl Search {
 
     // The place that the last bit, which is counted and in the last 32 bits, tells, and the bits after its marker,
     // where none was awaited.
+    #[inline(never)]
     fn place_told(&self, room: &[u8]) -> (Option<Awaited>, u64)
         ensures first { (result.1 ≡ 0) ⊎ (result.1 ≡ verify_bits self.now.rules) }
         ensures fresh { IfNone result.0 (result.1 ≡ 0) }
