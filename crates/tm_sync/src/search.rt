@@ -218,7 +218,7 @@ impl Search {
         self.after += count;
     }
 
-    // Takes the bits of an octet one by one.
+    // Takes the bits of an octet one by one, or at once where they are too few after a codeblock to tell a place.
     fn push_bits(&mut self, octet: u8)
         requires free { inside_of self.old ≡ None }
         requires alone { self.old.rules.verify ≡ 0 }
@@ -228,6 +228,12 @@ impl Search {
         ensures stands { (room : List ℕ) (bits : List Bool) (found : List Found) → length bits + 8 ≤ 2 ^ 63
             → StandsFor self.old room bits found → StandsFor self.new room (bits ++ bits_of_octet octet) found }
     {
+        let since = self.pushed.wrapping_sub(self.start);
+        if since < 24 {
+            self.word = last_bits(self.word, &[octet]);
+            self.pushed = self.pushed.wrapping_add(8);
+            return;
+        }
         let mut room: [u8; 0] = [];
         let mut left: u32 = 8;
         while left > 0 {

@@ -1,7 +1,7 @@
 use Rattle.std.proofs.Common.{◌≡◌, ◌<◌, ◌+◌, ◌-◌, ◌∙◌, arith, [], ◌∷◌, ◌++◌, sym, ap, subst, nat_le, false}
 use Rattle.std.specs.Option.{option_map, option_map_or}
 use Rattle.tm_sync.specs.Searching.{Searching, StandsFor, is_pending}
-use Rattle.tm_sync.proofs.Given.{grows, push_inside, push_short, start-there, some_awaited, none_awaited}
+use Rattle.tm_sync.proofs.Given.{grows, push_inside, short-bit, start-there, some_awaited, none_awaited}
 use Rattle.tm_sync.proofs.search.Search.look_closer.Goals as goal
 
 pub returns-then-is_some-clause-stands : goal.returns-then-is_some-clause-stands
@@ -25,7 +25,7 @@ returns-then-since-lt32-clause-stands c = λ s was bit bits found few count kept
     let start : c.self.inside.start ≡ now.start = ap (λ (v : Searching). v.start) c.self.view_is in
     let free = sym count.awaited ∙ ap (λ (v : Searching). v.awaited) (sym c.self.view_is) ∙ none_awaited c.self.inside.awaited (sym c.is_some.ensures ∙ c.if-is_some.false) in
     let since : now.pushed - now.start < 32 = omega (arith, c.if-since-lt32.true, there.0, there.1) in
-    push_short s now was c.args.room.now bit bits found count kept free since h
+    short-bit s now was c.args.room.now bit bits found count kept free since h
 
 pub returns-clause-stands : goal.returns-clause-stands
 returns-clause-stands c = λ s was bit bits found few count kept h.
