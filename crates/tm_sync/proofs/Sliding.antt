@@ -1,5 +1,5 @@
 -- The word that slides over the bits.
-use Rattle.std.proofs.Common.{◌≡◌, ℕ, zero, suc, ◌+◌, ◌-◌, ◌*◌, ◌/◌, ◌%◌, ◌^◌, ◌<◌, ◌==◌, Bool, true, false, List, [], ◌∷◌, ◌++◌, refl, sym, ap, ◌∙◌, arith, lit<, bit_and, bit_or, append_assoc}
+use Rattle.std.proofs.Common.{◌≡◌, ℕ, zero, suc, ◌+◌, ◌-◌, ◌*◌, ◌/◌, ◌%◌, ◌^◌, ◌<◌, ◌≤◌, ◌==◌, Bool, true, false, List, [], ◌∷◌, ◌++◌, refl, sym, ap, ◌∙◌, arith, lit<, bit_and, bit_or, append_assoc}
 use mir.Val.{bool_byte}
 use Rattle.std.proofs.lemmas.Nat.{or_block, and_mask}
 use Rattle.std.specs.Int.Bits.{or_zero_l, or_zero_r}
@@ -51,6 +51,32 @@ word-octet w x bits small e =
     let longer : number_of (bits ++ bits_of_octet x) ≡ v * 2 ^ 8 + x =
     number-value (bits ++ bits_of_octet x) ∙ value-append bits (bits_of_octet x) 0 ∙ ap (λ n. value_from n (bits_of_octet x)) (sym (number-value bits)) ∙ eight in
     slides-octet w x small ∙ rw longer (omega arith)
+
+-- the word of the bits up to the last ones, so many, when one more of them is taken
+pub word-window : (w x left : ℕ) → 0 < left → left ≤ 8 → x < 256
+    → (w * 256 + x) / 2 ^ (left - 1) % 2 ^ 32 ≡ bit_or ((w * 256 + x) / 2 ^ left % 2 ^ 32 * 2 % 2 ^ 32) (bool_byte (x / 2 ^ (left - 1) % 2 == 1))
+word-window w x left some most small =
+    let v : ℕ = (w * 256 + x) / 2 ^ left % 2 ^ 32 in
+    let b : Bool = x / 2 ^ (left - 1) % 2 == 1 in
+    go left some most ∙ ap (λ n. v * 2 % 2 ^ 32 + n) (sym (parity (x / 2 ^ (left - 1) % 2) (omega arith)))
+    ∙ sym (ap (bit_or (v * 2 % 2 ^ 32)) (byte-number b) ∙ slides v (bit_number b) (bit_small b))
+  where
+    parity : (n : ℕ) → n < 2 → bit_number (n == 1) ≡ n
+    parity zero few = refl
+    parity (suc zero) few = refl
+    parity (suc (suc n)) few = absurd (omega arith)
+
+    go : (left : ℕ) → 0 < left → left ≤ 8 → (w * 256 + x) / 2 ^ (left - 1) % 2 ^ 32 ≡ (w * 256 + x) / 2 ^ left % 2 ^ 32 * 2 % 2 ^ 32 + x / 2 ^ (left - 1) % 2
+    go zero some most = absurd (omega arith)
+    go (suc zero) some most = omega arith
+    go (suc (suc zero)) some most = omega arith
+    go (suc (suc (suc zero))) some most = omega arith
+    go (suc (suc (suc (suc zero)))) some most = omega arith
+    go (suc (suc (suc (suc (suc zero))))) some most = omega arith
+    go (suc (suc (suc (suc (suc (suc zero)))))) some most = omega arith
+    go (suc (suc (suc (suc (suc (suc (suc zero))))))) some most = omega arith
+    go (suc (suc (suc (suc (suc (suc (suc (suc zero)))))))) some most = omega arith
+    go (suc (suc (suc (suc (suc (suc (suc (suc (suc n))))))))) some most = absurd (omega arith)
 
 -- the bits of one more octet
 pub bits-more : (bits : List Bool) (octets : List ℕ) (x : ℕ) → (bits ++ bits_of octets) ++ bits_of_octet x ≡ bits ++ bits_of (octets ++ x ∷ [])

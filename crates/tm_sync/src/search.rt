@@ -1,5 +1,5 @@
 // The search, bit by bit.
-ghost use Rattle.std.specs.Prelude.{◌≡◌, ◌<◌, ◌≤◌, ◌^◌, ◌+◌, ◌-◌, ◌*◌, ◌%◌, ◌↔◌, ◌⊎◌, ℕ, Bool, true, false, List, [], ◌∷◌, ◌++◌, length, take, drop, slice_index_or, IsTrue, IsSome, IfSome, IfNone, Some, None, Option, count_ones, unwrap_or};
+ghost use Rattle.std.specs.Prelude.{◌≡◌, ◌<◌, ◌≤◌, ◌^◌, ◌+◌, ◌-◌, ◌*◌, ◌/◌, ◌%◌, ◌↔◌, ◌⊎◌, ℕ, Bool, true, false, List, [], ◌∷◌, ◌++◌, length, take, drop, slice_index_or, IsTrue, IsSome, IfSome, IfNone, Some, None, Option, count_ones, unwrap_or};
 ghost use Rattle.std.specs.Option.{option_map};
 ghost use Rattle.tm_base.specs.Bits.{number_of, bits_of, bits_of_octet};
 ghost use Rattle.tm_sync.specs.declared.found.Found.{Found};
@@ -218,7 +218,7 @@ impl Search {
         self.after += count;
     }
 
-    // Takes the bits of an octet one by one, or at once where they are too few after a codeblock to tell a place.
+    // Takes the bits of an octet: at once, or one by one.
     fn push_bits(&mut self, octet: u8)
         requires free { inside_of self.old ≡ None }
         requires alone { self.old.rules.verify ≡ 0 }
@@ -228,10 +228,7 @@ impl Search {
         ensures stands { (room : List ℕ) (bits : List Bool) (found : List Found) → length bits + 8 ≤ 2 ^ 63
             → StandsFor self.old room bits found → StandsFor self.new room (bits ++ bits_of_octet octet) found }
     {
-        let since = self.pushed.wrapping_sub(self.start);
-        if since < 24 {
-            self.word = last_bits(self.word, &[octet]);
-            self.pushed = self.pushed.wrapping_add(8);
+        if self.pass_octet(octet) {
             return;
         }
         let mut room: [u8; 0] = [];
@@ -240,6 +237,40 @@ impl Search {
             left -= 1;
             self.push_bit(&mut room, octet >> left & 1 == 1);
         }
+    }
+
+    // Takes an octet at once where none of its bits tells a place: they are too few after a codeblock, or with each of
+    // them the last 32 bits match in no way. Answers whether it did.
+    fn pass_octet(&mut self, octet: u8) -> bool
+        requires free { inside_of self.old ≡ None }
+        requires alone { self.old.rules.verify ≡ 0 }
+        ensures unchanged { result ≡ false → self.new ≡ self.old }
+        ensures rules { self.new.rules ≡ self.old.rules }
+        ensures free { inside_of self.new ≡ None }
+        ensures stands { IsTrue result → (room : List ℕ) (bits : List Bool) (found : List Found)
+            → length bits + 8 ≤ 2 ^ 63
+            → StandsFor self.old room bits found → StandsFor self.new room (bits ++ bits_of_octet octet) found }
+    {
+        let since = self.pushed.wrapping_sub(self.start);
+        if since < 24 {
+            self.word = last_bits(self.word, &[octet]);
+            self.pushed = self.pushed.wrapping_add(8);
+            return true;
+        }
+        if self.pushed > u64::MAX - 8 {
+            return false;
+        }
+        let both = u64::from(self.word) * 256 + u64::from(octet);
+        let mut left: u32 = 8;
+        while left > 0 {
+            left -= 1;
+            if !is_far(window(both, left), self.too_many, self.far) {
+                return false;
+            }
+        }
+        self.word = window(both, 0);
+        self.pushed += 8;
+        true
     }
 
     // Takes the last bit, which is counted and in the last 32 bits, where they may be a place or one is awaited.
@@ -485,6 +516,14 @@ fn last_bits(word: u32, octets: &[u8]) -> u32
         last = (last << 8) | u32::from(*octet);
     }
     last
+}
+
+// Of these bits the last 32 but the last ones, so many.
+fn window(bits: u64, left: u32) -> u32
+    requires { left < 64 }
+    ensures { result ≡ bits / 2 ^ left % 2 ^ 32 }
+{
+    (bits >> left & 0xFFFF_FFFF) as u32
 }
 
 // How many numbers of wrong bits, from one more than the tolerance on, show without a closer look that 32 bits are no

@@ -1,35 +1,29 @@
-use Rattle.std.proofs.Common.{◌≡◌, ◌∙◌, ℕ, ◌+◌, ◌-◌, ◌≤◌, ◌<◌, ◌%◌, ◌^◌, ◌∷◌, [], List, append_assoc, ◌++◌, ap, sym, arith, length, refl, subst, length-append}
+use Rattle.std.proofs.Common.{◌≡◌, ◌∙◌, ℕ, ◌+◌, ◌-◌, ◌≤◌, ◌∷◌, [], List, append_assoc, ◌++◌, ap, sym, arith, length, refl, subst, length-append}
 use Rattle.std.proofs.lemmas.List.{append-nil}
-use Rattle.tm_base.specs.Bits.{low_bits, bits_of_octet, number_of}
+use Rattle.tm_base.specs.Bits.{low_bits}
 use Rattle.tm_base.proofs.Packing.{length-low_bits}
 use Rattle.tm_sync.specs.Places.{Rules, verify_bits}
 use Rattle.tm_sync.specs.Searching.{Searching, StandsFor, inside_of}
-use Rattle.tm_sync.proofs.Given.{none_few, few_more, few_free, few_less, first-zero, room-same, verify-none, push_short, start-there, free-of}
+use Rattle.tm_sync.proofs.Given.{none_few, few_more, few_free, few_less, first-zero, room-same, verify-none}
 use Rattle.tm_sync.proofs.Sliding.{bit_of, masked-bit, bits-bit, bits-all}
 use Rattle.tm_sync.proofs.search.Search.push_bits.Goals as goal
 
-pub returns-then-since-lt24-clause-stands : goal.returns-then-since-lt24-clause-stands
-returns-then-since-lt24-clause-stands c = λ room bits found few h.
-    let s = c.args.self.now in
-    let there = start-there s room bits found h in
-    let none : length room ≡ 0 = h.sized ∙ verify-none s.rules c.requires.alone in
-    let pushed : c.self.inside.pushed ≡ s.pushed = ap (λ (v : Searching). v.pushed) c.self.view_is in
-    let start : c.self.inside.start ≡ s.start = ap (λ (v : Searching). v.start) c.self.view_is in
-    let free = free-of s c.requires.free in
-    push_short s _ room room (bits_of_octet c.args.octet) free (ap (λ (v : Searching). v.rules) c.self.view_is) (omega (arith, there.0, length-low_bits 8 c.args.octet)) start
-    (ap (λ (v : Searching). v.before) c.self.view_is) (ap (λ (v : Searching). v.awaited) c.self.view_is) (ap (λ (v : Searching). v.after) c.self.view_is)
-    (omega (arith, c.if-since-lt24.true, there.0, there.1)) refl bits found
-    (c.last_bits-self-inside.ensures bits (ap (λ (v : Searching). v.word) c.self.view_is ∙ ap (λ (v : Searching). v.word) h.search)
-    ∙ ap (λ l. number_of (bits ++ l) % 2 ^ 32) (append-nil (bits_of_octet c.args.octet)))
-    (λ recent i low within held. absurd (omega (arith, none))) h
+pub returns-then-pass_octet-clause-stands : goal.returns-then-pass_octet-clause-stands
+returns-then-pass_octet-clause-stands c = c.pass_octet.ensures.stands c.if-pass_octet.true
 
 pub loop-left-init : goal.loop-left-init
 loop-left-init c = record {
-  rules = refl;
+  rules = c.pass_octet.ensures.rules;
   empty = refl;
   most = omega arith;
-  few = none_few _ _ c.requires.free;
-  given = ([], refl, λ room bits found few h. subst (λ l. StandsFor c.args.self.now room l found) (sym (append-nil bits)) h);
+  few = none_few _ _ c.pass_octet.ensures.free;
+  given = (
+    [],
+    refl,
+    λ room bits found few h.
+        subst (λ l. StandsFor c.pass_octet.new.self room l found) (sym (append-nil bits))
+        (subst (λ (v : Searching). StandsFor v room bits found) (sym (c.pass_octet.ensures.unchanged c.if-pass_octet.false)) h),
+  );
 }
 
 pub push_bit-requires : goal.push_bit-requires

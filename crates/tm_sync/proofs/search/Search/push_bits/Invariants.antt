@@ -6,12 +6,12 @@ use Rattle.tm_sync.proofs.search.Search.push_bits.Given as goal
 
 abbrev pub invariant-loop-left : goal.invariant-loop-left
 invariant-loop-left l = record {
-  rules : l.self.rules ≡ l.initial.self.rules;
+  rules : l.self.rules ≡ l.fn.self.rules;
   empty : length l.room ≡ 0;
   most : l.left ≤ 8;
   few : IfSome (inside_of l.self) (λ count. count + l.left < 8);
   given : (prefix : List Bool) × (bits_of_octet l.octet ≡ prefix ++ low_bits l.left l.octet)
-      × ((room : List ℕ) (bits : List Bool) (found : List Found) → length bits + 8 ≤ 2 ^ 63 → StandsFor l.initial.self room bits found → StandsFor l.self room (bits ++ prefix) found);
+      × ((room : List ℕ) (bits : List Bool) (found : List Found) → length bits + 8 ≤ 2 ^ 63 → StandsFor l.fn.self room bits found → StandsFor l.self room (bits ++ prefix) found);
 }
 
 abbrev pub decreases-loop-left : goal.decreases-loop-left
