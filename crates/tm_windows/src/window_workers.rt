@@ -12,8 +12,9 @@ ghost use Rattle.tm_windows.specs.ClosedRun.{CanClose, ClosedRun};
 ghost use Rattle.tm_windows.specs.Followed.{dropped_at};
 
 use crate::candidate::Candidate;
-use crate::closing::{Closing, OneByOne, PastGate};
+use crate::closing::Closing;
 use crate::settling::{hand_last, hand_window, settle_run};
+use crate::sharing::decode_evenly;
 use crate::stretch::Stretch;
 use std::alloc::{AllocError, Global};
 use std::marker::Model;
@@ -106,6 +107,44 @@ fn close_run<C: Closing, B: BlockTaker>(
     settle_run(run, &mut decoders[0], from, blocks)
 }
 
+// The same side by side, past a gate. No method of a `Closing` could hand a gate on to threads.
+fn close_side_by_side<R: Threads + Sync, B: BlockTaker, G: Gate + Sync>(
+    rt: &R,
+    gate: &G,
+    shape: WindowShape,
+    decoders: &mut [WindowDecoder],
+    candidates: &mut [Candidate],
+    starts: Option<u8>,
+    t: u64,
+    octets: &[u8],
+    count: usize,
+    blocks: &mut B,
+) -> Result<Option<u8>, Failed>
+    requires some { (0 < length decoders.old) × (length decoders.old ≤ 64) }
+    requires long { length octets.now ≤ 2 ^ 62 }
+    requires shape { All (λ d. d ≡ shape) decoders.old }
+    requires small { shape.keep + shape.ahead ≤ 69632 }
+    requires most { (count ≤ length candidates.old) × (length candidates.old ≤ 2 ^ 32) }
+    requires bits { HaveRoom (shape.keep + shape.ahead) candidates.old }
+    requires start { ForSome starts (λ register. register < 64) }
+    requires room { steps_size shape.rate t (count * shape.keep + shape.ahead + 1) ≤ length octets.now }
+    requires few { t + count * shape.keep < 2 ^ 61 }
+    ensures closed { ClosedRun shape starts t octets.now count
+        (taker_call B.took B.broke B.faults B.is_last blocks.old blocks.new) result }
+    ensures bits { HaveRoom (shape.keep + shape.ahead) candidates.new }
+    ensures shape { All (λ d. d ≡ shape) decoders.new }
+{
+    let (run, _) = candidates.split_at_mut(count);
+    decode_evenly(rt, gate, shape, decoders, Some(starts), t, octets, 0, run);
+    let from = Stretch {
+        shape,
+        starts,
+        t,
+        octets,
+    };
+    settle_run(run, &mut decoders[0], &from, blocks)
+}
+
 impl WindowWorkers {
     /// So many workers, 1 to 64, for windows of this shape, which have at most 69,632 steps, and room for `most`
     /// windows at a time, at most 2^32. It fails only where there isn't enough memory.
@@ -156,24 +195,11 @@ impl WindowWorkers {
             (taker_call B.took B.broke B.faults B.is_last blocks.old blocks.new) result }
         ensures same { self.new ≡ self.old }
     {
-        self.close_by(&PastGate { rt, gate }, starts, t, octets, count, blocks)
-    }
-
-    /// Closes the next `count` windows as `close` does, but one after another, with no thread.
-    pub fn close_alone<B: BlockTaker>(
-        &mut self,
-        starts: Option<u8>,
-        t: u64,
-        octets: &[u8],
-        count: usize,
-        blocks: &mut B,
-    ) -> Result<Option<u8>, Failed>
-        requires closes { CanClose self.old starts t octets.now count }
-        ensures closed { ClosedRun self.old.shape starts t octets.now count
-            (taker_call B.took B.broke B.faults B.is_last blocks.old blocks.new) result }
-        ensures same { self.new ≡ self.old }
-    {
-        self.close_by(&OneByOne, starts, t, octets, count, blocks)
+        let decoders = self.decoders.as_mut_slice();
+        let candidates = self.candidates.as_mut_slice();
+        close_side_by_side(
+            rt, gate, self.shape, decoders, candidates, starts, t, octets, count, blocks,
+        )
     }
 
     // Closes the next `count` windows in this way.
@@ -208,7 +234,7 @@ impl WindowWorkers {
     /// from the register `starts` or from any.
     ///
     /// `Failed` comes only where the taker's count of faults rose.
-    pub fn close_one<B: BlockTaker>(
+    pub(crate) fn close_one<B: BlockTaker>(
         &mut self,
         starts: Option<u8>,
         t: u64,
@@ -244,7 +270,7 @@ impl WindowWorkers {
     /// with `octets`, before which `dropped` octets were dropped, and starts from the register `starts` or from any.
     ///
     /// `Failed` comes only where the taker's count of faults rose.
-    pub fn close_last<B: BlockTaker>(
+    pub(crate) fn close_last<B: BlockTaker>(
         &mut self,
         starts: Option<u8>,
         t: u64,
