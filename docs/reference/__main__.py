@@ -6,7 +6,6 @@ library alone. It takes the program's command line and answers as the program do
 How a fault of reading or writing shows (statuses 3 and 4) and want of memory (5) are left out."""
 import os
 import sys
-
 from certificate import Ends, certificate, checked_windows
 from inner import on_the_link, received
 from options import Refused, read_words
@@ -14,7 +13,6 @@ from outer import cadu, elements, nearest_codeword, octets_from, octets_of
 from receiver import items, last_line
 
 BLOCK = "block {} steps {} kept {} metric {}".format
-
 def lines(texts):
     return "".join(text + "\n" for text in texts).encode()
 

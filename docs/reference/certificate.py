@@ -1,7 +1,6 @@
 """Path certificates: written from windows of the soft decoder, and checked without it."""
 from io import BytesIO
 from struct import iter_unpack, pack, unpack
-
 from inner import TRELLIS, branch_metrics, next_register, sent, sums
 from options import require
 
@@ -12,7 +11,6 @@ def certificate(w):
 
 class Ends(Exception):
     """The octets end where a window has not."""
-
 def take(stream, count):
     octets = stream.read(count)
     if len(octets) < count:

@@ -1,6 +1,5 @@
 """The inner code: CCSDS 131.0-B, "Convolutional coding" (constraint length 7), and its decoder."""
 from types import SimpleNamespace
-
 from outer import bits_of
 
 # For each step of a rate's period, whether the first sum is sent, and whether the second.
@@ -11,12 +10,14 @@ PATTERNS = {rate: [(x == "1", y == "1") for x, y in zip(first, second)] for rate
 def sent(t, c):
     """Which sums step t of the stream sends."""
     return PATTERNS[c.inner][t % len(PATTERNS[c.inner])]
+def period(c):
+    """How many symbols a period of the pattern sends."""
+    return sum(map(sum, PATTERNS[c.inner]))
 
 def sums(register, bit):
     """2 c1 + c2 for u[t] = bit; the register's six bits are u[t-1] (most significant) to u[t-6]."""
     u = [bit] + [register >> (6 - k) & 1 for k in range(1, 7)]  # u[k] is u[t-k]
     return 2 * (u[0] ^ u[1] ^ u[2] ^ u[3] ^ u[6]) + (u[0] ^ u[2] ^ u[3] ^ u[5] ^ u[6])
-
 def next_register(register, bit):
     return bit << 5 | register >> 1
 
@@ -82,14 +83,12 @@ def traceback(columns, steps, first, c):
 def path_costs(octets, first, count, c):
     """What the best path from any register, from step `first` of the stream on, costs over the
     octets of so many steps from octet k on, for each k below a period's symbols."""
-    period = sum(map(sum, PATTERNS[c.inner]))
     return [min(path_metrics(cut_steps(octets[k:], c, first, count)[0], first, range(64), c)[-1])
-            for k in range(period)]
+            for k in range(period(c))]
 
 def symbol_phase(octets, ended, c):
     """The phase and what the best path costs from there; None while it can't be chosen."""
-    period = sum(map(sum, PATTERNS[c.inner]))
-    whole = len(cut_steps(octets[:max(0, len(octets) - (period - 1))], c)[0])
+    whole = len(cut_steps(octets[:max(0, len(octets) - (period(c) - 1))], c)[0])
     if whole < c.keep + c.ahead and not ended:
         return None
     costs = path_costs(octets, 0, min(whole, c.keep + c.ahead), c)
@@ -100,7 +99,7 @@ def dropped_octets(octets, first, c):
     of the stream with these octets: none where too few are there."""
     count = min(c.keep + c.ahead - 8, 1024)
     size = sum(sum(sent(first + t, c)) for t in range(count))
-    if len(octets) < size + sum(map(sum, PATTERNS[c.inner])) - 1:
+    if len(octets) < size + period(c) - 1:
         return 0
     costs = path_costs(octets, first, count, c)
     excess = [cost - sum(min(octet, 255 - octet) for octet in octets[k:k + size])

@@ -1,6 +1,5 @@
 """The words of the command line (docs/OPTIONS.md)."""
 from types import SimpleNamespace
-
 from inner import PATTERNS
 
 COMMANDS = "encode decode report trace bits certify check erased word soak".split()
@@ -10,7 +9,6 @@ SOAK_OPTIONS = "seed frames hits".split()
 
 class Refused(Exception):
     """The words, or a window of a certificate, are refused for the reason that is the text."""
-
 def require(holds, reason):
     if not holds:
         raise Refused(reason)
@@ -36,14 +34,12 @@ def split_words(words):
     require(command in COMMANDS and len(free) == (1 if command == "word" else 0), "words")
     return command, given, free
 
+# An option that is one of some texts, and one that is a number, of 1 to 20 decimal digits.
 def chosen(given, name, choices, default, reason=None):
-    """An option that is one of some texts."""
     text = given.get(name, default)
     require(text in choices, reason or name)
     return text
-
 def number(given, name, least, most, default):
-    """An option that is a number, of 1 to 20 decimal digits."""
     text = given.get(name, str(default))
     require(1 <= len(text) <= 20 and set(text) <= set("0123456789"), name)
     require(least <= int(text) <= most, name)

@@ -7,13 +7,12 @@ MARKER = bytes.fromhex("1ACFFC1D")  # CCSDS 131.0-B, "Frame synchronization"
 def bits_of(octets):
     """The bits of octets, from the most significant one of each."""
     return [octet >> k & 1 for octet in octets for k in range(7, -1, -1)]
-
 def octets_of(bits):
     return bytes(int("".join(map(str, bits[at:at + 8])), 2) for at in range(0, len(bits), 8))
 
 # The field of CCSDS 131.0-B, "Reed-Solomon coding". POWER[k] is alpha^k, and alpha is a root of
-# F(x) = x^8+x^7+x^2+x+1. A polynomial is a list, the leading coefficient first; the locator of
-# the errors and what is made of it have the constant one first.
+# F(x) = x^8+x^7+x^2+x+1. A polynomial is a list, the leading coefficient first; of the locator
+# and what is made of it the constant one.
 POWER = [1]
 while len(POWER) < 255:
     POWER.append(POWER[-1] << 1 if POWER[-1] < 128 else POWER[-1] << 1 ^ 0b110000111)
@@ -21,10 +20,8 @@ LOG = {element: k for k, element in enumerate(POWER)}
 
 def product(a, b):
     return POWER[(LOG[a] + LOG[b]) % 255] if a and b else 0
-
 def inverse(a):
     return POWER[-LOG[a] % 255]
-
 def value(polynomial, x):
     return reduce(lambda total, coefficient: product(total, x) ^ coefficient, polynomial, 0)
 
@@ -46,7 +43,6 @@ FROM_DUAL = bytes(DUAL.index(octet) for octet in range(256))
 
 def elements(octets, c):
     return list(octets.translate(FROM_DUAL) if c.dual else octets)
-
 def octets_from(symbols, c):
     return bytes(symbols).translate(DUAL) if c.dual else bytes(symbols)
 
@@ -94,12 +90,11 @@ def nearest_codeword(word, erased, E, repair):
         x = inverse(place[i])
         error = product(value(evaluator[::-1], x), inverse(value(derivative[::-1], x)))
         codeword[i] ^= product(error, POWER[LOG[x] * (127 - E) % 255])
-    differ = [i for i in range(len(word)) if codeword[i] != word[i]]
-    elsewhere = sum(i not in erased for i in differ)
+    differ = [i in erased for i in range(len(word)) if codeword[i] != word[i]]
+    elsewhere = differ.count(False)
     is_near = elsewhere <= repair and 2 * elsewhere + len(erased) <= 2 * E
-    if not is_near or any(value(codeword, root) for root in ROOTS[E]):
-        return None
-    return codeword, elsewhere, len(differ) - elsewhere
+    is_codeword = not any(value(codeword, root) for root in ROOTS[E])
+    return (codeword, elsewhere, differ.count(True)) if is_near and is_codeword else None
 
 # The codeblock ("Reed-Solomon coding", symbol interleaving and shortened codeblock length).
 def codeblock(frame, c):
