@@ -9,7 +9,7 @@ ghost use Rattle.tm_inner.specs.Phase.{IsChosen, IsChosenSoFar};
 ghost use Rattle.tm_sync.specs.Places.{verify_bits};
 ghost use Rattle.tm_sync.specs.Searching.{StandsFor as SearchStandsFor, inside_of};
 ghost use Rattle.tm_codeblock.specs.ReceivedCodeblock.{rules_of};
-ghost use Rattle.tm_workers.specs.Batch.{EachBecomes};
+ghost use Rattle.tm_workers.specs.Batch.{EachBecomes, IsBatch};
 ghost use Rattle.tm_workers.specs.Words.{Decodes};
 ghost use Rattle.tm_channel.specs.Items.{ItemValue};
 ghost use Rattle.tm_channel.specs.Handing.{AreReceived, AreReceivedDue, AreReceivedFirst, AreReceivedPrefix};
@@ -146,8 +146,7 @@ impl Receiver {
             self.old self.new taker.old taker.new octets.now result }
     {
         let decode = |alloc: Global, params: &Params, repair: u8, words: &mut [Word], workers: u8|
-            requires { IsSync R.row × IsSync G.row × (repair ≤ params.now.e) × (length words.old < 2 ^ 32)
-                × ((0 < workers) × (workers ≤ 64)) }
+            requires { IsSync R.row × IsSync G.row × IsBatch params.now.e repair (length words.old) workers }
             ensures { EachBecomes (Decodes params.now repair) words.old words.new }
         { decode_batch(rt, alloc, params, repair, words, workers, gate) };
         self.feed_by(&SideBySide { rt, decode }, octets, taker)
@@ -218,8 +217,7 @@ impl Receiver {
             self.old self.new taker.old taker.new result }
     {
         let decode = |alloc: Global, params: &Params, repair: u8, words: &mut [Word], workers: u8|
-            requires { IsSync R.row × IsSync G.row × (repair ≤ params.now.e) × (length words.old < 2 ^ 32)
-                × ((0 < workers) × (workers ≤ 64)) }
+            requires { IsSync R.row × IsSync G.row × IsBatch params.now.e repair (length words.old) workers }
             ensures { EachBecomes (Decodes params.now repair) words.old words.new }
         { decode_batch(rt, alloc, params, repair, words, workers, gate) };
         self.finish_by(&SideBySide { rt, decode }, taker)
