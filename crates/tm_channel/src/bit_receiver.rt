@@ -214,6 +214,7 @@ impl BitReceiver {
     }
 
     // Keeps one of the codeblocks that are whole with the last bits. Answers whether one was.
+    #[inline(always)]
     fn keep_whole(&mut self) -> bool
         requires agree { Agree self.old.search self.old.room.items self.old.batch }
         requires few { length self.old.batch.kept < self.old.batch.config.batch }
