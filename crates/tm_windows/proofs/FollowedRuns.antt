@@ -1,5 +1,5 @@
 -- Closed windows one after another, where octets may be dropped before each.
-use Rattle.std.proofs.Common.{◌≡◌, inl, inr, ℕ, zero, suc, ◌+◌, ◌*◌, ◌<◌, ◌≤◌, ◌∙◌, ◌++◌, refl, sym, ap, subst, arith, unwrap_or, List, [], ◌∷◌, Option, Some, None, length, length-drop, length-append, drop}
+use Rattle.std.proofs.Common.{◌≡◌, inl, inr, ℕ, zero, suc, ◌+◌, ◌*◌, ◌<◌, ◌≤◌, ◌∙◌, ◌++◌, refl, sym, ap, subst, arith, unwrap_or, List, [], ◌∷◌, Option, Some, None, length, length-drop, length-append, drop, drop-drop, mul-le-mul_right}
 use Rattle.std.proofs.lemmas.List.{append-nil, drop-append-le}
 use Rattle.tm_conv.specs.Path.{steps_size}
 use Rattle.tm_conv.proofs.Sizes.{steps_size-le, steps_size-add}
@@ -12,7 +12,7 @@ use Rattle.tm_viterbi.proofs.Closing.{more_octets, kept_is, Closes-append}
 use Rattle.tm_phase.specs.Slip.{octets_seen, IsSlip}
 use Rattle.tm_phase.proofs.Slips.{IsSlip-prefix, IsSlip-within}
 use Rattle.tm_windows.specs.Candidates.{ClosesWith}
-use Rattle.tm_windows.specs.Followed.{Windows, Beginning, Spot, starts_after, moved, DropsBy, Begins, BeginsLast, dropped_at, ClosesAt, spot_after, Followed, IsLast, slip_at, slips_of, kept_of}
+use Rattle.tm_windows.specs.Followed.{Windows, Beginning, Spot, starts_after, moved, DropsBy, Begins, BeginsLast, dropped_at, ClosesAt, spot_after, Followed, IsLast, slip_at, slips_of, kept_of, undecided, IsUndropped, AreUndropped}
 use Rattle.tm_windows.specs.Gathered.{IsAt}
 use Rattle.tm_windows.proofs.Beginnings.{begins-one, begins-within, longer_spot, begins-more}
 use Rattle.tm_windows.proofs.FollowedExists.{undropped-same}
@@ -72,8 +72,73 @@ slips-append (x ∷ xs) ys = omega (arith, slips-append xs ys)
 
 -- ---- windows before which nothing is dropped
 
+unfollowed-undropped : (w : Windows) → w.seen ≡ None → (t : ℕ) (octets : List ℕ) → IsUndropped w t octets
+unfollowed-undropped w none t octets = λ steps is. absurd (let both = sym none ∙ is in cc)
+
+pub unfollowed-all : (w : Windows) → w.seen ≡ None → (t count : ℕ) (octets : List ℕ) → AreUndropped w t octets count
+unfollowed-all w none t count octets k some less =
+    unfollowed-undropped w none (t + k * w.settings.keep) (drop (steps_size w.settings.rate t (k * w.settings.keep)) octets)
+
+undropped-begins : (w : Windows) (at : Place) → IsUndropped w at.t at.octets
+    → Begins w (record { place = at; decided = None }) (record { dropped = 0; place = at })
+undropped-begins w at still = go w.seen refl
+  where
+    go : (seen : Option ℕ) → w.seen ≡ seen → DropsBy w.settings seen at (record { dropped = 0; place = at })
+    go None is = refl
+    go (Some steps) is = (let found = still steps is in (found.0, found.1, refl))
+
 unfollowed-begins : (w : Windows) → w.seen ≡ None → (at : Place) → Begins w (record { place = at; decided = None }) (record { dropped = 0; place = at })
-unfollowed-begins w none at = subst (λ (o : Option ℕ). DropsBy w.settings o at (record { dropped = 0; place = at })) (sym none) refl
+unfollowed-begins w none at = undropped-begins w at (unfollowed-undropped w none at.t at.octets)
+
+-- a spot after closed windows, before any octet is dropped there
+pub at-undecided : (w : Windows) (seen : Option ℕ) → w.seen ≡ seen → (spot : Spot) (at : Place)
+    → spot ≡ record { place = at; decided = None } → IsAt w spot (undecided seen) at
+at-undecided w None is spot at there =
+    subst (λ (v : Spot). Begins w v (record { dropped = 0; place = at })) (sym there) (unfollowed-begins w is at)
+at-undecided w (Some steps) is spot at there = there
+
+-- nothing is dropped before the second of them
+next-undropped : (w : Windows) (t kept count : ℕ) (octets : List ℕ) → kept ≡ w.settings.keep → 1 < count → AreUndropped w t octets count
+    → IsUndropped w (t + kept) (drop (steps_size w.settings.rate t kept) octets)
+next-undropped w t kept count octets is some still =
+    let s = w.settings in
+    let one : 1 * s.keep ≡ kept = omega (arith, is) in
+    subst (λ (n : ℕ). IsUndropped w (t + n) (drop (steps_size s.rate t n) octets)) one (still 1 (omega arith) some)
+
+-- nor before those after it
+later-undropped : (w : Windows) (t kept count n : ℕ) (octets : List ℕ) → kept ≡ w.settings.keep → n < count → AreUndropped w t octets count
+    → AreUndropped w (t + kept) (drop (steps_size w.settings.rate t kept) octets) n
+later-undropped w t kept count n octets is lt still k some less =
+    let s = w.settings in
+    let sum : (k + 1) * s.keep ≡ kept + k * s.keep = omega (arith, more_times k s.keep, is) in
+    let step : t + (k + 1) * s.keep ≡ t + kept + k * s.keep = omega (arith, sum) in
+    let first : ℕ = steps_size s.rate t kept in
+    let others : ℕ = steps_size s.rate (t + kept) (k * s.keep) in
+    let size : steps_size s.rate t ((k + 1) * s.keep) ≡ first + others
+    = ap (steps_size s.rate t) sum ∙ steps_size-add s.rate t kept (k * s.keep) in
+    let rest : drop (steps_size s.rate t ((k + 1) * s.keep)) octets ≡ drop others (drop first octets)
+    = ap (λ (m : ℕ). drop m octets) size ∙ sym (drop-drop others first octets) in
+    subst (λ (u : ℕ). IsUndropped w u (drop others (drop first octets))) step
+    (subst (λ (o : List ℕ). IsUndropped w (t + (k + 1) * s.keep) o) rest (still (k + 1) (omega arith) (omega (arith, less, lt))))
+
+more-undropped : (w : Windows) (t : ℕ) (octets rest : List ℕ) → IsUndropped w t octets → IsUndropped w t (octets ++ rest)
+more-undropped w t octets rest still = λ steps is.
+    (let found = still steps is in
+    let s = w.settings in (
+      omega (arith, found.0, length-append octets rest),
+      IsSlip-prefix s.rate s.invert t steps octets rest 0 found.0 found.1,
+    ))
+
+-- nor before the first of them, whatever octets come after those that are held
+pub all-undropped : (w : Windows) (t count n : ℕ) (held rest : List ℕ) → n ≤ count
+    → steps_size w.settings.rate t (count * w.settings.keep) ≤ length held → AreUndropped w t held count → AreUndropped w t (held ++ rest) n
+all-undropped w t count n held rest le room still k some less =
+    let s = w.settings in
+    let size : ℕ = steps_size s.rate t (k * s.keep) in
+    let within : k * s.keep ≤ count * s.keep = mul-le-mul_right s.keep (let few : k ≤ count = omega (arith, less, le) in few) in
+    let inside : size ≤ length held = omega (arith, room, steps_size-le s.rate t (k * s.keep) (count * s.keep) within) in
+    subst (λ (o : List ℕ). IsUndropped w (t + k * s.keep) o) (sym (drop-append-le size held rest inside))
+    (more-undropped w (t + k * s.keep) (drop size held) rest (still k some (omega (arith, less, le))))
 
 closes-plain : (s : Settings) (at : Place) (x : WindowBlock) → Closes s.rate s.invert s.keep s.ahead at x → ClosesAt s (record { dropped = 0; place = at }) x
 closes-plain s at x h = (
@@ -81,41 +146,50 @@ closes-plain s at x h = (
   h.is_block.dropped,
 )
 
-run-followed : (w : Windows) → w.seen ≡ None → (spot : Spot) (at to : Place) (x : WindowBlock) (xs : List WindowBlock)
+run-followed : (w : Windows) (spot : Spot) (at to : Place) (x : WindowBlock) (xs : List WindowBlock)
     → Begins w spot (record { dropped = 0; place = at }) → Closed w.settings.rate w.settings.invert w.settings.keep w.settings.ahead at (x ∷ xs) to
-    → Followed w spot (x ∷ xs) (record { place = to; decided = None })
-run-followed w none spot at to x [] begins h = (
+    → AreUndropped w at.t at.octets (length (x ∷ xs)) → Followed w spot (x ∷ xs) (record { place = to; decided = None })
+run-followed w spot at to x [] begins h still = (
   record { dropped = 0; place = at },
   begins,
   closes-plain w.settings at x h.0,
   ap (λ (p : Place). let next : Spot = record { place = p; decided = None } in next) h.1,
 )
-run-followed w none spot at to x (y ∷ ys) begins h =
-    let next = after_block w.settings.rate at x in (
+run-followed w spot at to x (y ∷ ys) begins h still =
+    let s = w.settings in
+    let next = after_block s.rate at x in
+    let kept : x.kept ≡ s.keep = h.0.is_block.kept ∙ kept_is s.keep s.ahead in
+    let count : ℕ = length (x ∷ y ∷ ys) in
+    let n : ℕ = length (y ∷ ys) in
+    let second = undropped-begins w next (next-undropped w at.t x.kept count at.octets kept (omega arith) still) in (
       record { dropped = 0; place = at },
       begins,
-      closes-plain w.settings at x h.0,
-      run-followed w none (record { place = next; decided = None }) next to y ys (unfollowed-begins w none next) h.1,
+      closes-plain s at x h.0,
+      run-followed w (record { place = next; decided = None }) next to y ys second h.1
+          (later-undropped w at.t x.kept count n at.octets kept (omega arith) still),
     )
 
 -- windows that are closed at once, after those before
-pub record RunsTo (w : Windows) (from : Spot) (blocks : List WindowBlock) (at : Place) : Type 0 where
+pub record RunsTo (w : Windows) (from : Spot) (blocks : List WindowBlock) (at place : Place) : Type 0 where
   pub to : Spot
   pub closed : Followed w from blocks to
-  pub begins : Begins w to (record { dropped = 0; place = at })
+  pub begins : w.seen ≡ None → Begins w to (record { dropped = 0; place = place })
+  pub after : at.t < place.t → to ≡ record { place = place; decided = None }
 
-pub runs-to : (w : Windows) → w.seen ≡ None → (from spot : Spot) (done more : List WindowBlock) (at to : Place) → Followed w from done spot
+pub runs-to : (w : Windows) (from spot : Spot) (done more : List WindowBlock) (at to : Place) → Followed w from done spot
     → Begins w spot (record { dropped = 0; place = at }) → Closed w.settings.rate w.settings.invert w.settings.keep w.settings.ahead at more to
-    → RunsTo w from (done ++ more) to
-runs-to w none from spot done [] at to h begins closed = record {
+    → AreUndropped w at.t at.octets (length more) → RunsTo w from (done ++ more) at to
+runs-to w from spot done [] at to h begins closed still = record {
   to = spot;
   closed = subst (λ (v : List WindowBlock). Followed w from v spot) (sym (append-nil done)) h;
-  begins = subst (λ (p : Place). Begins w spot (record { dropped = 0; place = p })) closed begins;
+  begins = λ none. subst (λ (p : Place). Begins w spot (record { dropped = 0; place = p })) closed begins;
+  after = λ less. absurd (omega (arith, less, ap (λ (p : Place). p.t) closed));
 }
-runs-to w none from spot done (x ∷ xs) at to h begins closed = record {
+runs-to w from spot done (x ∷ xs) at to h begins closed still = record {
   to = record { place = to; decided = None };
-  closed = followed-both w from spot (record { place = to; decided = None }) done (x ∷ xs) h (run-followed w none spot at to x xs begins closed);
-  begins = unfollowed-begins w none to;
+  closed = followed-both w from spot (record { place = to; decided = None }) done (x ∷ xs) h (run-followed w spot at to x xs begins closed still);
+  begins = λ none. unfollowed-begins w none to;
+  after = λ less. refl;
 }
 
 pub closed-kept : (s : Settings) (from to : Place) (blocks : List WindowBlock) → Closed s.rate s.invert s.keep s.ahead from blocks to

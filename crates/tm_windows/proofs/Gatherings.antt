@@ -1,15 +1,16 @@
 -- Octets that are held, and windows that they close.
-use Rattle.std.proofs.Common.{◌≡◌, ℕ, ◌+◌, ◌-◌, ◌*◌, ◌/◌, ◌%◌, ◌<◌, ◌≤◌, ◌∙◌, ◌++◌, ◌∷◌, [], sym, ap, subst, arith, append_assoc, List, Option, Some, None, take, drop, length, mul-le-mul_right, inl, inr, refl, unwrap_or}
+use Rattle.std.proofs.Common.{◌≡◌, ℕ, zero, suc, ◌+◌, ◌-◌, ◌*◌, ◌/◌, ◌%◌, ◌<◌, ◌≤◌, ◌∙◌, ◌++◌, ◌∷◌, [], sym, ap, subst, arith, append_assoc, List, Option, Some, None, take, drop, length, mul-le-mul_right, inl, inr, refl, unwrap_or}
 use Rattle.std.specs.Option.{ForSome}
 use Rattle.std.proofs.lemmas.Bool.{cases_lt}
-use Rattle.std.proofs.lemmas.List.{append-nil, take_rest, drop-drop}
+use Rattle.std.proofs.lemmas.List.{append-nil, take_rest, drop-drop, drop-append-le, length-take-le, take-append-drop}
 use Rattle.std.proofs.lemmas.Nat.{div-add-mod', mod_below}
 use Rattle.tm_conv.specs.Path.{steps_size}
 use Rattle.tm_conv.proofs.Paths.{steps_size-more}
 use Rattle.tm_conv.proofs.Sizes.{step_size_pos, steps_size-le, steps_size-add, steps_size-least, steps_size-most}
 use Rattle.tm_viterbi.specs.WindowBlock.{WindowBlock}
 use Rattle.tm_viterbi.specs.Blocks.{IsBlock}
-use Rattle.tm_viterbi.specs.Due.{Place, after_block}
+use Rattle.tm_viterbi.specs.Settings.{Settings}
+use Rattle.tm_viterbi.specs.Due.{Place, Closed}
 use Rattle.tm_viterbi.specs.declared.window_decoder.WindowShape.{WindowShape}
 use Rattle.tm_viterbi.proofs.Closing.{Closed-append, more_octets}
 use Rattle.tm_viterbi.proofs.HasBlocks.{HasBest}
@@ -17,13 +18,13 @@ use Rattle.tm_phase.specs.Slip.{octets_seen}
 use Rattle.tm_windows.specs.Candidates.{ClosedWith, after_windows}
 use Rattle.tm_windows.specs.Followed.{Windows, Beginning, Spot, first_spot, BeginsLast, dropped_at, Followed, AreFollowedFirst, closing_size, IsOpenAt, AreFollowedDue, IsLast, AreFollowedOf}
 use Rattle.tm_windows.specs.Windows.{AreBlocksBy, AreDueBy, AreFirstBy, IsSeen}
-use Rattle.tm_windows.specs.Gathered.{settings_of, windows_of, room_of, HasRoom, IsOpen, IsDecided, IsAt, Reaches}
+use Rattle.tm_windows.specs.Gathered.{settings_of, windows_of, room_of, HasRoom, HoldsRun, IsOpen, IsDecided, IsAt, Reaches}
 use Rattle.tm_windows.specs.declared.gathering.Gathering.{Gathering}
 use Rattle.tm_windows.proofs.Beginnings.{longer_spot}
 use Rattle.tm_windows.proofs.Existing.{has_windows}
 use Rattle.tm_windows.proofs.FollowedExists.{MayStart, Ends, ends, ends_from, unseen-open}
 use Rattle.tm_windows.proofs.FollowedOnce.{closed-more}
-use Rattle.tm_windows.proofs.FollowedRuns.{place_of, followed-both, runs-to, at-more, at-within, last-begins, is-last, followed-long}
+use Rattle.tm_windows.proofs.FollowedRuns.{place_of, followed-both, unfollowed-all, runs-to, at-more, at-within, last-begins, is-last, followed-long}
 use Rattle.tm_windows.proofs.Runs.{more_times}
 use Rattle.tm_windows.proofs.Undisturbed.{unseen-first, unseen-due, unseen-blocks}
 
@@ -67,54 +68,52 @@ no_more s t len most steps count are less le = elim (cases_lt steps limit) as (�
     next : ℕ
     next = (count + 1) * s.keep + s.ahead + 1
 
+-- octets that close a window close one at least
+pub some_closed : (s : WindowShape) (t len most steps count : ℕ) → AreClosed s.keep s.ahead steps count
+    → (steps < most * s.keep + s.ahead + 1 → len < steps_size s.rate t (steps + 1)) → 0 < most
+    → steps_size s.rate t (s.keep + s.ahead + 1) ≤ len → 0 < count
+some_closed s t len most steps zero are less some room =
+    let wide : 1 * s.keep ≤ most * s.keep = mul-le-mul_right s.keep (let le : 1 ≤ most = omega (arith, some) in le) in
+    let few : steps < s.keep + s.ahead + 1 = omega (arith, are.most) in
+    absurd (omega (
+      arith,
+      room,
+      less (omega (arith, few, wide)),
+      steps_size-le s.rate t (steps + 1) (s.keep + s.ahead + 1) (omega (arith, few)),
+    ))
+some_closed s t len most steps (suc n) are less some room = omega arith
+
 -- ---- windows that are closed
 
--- closed windows, and then further ones
-closed_both : (s : WindowShape) (from middle to : Place) (xs ys : List WindowBlock) → ClosedWith s from xs middle
-    → ClosedWith s middle ys to
-    → ClosedWith s from (xs ++ ys) to
-closed_both s from middle to [] ys h k = subst (λ (p : Place). ClosedWith s p ys to) (sym h) k
-closed_both s from middle to (x ∷ xs) ys h k = (h.0, closed_both s (after_block s.rate from x) middle to xs ys h.1 k)
+whole_again : (m : ℕ) (held rest : List ℕ) → take m held ++ (drop m held ++ rest) ≡ held ++ rest
+whole_again m held rest =
+    sym (append_assoc (take m held) (drop m held) rest) ∙ ap (λ (o : List ℕ). o ++ rest) (take-append-drop m held)
 
--- windows that the octets held close, whatever comes after them
-closed_further : (s : WindowShape) (from to : Place) (done more : List WindowBlock) (starts : Option ℕ) (t : ℕ)
-    (held rest : List ℕ)
-    → ClosedWith s from done (record { starts = starts; t = t; octets = held ++ rest }) → ClosedWith s
-    (record { starts = starts; t = t; octets = held }) more to
-    → ClosedWith s from (done ++ more) (record { starts = to.starts; t = to.t; octets = to.octets ++ rest })
+-- windows that the first of the octets held close, whatever comes after them
+pub closed_front : (s : WindowShape) (starts : Option ℕ) (t m : ℕ) (held rest : List ℕ) (blocks : List WindowBlock) (to : Place)
+    → ClosedWith s (place_of starts t (take m held)) blocks to
+    → ClosedWith s (place_of starts t (held ++ rest)) blocks (more_octets to (drop m held ++ rest))
 unfolding more_octets
-closed_further s from to done more starts t held rest h k =
-    closed_both s from _ _ done more h (Closed-append s.rate s.invert s.keep s.ahead
-    (record { starts = starts; t = t; octets = held }) to more rest k)
+closed_front s starts t m held rest blocks to h =
+    subst (λ (o : List ℕ). ClosedWith s (place_of starts t o) blocks (more_octets to (drop m held ++ rest))) (whole_again m held rest)
+    (Closed-append s.rate s.invert s.keep s.ahead (place_of starts t (take m held)) to blocks (drop m held ++ rest) h)
 
--- the same, as the call that closes them tells it
-pub closed_now : (s s' : WindowShape) (from : Place) (done more : List WindowBlock) (starts next : Option ℕ)
-    (t size count : ℕ) (held slice left rest : List ℕ)
-    → s' ≡ s → slice ≡ held → size ≡ steps_size s.rate t (count * s.keep) → left ≡ drop size held
-    → ClosedWith s from done (record { starts = starts; t = t; octets = held ++ rest })
-    → ClosedWith s' (record { starts = starts; t = t; octets = slice }) more (after_windows s' t slice count next)
-    → ClosedWith s from (done ++ more) (record { starts = next; t = t + count * s.keep; octets = left ++ rest })
-closed_now s s' from done more starts next t size count held slice left rest es eo size_is left_is h k =
-    let P : WindowShape → List ℕ → Type 0 = λ w o. ClosedWith w (record { starts = starts; t = t; octets = o }) more
-    (after_windows w t o count next) in
-    let here = subst (λ (o : List ℕ). P s o) eo (subst (λ (w : WindowShape). P w slice) es k) in
-    let same : drop (steps_size s.rate t (count * s.keep)) held ≡ left = ap (λ (m : ℕ). drop m held) (sym size_is)
-    ∙ sym left_is in
-    subst (λ (o : List ℕ). ClosedWith s from (done ++ more) (record
-    { starts = next; t = t + count * s.keep; octets = o ++ rest })) same
-    (closed_further s from (after_windows s t held count next) done more starts t held rest h here)
-
-pub tried_now : (s s' : WindowShape) (from to : Place) (done tried : List WindowBlock) (starts : Option ℕ) (t : ℕ)
-    (held slice rest : List ℕ)
-    → s' ≡ s → slice ≡ held → ClosedWith s from done (record { starts = starts; t = t; octets = held ++ rest })
-    → ClosedWith s' (record { starts = starts; t = t; octets = slice }) tried to
-    → (place : Place) × ClosedWith s from (done ++ tried) place
-tried_now s s' from to done tried starts t held slice rest es eo h k =
-    let here = subst (λ (o : List ℕ). ClosedWith s (record { starts = starts; t = t; octets = o }) tried to) eo
-    (subst (λ (w : WindowShape). ClosedWith w (record { starts = starts; t = t; octets = slice }) tried to) es k) in (
-      record { starts = to.starts; t = to.t; octets = to.octets ++ rest },
-      closed_further s from to done tried starts t held rest h here,
-    )
+-- the same where they are as many as were asked for
+pub closed_now : (s : WindowShape) (starts next : Option ℕ) (t m count : ℕ) (held left rest : List ℕ) (more : List WindowBlock)
+    → steps_size s.rate t (count * s.keep) ≤ m → m ≤ length held → left ≡ drop (steps_size s.rate t (count * s.keep)) held
+    → ClosedWith s (place_of starts t (take m held)) more (after_windows s t (take m held) count next)
+    → ClosedWith s (place_of starts t (held ++ rest)) more (place_of next (t + count * s.keep) (left ++ rest))
+unfolding more_octets
+closed_now s starts next t m count held left rest more within inside left_is h =
+    let size : ℕ = steps_size s.rate t (count * s.keep) in
+    let front = take m held in
+    let back = drop m held ++ rest in
+    let octets : drop size front ++ back ≡ left ++ rest
+    = sym (drop-append-le size front back (omega (arith, within, length-take-le m held inside)))
+    ∙ ap (drop size) (whole_again m held rest) ∙ drop-append-le size held rest (omega (arith, within, inside))
+    ∙ ap (λ (o : List ℕ). o ++ rest) (sym left_is) in
+    subst (λ (o : List ℕ). ClosedWith s (place_of starts t (held ++ rest)) more (place_of next (t + count * s.keep) o)) octets
+    (closed_front s starts t m held rest more (after_windows s t front count next) h)
 
 -- ---- room
 
@@ -127,6 +126,17 @@ still_open s t n len size es less =
     let sum : (n + 1) * s.keep + s.ahead + 1 ≡ n * s.keep + steps = omega (arith, more_times n s.keep) in
     let some = steps_size-least s.rate (t + n * s.keep) steps in
     omega (arith, es, less, some, ap (λ (m : ℕ). steps_size s.rate t m) sum, steps_size-add s.rate t (n * s.keep) steps)
+
+-- what closes so many windows closes fewer
+pub fewer_held : (g : Gathering) (n count : ℕ) → n ≤ count → HoldsRun g count → HoldsRun g n
+fewer_held g n count le room =
+    let s = g.shape in
+    omega (
+      arith,
+      room,
+      steps_size-le s.rate g.t (n * s.keep + s.ahead + 1) (count * s.keep + s.ahead + 1)
+          (omega (arith, (let wide : n * s.keep ≤ count * s.keep = mul-le-mul_right s.keep le in wide))),
+    )
 
 -- there is room for an octet more, as long as no window is closed
 pub open_room : (g : Gathering) → IsOpen g → length g.held.octets < room_of g
@@ -258,6 +268,26 @@ ends-few w spot to dropped at (x ∷ xs) count h most closed =
       | inr le ↦ le
     ]
 
+-- octets that have the steps of so many windows, and one more, close no window more
+pub few_closed : (s : Settings) (at to : Place) (count : ℕ) (blocks : List WindowBlock) → 0 < s.keep
+    → length at.octets ≡ steps_size s.rate at.t (count * s.keep + s.ahead + 1)
+    → Closed s.rate s.invert s.keep s.ahead at blocks to → length blocks ≤ count
+few_closed s at to count blocks wide long h =
+    let w : Windows = record { settings = s; seen = None } in
+    let spot : Spot = record { place = at; decided = Some 0 } in
+    let size : ℕ = count * s.keep + s.ahead + 1 in
+    let sum : (count + 1) * s.keep + s.ahead + 1 ≡ size + s.keep = omega (arith, more_times count s.keep) in
+    let most : length at.octets < steps_size s.rate at.t ((count + 1) * s.keep + s.ahead + 1) = omega (
+      arith,
+      long,
+      ap (steps_size s.rate at.t) sum,
+      steps_size-add s.rate at.t size s.keep,
+      steps_size-least s.rate (at.t + size) s.keep,
+      wide,
+    ) in
+    let runs = runs-to w spot spot [] blocks at to refl refl h (unfollowed-all w refl at.t (length blocks) at.octets) in
+    ends-few w spot runs.to (Some 0) at blocks count refl most runs.closed
+
 -- what is due after the blocks that were handed over
 abbrev DueAfter : Gathering → List ℕ → List WindowBlock → ℕ → Type 0
 DueAfter g all done count = (more : List WindowBlock) × (length more ≤ count) × (g.seen ≡ None → length more ≡ count)
@@ -292,13 +322,14 @@ due_after exists g all done count some looks room most r = go g.seen refl
         let there : steps_size s.rate run.to.t (s.keep + s.ahead + 1) ≡ steps_size s.rate (g.t + count * s.keep) (s.keep + s.ahead + 1)
         = ap (λ (u : ℕ). steps_size s.rate u (s.keep + s.ahead + 1)) run.place in
         let begins = subst (λ (o : Option ℕ). IsAt w r.to o at) (g.unfollowed none) r.at in
-        let runs = runs-to w none (first_spot w all) r.to done run.blocks at run.to r.closed begins run.closed in
+        let runs = runs-to w (first_spot w all) r.to done run.blocks at run.to r.closed begins run.closed
+        (unfollowed-all w none g.t (length run.blocks) at.octets) in
         let few : length run.to.octets < steps_size s.rate run.to.t (s.keep + s.ahead + 1) =
         omega (arith, run.octets, same, there, still_open s g.t count (length g.held.octets) size refl most) in (
           run.blocks,
           omega (arith, run.long),
           λ _. run.long,
-          record { to = runs.to; closed = runs.closed; is_open = inr (record { dropped = 0; place = run.to }, runs.begins, few) },
+          record { to = runs.to; closed = runs.closed; is_open = inr (record { dropped = 0; place = run.to }, runs.begins none, few) },
         )
     go (Some steps) is =
         let e = ends_at exists w looks (omega (arith, g.sizes)) r.to g.dropped at r.at some in (

@@ -1,5 +1,6 @@
 -- Windows before which octets may be dropped: where each begins, and the blocks of octets in them.
-use Rattle.std.specs.Prelude.{ℕ, zero, suc, ◌≡◌, ◌+◌, ◌==◌, ◌<◌, ◌≤◌, ◌⊎◌, ◌++◌, List, [], ◌∷◌, Option, Some, None, if◌then◌else◌, length, drop}
+use Rattle.std.specs.Prelude.{ℕ, zero, suc, ◌≡◌, ◌+◌, ◌*◌, ◌==◌, ◌<◌, ◌≤◌, ◌⊎◌, ◌++◌, List, [], ◌∷◌, Option, Some, None, if◌then◌else◌, length, drop}
+use Rattle.std.specs.Option.{ForSome}
 use Rattle.tm_conv.specs.Path.{steps_size}
 use Rattle.tm_viterbi.specs.Settings.{Settings}
 use Rattle.tm_viterbi.specs.WindowBlock.{WindowBlock}
@@ -144,3 +145,20 @@ slips_of (block ∷ blocks) = slip_at block.dropped + slips_of blocks
 abbrev pub kept_of : List WindowBlock → ℕ
 kept_of [] = 0
 kept_of (block ∷ blocks) = block.kept + kept_of blocks
+
+-- before a window that is still to be looked at nothing is dropped, where the phase is not followed
+abbrev pub undecided : Option ℕ → Option ℕ
+undecided None = Some 0
+undecided (Some steps) = None
+
+-- nothing is dropped before a window from step t on with these octets, whatever comes after them
+abbrev pub IsUndropped : Windows → ℕ → List ℕ → Type 0
+IsUndropped w t octets = ForSome w.seen (λ steps.
+    (octets_seen w.settings.rate t steps ≤ length octets)
+    × IsSlip w.settings.rate w.settings.invert t steps octets 0)
+
+-- nothing is dropped before any but the first of so many windows one after another
+abbrev pub AreUndropped : Windows → ℕ → List ℕ → ℕ → Type 0
+AreUndropped w t octets count = (k : ℕ) → 0 < k → k < count
+    → IsUndropped w (t + k * w.settings.keep)
+    (drop (steps_size w.settings.rate t (k * w.settings.keep)) octets)

@@ -35,6 +35,16 @@ HasRoom g = length g.held.octets ≤ room_of g
 abbrev pub IsOpen : Gathering → Type 0
 IsOpen g = length g.held.octets < steps_size g.shape.rate g.t (g.shape.keep + g.shape.ahead + 1)
 
+-- it was decided how many octets are dropped before the next window, and those held close it
+pub record HoldsNext (g : Gathering) : Type 0 where
+  pub decided : (dropped : ℕ) × (g.dropped ≡ Some dropped)
+  pub room : steps_size g.shape.rate g.t (g.shape.keep + g.shape.ahead + 1) ≤ length g.held.octets
+
+-- with nothing dropped between them they close so many windows
+abbrev pub HoldsRun : Gathering → ℕ → Type 0
+HoldsRun g count = steps_size g.shape.rate g.t (count * g.shape.keep + g.shape.ahead + 1)
+    ≤ length g.held.octets
+
 -- where it was not decided yet how many octets are dropped before the next window, they are too few
 -- to look for a slip
 abbrev pub IsDecided : Gathering → Type 0
@@ -76,6 +86,18 @@ pub record LeavesOpen (before now : Gathering) : Type 0 where
   pub windows : windows_of now ≡ windows_of before
   pub counted : reached now ≤ reached before
   pub is_open : IsOpen now
+
+-- the blocks of some windows that the octets held close, one at least, went to the taker; or it
+-- failed at one of them
+pub record ClosesNext {R E : Type 0} (before now : Gathering) (taker : TakerCall WindowBlock)
+    (result : Result R E) : Type 0 where
+  pub ok : OnOk result ((more : List WindowBlock) × taker.took more × Advances before now more)
+  pub err : OnErr result ((tried : List WindowBlock) × taker.broke tried × AreNext before tried)
+  pub left_open : OnErr result (IsOpen now × IsDecided now)
+  pub shorter : length now.held.octets < length before.held.octets
+  pub counted : reached now ≤ reached before
+  pub windows : windows_of now ≡ windows_of before
+  pub cause : HasCause taker.before taker.now taker.is_last result
 
 -- the blocks of the windows that the octets held close went to the taker; or it failed at one of them
 pub record ClosesHeld {R E : Type 0} (before now : Gathering) (taker : TakerCall WindowBlock)

@@ -8,7 +8,7 @@ ghost use Rattle.tm_conv.specs.Path.{steps_size};
 ghost use Rattle.tm_viterbi.specs.Starts.{first_start};
 ghost use Rattle.tm_viterbi.specs.WindowBlock.{WindowBlock};
 ghost use Rattle.tm_phase.specs.Slip.{octets_seen};
-ghost use Rattle.tm_windows.specs.Followed.{slip_at, starts_after};
+ghost use Rattle.tm_windows.specs.Followed.{slip_at, starts_after, undecided};
 
 use crate::closing::Closing;
 use crate::window_workers::WindowWorkers;
@@ -72,6 +72,7 @@ fn closed_windows(shape: WindowShape, t: u64, len: usize, most: usize) -> usize
     requires few { t < 2 ^ 60 }
     ensures most { result ≤ most }
     ensures room { 0 < result → steps_size shape.rate t (result * shape.keep + shape.ahead + 1) ≤ len }
+    ensures some { 0 < most → steps_size shape.rate t (shape.keep + shape.ahead + 1) ≤ len → 0 < result }
     ensures all { len ≤ steps_size shape.rate t (most * shape.keep + shape.ahead + 1)
         → len < steps_size shape.rate t ((result + 1) * shape.keep + shape.ahead + 1) }
 {
@@ -97,9 +98,20 @@ fn slip_at(dropped: u8) -> u64
     if dropped == 0 { 0 } else { 1 }
 }
 
+// Before a window that is still to be looked at: nothing is dropped, where the phase is not followed.
+fn undecided(seen: Option<usize>) -> Option<u8>
+    ensures value { result ≡ undecided seen }
+    ensures unfollowed { seen ≡ None → result ≡ Option.Some 0 }
+{
+    match seen {
+        None => Some(0),
+        Some(_) => None,
+    }
+}
+
 impl Gathering {
-    ghost use Rattle.tm_windows.specs.Followed.{AreFollowedOf, AreFollowedDue, AreFollowedFirst, slips_of, kept_of};
-    ghost use Rattle.tm_windows.specs.Gathered.{windows_of, room_of, reached, Advances, AreNext, ClosesHeld, HasRoom, IsOpen, IsDecided, LeavesOpen, Reaches};
+    ghost use Rattle.tm_windows.specs.Followed.{AreFollowedOf, AreFollowedDue, AreFollowedFirst, AreUndropped, IsUndropped, slips_of, kept_of};
+    ghost use Rattle.tm_windows.specs.Gathered.{windows_of, room_of, reached, ClosesHeld, ClosesNext, HasRoom, HoldsNext, HoldsRun, IsOpen, IsDecided, LeavesOpen, Reaches};
 
     /// A stream of which no octet was given yet, and so many workers with room for `most` windows at a time. All
     /// memory is taken here.
@@ -170,85 +182,14 @@ impl Gathering {
         blocks: &mut B,
     ) -> Result<(), Failed>
         requires ready { (count : ℕ) → count ≤ 2 ^ 62 → C.is_ready closing.now count }
-        requires room { HasRoom self.old }
         requires few { reached self.old < 2 ^ 60 }
         ensures { ClosesHeld self.old self.new
             (taker_call B.took B.broke B.faults B.is_last blocks.old blocks.new) result }
     {
-        match self.seen {
-            None => match self.close_run(closing, blocks) {
-                Ok(()) => Ok(()),
-                Err(Failed) => Err(Failed),
-            },
-            Some(steps) => match self.close_each(steps, blocks) {
-                Ok(()) => Ok(()),
-                Err(Failed) => Err(Failed),
-            },
-        }
-    }
-
-    // The same where the phase is not followed: all at once.
-    fn close_run<C: Closing, B: BlockTaker>(
-        &mut self,
-        closing: &C,
-        blocks: &mut B,
-    ) -> Result<(), Failed>
-        requires ready { (count : ℕ) → count ≤ 2 ^ 62 → C.is_ready closing.now count }
-        requires unfollowed { self.old.seen ≡ None }
-        requires room { HasRoom self.old }
-        requires few { self.old.t < 2 ^ 60 }
-        ensures ok { OnOk result ((more : List WindowBlock) × HandedOver B.took blocks.old more blocks.new
-            × Advances self.old self.new more) }
-        ensures err { OnErr result ((tried : List WindowBlock) × HandedPart B.took B.broke blocks.old tried blocks.new
-            × AreNext self.old tried) }
-        ensures is_open { IsOpen self.new }
-        ensures counted { reached self.new ≤ reached self.old }
-        ensures windows { windows_of self.new ≡ windows_of self.old }
-        ensures cause { HasCause (B.faults blocks.old) (B.faults blocks.new) (B.is_last blocks.new) result }
-    {
-        let octets = self.held.as_slice();
-        let count = closed_windows(self.shape, self.t, octets.len(), self.most);
-        if count == 0 {
-            return Ok(());
-        }
-        match self
-            .workers
-            .close_by(closing, self.starts, self.t, octets, count, blocks)
-        {
-            Ok(next) => {
-                let steps = count * self.shape.keep;
-                self.held
-                    .drop_front(steps_len(self.shape.rate, self.t, steps));
-                self.starts = next;
-                self.t += steps as u64;
-                Ok(())
-            }
-            Err(Failed) => {
-                self.held.clear();
-                Err(Failed)
-            }
-        }
-    }
-
-    // The same where it is followed, with a slip over so many steps: one window after another, since where one begins
-    // hangs on what was dropped before it.
-    fn close_each<B: BlockTaker>(&mut self, steps: usize, blocks: &mut B) -> Result<(), Failed>
-        requires followed { self.old.seen ≡ Option.Some steps }
-        requires few { reached self.old < 2 ^ 60 }
-        ensures ok { OnOk result ((more : List WindowBlock) × HandedOver B.took blocks.old more blocks.new
-            × Advances self.old self.new more) }
-        ensures err { OnErr result ((tried : List WindowBlock) × HandedPart B.took B.broke blocks.old tried blocks.new
-            × AreNext self.old tried) }
-        ensures is_open { IsOpen self.new }
-        ensures decided { IsDecided self.new }
-        ensures counted { reached self.new ≤ reached self.old }
-        ensures windows { windows_of self.new ≡ windows_of self.old }
-        ensures cause { HasCause (B.faults blocks.old) (B.faults blocks.new) (B.is_last blocks.new) result }
-    {
-        let mut closed = self.is_closed(steps);
+        let mut closed = self.is_closed();
         while closed {
-            match self.close_next(blocks) {
-                Ok(()) => closed = self.is_closed(steps),
+            match self.close_next(closing, blocks) {
+                Ok(()) => closed = self.is_closed(),
                 Err(Failed) => return Err(Failed),
             }
         }
@@ -256,18 +197,16 @@ impl Gathering {
     }
 
     // Whether the octets held close the next window, once it was decided how many are dropped before it.
-    fn is_closed(&mut self, steps: usize) -> bool
-        requires followed { self.old.seen ≡ Option.Some steps }
+    fn is_closed(&mut self) -> bool
         requires few { self.old.t < 2 ^ 60 }
         ensures reaches { (all rest : List ℕ) (done : List WindowBlock) → Reaches self.old all rest done
             → Reaches self.new all rest done }
-        ensures closed { IsTrue result → ((dropped : ℕ) × (self.new.dropped ≡ Option.Some dropped))
-            × (steps_size self.new.shape.rate self.new.t (self.new.shape.keep + self.new.shape.ahead + 1) ≤ length self.new.held.octets) }
+        ensures closed { IsTrue result → HoldsNext self.new }
         ensures left_open { result ≡ false → IsOpen self.new × IsDecided self.new }
         ensures shorter { length self.new.held.octets ≤ length self.old.held.octets }
         ensures same { (windows_of self.new ≡ windows_of self.old) × (self.new.t ≡ self.old.t) }
     {
-        if !self.decide(steps) {
+        if !self.decide() {
             return false;
         }
         let limit = self.shape.keep + self.shape.ahead + 1;
@@ -275,17 +214,20 @@ impl Gathering {
     }
 
     // Decides how many octets are dropped before the next window, and drops them, where enough are there to look for a
-    // slip over so many steps. Answers whether it is decided.
-    fn decide(&mut self, steps: usize) -> bool
-        requires followed { self.old.seen ≡ Option.Some steps }
+    // slip. Answers whether it is decided.
+    fn decide(&mut self) -> bool
         requires few { self.old.t < 2 ^ 60 }
         ensures reaches { (all rest : List ℕ) (done : List WindowBlock) → Reaches self.old all rest done
             → Reaches self.new all rest done }
         ensures decided { IsTrue result → (dropped : ℕ) × (self.new.dropped ≡ Option.Some dropped) }
-        ensures undecided { result ≡ false → (self.new.dropped ≡ None) × (length self.new.held.octets < octets_seen self.new.shape.rate self.new.t steps) }
+        ensures undecided { result ≡ false → (steps : ℕ) × (self.new.seen ≡ Option.Some steps)
+            × (length self.new.held.octets < octets_seen self.new.shape.rate self.new.t steps) }
         ensures shorter { length self.new.held.octets ≤ length self.old.held.octets }
         ensures same { (windows_of self.new ≡ windows_of self.old) × (self.new.t ≡ self.old.t) }
     {
+        let Some(steps) = self.seen else {
+            return true;
+        };
         if let Some(_) = self.dropped {
             return true;
         }
@@ -301,23 +243,110 @@ impl Gathering {
         true
     }
 
-    // Hands over the block of the next window, which the octets held close.
-    fn close_next<B: BlockTaker>(&mut self, blocks: &mut B) -> Result<(), Failed>
-        requires followed { (steps : ℕ) × (self.old.seen ≡ Option.Some steps) }
-        requires decided { (dropped : ℕ) × (self.old.dropped ≡ Option.Some dropped) }
-        requires room { steps_size self.old.shape.rate self.old.t (self.old.shape.keep + self.old.shape.ahead + 1) ≤ length self.old.held.octets }
-        requires few { self.old.t < 2 ^ 60 }
-        ensures ok { OnOk result ((block : WindowBlock) × B.took blocks.old block blocks.new
-            × Advances self.old self.new (block ∷ [])) }
-        ensures err { OnErr result ((block : WindowBlock) × B.broke blocks.old block blocks.new
-            × AreNext self.old (block ∷ [])) }
-        ensures left_open { OnErr result (IsOpen self.new × IsDecided self.new) }
-        ensures shorter { length self.new.held.octets < length self.old.held.octets }
-        ensures counted { reached self.new ≤ reached self.old }
-        ensures windows { windows_of self.new ≡ windows_of self.old }
-        ensures cause { HasCause (B.faults blocks.old) (B.faults blocks.new) (B.is_last blocks.new) result }
+    // Hands over the block of the next window, which the octets held close; and where nothing is dropped before it,
+    // those of the windows after it up to the next before which octets are dropped.
+    fn close_next<C: Closing, B: BlockTaker>(
+        &mut self,
+        closing: &C,
+        blocks: &mut B,
+    ) -> Result<(), Failed>
+        requires ready { (count : ℕ) → count ≤ 2 ^ 62 → C.is_ready closing.now count }
+        requires closed { HoldsNext self.old }
+        requires few { reached self.old < 2 ^ 60 }
+        ensures { ClosesNext self.old self.new
+            (taker_call B.took B.broke B.faults B.is_last blocks.old blocks.new) result }
     {
         let dropped = self.dropped.unwrap_or(0);
+        if dropped == 0 {
+            self.close_run(closing, blocks)
+        } else {
+            self.close_one(dropped, blocks)
+        }
+    }
+
+    // The same where nothing is dropped before the next window: all these windows at once.
+    fn close_run<C: Closing, B: BlockTaker>(
+        &mut self,
+        closing: &C,
+        blocks: &mut B,
+    ) -> Result<(), Failed>
+        requires ready { (count : ℕ) → count ≤ 2 ^ 62 → C.is_ready closing.now count }
+        requires undropped { self.old.dropped ≡ Option.Some 0 }
+        requires closed { HoldsNext self.old }
+        requires few { reached self.old < 2 ^ 60 }
+        ensures { ClosesNext self.old self.new
+            (taker_call B.took B.broke B.faults B.is_last blocks.old blocks.new) result }
+    {
+        let count = self.count_run();
+        let steps = count * self.shape.keep;
+        let size = steps_len(self.shape.rate, self.t, steps + self.shape.ahead + 1);
+        let octets = &self.held.as_slice()[..size];
+        match self
+            .workers
+            .close_by(closing, self.starts, self.t, octets, count, blocks)
+        {
+            Ok(next) => {
+                self.held
+                    .drop_front(steps_len(self.shape.rate, self.t, steps));
+                self.starts = next;
+                self.t += steps as u64;
+                self.dropped = undecided(self.seen);
+                Ok(())
+            }
+            Err(Failed) => {
+                self.held.clear();
+                Err(Failed)
+            }
+        }
+    }
+
+    // How many windows the octets held close from the next one on, with nothing dropped before any but the next.
+    fn count_run(&self) -> usize
+        requires closed { HoldsNext self.now }
+        requires few { reached self.now < 2 ^ 60 }
+        ensures some { 0 < result }
+        ensures most { result ≤ self.now.most }
+        ensures room { HoldsRun self.now result }
+        ensures undropped { AreUndropped (windows_of self.now) self.now.t self.now.held.octets result }
+    {
+        let most = closed_windows(self.shape, self.t, self.held.as_slice().len(), self.most);
+        let Some(steps) = self.seen else {
+            return most;
+        };
+        for number in 1..most {
+            if !self.is_undropped(steps, number) {
+                return number;
+            }
+        }
+        most
+    }
+
+    // Whether nothing is dropped before the window which is so many windows after the next one, where nothing is
+    // dropped before those between and a slip is looked for over so many steps.
+    fn is_undropped(&self, steps: usize, number: usize) -> bool
+        requires followed { self.now.seen ≡ Option.Some steps }
+        requires number { number < self.now.most }
+        requires room { HoldsRun self.now (number + 1) }
+        requires few { reached self.now < 2 ^ 60 }
+        ensures { IsTrue result → IsUndropped (windows_of self.now) (self.now.t + number * self.now.shape.keep)
+            (drop (steps_size self.now.shape.rate self.now.t (number * self.now.shape.keep)) self.now.held.octets) }
+    {
+        let kept = number * self.shape.keep;
+        let size = steps_len(self.shape.rate, self.t, kept);
+        let octets = &self.held.as_slice()[size..];
+        let there = self.t + kept as u64;
+        slip(self.shape.rate, self.shape.invert, there, steps, octets) == 0
+    }
+
+    // The same where so many octets were dropped before the next window: this window alone.
+    fn close_one<B: BlockTaker>(&mut self, dropped: u8, blocks: &mut B) -> Result<(), Failed>
+        requires dropped { self.old.dropped ≡ Option.Some dropped }
+        requires followed { (steps : ℕ) × (self.old.seen ≡ Option.Some steps) }
+        requires closed { HoldsNext self.old }
+        requires few { reached self.old < 2 ^ 60 }
+        ensures { ClosesNext self.old self.new
+            (taker_call B.took B.broke B.faults B.is_last blocks.old blocks.new) result }
+    {
         let octets = self.held.as_slice();
         match self
             .workers

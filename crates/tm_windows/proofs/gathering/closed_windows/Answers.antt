@@ -1,6 +1,6 @@
 use Rattle.std.proofs.Common.{◌+◌, ◌*◌, ◌/◌, arith}
 use Rattle.tm_conv.proofs.Sizes.{steps_size-le}
-use Rattle.tm_windows.proofs.Gatherings.{are_closed, no_more}
+use Rattle.tm_windows.proofs.Gatherings.{are_closed, no_more, some_closed}
 use Rattle.tm_windows.proofs.gathering.closed_windows.Goals as goal
 
 pub returns-clause-room : goal.returns-clause-room
@@ -23,3 +23,11 @@ returns-clause-all c = λ le.
     let n = c.saturating_sub.result in
     let are = are_closed s.keep s.ahead steps n (omega (arith, c.requires.sizes)) c.saturating_sub.ensures in
     no_more s c.args.t c.args.len c.args.most steps (n / s.keep) are c.whole_steps-steps.ensures.all le
+
+pub returns-clause-some : goal.returns-clause-some
+returns-clause-some c = λ some room.
+    let s = c.args.shape in
+    let steps = c.whole_steps-steps.result in
+    let n = c.saturating_sub.result in
+    let are = are_closed s.keep s.ahead steps n (omega (arith, c.requires.sizes)) c.saturating_sub.ensures in
+    some_closed s c.args.t c.args.len c.args.most steps (n / s.keep) are c.whole_steps-steps.ensures.all some room
