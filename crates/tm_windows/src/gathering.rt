@@ -475,7 +475,6 @@ impl Gathering {
         blocks: &mut B,
     ) -> Result<u8, Failed>
         requires ready { (count : ℕ) → count ≤ 2 ^ 62 → C.is_ready closing.now count }
-        requires room { HasRoom self.old }
         requires few { self.old.t + length self.old.held.octets < 2 ^ 60 }
         ensures ok { IfOk result (λ left. (last : List WindowBlock) × HandedOver B.took blocks.old last blocks.new
             × ((all : List ℕ) (done : List WindowBlock) → Reaches self.old all [] done
