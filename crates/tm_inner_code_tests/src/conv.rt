@@ -1,6 +1,7 @@
 // Worked values: the first steps of the marker, the punctured rates, the patterns, the numbers of symbols.
 ghost use Rattle.std.specs.Prelude.{◌≤◌};
 
+use std::process::Abort;
 use tm_conv::{
     Encoder, Rate, Symbols, best_path_law, clean_symbols_law, columns_law, complement_law, kept,
     plain_encode, six_pairs_law, symbols_of,
@@ -33,21 +34,23 @@ fn marker_at_half(rt: HostRuntime) {
     );
 }
 
+static FIRST_PAIRS: [(bool, bool); 9] = [
+    (false, true),
+    (false, true),
+    (false, true),
+    (true, false),
+    (false, false),
+    (false, false),
+    (true, false),
+    (false, false),
+    (false, false),
+];
+
 #[test]
 fn first_steps_of_the_marker(rt: HostRuntime) {
-    let pairs = [
-        (false, true),
-        (false, true),
-        (false, true),
-        (true, false),
-        (false, false),
-        (false, false),
-        (true, false),
-        (false, false),
-        (false, false),
-    ];
     let mut encoder = Encoder::new(Rate::R12, true);
-    for (i, (first, second)) in pairs.into_iter().enumerate() {
+    for i in 0..9usize {
+        let (first, second) = FIRST_PAIRS[i];
         let bit = MARKER_BITS >> (31 - i) & 1 == 1;
         assert_eq!(rt; encoder.step(bit), Symbols::Two(first, second), "step {i}");
     }
@@ -66,64 +69,70 @@ fn marker_at_the_punctured_rates(rt: HostRuntime) {
 fn octets_at_once(rt: HostRuntime) {
     let octets = [0x1A, 0xCF, 0xFC, 0x1D, 0x00, 0xFF, 0x35, 0x80, 0x01];
     for rate in [Rate::R12, Rate::R23, Rate::R34, Rate::R56, Rate::R78] {
-        for (invert, low) in [(false, 0x00), (true, 0x00), (true, 0x80), (false, 0x80)] {
-            let mut encoder = Encoder::new(rate, invert);
-            let mut plain = Encoder::new(rate, invert);
-            for first in 0..octets.len() {
-                let piece = &octets[first..];
-                let mut out = [0; 144];
-                let mut plain_out = [0; 144];
-                let count = encoder.encode(piece, low, &mut out);
-                let plain_count = plain_encode(&mut plain, piece, low, &mut plain_out);
-                assert_eq!(rt;
-                    out[..count],
-                    plain_out[..plain_count],
-                    "rate {rate:?}, from octet {first}"
-                );
+        for invert in [false, true] {
+            for low in [0x00, 0x80] {
+                check_at_once(&rt, rate, invert, low, &octets);
             }
         }
     }
 }
 
-#[test]
-fn patterns(rt: HostRuntime) {
-    let rows = [
-        (Rate::R12, 1, 0b1, 0b1),
-        (Rate::R23, 2, 0b10, 0b11),
-        (Rate::R34, 3, 0b101, 0b110),
-        (Rate::R56, 5, 0b10101, 0b11010),
-        (Rate::R78, 7, 0b1000101, 0b1111010),
-    ];
-    for (rate, period, first, second) in rows {
-        for t in 0..period {
-            let keeps = (
-                first >> (period - 1 - t) & 1 == 1,
-                second >> (period - 1 - t) & 1 == 1,
-            );
-            assert_eq!(rt; kept(rate, t), keeps, "step {t}");
-            assert_eq!(rt;
-                kept(rate, 1_000_000_000 * period + t),
-                keeps,
-                "step {t} of a later period"
-            );
-        }
+fn check_at_once(rt: &impl Abort, rate: Rate, invert: bool, low: u8, octets: &[u8; 9]) {
+    let mut encoder = Encoder::new(rate, invert);
+    let mut plain = Encoder::new(rate, invert);
+    for first in 0..octets.len() {
+        let piece = &octets[first..];
+        let mut out = [0; 144];
+        let mut plain_out = [0; 144];
+        let count = encoder.encode(piece, low, &mut out);
+        let plain_count = plain_encode(&mut plain, piece, low, &mut plain_out);
+        assert_eq!(rt;
+            out[..count],
+            plain_out[..plain_count],
+            "rate {rate:?}, from octet {first}"
+        );
     }
 }
 
 #[test]
-fn symbols_of_periods(rt: HostRuntime) {
-    for (rate, period, size) in [
-        (Rate::R12, 1, 2),
-        (Rate::R23, 2, 3),
-        (Rate::R34, 3, 4),
-        (Rate::R56, 5, 6),
-        (Rate::R78, 7, 8),
-    ] {
-        assert_eq!(rt; symbols_of(rate, 0), 0);
-        assert_eq!(rt; symbols_of(rate, 1), 2);
-        assert_eq!(rt; symbols_of(rate, period), size);
-        assert_eq!(rt; symbols_of(rate, 1_000 * period), 1_000 * size);
+fn patterns(rt: HostRuntime) {
+    check_pattern(&rt, Rate::R12, 1, 0b1, 0b1);
+    check_pattern(&rt, Rate::R23, 2, 0b10, 0b11);
+    check_pattern(&rt, Rate::R34, 3, 0b101, 0b110);
+    check_pattern(&rt, Rate::R56, 5, 0b10101, 0b11010);
+    check_pattern(&rt, Rate::R78, 7, 0b1000101, 0b1111010);
+}
+
+fn check_pattern(rt: &impl Abort, rate: Rate, period: u64, first: u32, second: u32) {
+    assert!(rt; period <= 7);
+    for t in 0..period {
+        let place = period - 1 - t;
+        let keeps = (first >> place & 1 == 1, second >> place & 1 == 1);
+        check_kept(rt, rate, t, keeps);
+        check_kept(rt, rate, 1_000_000_000 * period + t, keeps);
     }
+}
+
+fn check_kept(rt: &impl Abort, rate: Rate, t: u64, keeps: (bool, bool)) {
+    assert_eq!(rt; kept(rate, t), keeps, "step {t}");
+}
+
+#[test]
+fn symbols_of_periods(rt: HostRuntime) {
+    check_sizes(&rt, Rate::R12, 1, 2);
+    check_sizes(&rt, Rate::R23, 2, 3);
+    check_sizes(&rt, Rate::R34, 3, 4);
+    check_sizes(&rt, Rate::R56, 5, 6);
+    check_sizes(&rt, Rate::R78, 7, 8);
+}
+
+// How many symbols no step, one, a period and a thousand periods send.
+fn check_sizes(rt: &impl Abort, rate: Rate, period: u64, size: u64) {
+    assert!(rt; period <= 7 && size <= 8);
+    assert_eq!(rt; symbols_of(rate, 0), 0);
+    assert_eq!(rt; symbols_of(rate, 1), 2);
+    assert_eq!(rt; symbols_of(rate, period), size);
+    assert_eq!(rt; symbols_of(rate, 1_000 * period), 1_000 * size);
 }
 
 #[test]

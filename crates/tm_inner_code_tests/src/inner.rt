@@ -13,17 +13,199 @@ use tm_inner::{InnerEnd, InnerReceiver, inner_all};
 use tm_phase::Chosen;
 use tm_viterbi::FeedError;
 
-// A block from register 0.
-fn block(steps: u32, kept: u32, metric: u64, first: u8, end_state: u8) -> Kept {
-    Kept {
-        start: 0,
-        steps,
-        kept,
-        metric,
-        first,
-        end_state,
-    }
+// Options, octets, and what comes of them, with the skip and the cost of their phase where it is to be found.
+#[derive(Clone, Copy)]
+struct Row<'a> {
+    inner: u64,
+    invert: Option<u64>,
+    soft: u64,
+    start: u64,
+    skip: u64,
+    pack: u64,
+    phase: u64,
+    octets: &'a [u8],
+    chosen: Option<(u8, u64)>,
+    blocks: &'a [Kept],
+    bits: u64,
+    leftover: u8,
 }
+
+// No octets, at the options that hold where none is given.
+const NOTHING: Row<'static> = Row {
+    inner: 12,
+    invert: None,
+    soft: 0,
+    start: 0,
+    skip: 0,
+    pack: 1,
+    phase: 0,
+    octets: &[],
+    chosen: None,
+    blocks: &[],
+    bits: 0,
+    leftover: 0,
+};
+
+// A block of one step from register 0 to register 0, at no cost.
+const STEP: Kept = Kept {
+    start: 0,
+    steps: 1,
+    kept: 1,
+    metric: 0,
+    first: 0,
+    end_state: 0,
+};
+
+static FEW_STEPS: [Row; 7] = [
+    Row {
+        octets: &[0x80, 0x00],
+        blocks: &[Kept {
+            metric: 127,
+            first: 1,
+            end_state: 32,
+            ..STEP
+        }],
+        bits: 1,
+        ..NOTHING
+    },
+    Row {
+        octets: &[0x00, 0x00],
+        blocks: &[Kept {
+            metric: 255,
+            ..STEP
+        }],
+        bits: 1,
+        ..NOTHING
+    },
+    Row {
+        octets: &[0x00, 0xFF, 0x00],
+        blocks: &[STEP],
+        bits: 1,
+        leftover: 1,
+        ..NOTHING
+    },
+    NOTHING,
+    Row {
+        inner: 23,
+        octets: &[0; 4],
+        blocks: &[Kept {
+            steps: 2,
+            kept: 2,
+            ..STEP
+        }],
+        bits: 2,
+        leftover: 1,
+        ..NOTHING
+    },
+    Row {
+        invert: Some(0),
+        octets: &[0x00, 0x00],
+        blocks: &[STEP],
+        bits: 1,
+        ..NOTHING
+    },
+    Row {
+        start: 1,
+        octets: &[0x00, 0x00],
+        blocks: &[Kept {
+            start: 2,
+            end_state: 1,
+            ..STEP
+        }],
+        bits: 1,
+        ..NOTHING
+    },
+];
+
+static SKIPPED_AND_SIGNED: [Row; 4] = [
+    Row {
+        skip: 1,
+        octets: &[0xAA, 0x80, 0x00],
+        blocks: &[Kept {
+            metric: 127,
+            first: 1,
+            end_state: 32,
+            ..STEP
+        }],
+        bits: 1,
+        ..NOTHING
+    },
+    Row {
+        skip: 1,
+        soft: 1,
+        octets: &[0xAA, 0x00, 0x80],
+        blocks: &[Kept {
+            metric: 127,
+            first: 1,
+            end_state: 32,
+            ..STEP
+        }],
+        bits: 1,
+        ..NOTHING
+    },
+    Row {
+        skip: 2,
+        soft: 1,
+        octets: &[0x80],
+        ..NOTHING
+    },
+    Row {
+        skip: 2,
+        soft: 1,
+        octets: &[0x80, 0x80, 0x80],
+        leftover: 1,
+        ..NOTHING
+    },
+];
+
+// With no inner code no block comes, and the skipped ones are bits.
+static BITS: [Row; 3] = [
+    Row {
+        inner: 0,
+        octets: &[0; 38],
+        bits: 304,
+        ..NOTHING
+    },
+    Row {
+        inner: 0,
+        skip: 3,
+        octets: &[0; 38],
+        bits: 301,
+        ..NOTHING
+    },
+    Row {
+        inner: 0,
+        skip: 15,
+        octets: &[0x55],
+        ..NOTHING
+    },
+];
+
+// With no inner code each octet is a bit where these are not packed, and so are the skipped ones.
+static BITS_NOT_PACKED: [Row; 3] = [
+    Row {
+        inner: 0,
+        pack: 0,
+        octets: &[0; 38],
+        bits: 38,
+        ..NOTHING
+    },
+    Row {
+        inner: 0,
+        pack: 0,
+        skip: 3,
+        octets: &[0; 38],
+        bits: 35,
+        ..NOTHING
+    },
+    Row {
+        inner: 0,
+        pack: 0,
+        skip: 3,
+        octets: &[0xFF, 0xFF],
+        ..NOTHING
+    },
+];
 
 // Two octets, many times.
 fn repeated(alloc: Global, pair: (u8, u8), count: usize) -> Result<Vec<u8>, AllocError> {
@@ -35,91 +217,156 @@ fn repeated(alloc: Global, pair: (u8, u8), count: usize) -> Result<Vec<u8>, Allo
     Ok(octets)
 }
 
-// What comes of octets, with the skip and the cost of their phase where it is to be found.
-#[derive(Clone, Copy)]
-struct Wanted<'a> {
-    phase: Option<(u8, u64)>,
-    blocks: &'a [Kept],
-    end: InnerEnd,
+fn config_of(row: &Row<'_>) -> Result<Config, Fail> {
+    Ok(Config::check(&Raw {
+        inner: row.inner,
+        invert: row.invert,
+        soft: row.soft,
+        start: row.start,
+        skip: row.skip,
+        pack: row.pack,
+        phase: row.phase,
+        ..Raw::default()
+    })?)
 }
 
-// What comes of the octets, with the phase given.
-fn check<R: Abort + Threads + Sync>(
-    rt: &R,
-    alloc: Global,
-    raw: Raw,
-    octets: &[u8],
-    blocks: &[Kept],
-    end: (u64, u8),
-) -> Result<(), Fail> {
-    check_found(rt, alloc, raw, octets, None, blocks, end)
+// The receiver's calls, of which the tests below know nothing.
+fn opened(alloc: Global, config: &Config) -> Result<InnerReceiver, Fail> {
+    Ok(InnerReceiver::open(alloc, config)?)
 }
 
-// The same with this phase: at once and in pieces of one, of two and of 300 octets, by one worker and by three, with
-// and without threads.
-fn check_found<R: Abort + Threads + Sync>(
-    rt: &R,
-    alloc: Global,
-    raw: Raw,
-    octets: &[u8],
-    phase: Option<(u8, u64)>,
-    blocks: &[Kept],
-    end: (u64, u8),
-) -> Result<(), Fail> {
-    let config = Config::check(&raw)?;
-    let end = InnerEnd {
-        bits: end.0,
-        slips: None,
-        leftover: end.1,
-    };
-    let wanted = Wanted { phase, blocks, end };
-    let mut all = Collector::new(alloc, 9);
-    assert_eq!(rt; inner_all(alloc, &config, octets, &mut all)?, end);
-    assert_eq!(rt; all.phase(), phase);
-    assert_eq!(rt; all.kept(), blocks);
-    check_pieces(rt, alloc, &config, octets, 1, &wanted)?;
-    check_pieces(rt, alloc, &config, octets, 2, &wanted)?;
-    check_pieces(rt, alloc, &config, octets, 300, &wanted)?;
-    check_workers(rt, alloc, &config, octets, &wanted)
-}
-
-// The same octets by three workers, and by receivers of which only one is given threads.
-fn check_workers<R: Abort + Threads + Sync>(
-    rt: &R,
+fn opened_for(
+    rt: &impl Abort,
     alloc: Global,
     config: &Config,
+    workers: u8,
+) -> Result<InnerReceiver, Fail> {
+    assert!(rt; 0 < workers && workers <= 64);
+    Ok(InnerReceiver::open_for(alloc, config, workers)?)
+}
+
+fn feed(
+    receiver: &mut InnerReceiver,
     octets: &[u8],
-    wanted: &Wanted<'_>,
+    taker: &mut Collector,
+) -> Result<(), FeedError> {
+    receiver.feed(octets, taker)
+}
+
+fn finish(receiver: &mut InnerReceiver, taker: &mut Collector) -> Result<InnerEnd, FeedError> {
+    receiver.finish(taker)
+}
+
+fn feed_with<R: Threads + Sync>(
+    rt: &R,
+    receiver: &mut InnerReceiver,
+    octets: &[u8],
+    taker: &mut Collector,
+) -> Result<(), FeedError> {
+    receiver.feed_with(rt, octets, taker)
+}
+
+fn finish_with<R: Threads + Sync>(
+    rt: &R,
+    receiver: &mut InnerReceiver,
+    taker: &mut Collector,
+) -> Result<InnerEnd, FeedError> {
+    receiver.finish_with(rt, taker)
+}
+
+fn check_rows<R: Abort + Threads + Sync>(
+    rt: &R,
+    alloc: Global,
+    rows: &[Row<'_>],
 ) -> Result<(), Fail> {
-    check_threads(rt, alloc, config, octets, wanted)?;
-    let mut taker = Collector::new(alloc, 9);
-    let mut receiver = InnerReceiver::open_for(alloc, config, 3)?;
-    receiver.feed(octets, &mut taker)?;
-    assert_eq!(rt; receiver.finish(&mut taker)?, wanted.end);
-    assert_eq!(rt; taker.kept(), wanted.blocks);
+    for row in rows {
+        check(rt, alloc, row)?;
+    }
     Ok(())
 }
 
-// The same octets by three workers, with threads.
+// The octets at once and in pieces of one, of two and of 300, by one worker and by three, with and without threads.
+fn check<R: Abort + Threads + Sync>(rt: &R, alloc: Global, row: &Row<'_>) -> Result<(), Fail> {
+    let config = config_of(row)?;
+    check_at_once(rt, alloc, &config, row)?;
+    check_pieces(rt, alloc, &config, 1, row)?;
+    check_pieces(rt, alloc, &config, 2, row)?;
+    check_pieces(rt, alloc, &config, 300, row)?;
+    check_threads(rt, alloc, &config, row)?;
+    check_workers(rt, alloc, &config, row)
+}
+
+fn check_at_once(
+    rt: &impl Abort,
+    alloc: Global,
+    config: &Config,
+    row: &Row<'_>,
+) -> Result<(), Fail> {
+    let mut taker = Collector::new(alloc, 9);
+    let end = inner_all(alloc, config, row.octets, &mut taker)?;
+    check_end(rt, end, &taker, row);
+    Ok(())
+}
+
+fn check_pieces(
+    rt: &impl Abort,
+    alloc: Global,
+    config: &Config,
+    size: usize,
+    row: &Row<'_>,
+) -> Result<(), Fail>
+    requires { 1 ≤ size }
+{
+    let mut taker = Collector::new(alloc, 9);
+    let mut receiver = opened(alloc, config)?;
+    for piece in row.octets.chunks(size) {
+        feed(&mut receiver, piece, &mut taker)?;
+    }
+    let end = finish(&mut receiver, &mut taker)?;
+    check_end(rt, end, &taker, row);
+    check_stopped(rt, &mut receiver, row.octets, &mut taker);
+    Ok(())
+}
+
+// Three workers, with threads.
 fn check_threads<R: Abort + Threads + Sync>(
     rt: &R,
     alloc: Global,
     config: &Config,
-    octets: &[u8],
-    wanted: &Wanted<'_>,
+    row: &Row<'_>,
 ) -> Result<(), Fail> {
     let mut taker = Collector::new(alloc, 9);
-    let mut receiver = InnerReceiver::open_for(alloc, config, 3)?;
-    receiver.feed_with(rt, octets, &mut taker)?;
-    assert_eq!(rt; receiver.finish_with(rt, &mut taker)?, wanted.end);
-    check_taken(rt, &taker, wanted);
-    check_stopped_threads(rt, &mut receiver, octets, &mut taker);
+    let mut receiver = opened_for(rt, alloc, config, 3)?;
+    feed_with(rt, &mut receiver, row.octets, &mut taker)?;
+    let end = finish_with(rt, &mut receiver, &mut taker)?;
+    check_end(rt, end, &taker, row);
+    check_stopped_threads(rt, &mut receiver, row.octets, &mut taker);
     Ok(())
 }
 
-fn check_taken(rt: &impl Abort, taker: &Collector, wanted: &Wanted<'_>) {
-    assert_eq!(rt; taker.phase(), wanted.phase);
-    assert_eq!(rt; taker.kept(), wanted.blocks);
+// Three workers, without.
+fn check_workers(
+    rt: &impl Abort,
+    alloc: Global,
+    config: &Config,
+    row: &Row<'_>,
+) -> Result<(), Fail> {
+    let mut taker = Collector::new(alloc, 9);
+    let mut receiver = opened_for(rt, alloc, config, 3)?;
+    feed(&mut receiver, row.octets, &mut taker)?;
+    let end = finish(&mut receiver, &mut taker)?;
+    check_end(rt, end, &taker, row);
+    Ok(())
+}
+
+fn check_end(rt: &impl Abort, end: InnerEnd, taker: &Collector, row: &Row<'_>) {
+    let wanted = InnerEnd {
+        bits: row.bits,
+        slips: None,
+        leftover: row.leftover,
+    };
+    assert_eq!(rt; (end, taker.phase()), (wanted, row.chosen));
+    assert_eq!(rt; taker.kept(), row.blocks);
 }
 
 fn check_stopped_threads<R: Abort + Threads + Sync>(
@@ -128,11 +375,9 @@ fn check_stopped_threads<R: Abort + Threads + Sync>(
     octets: &[u8],
     taker: &mut Collector,
 ) {
-    assert_eq!(rt;
-        receiver.feed_with(rt, octets, taker),
-        Err(FeedError::Stopped)
-    );
-    assert_eq!(rt; receiver.finish_with(rt, taker), Err(FeedError::Stopped));
+    let fed = feed_with(rt, receiver, octets, taker);
+    let finished = finish_with(rt, receiver, taker);
+    check_both_stopped(rt, fed, finished);
 }
 
 fn check_stopped(
@@ -141,192 +386,141 @@ fn check_stopped(
     octets: &[u8],
     taker: &mut Collector,
 ) {
-    assert_eq!(rt; receiver.feed(octets, taker), Err(FeedError::Stopped));
-    assert_eq!(rt; receiver.finish(taker), Err(FeedError::Stopped));
+    let fed = feed(receiver, octets, taker);
+    let finished = finish(receiver, taker);
+    check_both_stopped(rt, fed, finished);
 }
 
-fn check_pieces(
+fn check_both_stopped(
     rt: &impl Abort,
-    alloc: Global,
-    config: &Config,
-    octets: &[u8],
-    size: usize,
-    wanted: &Wanted<'_>,
-) -> Result<(), Fail>
-    requires { 1 ≤ size }
-{
-    let mut taker = Collector::new(alloc, 9);
-    let mut receiver = InnerReceiver::open(alloc, config)?;
-    for piece in octets.chunks(size) {
-        receiver.feed(piece, &mut taker)?;
-    }
-    assert_eq!(rt; receiver.finish(&mut taker)?, wanted.end);
-    check_taken(rt, &taker, wanted);
-    check_stopped(rt, &mut receiver, octets, &mut taker);
-    Ok(())
+    fed: Result<(), FeedError>,
+    finished: Result<InnerEnd, FeedError>,
+) {
+    assert_eq!(rt; fed, Err(FeedError::Stopped));
+    assert_eq!(rt; finished, Err(FeedError::Stopped));
 }
 
 #[test]
 fn octets_of_few_steps(rt: HostRuntime) -> Result<(), Fail> {
-    let alloc = rt.alloc();
-    let raw = Raw::default();
-    check(
-        &rt,
-        alloc,
-        raw,
-        &[0x80, 0x00],
-        &[block(1, 1, 127, 1, 32)],
-        (1, 0),
-    )?;
-    check(
-        &rt,
-        alloc,
-        raw,
-        &[0x00, 0x00],
-        &[block(1, 1, 255, 0, 0)],
-        (1, 0),
-    )?;
-    check(
-        &rt,
-        alloc,
-        raw,
-        &[0x00, 0xFF, 0x00],
-        &[block(1, 1, 0, 0, 0)],
-        (1, 1),
-    )?;
-    check(&rt, alloc, raw, &[], &[], (0, 0))?;
-    let mut punctured = raw;
-    punctured.inner = 23;
-    check(
-        &rt,
-        alloc,
-        punctured,
-        &[0; 4],
-        &[block(2, 2, 0, 0, 0)],
-        (2, 1),
-    )?;
-    let mut upright = raw;
-    upright.invert = Some(0);
-    check(
-        &rt,
-        alloc,
-        upright,
-        &[0x00, 0x00],
-        &[block(1, 1, 0, 0, 0)],
-        (1, 0),
-    )?;
-    let mut any = raw;
-    any.start = 1;
-    let first = Kept {
-        start: 2,
-        ..block(1, 1, 0, 0, 1)
-    };
-    check(&rt, alloc, any, &[0x00, 0x00], &[first], (1, 0))
+    check_rows(&rt, rt.alloc(), &FEW_STEPS)
 }
 
 #[test]
 fn skipped_and_signed_octets(rt: HostRuntime) -> Result<(), Fail> {
-    let alloc = rt.alloc();
-    let mut raw = Raw::default();
-    raw.skip = 1;
+    check_rows(&rt, rt.alloc(), &SKIPPED_AND_SIGNED)
+}
+
+// A window, and with a step more the rest of it.
+fn check_window<R: Abort + Threads + Sync>(rt: &R, alloc: Global) -> Result<(), Fail> {
+    let octets = repeated(alloc, (0x00, 0xFF), 8448)?;
     check(
-        &rt,
+        rt,
         alloc,
-        raw,
-        &[0xAA, 0x80, 0x00],
-        &[block(1, 1, 127, 1, 32)],
-        (1, 0),
-    )?;
-    raw.soft = 1;
+        &Row {
+            octets: &octets,
+            blocks: &[Kept {
+                steps: 8448,
+                kept: 8448,
+                ..STEP
+            }],
+            bits: 8448,
+            ..NOTHING
+        },
+    )
+}
+
+static WINDOWS: [Kept; 2] = [
+    Kept {
+        steps: 8448,
+        kept: 8192,
+        ..STEP
+    },
+    Kept {
+        steps: 257,
+        kept: 257,
+        ..STEP
+    },
+];
+
+fn check_longer<R: Abort + Threads + Sync>(
+    rt: &R,
+    alloc: Global,
+    soft: u64,
+    pair: (u8, u8),
+) -> Result<(), Fail> {
+    let octets = repeated(alloc, pair, 8449)?;
     check(
-        &rt,
+        rt,
         alloc,
-        raw,
-        &[0xAA, 0x00, 0x80],
-        &[block(1, 1, 127, 1, 32)],
-        (1, 0),
-    )?;
-    raw.skip = 2;
-    check(&rt, alloc, raw, &[0x80], &[], (0, 0))?;
-    check(&rt, alloc, raw, &[0x80, 0x80, 0x80], &[], (0, 1))
+        &Row {
+            soft,
+            octets: &octets,
+            blocks: &WINDOWS,
+            bits: 8449,
+            ..NOTHING
+        },
+    )
 }
 
 #[test]
 fn one_window_and_one_step_more(rt: HostRuntime) -> Result<(), Fail> {
-    let alloc = rt.alloc();
-    let mut raw = Raw::default();
-    let window = repeated(alloc, (0x00, 0xFF), 8448)?;
-    check(
-        &rt,
-        alloc,
-        raw,
-        window.as_slice(),
-        &[block(8448, 8448, 0, 0, 0)],
-        (8448, 0),
-    )?;
-    let more = [block(8448, 8192, 0, 0, 0), block(257, 257, 0, 0, 0)];
-    let longer = repeated(alloc, (0x00, 0xFF), 8449)?;
-    check(&rt, alloc, raw, longer.as_slice(), &more, (8449, 0))?;
-    raw.soft = 1;
-    let signed = repeated(alloc, (0x80, 0x7F), 8449)?;
-    check(&rt, alloc, raw, signed.as_slice(), &more, (8449, 0))
+    check_window(&rt, rt.alloc())?;
+    check_longer(&rt, rt.alloc(), 0, (0x00, 0xFF))?;
+    check_longer(&rt, rt.alloc(), 1, (0x80, 0x7F))
 }
 
-// With no inner code no block comes, and the skipped ones are bits.
 #[test]
 fn bits_without_an_inner_code(rt: HostRuntime) -> Result<(), Fail> {
-    let alloc = rt.alloc();
-    let mut raw = Raw::default();
-    raw.inner = 0;
-    check(&rt, alloc, raw, &[0; 38], &[], (304, 0))?;
-    raw.skip = 3;
-    check(&rt, alloc, raw, &[0; 38], &[], (301, 0))?;
-    raw.skip = 15;
-    check(&rt, alloc, raw, &[0x55], &[], (0, 0))?;
-    let config = Config::check(&raw)?;
+    check_rows(&rt, rt.alloc(), &BITS)?;
+    check_skipping(&rt, rt.alloc())
+}
+
+// The bits to skip, fewer with each octet.
+fn check_skipping(rt: &impl Abort, alloc: Global) -> Result<(), Fail> {
+    let config = config_of(&BITS[2])?;
     let mut taker = Collector::new(alloc, 0);
-    let mut receiver = InnerReceiver::open(alloc, &config)?;
+    let mut receiver = opened(alloc, &config)?;
     assert!(rt; !receiver.has_inner_code());
     for left in [15, 7, 0, 0] {
-        assert_eq!(rt; receiver.bits_to_skip(), left);
-        receiver.feed(&[0xFF], &mut taker)?;
+        check_to_skip(rt, &receiver, left);
+        feed(&mut receiver, &[0xFF], &mut taker)?;
     }
     Ok(())
 }
 
-// With no inner code each octet is a bit where these are not packed, and so are the skipped ones.
+fn check_to_skip(rt: &impl Abort, receiver: &InnerReceiver, left: u64) {
+    assert_eq!(rt; receiver.bits_to_skip(), left);
+}
+
 #[test]
 fn bits_that_are_not_packed(rt: HostRuntime) -> Result<(), Fail> {
-    let alloc = rt.alloc();
-    let mut raw = Raw::default();
-    raw.inner = 0;
-    raw.pack = 0;
-    check(&rt, alloc, raw, &[0; 38], &[], (38, 0))?;
-    raw.skip = 3;
-    check(&rt, alloc, raw, &[0; 38], &[], (35, 0))?;
-    check(&rt, alloc, raw, &[0xFF, 0xFF], &[], (0, 0))
+    check_rows(&rt, rt.alloc(), &BITS_NOT_PACKED)
 }
 
 // A taker that fails at the first block stops the receiver.
 #[test]
 fn a_taker_that_fails(rt: HostRuntime) -> Result<(), Fail> {
-    let alloc = rt.alloc();
-    let octets = repeated(alloc, (0x00, 0xFF), 8449)?;
-    let config = Config::check(&Raw::default())?;
-    let mut taker = Collector::new(alloc, 0);
-    let mut receiver = InnerReceiver::open(alloc, &config)?;
+    let octets = repeated(rt.alloc(), (0x00, 0xFF), 8449)?;
+    let config = config_of(&NOTHING)?;
+    let mut taker = Collector::new(rt.alloc(), 0);
+    let mut receiver = opened(rt.alloc(), &config)?;
     assert!(rt; receiver.has_inner_code());
-    let tried = receiver.feed(octets.as_slice(), &mut taker);
-    assert_eq!(rt; tried, Err(FeedError::Taker));
-    assert_eq!(rt; receiver.feed(&[], &mut taker), Err(FeedError::Stopped));
-    assert_eq!(rt; receiver.finish(&mut taker), Err(FeedError::Stopped));
+    check_fails(&rt, &mut receiver, &octets, &mut taker);
+    check_stopped(&rt, &mut receiver, &[], &mut taker);
     Ok(())
 }
 
+fn check_fails(
+    rt: &impl Abort,
+    receiver: &mut InnerReceiver,
+    octets: &[u8],
+    taker: &mut Collector,
+) {
+    assert_eq!(rt; feed(receiver, octets, taker), Err(FeedError::Taker));
+}
+
 // An octet before the undisturbed symbols of the marker 1A CF FC 1D, with each second one inverted.
-#[test]
-fn phase_found(rt: HostRuntime) -> Result<(), Fail> {
-    let alloc = rt.alloc();
+fn octet_and_marker() -> [u8; 65] {
     let symbols: u64 = 0x56081C971AA73D3E;
     let mut octets = [0x00; 65];
     for i in 0..64 {
@@ -334,40 +528,93 @@ fn phase_found(rt: HostRuntime) -> Result<(), Fail> {
             octets[1 + i] = 0xFF;
         }
     }
-    let mut raw = Raw::default();
-    raw.phase = 1;
-    let found = Some((1, 0));
-    let blocks = [block(32, 32, 0, 0, 46)];
-    check_found(&rt, alloc, raw, &octets, found, &blocks, (32, 0))?;
-    // With windows of 64 steps the phase is chosen at octet 129. Pairs of the other phase cost at least one symbol.
-    raw.keep = 64;
-    raw.ahead = 0;
-    let config = Config::check(&raw)?;
+    octets
+}
+
+#[test]
+fn phase_found(rt: HostRuntime) -> Result<(), Fail> {
+    let octets = octet_and_marker();
+    check(
+        &rt,
+        rt.alloc(),
+        &Row {
+            phase: 1,
+            octets: &octets,
+            chosen: Some((1, 0)),
+            blocks: &[Kept {
+                steps: 32,
+                kept: 32,
+                end_state: 46,
+                ..STEP
+            }],
+            bits: 32,
+            ..NOTHING
+        },
+    )?;
+    check_choice(&rt, rt.alloc())
+}
+
+// With windows of 64 steps the phase is chosen at octet 129. Pairs of the other phase cost at least one symbol.
+fn check_choice(rt: &impl Abort, alloc: Global) -> Result<(), Fail> {
+    let config = Config::check(&Raw {
+        phase: 1,
+        keep: 64,
+        ahead: 0,
+        ..Raw::default()
+    })?;
     let mut taker = Collector::new(alloc, 9);
-    let mut receiver = InnerReceiver::open(alloc, &config)?;
-    receiver.feed(&[0x00], &mut taker)?;
-    for _ in 0..63 {
-        receiver.feed(&[0x00, 0xFF], &mut taker)?;
-    }
-    receiver.feed(&[0x00], &mut taker)?;
-    assert_eq!(rt; receiver.chosen(), None);
-    assert_eq!(rt; taker.phase(), None);
-    receiver.feed(&[0xFF], &mut taker)?;
-    assert_eq!(rt; receiver.chosen(), Some(Chosen { skip: 1, cost: 0 }));
-    assert_eq!(rt; taker.phase(), found);
+    let mut receiver = opened(alloc, &config)?;
+    feed_pairs(&mut receiver, &mut taker)?;
+    check_chosen(rt, &receiver, &taker, None);
+    feed(&mut receiver, &[0xFF], &mut taker)?;
+    check_chosen(rt, &receiver, &taker, Some((1, 0)));
     Ok(())
 }
+
+// 128 octets: the first, and pairs but for the last octet.
+fn feed_pairs(receiver: &mut InnerReceiver, taker: &mut Collector) -> Result<(), FeedError> {
+    feed(receiver, &[0x00], taker)?;
+    for _ in 0..63 {
+        feed(receiver, &[0x00, 0xFF], taker)?;
+    }
+    feed(receiver, &[0x00], taker)
+}
+
+// The phase that the receiver chose, and that it handed over.
+fn check_chosen(
+    rt: &impl Abort,
+    receiver: &InnerReceiver,
+    taker: &Collector,
+    wanted: Option<(u8, u64)>,
+) {
+    let chosen = match receiver.chosen() {
+        Some(Chosen { skip, cost }) => Some((skip, cost)),
+        None => None,
+    };
+    assert_eq!(rt; (chosen, taker.phase()), (wanted, wanted));
+}
+
+// No octets whose phase is to be found.
+const NOTHING_FOUND: Row<'static> = Row {
+    phase: 1,
+    chosen: Some((0, 0)),
+    ..NOTHING
+};
 
 // Both phases cost nothing, and so do no octets.
 #[test]
 fn phase_of_a_tie(rt: HostRuntime) -> Result<(), Fail> {
-    let alloc = rt.alloc();
-    let mut raw = Raw::default();
-    raw.phase = 1;
-    check_found(&rt, alloc, raw, &[], Some((0, 0)), &[], (0, 0))?;
-    raw.start = 1;
+    check(&rt, rt.alloc(), &NOTHING_FOUND)?;
+    check_tie(&rt, rt.alloc())
+}
+
+fn check_tie(rt: &impl Abort, alloc: Global) -> Result<(), Fail> {
+    let config = config_of(&Row {
+        start: 1,
+        phase: 1,
+        ..NOTHING
+    })?;
     let octets = [0xFF, 0x00, 0xFF, 0x00, 0xFF, 0x00, 0xFF];
-    let config = Config::check(&raw)?;
     let mut taker = Collector::new(alloc, 9);
     let end = inner_all(alloc, &config, &octets, &mut taker)?;
     let wanted = InnerEnd {
@@ -375,34 +622,49 @@ fn phase_of_a_tie(rt: HostRuntime) -> Result<(), Fail> {
         slips: None,
         leftover: 1,
     };
-    assert_eq!(rt; end, wanted);
-    assert_eq!(rt; taker.phase(), Some((0, 0)));
+    assert_eq!(rt; (end, taker.phase()), (wanted, Some((0, 0))));
     assert_eq!(rt; taker.kept().len(), 1);
-    for b in taker.kept() {
+    check_free(rt, taker.kept());
+    Ok(())
+}
+
+fn check_free(rt: &impl Abort, blocks: &[Kept]) {
+    for b in blocks {
         assert_eq!(rt; b.metric, 0);
     }
-    Ok(())
 }
 
 // With no inner code the phase is 0, from the first octet on. A taker that fails at it stops the receiver.
 #[test]
 fn phase_without_an_inner_code(rt: HostRuntime) -> Result<(), Fail> {
-    let alloc = rt.alloc();
-    let mut raw = Raw::default();
-    raw.inner = 0;
-    raw.phase = 1;
-    check_found(&rt, alloc, raw, &[], Some((0, 0)), &[], (0, 0))?;
-    let config = Config::check(&raw)?;
+    let row = Row {
+        inner: 0,
+        ..NOTHING_FOUND
+    };
+    check(&rt, rt.alloc(), &row)?;
+    let config = config_of(&row)?;
+    check_first_octet(&rt, rt.alloc(), &config)?;
+    check_failing(&rt, rt.alloc(), &config)
+}
+
+fn check_first_octet(rt: &impl Abort, alloc: Global, config: &Config) -> Result<(), Fail> {
     let mut taker = Collector::new(alloc, 9);
-    let mut receiver = InnerReceiver::open(alloc, &config)?;
-    receiver.feed(&[], &mut taker)?;
-    assert_eq!(rt; receiver.chosen(), None);
-    receiver.feed(&[0x55], &mut taker)?;
-    assert_eq!(rt; receiver.chosen(), Some(Chosen { skip: 0, cost: 0 }));
-    let mut failing = Collector::new(alloc, 0);
-    let mut other = InnerReceiver::open(alloc, &config)?;
-    assert_eq!(rt; other.feed(&[0x55], &mut failing), Err(FeedError::Taker));
-    assert_eq!(rt; other.feed(&[], &mut failing), Err(FeedError::Stopped));
+    let mut receiver = opened(alloc, config)?;
+    feed(&mut receiver, &[], &mut taker)?;
+    check_chosen(rt, &receiver, &taker, None);
+    feed(&mut receiver, &[0x55], &mut taker)?;
+    check_chosen(rt, &receiver, &taker, Some((0, 0)));
+    Ok(())
+}
+
+fn check_failing(rt: &impl Abort, alloc: Global, config: &Config) -> Result<(), Fail> {
+    let mut taker = Collector::new(alloc, 0);
+    let mut receiver = opened(alloc, config)?;
+    check_fails(rt, &mut receiver, &[0x55], &mut taker);
+    assert_eq!(rt;
+        feed(&mut receiver, &[], &mut taker),
+        Err(FeedError::Stopped)
+    );
     Ok(())
 }
 
@@ -418,9 +680,8 @@ fn check_fed<R: Abort + Threads + Sync>(
     receiver: &mut InnerReceiver,
     taker: &mut Collector,
 ) -> Result<(), Fail> {
-    receiver.feed_with(rt, &[], taker)?;
-    assert_eq!(rt; taker.kept().len(), 3);
-    assert_eq!(rt; receiver.count_due(), 0);
+    feed_with(rt, receiver, &[], taker)?;
+    assert_eq!(rt; (taker.kept().len(), receiver.count_due()), (3, 0));
     Ok(())
 }
 
@@ -429,9 +690,8 @@ fn check_finished<R: Abort + Threads + Sync>(
     receiver: &mut InnerReceiver,
     taker: &mut Collector,
 ) -> Result<(), Fail> {
-    let end = receiver.finish_with(rt, taker)?;
-    assert_eq!(rt; end.bits, 3 * 1024 + 64 + 1);
-    assert_eq!(rt; taker.kept().len(), 4);
+    let end = finish_with(rt, receiver, taker)?;
+    assert_eq!(rt; (end.bits, taker.kept().len()), (3 * 1024 + 64 + 1, 4));
     Ok(())
 }
 
@@ -441,21 +701,29 @@ fn check_waiting<R: Abort + Threads + Sync>(
     soft: u64,
     octets: &[u8],
 ) -> Result<(), Fail> {
-    let config = Config::check(&Raw {
+    let config = config_of_windows(soft)?;
+    let mut taker = Collector::new(alloc, 9);
+    let mut receiver = opened_for(rt, alloc, &config, 2)?;
+    check_gathered(rt, &mut receiver, octets);
+    check_fed(rt, &mut receiver, &mut taker)?;
+    check_finished(rt, &mut receiver, &mut taker)?;
+    check_takes_none(rt, &mut receiver, octets);
+    let mut one = opened(alloc, &config)?;
+    check_takes_none(rt, &mut one, octets);
+    Ok(())
+}
+
+fn config_of_windows(soft: u64) -> Result<Config, Fail> {
+    Ok(Config::check(&Raw {
         soft,
         keep: 1024,
         ahead: 64,
         ..Raw::default()
-    })?;
-    let mut taker = Collector::new(alloc, 9);
-    let mut receiver = InnerReceiver::open_for(alloc, &config, 2)?;
-    check_gathered(rt, &mut receiver, octets);
-    check_fed(rt, &mut receiver, &mut taker)?;
-    check_finished(rt, &mut receiver, &mut taker)?;
+    })?)
+}
+
+fn check_takes_none(rt: &impl Abort, receiver: &mut InnerReceiver, octets: &[u8]) {
     assert_eq!(rt; receiver.gather(octets), 0);
-    let mut one = InnerReceiver::open(alloc, &config)?;
-    assert_eq!(rt; one.gather(octets), 0);
-    Ok(())
 }
 
 // Octets that close three windows wait, signed or not, where there are two workers.

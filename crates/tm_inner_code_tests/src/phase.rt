@@ -1,6 +1,7 @@
 // Worked values, and values from a program outside that walks each candidate's trellis with numbers of its own.
 
 use std::alloc::{AllocError, Global};
+use std::process::Abort;
 use std::test::Fail;
 use tm_conv::{Encoder, Rate, Symbols};
 use tm_phase::{
@@ -48,30 +49,33 @@ fn tie(rt: HostRuntime) {
     assert_eq!(rt; choose(Rate::R12, true, 8448, &[]), wanted);
 }
 
+// The rate, whether it is inverted, the steps of a window, how many octets are drawn from which number on, and the skip and
+// the cost of their phase.
+static DRAWN: [(Rate, bool, u32, usize, u64, u8, u64); 19] = [
+    (Rate::R12, true, 8448, 48, 2, 0, 3108),
+    (Rate::R12, false, 8448, 48, 1, 1, 3470),
+    (Rate::R12, false, 1, 3, 7, 1, 34),
+    (Rate::R12, true, 69632, 2, 3, 0, 0),
+    (Rate::R23, false, 9, 30, 4, 1, 588),
+    (Rate::R23, true, 8448, 48, 1, 2, 3247),
+    (Rate::R23, false, 8448, 3, 9, 0, 0),
+    (Rate::R23, false, 4, 8, 11, 2, 236),
+    (Rate::R34, false, 69632, 31, 2, 1, 1539),
+    (Rate::R34, true, 9, 30, 4, 2, 460),
+    (Rate::R34, false, 8448, 48, 1, 3, 3119),
+    (Rate::R56, false, 8448, 48, 5, 1, 2142),
+    (Rate::R56, false, 9, 30, 1, 4, 781),
+    (Rate::R56, true, 35, 48, 3, 5, 3045),
+    (Rate::R78, false, 20, 48, 6, 2, 1393),
+    (Rate::R78, true, 20, 48, 2, 6, 1162),
+    (Rate::R78, false, 8448, 48, 1, 7, 2667),
+    (Rate::R78, false, 1, 8, 5, 0, 0),
+    (Rate::R78, false, 1, 9, 5, 1, 80),
+];
+
 #[test]
 fn drawn_octets(rt: HostRuntime) {
-    let rows = [
-        (Rate::R12, true, 8448, 48, 2, 0, 3108),
-        (Rate::R12, false, 8448, 48, 1, 1, 3470),
-        (Rate::R12, false, 1, 3, 7, 1, 34),
-        (Rate::R12, true, 69632, 2, 3, 0, 0),
-        (Rate::R23, false, 9, 30, 4, 1, 588),
-        (Rate::R23, true, 8448, 48, 1, 2, 3247),
-        (Rate::R23, false, 8448, 3, 9, 0, 0),
-        (Rate::R23, false, 4, 8, 11, 2, 236),
-        (Rate::R34, false, 69632, 31, 2, 1, 1539),
-        (Rate::R34, true, 9, 30, 4, 2, 460),
-        (Rate::R34, false, 8448, 48, 1, 3, 3119),
-        (Rate::R56, false, 8448, 48, 5, 1, 2142),
-        (Rate::R56, false, 9, 30, 1, 4, 781),
-        (Rate::R56, true, 35, 48, 3, 5, 3045),
-        (Rate::R78, false, 20, 48, 6, 2, 1393),
-        (Rate::R78, true, 20, 48, 2, 6, 1162),
-        (Rate::R78, false, 8448, 48, 1, 7, 2667),
-        (Rate::R78, false, 1, 8, 5, 0, 0),
-        (Rate::R78, false, 1, 9, 5, 1, 80),
-    ];
-    for (rate, invert, window, count, seed, skip, cost) in rows {
+    for &(rate, invert, window, count, seed, skip, cost) in &DRAWN {
         let octets = drawn(seed);
         assert!(rt; count <= octets.len());
         assert!(rt; 1 <= window && window <= 69_632);
@@ -102,35 +106,37 @@ fn octets_for_a_window(rt: HostRuntime) {
 
 // Noise over so few steps that some of it passes for a slip: costs that tie, and an excess that is three quarters of that
 // of octet 0, or a little more or less.
+static SLIPS: [(Rate, bool, u64, usize, u64, u8); 15] = [
+    (Rate::R12, true, 3, 20, 147, 0),
+    (Rate::R12, true, 3, 20, 368, 0),
+    (Rate::R12, true, 3, 20, 1422, 1),
+    (Rate::R12, true, 3, 20, 2552, 0),
+    (Rate::R12, false, 1_000_000_007, 16, 172, 0),
+    (Rate::R12, false, 1_000_000_007, 16, 445, 1),
+    (Rate::R23, true, 3, 20, 8, 2),
+    (Rate::R23, true, 3, 20, 271, 2),
+    (Rate::R23, true, 3, 20, 485, 0),
+    (Rate::R34, true, 3, 20, 1, 0),
+    (Rate::R34, true, 3, 20, 13, 2),
+    (Rate::R34, true, 3, 20, 21, 3),
+    (Rate::R34, true, 3, 20, 22, 1),
+    (Rate::R56, true, 3, 20, 3, 0),
+    (Rate::R78, false, 0, 12, 1, 0),
+];
+
 #[test]
 fn slips_in_drawn_octets(rt: HostRuntime) {
-    let rows = [
-        (Rate::R12, true, 3, 20, 147, 0),
-        (Rate::R12, true, 3, 20, 368, 0),
-        (Rate::R12, true, 3, 20, 1422, 1),
-        (Rate::R12, true, 3, 20, 2552, 0),
-        (Rate::R12, false, 1_000_000_007, 16, 172, 0),
-        (Rate::R12, false, 1_000_000_007, 16, 445, 1),
-        (Rate::R23, true, 3, 20, 8, 2),
-        (Rate::R23, true, 3, 20, 271, 2),
-        (Rate::R23, true, 3, 20, 485, 0),
-        (Rate::R34, true, 3, 20, 1, 0),
-        (Rate::R34, true, 3, 20, 13, 2),
-        (Rate::R34, true, 3, 20, 21, 3),
-        (Rate::R34, true, 3, 20, 22, 1),
-        (Rate::R56, true, 3, 20, 3, 0),
-        (Rate::R78, false, 0, 12, 1, 0),
-    ];
-    for (rate, invert, t, steps, seed, dropped) in rows {
-        let octets = drawn(seed);
-        assert!(rt; steps <= 1024 && t < 1 << 60);
-        assert!(rt; octets_seen(rate, t, steps) <= octets.len());
-        assert_eq!(rt;
-            slip(rate, invert, t, steps, &octets),
-            dropped,
-            "{rate:?}, {seed}"
-        );
+    for &(rate, invert, t, steps, seed, dropped) in &SLIPS {
+        let found = slip_in(&rt, rate, invert, t, steps, &drawn(seed));
+        assert_eq!(rt; found, dropped, "{rate:?}, {seed}");
     }
+}
+
+// How many octets are dropped, where the octets are enough to tell.
+fn slip_in(rt: &impl Abort, rate: Rate, invert: bool, t: u64, steps: usize, octets: &[u8]) -> u8 {
+    assert!(rt; steps <= 1024 && t < 1 << 60);
+    assert!(rt; octets_seen(rate, t, steps) <= octets.len());
+    slip(rate, invert, t, steps, octets)
 }
 
 // The undisturbed symbols of 440 steps, whose bits are drawn.
@@ -164,19 +170,12 @@ fn slips_of_lost_symbols(rt: HostRuntime) -> Result<(), Fail> {
         (Rate::R78, 8, 6),
     ] {
         let octets = sure_symbols(rt.alloc(), rate)?;
-        for lost in 0..8u8 {
-            if lost < period {
-                let from = at + usize::from(lost);
-                assert!(rt; from <= octets.len());
-                let octets = &octets[from..];
-                assert!(rt; octets_seen(rate, 5, 400) <= octets.len());
-                let dropped = if lost == 0 { 0 } else { period - lost };
-                assert_eq!(rt;
-                    slip(rate, false, 5, 400, octets),
-                    dropped,
-                    "{rate:?}, {lost}"
-                );
-            }
+        for lost in 0..period {
+            let dropped = if lost == 0 { 0 } else { period - lost };
+            let from = at + usize::from(lost);
+            assert!(rt; from <= octets.len());
+            let found = slip_in(&rt, rate, false, 5, 400, &octets[from..]);
+            assert_eq!(rt; found, dropped, "{rate:?}, {lost}");
         }
     }
     Ok(())

@@ -57,7 +57,7 @@ fn repeated(alloc: Global, pair: (u8, u8), count: usize) -> Result<Vec<u8>, Allo
 }
 
 // What a row tells of a block.
-#[derive(Clone, Copy, Debug)]
+#[derive(Clone, Copy, Debug, PartialEq, Eq)]
 struct Told {
     steps: u32,
     kept: u32,
@@ -75,9 +75,7 @@ fn row(steps: u32, kept: u32, metric: u64) -> Told {
 fn check_told(rt: &impl Abort, found: &[Kept], wanted: &[Told]) {
     assert_eq!(rt; found.len(), wanted.len());
     for (block, told) in found.iter().zip(wanted) {
-        assert_eq!(rt; block.steps, told.steps);
-        assert_eq!(rt; block.kept, told.kept);
-        assert_eq!(rt; block.metric, told.metric);
+        assert_eq!(rt; row(block.steps, block.kept, block.metric), *told);
     }
 }
 
@@ -117,8 +115,55 @@ fn next_cut(cuts: Cuts) -> (usize, Cuts) {
     }
 }
 
-// Feeds a new decoder the octets in pieces, no more of them than octets, and finishes it: the blocks, and the octets
-// left over. A finished decoder is stopped.
+fn opened(rt: &impl Abort, alloc: Global, link: Link) -> Result<Decoder, Fail> {
+    assert!(rt; 64 <= link.keep && link.keep <= 65536 && link.ahead <= 4096);
+    Ok(Decoder::open(
+        alloc,
+        link.rate,
+        link.invert,
+        link.start,
+        link.keep,
+        link.ahead,
+    )?)
+}
+
+// Feeds a decoder the octets in pieces, no more of them than octets.
+fn feed_cut(
+    rt: &impl Abort,
+    decoder: &mut Decoder,
+    octets: &[u8],
+    cuts: Cuts,
+    blocks: &mut Collector,
+) -> Result<(), Fail> {
+    let mut rest = octets;
+    let mut cuts = cuts;
+    for _ in 0..octets.len() {
+        let (most, after) = next_cut(cuts);
+        cuts = after;
+        let count = rest.len().min(most);
+        feed(decoder, &rest[..count], blocks)?;
+        rest = &rest[count..];
+    }
+    assert!(rt; rest.is_empty());
+    Ok(())
+}
+
+// The decoder's calls, of which the tests know nothing.
+fn feed(decoder: &mut Decoder, octets: &[u8], blocks: &mut Collector) -> Result<(), FeedError> {
+    decoder.feed(octets, blocks)
+}
+
+fn finish(decoder: &mut Decoder, blocks: &mut Collector) -> Result<u8, FeedError> {
+    decoder.finish(blocks)
+}
+
+fn check_stopped(rt: &impl Abort, decoder: &mut Decoder, octets: &[u8], blocks: &mut Collector) {
+    assert_eq!(rt; feed(decoder, octets, blocks), Err(FeedError::Stopped));
+    assert_eq!(rt; finish(decoder, blocks), Err(FeedError::Stopped));
+}
+
+// Feeds a new decoder the octets in pieces, and finishes it: the blocks, and the octets left over. A finished decoder
+// is stopped.
 fn decoded(
     rt: &impl Abort,
     alloc: Global,
@@ -126,29 +171,11 @@ fn decoded(
     octets: &[u8],
     cuts: Cuts,
 ) -> Result<(Collector, u8), Fail> {
-    assert!(rt; 64 <= link.keep && link.keep <= 65536 && link.ahead <= 4096);
     let mut blocks = Collector::new(alloc, u64::MAX);
-    let mut decoder = Decoder::open(
-        alloc,
-        link.rate,
-        link.invert,
-        link.start,
-        link.keep,
-        link.ahead,
-    )?;
-    let mut rest = octets;
-    let mut cuts = cuts;
-    for _ in 0..octets.len() {
-        let (most, after) = next_cut(cuts);
-        cuts = after;
-        let count = rest.len().min(most);
-        decoder.feed(&rest[..count], &mut blocks)?;
-        rest = &rest[count..];
-    }
-    assert!(rt; rest.is_empty());
-    let left = decoder.finish(&mut blocks)?;
-    assert_eq!(rt; decoder.feed(&[0], &mut blocks), Err(FeedError::Stopped));
-    assert_eq!(rt; decoder.finish(&mut blocks), Err(FeedError::Stopped));
+    let mut decoder = opened(rt, alloc, link)?;
+    feed_cut(rt, &mut decoder, octets, cuts, &mut blocks)?;
+    let left = finish(&mut decoder, &mut blocks)?;
+    check_stopped(rt, &mut decoder, &[0], &mut blocks);
     Ok((blocks, left))
 }
 
@@ -191,84 +218,162 @@ fn check_decoded(
     Ok(())
 }
 
+// Octets, and what comes of them: of each block what is told of a block, and of how many octets are left over.
+#[derive(Clone, Copy)]
+struct Case<'a> {
+    link: Link,
+    octets: &'a [u8],
+    blocks: &'a [Told],
+    left: u8,
+}
+
+// From any register.
+const ANY: Link = Link {
+    start: Start::Any,
+    ..DEFAULT
+};
+
+const PUNCTURED: Link = Link {
+    rate: Rate::R23,
+    invert: false,
+    ..DEFAULT
+};
+
+// Windows of 64 steps.
+const LEAST: Link = Link {
+    keep: 64,
+    ahead: 0,
+    ..DEFAULT
+};
+
+static SHORT: [Case; 6] = [
+    Case {
+        link: DEFAULT,
+        octets: &[],
+        blocks: &[],
+        left: 0,
+    },
+    Case {
+        link: DEFAULT,
+        octets: &[0x80, 0x00],
+        blocks: &[Told {
+            steps: 1,
+            kept: 1,
+            metric: 127,
+        }],
+        left: 0,
+    },
+    Case {
+        link: DEFAULT,
+        octets: &[0x00, 0x00],
+        blocks: &[Told {
+            steps: 1,
+            kept: 1,
+            metric: 255,
+        }],
+        left: 0,
+    },
+    Case {
+        link: DEFAULT,
+        octets: &[0x00, 0xFF, 0x00],
+        blocks: &[Told {
+            steps: 1,
+            kept: 1,
+            metric: 0,
+        }],
+        left: 1,
+    },
+    Case {
+        link: PUNCTURED,
+        octets: &[0; 4],
+        blocks: &[Told {
+            steps: 2,
+            kept: 2,
+            metric: 0,
+        }],
+        left: 1,
+    },
+    Case {
+        link: ANY,
+        octets: &[0x00, 0x00],
+        blocks: &[Told {
+            steps: 1,
+            kept: 1,
+            metric: 0,
+        }],
+        left: 0,
+    },
+];
+
 #[test]
 fn short_inputs(rt: HostRuntime) -> Result<(), Fail> {
-    let alloc = rt.alloc();
-    let any = Link {
-        start: Start::Any,
-        ..DEFAULT
-    };
-    let punctured = Link {
-        rate: Rate::R23,
-        invert: false,
-        ..DEFAULT
-    };
-    check_decoded(&rt, alloc, DEFAULT, &[], &[], 0)?;
-    check_decoded(&rt, alloc, DEFAULT, &[0x80, 0x00], &[row(1, 1, 127)], 0)?;
-    check_decoded(&rt, alloc, DEFAULT, &[0x00, 0x00], &[row(1, 1, 255)], 0)?;
-    check_decoded(&rt, alloc, DEFAULT, &[0x00, 0xFF, 0x00], &[row(1, 1, 0)], 1)?;
-    check_decoded(&rt, alloc, punctured, &[0; 4], &[row(2, 2, 0)], 1)?;
-    check_decoded(&rt, alloc, any, &[0x00, 0x00], &[row(1, 1, 0)], 0)?;
+    for row in &SHORT {
+        check_decoded(&rt, rt.alloc(), row.link, row.octets, row.blocks, row.left)?;
+    }
+    check_only(&rt, rt.alloc(), DEFAULT, [0x80, 0x00], 1, (0, 1, 32))?;
+    check_only(&rt, rt.alloc(), DEFAULT, [0x00, 0x00], 1, (0, 0, 0))?;
+    check_only(&rt, rt.alloc(), ANY, [0x00, 0x00], 2, (2, 0, 1))
+}
 
-    let (blocks, _) = decoded(&rt, alloc, DEFAULT, &[0x80, 0x00], Cuts::Even(1))?;
-    assert_eq!(rt; blocks.only(&rt), (0, 1, 32));
-    let (blocks, _) = decoded(&rt, alloc, DEFAULT, &[0x00, 0x00], Cuts::Even(1))?;
-    assert_eq!(rt; blocks.only(&rt), (0, 0, 0));
-    let (blocks, _) = decoded(&rt, alloc, any, &[0x00, 0x00], Cuts::Even(2))?;
-    assert_eq!(rt; blocks.only(&rt), (2, 0, 1));
+// The only block of two octets in pieces of so many: where its path starts, its first bit, and its last register.
+fn check_only(
+    rt: &impl Abort,
+    alloc: Global,
+    link: Link,
+    octets: [u8; 2],
+    size: usize,
+    wanted: (u8, u8, u8),
+) -> Result<(), Fail> {
+    let (blocks, _) = decoded(rt, alloc, link, &octets, Cuts::Even(size))?;
+    assert_eq!(rt; blocks.only(rt), wanted);
     Ok(())
 }
 
 #[test]
 fn windows_of_every_size(rt: HostRuntime) -> Result<(), Fail> {
-    let alloc = rt.alloc();
-    let long = repeated(alloc, (0x00, 0xFF), 8449)?;
-    let (short, _) = long.as_slice().split_at(16896.min(long.len()));
-    check_decoded(&rt, alloc, DEFAULT, short, &[row(8448, 8448, 0)], 0)?;
-    check_decoded(
-        &rt,
-        alloc,
-        DEFAULT,
-        &long,
-        &[row(8448, 8192, 0), row(257, 257, 0)],
-        0,
-    )?;
-    let (blocks, left) = decoded(&rt, alloc, DEFAULT, &long, Cuts::Even(1))?;
+    let long = repeated(rt.alloc(), (0x00, 0xFF), 8449)?;
+    check_default_windows(&rt, rt.alloc(), &long)?;
+    check_one_by_one(&rt, rt.alloc(), &long)?;
+    check_least_windows(&rt, rt.alloc())?;
+    check_punctured_windows(&rt, rt.alloc())
+}
+
+fn check_default_windows(rt: &impl Abort, alloc: Global, long: &[u8]) -> Result<(), Fail> {
+    let (short, _) = long.split_at(16896.min(long.len()));
+    check_decoded(rt, alloc, DEFAULT, short, &[row(8448, 8448, 0)], 0)?;
+    let more = [row(8448, 8192, 0), row(257, 257, 0)];
+    check_decoded(rt, alloc, DEFAULT, long, &more, 0)
+}
+
+fn check_one_by_one(rt: &impl Abort, alloc: Global, long: &[u8]) -> Result<(), Fail> {
+    let (blocks, left) = decoded(rt, alloc, DEFAULT, long, Cuts::Even(1))?;
     assert_eq!(rt; left, 0);
     assert_eq!(rt; blocks.kept().len(), 2);
     assert_eq!(rt;
         (blocks.kept()[1].start, blocks.kept()[1].end_state),
         (0, 0)
     );
+    Ok(())
+}
 
+fn check_least_windows(rt: &impl Abort, alloc: Global) -> Result<(), Fail> {
     let few = repeated(alloc, (0x00, 0xFF), 65)?;
-    let tight = Link {
-        keep: 64,
-        ahead: 0,
-        ..DEFAULT
-    };
-    check_decoded(&rt, alloc, tight, &few, &[row(64, 64, 0), row(1, 1, 0)], 0)?;
-    let one_ahead = Link { ahead: 1, ..tight };
-    check_decoded(&rt, alloc, one_ahead, &few, &[row(65, 65, 0)], 0)?;
+    check_decoded(rt, alloc, LEAST, &few, &[row(64, 64, 0), row(1, 1, 0)], 0)?;
+    let one_ahead = Link { ahead: 1, ..LEAST };
+    check_decoded(rt, alloc, one_ahead, &few, &[row(65, 65, 0)], 0)
+}
 
+fn check_punctured_windows(rt: &impl Abort, alloc: Global) -> Result<(), Fail> {
     let any = Link {
-        rate: Rate::R23,
-        invert: false,
         start: Start::Any,
-        ..DEFAULT
+        ..PUNCTURED
     };
     let ones = repeated(alloc, (0x80, 0x80), 6338)?;
     let (whole, _) = ones.as_slice().split_at(12672.min(ones.len()));
-    check_decoded(&rt, alloc, any, whole, &[row(8448, 8448, 1609344)], 0)?;
+    check_decoded(rt, alloc, any, whole, &[row(8448, 8448, 1609344)], 0)?;
     let (more, _) = ones.as_slice().split_at(12675.min(ones.len()));
-    check_decoded(
-        &rt,
-        alloc,
-        any,
-        more,
-        &[row(8448, 8192, 1609344), row(258, 258, 49149)],
-        0,
-    )
+    let blocks = [row(8448, 8192, 1609344), row(258, 258, 49149)];
+    check_decoded(rt, alloc, any, more, &blocks, 0)
 }
 
 // Sums and costs that are drawn, each below 2^(31 - shift), and the next number of the sequence.
@@ -349,16 +454,28 @@ fn least_costs(rt: HostRuntime) -> Result<(), Fail> {
     let mut seed = 2000u64;
     for (rate, steps) in RATES.into_iter().zip([12u32, 16, 18, 20, 21]) {
         for first in [Some(0), None] {
-            let mut octets = [0; 24];
-            for i in 0..24usize {
-                (octets[i], seed) = drawn(seed);
-            }
-            let wanted = best_walked(rate, true, first, 0, &octets, steps).map(|path| path.cost);
-            let found = cost_at(rate, true, start_of(first), octets);
-            assert_eq!(rt; Some(found), wanted);
+            let (octets, next) = drawn_24(seed);
+            seed = next;
+            check_cost(&rt, rate, steps, first, octets);
         }
     }
     Ok(())
+}
+
+// Drawn octets, and the next number of the sequence.
+fn drawn_24(seed: u64) -> ([u8; 24], u64) {
+    let mut octets = [0; 24];
+    let mut now = seed;
+    for i in 0..24usize {
+        (octets[i], now) = drawn(now);
+    }
+    (octets, now)
+}
+
+fn check_cost(rt: &impl Abort, rate: Rate, steps: u32, first: Option<u8>, octets: [u8; 24]) {
+    let wanted = best_walked(rate, true, first, 0, &octets, steps).map(|path| path.cost);
+    let found = cost_at(rate, true, start_of(first), octets);
+    assert_eq!(rt; Some(found), wanted);
 }
 
 // The sums before the first step of rate 1/2, and after it.
@@ -378,18 +495,28 @@ fn sums_of_second_sum(octet: u8) -> [u32; 64] {
     *sums.column()
 }
 
-#[test]
-fn sums_of_a_step(rt: HostRuntime) {
-    let (before, after) = sums_of_pair(Some(0), [0x80, 0x00]);
+fn check_from_zero(rt: &impl Abort, before: &[u32; 64]) {
     for register in 0..64usize {
         let wanted = if register == 0 { 0 } else { 1 << 30 };
         assert_eq!(rt; before[register], wanted);
+    }
+}
+
+fn check_after_zero(rt: &impl Abort, after: &[u32; 64]) {
+    for register in 0..64usize {
         if register % 32 != 0 {
             assert!(rt; (1 << 30) + 127 <= after[register]);
             assert!(rt; after[register] <= (1 << 30) + 128);
         }
     }
     assert_eq!(rt; (after[0], after[32]), (0x17F, 0x7F));
+}
+
+#[test]
+fn sums_of_a_step(rt: HostRuntime) {
+    let (before, after) = sums_of_pair(Some(0), [0x80, 0x00]);
+    check_from_zero(&rt, &before);
+    check_after_zero(&rt, &after);
     let (before, after) = sums_of_pair(None, [0x00, 0x00]);
     assert_eq!(rt; before, [0; 64]);
     assert_eq!(rt; (after[0], after[1], after[32]), (255, 0, 255));
@@ -398,33 +525,53 @@ fn sums_of_a_step(rt: HostRuntime) {
 
 #[test]
 fn failing_taker(rt: HostRuntime) -> Result<(), Fail> {
-    let octets = repeated(rt.alloc(), (0x00, 0xFF), 200)?;
-    let mut blocks = Collector::new(rt.alloc(), 1);
-    let mut decoder = Decoder::open(rt.alloc(), Rate::R12, true, Start::Zero, 64, 0)?;
-    assert_eq!(rt; decoder.feed(&octets, &mut blocks), Err(FeedError::Taker));
-    assert_eq!(rt; blocks.kept().len(), 1);
-    assert_eq!(rt; decoder.feed(&[], &mut blocks), Err(FeedError::Stopped));
-    assert_eq!(rt; decoder.finish(&mut blocks), Err(FeedError::Stopped));
-    assert_eq!(rt; blocks.faults(), 1);
-
+    check_fails_in_between(&rt, rt.alloc())?;
     let mut blocks = Collector::new(rt.alloc(), 0);
-    let mut decoder = Decoder::open(rt.alloc(), Rate::R12, true, Start::Zero, 64, 0)?;
-    decoder.feed(&[0, 255], &mut blocks)?;
-    assert_eq!(rt; decoder.finish(&mut blocks), Err(FeedError::Taker));
-    assert_eq!(rt; decoder.feed(&[], &mut blocks), Err(FeedError::Stopped));
+    check_fails_at_the_end(&rt, rt.alloc(), &mut blocks)?;
+    check_fails_at_once(&rt, rt.alloc(), &mut blocks);
+    Ok(())
+}
+
+// At the second block, in the midst of the octets.
+fn check_fails_in_between(rt: &impl Abort, alloc: Global) -> Result<(), Fail> {
+    let octets = repeated(alloc, (0x00, 0xFF), 200)?;
+    let mut blocks = Collector::new(alloc, 1);
+    let mut decoder = opened(rt, alloc, LEAST)?;
+    assert_eq!(rt;
+        feed(&mut decoder, &octets, &mut blocks),
+        Err(FeedError::Taker)
+    );
+    assert_eq!(rt; blocks.kept().len(), 1);
+    check_stopped(rt, &mut decoder, &[], &mut blocks);
+    assert_eq!(rt; blocks.faults(), 1);
+    Ok(())
+}
+
+fn check_fails_at_the_end(
+    rt: &impl Abort,
+    alloc: Global,
+    blocks: &mut Collector,
+) -> Result<(), Fail> {
+    let mut decoder = opened(rt, alloc, LEAST)?;
+    feed(&mut decoder, &[0, 255], blocks)?;
+    assert_eq!(rt; finish(&mut decoder, blocks), Err(FeedError::Taker));
+    assert_eq!(rt; feed(&mut decoder, &[], blocks), Err(FeedError::Stopped));
+    Ok(())
+}
+
+fn check_fails_at_once(rt: &impl Abort, alloc: Global, blocks: &mut Collector) {
     let all = decode_all(
-        rt.alloc(),
+        alloc,
         Rate::R12,
         true,
         Start::Zero,
         64,
         0,
         &[0, 255],
-        &mut blocks,
+        blocks,
     );
     assert_eq!(rt; all, Err(AllError::Taker));
     assert_eq!(rt; blocks.faults(), 2);
-    Ok(())
 }
 
 fn start_of(first: Option<u8>) -> Start {
@@ -450,12 +597,15 @@ fn check_block(rt: &impl Abort, block: &Kept, wanted: Option<plain::Path>, steps
         assert!(rt; false);
         return;
     };
-    assert_eq!(rt; block.metric, path.cost);
-    assert_eq!(rt; block.start, path.start());
-    assert_eq!(rt; block.end_state, path.register(kept));
+    check_ends(rt, block, &path);
     for i in 0..block.bits.len() {
         assert_eq!(rt; block.bits[i], path.bit(i as u32));
     }
+}
+
+fn check_ends(rt: &impl Abort, block: &Kept, path: &plain::Path) {
+    let ends = (block.metric, block.start, block.end_state);
+    assert_eq!(rt; ends, (path.cost, path.start(), path.register(block.kept)));
 }
 
 // Each window with ties beside all of its candidates.
@@ -465,24 +615,37 @@ fn best_of_all_candidates(rt: HostRuntime) -> Result<(), Fail> {
     for rate in RATES {
         for first in [Some(0), None] {
             for steps in 1..7u32 {
-                let invert = steps % 2 == 0;
                 seed = seed.wrapping_add(1);
-                let octets = drawn_octets(rt.alloc(), octets_of(rate, 0, steps), seed)?;
-                let link = Link {
-                    rate,
-                    invert,
-                    start: start_of(first),
-                    ..DEFAULT
-                };
-                let (blocks, left) = decoded(&rt, rt.alloc(), link, &octets, Cuts::Even(2))?;
-                assert_eq!(rt; left, 0);
-                assert_eq!(rt; blocks.kept().len(), 1);
-                let wanted = best_listed(rate, invert, first, 0, &octets, steps);
-                check_block(&rt, &blocks.kept()[0], wanted, steps, steps);
-                assert_eq!(rt; best_walked(rate, invert, first, 0, &octets, steps), wanted);
+                check_candidates(&rt, rt.alloc(), rate, first, steps, seed)?;
             }
         }
     }
+    Ok(())
+}
+
+// A window of so many steps, whose octets are drawn.
+fn check_candidates(
+    rt: &impl Abort,
+    alloc: Global,
+    rate: Rate,
+    first: Option<u8>,
+    steps: u32,
+    seed: u64,
+) -> Result<(), Fail> {
+    let invert = steps % 2 == 0;
+    let octets = drawn_octets(alloc, octets_of(rate, 0, steps), seed)?;
+    let link = Link {
+        rate,
+        invert,
+        start: start_of(first),
+        ..DEFAULT
+    };
+    let (blocks, left) = decoded(rt, alloc, link, &octets, Cuts::Even(2))?;
+    assert_eq!(rt; left, 0);
+    assert_eq!(rt; blocks.kept().len(), 1);
+    let wanted = best_listed(rate, invert, first, 0, &octets, steps);
+    check_block(rt, &blocks.kept()[0], wanted, steps, steps);
+    assert_eq!(rt; best_walked(rate, invert, first, 0, &octets, steps), wanted);
     Ok(())
 }
 
@@ -533,14 +696,34 @@ fn windows_in_any_cut(rt: HostRuntime) -> Result<(), Fail> {
                 ahead,
             };
             seed = seed.wrapping_add(1);
-            let whole = 300;
-            let octets = drawn_octets(rt.alloc(), octets_of(rate, 0, whole), seed)?;
-            for cuts in [Cuts::Even(cut), Cuts::Drawn(seed)] {
-                let (blocks, left) = decoded(&rt, rt.alloc(), link, &octets, cuts)?;
-                assert_eq!(rt; left, 0);
-                check_windows(&rt, link, &octets, whole, blocks.kept());
-            }
+            check_cuts(&rt, rt.alloc(), link, cut, seed)?;
         }
     }
+    Ok(())
+}
+
+// Drawn octets of 300 steps in even pieces, and in pieces that are drawn.
+fn check_cuts(
+    rt: &impl Abort,
+    alloc: Global,
+    link: Link,
+    cut: usize,
+    seed: u64,
+) -> Result<(), Fail> {
+    let octets = drawn_octets(alloc, octets_of(link.rate, 0, 300), seed)?;
+    check_cut(rt, alloc, link, &octets, Cuts::Even(cut))?;
+    check_cut(rt, alloc, link, &octets, Cuts::Drawn(seed))
+}
+
+fn check_cut(
+    rt: &impl Abort,
+    alloc: Global,
+    link: Link,
+    octets: &[u8],
+    cuts: Cuts,
+) -> Result<(), Fail> {
+    let (blocks, left) = decoded(rt, alloc, link, octets, cuts)?;
+    assert_eq!(rt; left, 0);
+    check_windows(rt, link, octets, 300, blocks.kept());
     Ok(())
 }
