@@ -57,7 +57,7 @@ fn windows_are_certified_and_checked(rt: HostRuntime) -> Result<(), Fail> {
             "windows",
             &given(line, &octets, cut),
             0,
-            &[soft.as_slice()],
+            &soft,
             notes,
         )?;
         let first = "block 0 steps 67 kept 64 metric 0\ncut at block 1\n";
@@ -67,14 +67,24 @@ fn windows_are_certified_and_checked(rt: HostRuntime) -> Result<(), Fail> {
             "a window is missing",
             &given(line, prefix(&octets, 17_626), cut),
             6,
-            &[prefix(&soft, 128)],
+            prefix(&soft, 128),
             first,
         )?;
     }
     Ok(())
 }
 
-// Octets that are drawn, often some at which symbols tie.
+// The octet of a draw, often one at which symbols tie.
+fn octet_of(draw: u64) -> u8 {
+    match (draw >> 40) % 4 {
+        0 => 0,
+        1 => 255,
+        2 => 128,
+        _ => (draw >> 56) as u8,
+    }
+}
+
+// So many octets that are drawn.
 fn drawn(alloc: Global, count: usize) -> Result<Vec<u8>, AllocError> {
     let mut octets = Vec::new(alloc);
     let mut now = 1u64;
@@ -82,13 +92,7 @@ fn drawn(alloc: Global, count: usize) -> Result<Vec<u8>, AllocError> {
         now = now
             .wrapping_mul(6364136223846793005)
             .wrapping_add(1442695040888963407);
-        let octet = match (now >> 40) % 4 {
-            0 => 0,
-            1 => 255,
-            2 => 128,
-            _ => (now >> 56) as u8,
-        };
-        octets.push(octet)?;
+        octets.push(octet_of(now))?;
     }
     Ok(octets)
 }

@@ -1,57 +1,73 @@
 // A source that fails at each read, and notes that fail at each octet.
-use crate::runs::{CUTS, Given, joined, run_over};
-use crate::values::{A, M};
+use crate::runs::{CUTS, Given, run_over};
+use crate::values::UNIT;
+use std::alloc::Global;
+use std::process::Abort;
 use std::test::Fail;
+use std::thread::Threads;
 
 const DECODE: &str = "tmchan decode --length 1 --inner none --randomize off";
 
 // The report of one codeword without wrong symbols.
 const REPORT: &str = "frame 0 at 0 marker 0 words 0\nframes 1 bad 0 fixed 0 bits 296\n";
 
+// The read of number k fails.
+fn check_read(
+    rt: &(impl Abort + Threads + Sync),
+    alloc: Global,
+    k: usize,
+    status: u8,
+    reads: u64,
+    out: &[u8],
+    notes: &str,
+) -> Result<(), Fail> {
+    let mut given = Given::new(DECODE, &UNIT, 1);
+    given.failing_read = Some(k);
+    let outcome = run_over(rt, alloc, &given)?;
+    assert_eq!(rt; outcome.status, status, "read {k}");
+    assert_eq!(rt; outcome.reads, reads, "read {k}");
+    assert_eq!(rt; outcome.out.octets(), out, "read {k}");
+    assert_eq!(rt; outcome.notes.octets(), notes.as_bytes(), "read {k}");
+    Ok(())
+}
+
 // Nothing is due of one frame until the end of the input is given, by the read after its last octet. No read is after
 // that one.
 #[test]
 fn each_read_of_a_codeword_fails(rt: HostRuntime) -> Result<(), Fail> {
-    let alloc = rt.alloc();
-    let input = joined(alloc, &[&M, &A])?;
-    for k in 0..39 {
-        let mut given = Given::new(DECODE, input.as_slice(), 1);
-        given.failing_read = Some(k);
-        let outcome = run_over(&rt, alloc, &given)?;
-        let (status, reads, out, notes): (u8, u64, &[u8], &str) = if k < 38 {
-            (3, k as u64 + 1, &[], "")
-        } else {
-            (0, 38, &[0x7B], REPORT)
-        };
-        assert_eq!(rt; outcome.status, status, "read {k}");
-        assert_eq!(rt; outcome.reads, reads, "read {k}");
-        assert_eq!(rt; outcome.out.octets(), out, "read {k}");
-        assert_eq!(rt; outcome.notes.octets(), notes.as_bytes(), "read {k}");
+    for k in 0..38 {
+        check_read(&rt, rt.alloc(), k, 3, k as u64 + 1, &[], "")?;
     }
+    check_read(&rt, rt.alloc(), 38, 0, 38, &[0x7B], REPORT)
+}
+
+// The notes have room for so many octets.
+fn check_room(
+    rt: &(impl Abort + Threads + Sync),
+    alloc: Global,
+    cut: usize,
+    room: usize,
+    notes: &[u8],
+) -> Result<(), Fail> {
+    let mut given = Given::new(DECODE, &UNIT, cut);
+    given.notes_room = room;
+    let outcome = run_over(rt, alloc, &given)?;
+    assert_eq!(rt; outcome.status, 4, "room {room}, cut {cut}");
+    assert_eq!(rt;
+        outcome.out.octets(),
+        [0x7B].as_slice(),
+        "room {room}, cut {cut}"
+    );
+    assert_eq!(rt; outcome.notes.octets(), notes, "room {room}, cut {cut}");
     Ok(())
 }
 
 #[test]
 fn the_notes_fail_at_each_octet(rt: HostRuntime) -> Result<(), Fail> {
-    let alloc = rt.alloc();
-    let input = joined(alloc, &[&M, &A])?;
     let report = REPORT.as_bytes();
     for room in 0..report.len() {
         for cut in CUTS {
-            let mut given = Given::new(DECODE, input.as_slice(), cut);
-            given.notes_room = room;
-            let outcome = run_over(&rt, alloc, &given)?;
-            assert_eq!(rt; outcome.status, 4, "room {room}, cut {cut}");
-            assert_eq!(rt;
-                outcome.out.octets(),
-                [0x7B].as_slice(),
-                "room {room}, cut {cut}"
-            );
-            assert_eq!(rt;
-                outcome.notes.octets(),
-                &report[..room],
-                "room {room}, cut {cut}"
-            );
+            check_room(&rt, rt.alloc(), cut, room, &report[..room])?;
         }
     }
     Ok(())

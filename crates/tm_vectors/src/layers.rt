@@ -1,5 +1,5 @@
 // The calls below the top call, for the same values.
-use crate::runs::words_of;
+use crate::runs::job_of;
 use crate::values::{A, A_AND_ZEROS, M};
 use std::alloc::Global;
 use std::test::Fail;
@@ -12,13 +12,10 @@ use tm_interleave::take_word;
 use tm_random::mask;
 use tm_rs_code::{Params, is_codeword};
 use tm_rs_encode::checks;
-use tm_words::read_words;
 
 // The configuration of a line.
 fn config_of(alloc: Global, line: &str) -> Result<Config, Fail> {
-    let words = words_of(alloc, line)?;
-    let job = read_words(alloc, words.as_slice())?;
-    Ok(Config::check(&job.raw)?)
+    Ok(Config::check(&job_of(alloc, line)?.raw)?)
 }
 
 // The codeword of one data symbol 01, in the dual basis, as the layers of the code make it.

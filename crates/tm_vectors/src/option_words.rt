@@ -1,10 +1,9 @@
 // What the words ask for.
-use crate::runs::words_of;
-use std::alloc::Global;
+use crate::runs::job_of;
 use std::process::Abort;
 use std::test::Fail;
 use tm_config::Raw;
-use tm_words::{JobKind, read_words};
+use tm_words::{Job, JobKind};
 
 // The values where no option is given, and those of a line that gives each option.
 static LINES: [(&str, Raw); 2] = [
@@ -111,20 +110,19 @@ fn value_of(raw: &Raw, option: &str) -> Option<u64> {
     }
 }
 
-fn check_line(rt: &impl Abort, alloc: Global, line: &str, raw: &Raw) -> Result<(), Fail> {
-    let words = words_of(alloc, line)?;
-    let job = read_words(alloc, words.as_slice())?;
+// The line gives a job of encoding with these values.
+fn check_job(rt: &impl Abort, line: &str, job: &Job, raw: &Raw) {
     assert_eq!(rt; job.kind, JobKind::Encode, "{line}");
     assert_eq!(rt; job.raw, *raw, "{line}");
     assert!(rt; job.hex.as_bytes().is_empty(), "{line}");
     assert_eq!(rt; [job.seed, job.frames, job.hits], [1, 100, 0], "{line}");
-    Ok(())
 }
 
 #[test]
 fn words_become_a_job(rt: HostRuntime) -> Result<(), Fail> {
     for (line, raw) in &LINES {
-        check_line(&rt, rt.alloc(), *line, raw)?;
+        let job = job_of(rt.alloc(), *line)?;
+        check_job(&rt, *line, &job, raw);
     }
     Ok(())
 }
@@ -134,8 +132,7 @@ fn words_of_options_become_numbers(rt: HostRuntime) -> Result<(), Fail> {
     let alloc = rt.alloc();
     for (option, word, number) in &OPTION_WORDS {
         let line = format!(in alloc; "tmchan encode --{option} {word}")?;
-        let words = words_of(alloc, line.as_str())?;
-        let job = read_words(alloc, words.as_slice())?;
+        let job = job_of(alloc, line.as_str())?;
         assert_eq!(rt; value_of(&job.raw, *option), Some(*number), "{line}");
     }
     Ok(())

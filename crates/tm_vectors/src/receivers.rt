@@ -1,8 +1,7 @@
 // A receiver by itself: what it hands over, and how it stops.
 ghost use Rattle.std.specs.Prelude.{◌≡◌, ◌-◌, ◌^◌};
 
-use crate::runs::joined;
-use crate::values::{A, M};
+use crate::values::{M, UNIT};
 use std::alloc::Global;
 use std::process::Abort;
 use std::test::Fail;
@@ -88,6 +87,14 @@ fn link(skip: u64) -> Raw {
     }
 }
 
+fn config(skip: u64) -> Result<Config, Fail> {
+    Ok(Config::check(&link(skip))?)
+}
+
+fn open(alloc: Global) -> Result<Receiver, Fail> {
+    Ok(Receiver::open(alloc, config(0)?)?)
+}
+
 fn feed(
     rt: &(impl Threads + Sync),
     receiver: &mut Receiver,
@@ -105,41 +112,27 @@ fn finish(
     Ok(receiver.finish(rt, taker, &OpenGate)?.bits)
 }
 
-// What a taker with room for so many items is handed of the octets, and how that ends.
-fn received(
+fn receive(
     rt: &(impl Threads + Sync),
     alloc: Global,
-    skip: u64,
+    config: Config,
     octets: &[u8],
-    room: usize,
-) -> Result<(Vec<Kept>, Result<u64, AllError>), Fail> {
-    let config = Config::check(&link(skip))?;
-    let mut taker = Collector::new(alloc, room);
-    let end = match receive_all(rt, alloc, config, octets, &mut taker) {
-        Ok(totals) => Ok(totals.bits),
-        Err(error) => Err(error),
-    };
-    Ok((taker.kept, end))
+    taker: &mut Collector,
+) -> Result<u64, AllError> {
+    Ok(receive_all(rt, alloc, config, octets, taker)?.bits)
 }
 
 fn check_pieces(
     rt: &(impl Abort + Threads + Sync),
-    alloc: Global,
-    octets: &[u8],
+    receiver: &mut Receiver,
+    taker: &mut Collector,
     size: usize,
 ) -> Result<(), Fail> {
-    let config = Config::check(&link(0))?;
-    let mut receiver = Receiver::open(alloc, config)?;
-    let mut taker = Collector::new(alloc, 9);
-    for piece in octets.chunks(size.max(1)) {
-        feed(rt, &mut receiver, piece, &mut taker)?;
+    for piece in UNIT.chunks(size.max(1)) {
+        feed(rt, receiver, piece, taker)?;
     }
     assert!(rt; taker.kept.is_empty(), "pieces of {size}");
-    assert_eq!(rt;
-        finish(rt, &mut receiver, &mut taker),
-        Ok(296),
-        "pieces of {size}"
-    );
+    assert_eq!(rt; finish(rt, receiver, taker), Ok(296), "pieces of {size}");
     assert_eq!(rt;
         taker.kept.as_slice(),
         [FIRST].as_slice(),
@@ -161,63 +154,81 @@ fn check_stopped(
 
 #[test]
 fn a_receiver_takes_any_pieces(rt: HostRuntime) -> Result<(), Fail> {
-    let octets = joined(rt.alloc(), &[&M, &A])?;
     for size in [1, 5, 37] {
-        check_pieces(&rt, rt.alloc(), octets.as_slice(), size)?;
+        let mut receiver = open(rt.alloc())?;
+        let mut taker = Collector::new(rt.alloc(), 9);
+        check_pieces(&rt, &mut receiver, &mut taker, size)?;
     }
     Ok(())
 }
 
 #[test]
 fn a_receiver_stops_at_its_end(rt: HostRuntime) -> Result<(), Fail> {
-    let config = Config::check(&link(0))?;
-    let mut receiver = Receiver::open(rt.alloc(), config)?;
+    let mut receiver = open(rt.alloc())?;
     let mut taker = Collector::new(rt.alloc(), 9);
     assert_eq!(rt; finish(&rt, &mut receiver, &mut taker), Ok(0));
     check_stopped(&rt, &mut receiver, &mut taker)
 }
 
+fn check_fault_at_the_end(
+    rt: &(impl Abort + Threads + Sync),
+    receiver: &mut Receiver,
+    taker: &mut Collector,
+) -> Result<(), Fail> {
+    feed(rt, receiver, &UNIT, taker)?;
+    assert_eq!(rt; finish(rt, receiver, taker), Err(RecvError::Taker));
+    check_stopped(rt, receiver, taker)
+}
+
 #[test]
 fn a_taker_that_fails_at_the_end(rt: HostRuntime) -> Result<(), Fail> {
-    let octets = joined(rt.alloc(), &[&M, &A])?;
-    let config = Config::check(&link(0))?;
-    let mut receiver = Receiver::open(rt.alloc(), config)?;
+    let mut receiver = open(rt.alloc())?;
     let mut taker = Collector::new(rt.alloc(), 0);
-    feed(&rt, &mut receiver, octets.as_slice(), &mut taker)?;
-    assert_eq!(rt;
-        finish(&rt, &mut receiver, &mut taker),
-        Err(RecvError::Taker)
-    );
-    check_stopped(&rt, &mut receiver, &mut taker)
+    check_fault_at_the_end(&rt, &mut receiver, &mut taker)
+}
+
+fn check_fault_of_a_batch(
+    rt: &(impl Abort + Threads + Sync),
+    receiver: &mut Receiver,
+    taker: &mut Collector,
+) -> Result<(), Fail> {
+    for _ in 0..31 {
+        feed(rt, receiver, &UNIT, taker)?;
+    }
+    assert_eq!(rt; feed(rt, receiver, &UNIT, taker), Err(RecvError::Taker));
+    check_stopped(rt, receiver, taker)
 }
 
 // Items are handed over before the end where there are 32 of them.
 #[test]
 fn a_taker_that_fails_before_the_end(rt: HostRuntime) -> Result<(), Fail> {
-    let octets = joined(rt.alloc(), &[&M, &A])?;
-    let config = Config::check(&link(0))?;
-    let mut receiver = Receiver::open(rt.alloc(), config)?;
+    let mut receiver = open(rt.alloc())?;
     let mut taker = Collector::new(rt.alloc(), 0);
-    for _ in 0..31 {
-        feed(&rt, &mut receiver, octets.as_slice(), &mut taker)?;
-    }
-    let last = feed(&rt, &mut receiver, octets.as_slice(), &mut taker);
-    assert_eq!(rt; last, Err(RecvError::Taker));
-    check_stopped(&rt, &mut receiver, &mut taker)
+    check_fault_of_a_batch(&rt, &mut receiver, &mut taker)
+}
+
+// A taker with room for so many items is handed these, and that ends so.
+fn check_received(
+    rt: &(impl Abort + Threads + Sync),
+    alloc: Global,
+    octets: &[u8],
+    skip: u64,
+    room: usize,
+    items: &[Kept],
+    wanted: Result<u64, AllError>,
+) -> Result<(), Fail> {
+    let mut taker = Collector::new(alloc, room);
+    let end = receive(rt, alloc, config(skip)?, octets, &mut taker);
+    assert_eq!(rt; end, wanted);
+    assert_eq!(rt; taker.kept.as_slice(), items);
+    Ok(())
 }
 
 #[test]
 fn octets_are_received_at_once(rt: HostRuntime) -> Result<(), Fail> {
-    let octets = joined(rt.alloc(), &[&M, &A])?;
-    let octets = octets.as_slice();
-    let (kept, end) = received(&rt, rt.alloc(), 0, octets, 9)?;
-    assert_eq!(rt; end, Ok(296));
-    assert_eq!(rt; kept.as_slice(), [FIRST].as_slice());
-    let (kept, end) = received(&rt, rt.alloc(), 3, octets, 9)?;
-    assert_eq!(rt; end, Ok(293));
-    assert!(rt; kept.is_empty());
-    let (kept, end) = received(&rt, rt.alloc(), 0, octets, 0)?;
-    assert_eq!(rt; end, Err(AllError::Taker));
-    assert!(rt; kept.is_empty());
+    let alloc = rt.alloc();
+    check_received(&rt, alloc, &UNIT, 0, 9, &[FIRST], Ok(296))?;
+    check_received(&rt, alloc, &UNIT, 3, 9, &[], Ok(293))?;
+    check_received(&rt, alloc, &UNIT, 0, 0, &[], Err(AllError::Taker))?;
     Ok(())
 }

@@ -5,6 +5,7 @@ use std::test::Fail;
 use std::thread::Threads;
 use tm_base::{MemSink, MemSource};
 use tm_cli::run;
+use tm_words::{Job, read_words};
 
 /// The most octets that a source gives at a time.
 pub const CUTS: [usize; 3] = [1, 2, 4096];
@@ -50,8 +51,8 @@ pub struct Outcome {
     pub notes: MemSink,
 }
 
-/// The words of a line.
-pub fn words_of(alloc: Global, line: &str) -> Result<Vec<String>, AllocError> {
+// The words of a line.
+fn words_of(alloc: Global, line: &str) -> Result<Vec<String>, AllocError> {
     let mut words = Vec::new(alloc);
     for word in line.split_whitespace() {
         words.push(word.to_string(alloc)?)?;
@@ -59,13 +60,10 @@ pub fn words_of(alloc: Global, line: &str) -> Result<Vec<String>, AllocError> {
     Ok(words)
 }
 
-/// The parts, one after another.
-pub fn joined(alloc: Global, parts: &[&[u8]]) -> Result<Vec<u8>, AllocError> {
-    let mut octets = Vec::new(alloc);
-    for part in parts {
-        octets.extend_from_slice(*part)?;
-    }
-    Ok(octets)
+/// What a line asks for.
+pub fn job_of(alloc: Global, line: &str) -> Result<Job, Fail> {
+    let words = words_of(alloc, line)?;
+    Ok(read_words(alloc, words.as_slice())?)
 }
 
 // The number, if there is one, as a list.
@@ -84,13 +82,25 @@ fn source_of(alloc: Global, given: &Given) -> Result<MemSource, AllocError> {
     Ok(MemSource::new(content, cuts, fails))
 }
 
+// Runs the program.
+fn run_by(
+    rt: &(impl Threads + Sync),
+    alloc: Global,
+    words: &[String],
+    source: &mut MemSource,
+    out: &mut MemSink,
+    notes: &mut MemSink,
+) -> u8 {
+    run(rt, alloc, words, source, out, notes)
+}
+
 /// Makes the call.
 pub fn run_over(rt: &(impl Threads + Sync), alloc: Global, given: &Given) -> Result<Outcome, Fail> {
     let words = words_of(alloc, given.line)?;
     let mut source = source_of(alloc, given)?;
     let mut out = MemSink::new(alloc, given.out_room, list_of(alloc, given.failing_write)?)?;
     let mut notes = MemSink::new(alloc, given.notes_room, Vec::new(alloc))?;
-    let status = run(
+    let status = run_by(
         rt,
         alloc,
         words.as_slice(),
@@ -106,25 +116,20 @@ pub fn run_over(rt: &(impl Threads + Sync), alloc: Global, given: &Given) -> Res
     })
 }
 
-/// Makes the call, which ends with this status, and writes just these parts and these notes.
+/// Makes the call, which ends with this status, and writes just these octets and these notes.
 pub fn check_call(
     rt: &(impl Abort + Threads + Sync),
     alloc: Global,
     name: &str,
     given: &Given,
     status: u8,
-    out: &[&[u8]],
+    out: &[u8],
     notes: &str,
 ) -> Result<(), Fail> {
     let outcome = run_over(rt, alloc, given)?;
-    let wanted = joined(alloc, out)?;
     let cut = given.cut;
     assert_eq!(rt; outcome.status, status, "{name}, cut {cut}");
-    assert_eq!(rt;
-        outcome.out.octets(),
-        wanted.as_slice(),
-        "{name}, cut {cut}"
-    );
+    assert_eq!(rt; outcome.out.octets(), out, "{name}, cut {cut}");
     assert_eq!(rt;
         outcome.notes.octets(),
         notes.as_bytes(),

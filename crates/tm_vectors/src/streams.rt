@@ -1,27 +1,44 @@
 // Many frames in a row.
 use crate::runs::{CUTS, Given, run_over};
 use crate::values::M;
+use std::alloc::{AllocError, Global};
+use std::process::Abort;
 use std::test::Fail;
+use std::thread::Threads;
+
+// Frames of two octets that count up, each after the same octets.
+fn frames_after(alloc: Global, head: &[u8]) -> Result<Vec<u8>, AllocError> {
+    let mut octets = Vec::new(alloc);
+    for k in 0..2_500u64 {
+        octets.extend_from_slice(head)?;
+        octets.extend_from_slice(&[(k % 251) as u8, (k / 251) as u8])?;
+    }
+    Ok(octets)
+}
+
+fn check_sent(
+    rt: &(impl Abort + Threads + Sync),
+    alloc: Global,
+    input: &[u8],
+    cut: usize,
+    wanted: &[u8],
+) -> Result<(), Fail> {
+    let line = "tmchan encode --code none --inner none --randomize off --length 2";
+    let outcome = run_over(rt, alloc, &Given::new(line, input, cut))?;
+    assert_eq!(rt; outcome.status, 0, "cut {cut}");
+    assert!(rt; outcome.notes.octets().is_empty(), "cut {cut}");
+    assert_eq!(rt; outcome.out.octets().len(), 15_000, "cut {cut}");
+    assert!(rt; outcome.out.octets() == wanted, "cut {cut}");
+    Ok(())
+}
 
 // More octets than are read in one turn.
 #[test]
 fn a_long_input_is_sent_whole(rt: HostRuntime) -> Result<(), Fail> {
-    let alloc = rt.alloc();
-    let mut input = Vec::new(alloc);
-    let mut wanted = Vec::new(alloc);
-    for k in 0..2_500u64 {
-        let frame = [(k % 251) as u8, (k / 251) as u8];
-        input.extend_from_slice(&frame)?;
-        wanted.extend_from_slice(&M)?;
-        wanted.extend_from_slice(&frame)?;
-    }
+    let input = frames_after(rt.alloc(), &[])?;
+    let wanted = frames_after(rt.alloc(), &M)?;
     for cut in CUTS {
-        let line = "tmchan encode --code none --inner none --randomize off --length 2";
-        let outcome = run_over(&rt, alloc, &Given::new(line, input.as_slice(), cut))?;
-        assert_eq!(rt; outcome.status, 0, "cut {cut}");
-        assert!(rt; outcome.notes.octets().is_empty(), "cut {cut}");
-        assert_eq!(rt; outcome.out.octets().len(), 15_000, "cut {cut}");
-        assert!(rt; outcome.out.octets() == wanted.as_slice(), "cut {cut}");
+        check_sent(&rt, rt.alloc(), &input, cut, &wanted)?;
     }
     Ok(())
 }
