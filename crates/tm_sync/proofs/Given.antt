@@ -134,31 +134,39 @@ pub record Grows (s s' : Searching) (b : Bool) : Type 0 where
   pub start : s'.start ≡ s.start
   pub before : s'.before ≡ s.before
 
--- Bits are given, where the place ahead is this one, or there is none, and the search awaits it. What it is to keep of a place it says there.
-gone_on : (s s' : Searching) (room room' : List ℕ) (more bits : List Bool) (found : List Found) (h : Parts s room bits found) → s'.rules ≡ s.rules → s'.pushed ≡ s.pushed + length more
-    → s'.start ≡ s.start → s'.before ≡ s.before → s'.word ≡ value_from 0 (bits ++ more) % 2 ^ 32 → length room' ≡ length room
-    → (o : Option Found) → first_place s.rules (length h.prefix) s.before (h.rest ++ more) ≡ o → s'.awaited ≡ option_map (awaited_at s.before) o
+-- Bits are given, where the place ahead is this one, or there is none, and the search awaits it.
+-- What it is to keep of a place it says there.
+gone_on : (s s' : Searching) (room room' : List ℕ) (more bits : List Bool) (found : List Found)
+    (h : Parts s room bits found) → s'.rules ≡ s.rules → s'.pushed ≡ s.pushed + length more
+    → s'.start ≡ s.start → s'.before ≡ s.before → s'.word ≡ value_from 0 (bits ++ more) % 2 ^ 32
+    → length room' ≡ length room
+    → (o : Option Found) → first_place s.rules (length h.prefix) s.before (h.rest ++ more) ≡ o
+    → s'.awaited ≡ option_map (awaited_at s.before) o
     → IfSome o (λ f. f.place + 32 + s'.after ≡ s'.pushed) → IfNone o (s'.after ≡ 0)
-    → IsRun s' (bits ++ more) (option_map (awaited_at s.before) o) → IsRecent room' (bits ++ more) (from_of s' (option_map (awaited_at s.before) o))
+    → IsRun s' (bits ++ more) (option_map (awaited_at s.before) o)
+    → IsRecent room' (bits ++ more) (from_of s' (option_map (awaited_at s.before) o))
     → StandsFor s' room' (bits ++ more) found
-gone_on s s' room room' more bits found h rules pushed start before word size o ahead awaited after fresh run recent = stands_of s' room' (bits ++ more) found record {
-  prefix = h.prefix;
-  rest = h.rest ++ more;
-  parts = ap (λ l. l ++ more) h.parts ∙ append_assoc h.prefix h.rest more;
-  found_first = ap (λ r. take (length found) (places r (bits ++ more))) rules ∙ first-stays s.rules bits more found h.found_first;
-  ends = ap (λ r. end_of r found) rules ∙ h.ends;
-  start_is = start ∙ h.start_is;
-  pushed_is = pushed ∙ ap (λ n. n + length more) h.pushed_is ∙ sym (length-append bits more);
-  before_is = before ∙ h.before_is;
-  word_is = word;
-  awaited_is = awaited ∙ ap (option_map (awaited_at s.before)) (sym ahead)
-      ∙ (λ i. option_map (awaited_at (sym before i)) (first_place (sym rules i) (length h.prefix) (sym before i) (h.rest ++ more)));
-  after_is = subst (Ends s') (sym awaited) (ends-at o after);
-  fresh = subst (Fresh s') (sym awaited) (fresh-at o fresh);
-  run = subst (IsRun s' (bits ++ more)) (sym awaited) run;
-  sized = size ∙ h.sized ∙ ap verify_bits (sym rules);
-  recent = subst (λ (o : Option Awaited). IsRecent room' (bits ++ more) (from_of s' o)) (sym awaited) recent;
-}
+gone_on s s' room room' more bits found h rules pushed start before word size o ahead awaited after fresh run recent =
+    stands_of s' room' (bits ++ more) found record {
+      prefix = h.prefix;
+      rest = h.rest ++ more;
+      parts = ap (λ l. l ++ more) h.parts ∙ append_assoc h.prefix h.rest more;
+      found_first = ap (λ r. take (length found) (places r (bits ++ more))) rules
+          ∙ first-stays s.rules bits more found h.found_first;
+      ends = ap (λ r. end_of r found) rules ∙ h.ends;
+      start_is = start ∙ h.start_is;
+      pushed_is = pushed ∙ ap (λ n. n + length more) h.pushed_is ∙ sym (length-append bits more);
+      before_is = before ∙ h.before_is;
+      word_is = word;
+      awaited_is = awaited ∙ ap (option_map (awaited_at s.before)) (sym ahead)
+          ∙ (λ i. option_map (awaited_at (sym before i))
+          (first_place (sym rules i) (length h.prefix) (sym before i) (h.rest ++ more)));
+      after_is = subst (Ends s') (sym awaited) (ends-at o after);
+      fresh = subst (Fresh s') (sym awaited) (fresh-at o fresh);
+      run = subst (IsRun s' (bits ++ more)) (sym awaited) run;
+      sized = size ∙ h.sized ∙ ap verify_bits (sym rules);
+      recent = subst (λ (o : Option Awaited). IsRecent room' (bits ++ more) (from_of s' o)) (sym awaited) recent;
+    }
   where
     ends-at : (o : Option Found) → IfSome o (λ f. f.place + 32 + s'.after ≡ s'.pushed) → Ends s' (option_map (awaited_at s.before) o)
     ends-at None after = tt
@@ -169,12 +177,17 @@ gone_on s s' room room' more bits found h rules pushed start before word size o 
     fresh-at (Some f) fresh = tt
 
 -- one bit is
-grown : (s s' : Searching) (room room' : List ℕ) (b : Bool) (bits : List Bool) (found : List Found) (h : Parts s room bits found) → Grows s s' b → length room' ≡ length room
-    → (o : Option Found) → first_place s.rules (length h.prefix) s.before (h.rest ++ b ∷ []) ≡ o → s'.awaited ≡ option_map (awaited_at s.before) o
+grown : (s s' : Searching) (room room' : List ℕ) (b : Bool) (bits : List Bool) (found : List Found)
+    (h : Parts s room bits found) → Grows s s' b → length room' ≡ length room
+    → (o : Option Found) → first_place s.rules (length h.prefix) s.before (h.rest ++ b ∷ []) ≡ o
+    → s'.awaited ≡ option_map (awaited_at s.before) o
     → IfSome o (λ f. f.place + 32 + s'.after ≡ s'.pushed) → IfNone o (s'.after ≡ 0)
-    → IsRun s' (bits ++ b ∷ []) (option_map (awaited_at s.before) o) → IsRecent room' (bits ++ b ∷ []) (from_of s' (option_map (awaited_at s.before) o))
+    → IsRun s' (bits ++ b ∷ []) (option_map (awaited_at s.before) o)
+    → IsRecent room' (bits ++ b ∷ []) (from_of s' (option_map (awaited_at s.before) o))
     → StandsFor s' room' (bits ++ b ∷ []) found
-grown s s' room room' b bits found h g = gone_on s s' room room' (b ∷ []) bits found h g.rules g.pushed g.start g.before (g.word ∙ word-push s.word b bits h.word_is)
+grown s s' room room' b bits found h g =
+    gone_on s s' room room' (b ∷ []) bits found h g.rules g.pushed g.start g.before
+    (g.word ∙ word-push s.word b bits h.word_is)
 
 -- what the fields were is what the search was
 pub counts : (s old s' : Searching) (b : Bool) (byte : ℕ) → old ≡ s → byte ≡ bool_byte b → s.pushed < 2 ^ 63 → s'.rules ≡ old.rules
@@ -256,8 +269,10 @@ push_run s s' room more m was rules pushed start before stays after few bits fou
     let place : a.0.place ≡ m.found.place = ap (λ (v : Awaited). v.found.place) a.2 in
     let now : a.0.place + 32 + s'.after ≡ s'.pushed = omega arith in
     let count : s'.pushed ≡ length (bits ++ more) = pushed ∙ ap (λ n. n + length more) h.pushed_is ∙ sym (length-append bits more) in
-    gone_on s s' room room more bits found h rules pushed start before (word ∙ ap (λ n. n % 2 ^ 32) (number-value (bits ++ more))) refl (Some a.0)
-    (first_place-stays s.rules (length h.prefix) s.before h.rest more a.0 a.1) (stays ∙ was ∙ ap Some (sym a.2)) now tt (inl few)
+    gone_on s s' room room more bits found h rules pushed start before
+    (word ∙ ap (λ n. n % 2 ^ 32) (number-value (bits ++ more))) refl (Some a.0)
+    (first_place-stays s.rules (length h.prefix) s.before h.rest more a.0 a.1)
+    (stays ∙ was ∙ ap Some (sym a.2)) now tt (inl few)
     (recent-inside s' (awaited_at s.before a.0) room (bits ++ more) few count)
 
 -- no place was found before
@@ -463,26 +478,37 @@ told_right s now room room' b a bits found c kept was right looks stood =
     (told-zero s' (bits ++ b ∷ []) s.rules (length h.prefix) s.before l (match_of s.rules l) refl (omega arith))
 
 -- too few bits follow the last codeblock to be a marker
-pub push_short : (s s' : Searching) (room room' : List ℕ) (more : List Bool) → s.awaited ≡ None → s'.rules ≡ s.rules → s'.pushed ≡ s.pushed + length more → s'.start ≡ s.start
-    → s'.before ≡ s.before → s'.awaited ≡ s.awaited → s'.after ≡ s.after → s'.pushed - s'.start < 32 → length room' ≡ length room → (bits : List Bool) (found : List Found)
-    → s'.word ≡ number_of (bits ++ more) % 2 ^ 32 → (IsRecent room bits s.start → IsRecent room' (bits ++ more) s.start) → StandsFor s room bits found
+pub push_short : (s s' : Searching) (room room' : List ℕ) (more : List Bool) → s.awaited ≡ None
+    → s'.rules ≡ s.rules → s'.pushed ≡ s.pushed + length more → s'.start ≡ s.start
+    → s'.before ≡ s.before → s'.awaited ≡ s.awaited → s'.after ≡ s.after → s'.pushed - s'.start < 32
+    → length room' ≡ length room → (bits : List Bool) (found : List Found)
+    → s'.word ≡ number_of (bits ++ more) % 2 ^ 32
+    → (IsRecent room bits s.start → IsRecent room' (bits ++ more) s.start)
+    → StandsFor s room bits found
     → StandsFor s' room' (bits ++ more) found
 push_short s s' room room' more was rules pushed start before stays after few size bits found word kept stood =
     let h = parts_of s room bits found stood in
     let many = after-is s room bits found h in
     let long = length-append h.rest more in
     let enough = telling-marker s.rules s.before in
-    gone_on s s' room room' more bits found h rules pushed start before (word ∙ ap (λ n. n % 2 ^ 32) (number-value (bits ++ more))) size None
-    (first_place-short s.rules (length h.prefix) s.before (h.rest ++ more) (omega arith)) (stays ∙ was) tt (after ∙ subst (Fresh s) was h.fresh) tt
-    (subst (IsRecent room' (bits ++ more)) (sym start) (kept (subst (λ (o : Option Awaited). IsRecent room bits (from_of s o)) was h.recent)))
+    gone_on s s' room room' more bits found h rules pushed start before
+    (word ∙ ap (λ n. n % 2 ^ 32) (number-value (bits ++ more))) size None
+    (first_place-short s.rules (length h.prefix) s.before (h.rest ++ more) (omega arith))
+    (stays ∙ was) tt (after ∙ subst (Fresh s) was h.fresh) tt
+    (subst (IsRecent room' (bits ++ more)) (sym start)
+    (kept (subst (λ (o : Option Awaited). IsRecent room bits (from_of s o)) was h.recent)))
 
-pub short-bit : (s now : Searching) (room room' : List ℕ) (b : Bool) (bits : List Bool) (found : List Found) → Counts s now b → Remembers room room' bits b
-    → s.awaited ≡ None → now.pushed - now.start < 32 → StandsFor s room bits found → StandsFor now room' (bits ++ b ∷ []) found
+pub short-bit : (s now : Searching) (room room' : List ℕ) (b : Bool) (bits : List Bool)
+    (found : List Found) → Counts s now b → Remembers room room' bits b
+    → s.awaited ≡ None → now.pushed - now.start < 32 → StandsFor s room bits found
+    → StandsFor now room' (bits ++ b ∷ []) found
 short-bit s now room room' b bits found c kept was few stood =
     let h = parts_of s room bits found stood in
     let g : Grows s now b = grows s now now b c refl refl refl refl refl in
-    push_short s now room room' (b ∷ []) was c.rules c.pushed c.start c.before c.awaited c.after few kept.sized bits found
-    (g.word ∙ word-push s.word b bits h.word_is ∙ ap (λ n. n % 2 ^ 32) (sym (number-value (bits ++ b ∷ [])))) (kept.recent s.start) stood
+    push_short s now room room' (b ∷ []) was c.rules c.pushed c.start c.before c.awaited c.after few
+    kept.sized bits found
+    (g.word ∙ word-push s.word b bits h.word_is
+    ∙ ap (λ n. n % 2 ^ 32) (sym (number-value (bits ++ b ∷ [])))) (kept.recent s.start) stood
 
 pub told_waits : (s now : Searching) (room room' : List ℕ) (b : Bool) (bits : List Bool) (found : List Found) → Counts s now b → Remembers room room' bits b
     → s.awaited ≡ None → is_right_after (now.pushed - now.start) now.before ≡ false → now.pushed - now.start < 32 + verify_bits now.rules
@@ -1060,11 +1086,13 @@ pub most_after : (s other : Searching) → other ≡ s → other.after ≤ insid
 most_after s other same most = subst (λ (v : Searching). v.after ≤ inside_by v.rules.verify v.rules.block_bits) same most
 
 -- and no more than a codeblock has, where none are to verify it
-pub whole-once : (s : Searching) (m : Awaited) → s.awaited ≡ Some m → is_pending s ≡ true → s.after ≤ inside_by s.rules.verify s.rules.block_bits → s.rules.verify ≡ 0
+pub whole-once : (s : Searching) (m : Awaited) → s.awaited ≡ Some m → is_pending s ≡ true
+    → s.after ≤ inside_by s.rules.verify s.rules.block_bits → s.rules.verify ≡ 0
     → s.after ≡ s.rules.block_bits
 whole-once s m was pending most alone =
     let full = whole s m was pending in
-    let few : s.after ≤ s.rules.block_bits = subst (λ (n : ℕ). s.after ≤ inside_by n s.rules.block_bits) alone most in
+    let few : s.after ≤ s.rules.block_bits =
+    subst (λ (n : ℕ). s.after ≤ inside_by n s.rules.block_bits) alone most in
     omega arith
 
 pub block-most : (verify size : ℕ) → size ≤ inside_by verify size

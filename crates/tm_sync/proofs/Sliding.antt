@@ -54,7 +54,8 @@ word-octet w x bits small e =
 
 -- the word of the bits up to the last ones, so many, when one more of them is taken
 pub word-window : (w x left : ℕ) → 0 < left → left ≤ 8 → x < 256
-    → (w * 256 + x) / 2 ^ (left - 1) % 2 ^ 32 ≡ bit_or ((w * 256 + x) / 2 ^ left % 2 ^ 32 * 2 % 2 ^ 32) (bool_byte (x / 2 ^ (left - 1) % 2 == 1))
+    → (w * 256 + x) / 2 ^ (left - 1) % 2 ^ 32
+    ≡ bit_or ((w * 256 + x) / 2 ^ left % 2 ^ 32 * 2 % 2 ^ 32) (bool_byte (x / 2 ^ (left - 1) % 2 == 1))
 word-window w x left some most small =
     let v : ℕ = (w * 256 + x) / 2 ^ left % 2 ^ 32 in
     let b : Bool = x / 2 ^ (left - 1) % 2 == 1 in
@@ -66,7 +67,9 @@ word-window w x left some most small =
     parity (suc zero) few = refl
     parity (suc (suc n)) few = absurd (omega arith)
 
-    go : (left : ℕ) → 0 < left → left ≤ 8 → (w * 256 + x) / 2 ^ (left - 1) % 2 ^ 32 ≡ (w * 256 + x) / 2 ^ left % 2 ^ 32 * 2 % 2 ^ 32 + x / 2 ^ (left - 1) % 2
+    go : (left : ℕ) → 0 < left → left ≤ 8
+        → (w * 256 + x) / 2 ^ (left - 1) % 2 ^ 32
+        ≡ (w * 256 + x) / 2 ^ left % 2 ^ 32 * 2 % 2 ^ 32 + x / 2 ^ (left - 1) % 2
     go zero some most = absurd (omega arith)
     go (suc zero) some most = omega arith
     go (suc (suc zero)) some most = omega arith

@@ -23,7 +23,8 @@ returns-then-since-lt32-clause-stands c = λ s was bit bits found few count kept
     let same = count.start in
     let pushed : c.self.inside.pushed ≡ now.pushed = ap (λ (v : Searching). v.pushed) c.self.view_is in
     let start : c.self.inside.start ≡ now.start = ap (λ (v : Searching). v.start) c.self.view_is in
-    let free = sym count.awaited ∙ ap (λ (v : Searching). v.awaited) (sym c.self.view_is) ∙ none_awaited c.self.inside.awaited (sym c.is_some.ensures ∙ c.if-is_some.false) in
+    let free = sym count.awaited ∙ ap (λ (v : Searching). v.awaited) (sym c.self.view_is)
+    ∙ none_awaited c.self.inside.awaited (sym c.is_some.ensures ∙ c.if-is_some.false) in
     let since : now.pushed - now.start < 32 = omega (arith, c.if-since-lt32.true, there.0, there.1) in
     short-bit s now was c.args.room.now bit bits found count kept free since h
 

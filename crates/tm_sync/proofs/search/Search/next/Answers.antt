@@ -13,7 +13,8 @@ returns-then-left-lt32-clause-once c = λ alone.
     let s = c.args.self.now in
     let m = c.in-Some.awaited in
     let was : s.awaited ≡ Some m = ap (λ (v : Searching). v.awaited) (sym c.self.view_is) ∙ c.in-Some.is in
-    let is = whole-once s m was (sym c.pending.ensures ∙ c.if-not-pending.false) (most_after s _ c.self.view_is c.self.invariant.0) alone in (
+    let is = whole-once s m was (sym c.pending.ensures ∙ c.if-not-pending.false)
+    (most_after s _ c.self.view_is c.self.invariant.0) alone in (
       (λ i. option_map (λ _. is i) (was i)),
       refl,
     )
@@ -23,9 +24,11 @@ returns-else-left-lt32-clause-once c = λ alone.
     let s = c.args.self.now in
     let m = c.in-Some.awaited in
     let was : s.awaited ≡ Some m = ap (λ (v : Searching). v.awaited) (sym c.self.view_is) ∙ c.in-Some.is in
-    let is = whole-once s m was (sym c.pending.ensures ∙ c.if-not-pending.false) (most_after s _ c.self.view_is c.self.invariant.0) alone in
+    let is = whole-once s m was (sym c.pending.ensures ∙ c.if-not-pending.false)
+    (most_after s _ c.self.view_is c.self.invariant.0) alone in
     let after : c.self.inside.after ≡ s.after = ap (λ (v : Searching). v.after) c.self.view_is in
-    let block : c.from-block.result ≡ s.rules.block_bits = c.from-block.ensures ∙ ap (λ (v : Searching). v.rules.block_bits) c.self.view_is in
+    let block : c.from-block.result ≡ s.rules.block_bits =
+    c.from-block.ensures ∙ ap (λ (v : Searching). v.rules.block_bits) c.self.view_is in
     absurd (omega (arith, c.if-left-lt32.false))
 
 pub returns-then-left-lt32-clause-some : goal.returns-then-left-lt32-clause-some

@@ -16,11 +16,14 @@ returns-then-since-lt24-clause-stands c = λ done room bits found few h.
     let none : length room ≡ 0 = h.sized ∙ verify-none s.rules c.requires.alone in
     let pushed : c.self.inside.pushed ≡ s.pushed = ap (λ (v : Searching). v.pushed) c.self.view_is in
     let start : c.self.inside.start ≡ s.start = ap (λ (v : Searching). v.start) c.self.view_is in
-    push_short s _ room room (bits_of_octet c.args.octet) (free-of s c.requires.free) (ap (λ (v : Searching). v.rules) c.self.view_is)
+    push_short s _ room room (bits_of_octet c.args.octet) (free-of s c.requires.free)
+    (ap (λ (v : Searching). v.rules) c.self.view_is)
     (omega (arith, there.0, length-low_bits 8 c.args.octet)) start
-    (ap (λ (v : Searching). v.before) c.self.view_is) (ap (λ (v : Searching). v.awaited) c.self.view_is) (ap (λ (v : Searching). v.after) c.self.view_is)
+    (ap (λ (v : Searching). v.before) c.self.view_is)
+    (ap (λ (v : Searching). v.awaited) c.self.view_is) (ap (λ (v : Searching). v.after) c.self.view_is)
     (omega (arith, c.if-since-lt24.true, there.0, there.1)) refl bits found
-    (c.last_bits-self-inside.ensures bits (ap (λ (v : Searching). v.word) c.self.view_is ∙ ap (λ (v : Searching). v.word) h.search)
+    (c.last_bits-self-inside.ensures bits
+    (ap (λ (v : Searching). v.word) c.self.view_is ∙ ap (λ (v : Searching). v.word) h.search)
     ∙ ap (λ l. number_of (bits ++ l) % 2 ^ 32) (append-nil (bits_of_octet c.args.octet)))
     (λ recent i low within held. absurd (omega (arith, none))) h
 
@@ -41,7 +44,8 @@ loop-left-preserved c =
     let enough : c.self.inside.start + 32 ≤ c.self.inside.pushed = free.2 in
     let word : c.window.result ≡ (s.word * 256 + octet) / 2 ^ (left - 1) % 2 ^ 32 =
     c.window.ensures
-    ∙ (λ i. ((c.from.ensures ∙ ap (λ (v : Searching). v.word) view) i * 256 + c.from-2.ensures i) / 2 ^ (left - 1) % 2 ^ 32) in
+    ∙ (λ i. ((c.from.ensures ∙ ap (λ (v : Searching). v.word) view) i * 256 + c.from-2.ensures i)
+    / 2 ^ (left - 1) % 2 ^ 32) in
     record {
       most = omega arith;
       given = (
@@ -70,11 +74,15 @@ returns-clause-stands c = λ done room bits found few h.
     let octet = c.args.octet in
     let was = c.loop-left.invariant.given in
     let none : c.loop-left.left ≡ 0 = omega arith in
-    let pushed : s.pushed + (8 - 0) ≡ c.self.inside.pushed + 8 = omega (arith, ap (λ (v : Searching). v.pushed) c.self.view_is) in
+    let pushed : s.pushed + (8 - 0) ≡ c.self.inside.pushed + 8 =
+    omega (arith, ap (λ (v : Searching). v.pushed) c.self.view_is) in
     let word : (s.word * 256 + octet) / 2 ^ 0 % 2 ^ 32 ≡ c.window-self-inside.result =
     sym (c.window-self-inside.ensures
-    ∙ (λ i. ((c.from.ensures ∙ ap (λ (v : Searching). v.word) c.self.view_is) i * 256 + c.from-2.ensures i) / 1 % 2 ^ 32)) in
-    subst (λ (v : Searching). StandsFor v room (bits ++ bits_of_octet octet) found) (λ i. record (sym c.self.view_is i) { word = word i; pushed = pushed i })
+    ∙ (λ i. ((c.from.ensures ∙ ap (λ (v : Searching). v.word) c.self.view_is) i * 256
+    + c.from-2.ensures i) / 1 % 2 ^ 32)) in
+    subst (λ (v : Searching). StandsFor v room (bits ++ bits_of_octet octet) found)
+    (λ i. record (sym c.self.view_is i) { word = word i; pushed = pushed i })
     (subst (λ (n : ℕ). StandsFor (passing s octet n) room (bits ++ bits_of_octet octet) found) none
-    (subst (λ l. StandsFor (passing s octet c.loop-left.left) room (bits ++ l) found) (sym (bits-all was.0 c.loop-left.left octet none was.1))
+    (subst (λ l. StandsFor (passing s octet c.loop-left.left) room (bits ++ l) found)
+    (sym (bits-all was.0 c.loop-left.left octet none was.1))
     (was.2 room bits found few h)))

@@ -13,7 +13,8 @@ invariant-loop-left l = record {
   most : l.left ≤ 8;
   given : (prefix : List Bool) × (bits_of_octet l.octet ≡ prefix ++ low_bits l.left l.octet)
       × ((room : List ℕ) (bits : List Bool) (found : List Found) → length bits + 8 ≤ 2 ^ 63
-      → StandsFor l.fn.self room bits found → StandsFor (passing l.fn.self l.octet l.left) room (bits ++ prefix) found);
+      → StandsFor l.fn.self room bits found
+      → StandsFor (passing l.fn.self l.octet l.left) room (bits ++ prefix) found);
 }
 
 abbrev pub decreases-loop-left : goal.decreases-loop-left

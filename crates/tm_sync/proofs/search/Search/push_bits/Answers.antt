@@ -22,7 +22,8 @@ loop-left-init c = record {
     refl,
     λ room bits found few h.
         subst (λ l. StandsFor c.pass_octet.new.self room l found) (sym (append-nil bits))
-        (subst (λ (v : Searching). StandsFor v room bits found) (sym (c.pass_octet.ensures.unchanged c.if-pass_octet.false)) h),
+        (subst (λ (v : Searching). StandsFor v room bits found)
+        (sym (c.pass_octet.ensures.unchanged c.if-pass_octet.false)) h),
   );
 }
 

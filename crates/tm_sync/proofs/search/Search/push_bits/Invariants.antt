@@ -11,7 +11,8 @@ invariant-loop-left l = record {
   most : l.left ≤ 8;
   few : IfSome (inside_of l.self) (λ count. count + l.left < 8);
   given : (prefix : List Bool) × (bits_of_octet l.octet ≡ prefix ++ low_bits l.left l.octet)
-      × ((room : List ℕ) (bits : List Bool) (found : List Found) → length bits + 8 ≤ 2 ^ 63 → StandsFor l.fn.self room bits found → StandsFor l.self room (bits ++ prefix) found);
+      × ((room : List ℕ) (bits : List Bool) (found : List Found) → length bits + 8 ≤ 2 ^ 63
+      → StandsFor l.fn.self room bits found → StandsFor l.self room (bits ++ prefix) found);
 }
 
 abbrev pub decreases-loop-left : goal.decreases-loop-left
