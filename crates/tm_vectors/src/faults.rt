@@ -1,5 +1,5 @@
 // A source that fails at each read, and notes that fail at each octet.
-use crate::runs::{CUTS, Given, run_over};
+use crate::runs::{CUTS, Given, check_outcome, run_over};
 use crate::values::UNIT;
 use std::alloc::Global;
 use std::process::Abort;
@@ -11,6 +11,11 @@ const DECODE: &str = "tmchan decode --length 1 --inner none --randomize off";
 // The report of one codeword without wrong symbols.
 const REPORT: &str = "frame 0 at 0 marker 0 words 0\nframes 1 bad 0 fixed 0 bits 296\n";
 
+// A unit is decoded.
+fn decode(cut: usize) -> Given<'static> {
+    Given::new(DECODE, &UNIT, cut)
+}
+
 // The read of number k fails.
 fn check_read(
     rt: &(impl Abort + Threads + Sync),
@@ -21,13 +26,19 @@ fn check_read(
     out: &[u8],
     notes: &str,
 ) -> Result<(), Fail> {
-    let mut given = Given::new(DECODE, &UNIT, 1);
+    let mut given = decode(1);
     given.failing_read = Some(k);
     let outcome = run_over(rt, alloc, &given)?;
-    assert_eq!(rt; outcome.status, status, "read {k}");
     assert_eq!(rt; outcome.reads, reads, "read {k}");
-    assert_eq!(rt; outcome.out.octets(), out, "read {k}");
-    assert_eq!(rt; outcome.notes.octets(), notes.as_bytes(), "read {k}");
+    check_outcome(
+        rt,
+        "a read fails",
+        &given,
+        &outcome,
+        status,
+        out,
+        notes.as_bytes(),
+    );
     Ok(())
 }
 
@@ -49,16 +60,10 @@ fn check_room(
     room: usize,
     notes: &[u8],
 ) -> Result<(), Fail> {
-    let mut given = Given::new(DECODE, &UNIT, cut);
+    let mut given = decode(cut);
     given.notes_room = room;
     let outcome = run_over(rt, alloc, &given)?;
-    assert_eq!(rt; outcome.status, 4, "room {room}, cut {cut}");
-    assert_eq!(rt;
-        outcome.out.octets(),
-        [0x7B].as_slice(),
-        "room {room}, cut {cut}"
-    );
-    assert_eq!(rt; outcome.notes.octets(), notes, "room {room}, cut {cut}");
+    check_outcome(rt, "the notes fail", &given, &outcome, 4, &[0x7B], notes);
     Ok(())
 }
 

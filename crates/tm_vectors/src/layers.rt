@@ -2,6 +2,7 @@
 use crate::runs::job_of;
 use crate::values::{A, A_AND_ZEROS, M};
 use std::alloc::Global;
+use std::process::Abort;
 use std::test::Fail;
 use tm_base::{Failed, MemSink, put_all};
 use tm_channel::{Config, Sender, cadu};
@@ -54,19 +55,41 @@ fn a_unit_is_its_parts(rt: HostRuntime) -> Result<(), Fail> {
     Ok(())
 }
 
-// The octets in pieces of this size: what is written, and what is left over.
-fn sent_in_pieces(
+// Sends the octets in pieces of this size.
+fn send(
+    sender: &mut Sender,
+    octets: &[u8],
+    size: usize,
+    out: &mut MemSink,
+) -> Result<(), SendError> {
+    for piece in octets.chunks(size.max(1)) {
+        sender.push(piece, out)?;
+    }
+    Ok(())
+}
+
+// Two units of these octets are sent in pieces of this size, and one octet is left over.
+fn check_sent(
+    rt: &impl Abort,
     alloc: Global,
     config: Config,
     octets: &[u8],
     size: usize,
-) -> Result<(MemSink, u32), Fail> {
+) -> Result<(), Fail> {
     let mut sender = Sender::new(config);
     let mut out = MemSink::new(alloc, 500, Vec::new(alloc))?;
-    for piece in octets.chunks(size.max(1)) {
-        sender.push(piece, &mut out)?;
+    send(&mut sender, octets, size, &mut out)?;
+    assert_eq!(rt; sender.finish(), 1, "pieces of {size}");
+    check_units(rt, out.octets(), size);
+    Ok(())
+}
+
+fn check_units(rt: &impl Abort, octets: &[u8], size: usize) {
+    assert_eq!(rt; octets.len(), 140, "pieces of {size}");
+    for unit in octets.chunks(70) {
+        assert!(rt; unit.starts_with(&M), "pieces of {size}");
+        assert!(rt; unit.ends_with(&A_AND_ZEROS), "pieces of {size}");
     }
-    Ok((out, sender.finish()))
 }
 
 #[test]
@@ -75,13 +98,7 @@ fn a_sender_takes_any_pieces(rt: HostRuntime) -> Result<(), Fail> {
     let line = "tmchan encode --inner none --randomize off --depth 2 --length 2";
     let config = config_of(alloc, line)?;
     for size in [1, 2, 3, 4, 5, 9] {
-        let (out, rest) = sent_in_pieces(alloc, config, &[0x7B, 0, 0x7B, 0, 0x7B], size)?;
-        assert_eq!(rt; rest, 1, "pieces of {size}");
-        assert_eq!(rt; out.octets().len(), 140, "pieces of {size}");
-        for unit in out.octets().chunks(70) {
-            assert!(rt; unit.starts_with(&M), "pieces of {size}");
-            assert!(rt; unit.ends_with(&A_AND_ZEROS), "pieces of {size}");
-        }
+        check_sent(&rt, alloc, config, &[0x7B, 0, 0x7B, 0, 0x7B], size)?;
     }
     Ok(())
 }
@@ -112,23 +129,35 @@ fn no_octets_meet_no_fault(rt: HostRuntime) -> Result<(), Fail> {
     Ok(())
 }
 
+// The symbols of two octets at rate 1/2.
+static SYMBOLS: [u8; 32] = [
+    0x00, 0xFF, 0x00, 0xFF, 0x00, 0xFF, 0xFF, 0x00, 0x00, 0x00, 0x00, 0x00, 0xFF, 0x00, 0x00, 0x00,
+    0x00, 0x00, 0x00, 0xFF, 0xFF, 0xFF, 0x00, 0x00, 0xFF, 0x00, 0x00, 0xFF, 0x00, 0xFF, 0xFF, 0xFF,
+];
+
+// Sends the inner symbols of octets in pieces of this size.
+fn send_inner(
+    inner: &mut InnerSender,
+    octets: &[u8],
+    size: usize,
+    out: &mut MemSink,
+) -> Result<(), SendError> {
+    for piece in octets.chunks(size.max(1)) {
+        inner.push(piece, out)?;
+    }
+    Ok(())
+}
+
 // The register and the pattern run on from push to push.
 #[test]
 fn an_inner_sender_takes_any_pieces(rt: HostRuntime) -> Result<(), Fail> {
     let alloc = rt.alloc();
     let config = config_of(alloc, "tmchan encode")?;
-    let wanted = [
-        0x00, 0xFF, 0x00, 0xFF, 0x00, 0xFF, 0xFF, 0x00, 0x00, 0x00, 0x00, 0x00, 0xFF, 0x00, 0x00,
-        0x00, 0x00, 0x00, 0x00, 0xFF, 0xFF, 0xFF, 0x00, 0x00, 0xFF, 0x00, 0x00, 0xFF, 0x00, 0xFF,
-        0xFF, 0xFF,
-    ];
     for size in [1, 2] {
         let mut inner = InnerSender::new(&config);
         let mut out = MemSink::new(alloc, 32, Vec::new(alloc))?;
-        for piece in [0x1A, 0xCF].chunks(size) {
-            inner.push(piece, &mut out)?;
-        }
-        assert_eq!(rt; out.octets(), wanted.as_slice(), "pieces of {size}");
+        send_inner(&mut inner, &[0x1A, 0xCF], size, &mut out)?;
+        assert_eq!(rt; out.octets(), SYMBOLS.as_slice(), "pieces of {size}");
     }
     Ok(())
 }

@@ -116,6 +116,26 @@ pub fn run_over(rt: &(impl Threads + Sync), alloc: Global, given: &Given) -> Res
     })
 }
 
+/// The call ended with this status, and wrote just these octets and these notes.
+pub fn check_outcome(
+    rt: &impl Abort,
+    name: &str,
+    given: &Given,
+    outcome: &Outcome,
+    status: u8,
+    out: &[u8],
+    notes: &[u8],
+) {
+    let (cut, room) = (given.cut, given.notes_room);
+    assert_eq!(rt; outcome.status, status, "{name}, cut {cut}, room {room}");
+    assert_eq!(rt; outcome.out.octets(), out, "{name}, cut {cut}, room {room}");
+    assert_eq!(rt;
+        outcome.notes.octets(),
+        notes,
+        "{name}, cut {cut}, room {room}"
+    );
+}
+
 /// Makes the call, which ends with this status, and writes just these octets and these notes.
 pub fn check_call(
     rt: &(impl Abort + Threads + Sync),
@@ -127,13 +147,6 @@ pub fn check_call(
     notes: &str,
 ) -> Result<(), Fail> {
     let outcome = run_over(rt, alloc, given)?;
-    let cut = given.cut;
-    assert_eq!(rt; outcome.status, status, "{name}, cut {cut}");
-    assert_eq!(rt; outcome.out.octets(), out, "{name}, cut {cut}");
-    assert_eq!(rt;
-        outcome.notes.octets(),
-        notes.as_bytes(),
-        "{name}, cut {cut}"
-    );
+    check_outcome(rt, name, given, &outcome, status, out, notes.as_bytes());
     Ok(())
 }

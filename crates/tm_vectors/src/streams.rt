@@ -19,12 +19,11 @@ fn frames_after(alloc: Global, head: &[u8]) -> Result<Vec<u8>, AllocError> {
 fn check_sent(
     rt: &(impl Abort + Threads + Sync),
     alloc: Global,
-    input: &[u8],
-    cut: usize,
+    given: &Given,
     wanted: &[u8],
 ) -> Result<(), Fail> {
-    let line = "tmchan encode --code none --inner none --randomize off --length 2";
-    let outcome = run_over(rt, alloc, &Given::new(line, input, cut))?;
+    let cut = given.cut;
+    let outcome = run_over(rt, alloc, given)?;
     assert_eq!(rt; outcome.status, 0, "cut {cut}");
     assert!(rt; outcome.notes.octets().is_empty(), "cut {cut}");
     assert_eq!(rt; outcome.out.octets().len(), 15_000, "cut {cut}");
@@ -35,10 +34,11 @@ fn check_sent(
 // More octets than are read in one turn.
 #[test]
 fn a_long_input_is_sent_whole(rt: HostRuntime) -> Result<(), Fail> {
+    let line = "tmchan encode --code none --inner none --randomize off --length 2";
     let input = frames_after(rt.alloc(), &[])?;
     let wanted = frames_after(rt.alloc(), &M)?;
     for cut in CUTS {
-        check_sent(&rt, rt.alloc(), &input, cut, &wanted)?;
+        check_sent(&rt, rt.alloc(), &Given::new(line, &input, cut), &wanted)?;
     }
     Ok(())
 }
