@@ -97,16 +97,17 @@ code=16 depth=5 length=5|5 33 16\n\
 code=0 depth=1|2040 2040 0\n\
 code=0 depth=1 length=2 repair=0|2 2 0\n";
 
+fn resolved(config: &Config) -> [u64; 3] {
+    [config.length(), config.word_length(), config.repair()]
+}
+
 fn check_resolved(rt: &impl Abort) {
     for row in RESOLVED.lines() {
         let (changes, wanted) = row.split_once('|').expect(rt, "a row");
         let raw = changed(plain(), changes).expect(rt, "values");
         let numbers = numbers_of(wanted).expect(rt, "numbers");
         match Config::check(&raw) {
-            Ok(config) => {
-                let found = [config.length(), config.word_length(), config.repair()];
-                assert_eq!(rt; found, numbers, "at {row}");
-            }
+            Ok(config) => assert_eq!(rt; resolved(&config), numbers, "at {row}"),
             Err(error) => assert!(rt; false, "{error} at {row}"),
         }
     }
@@ -145,55 +146,60 @@ fn tells_each_value(rt: HostRuntime) {
         verify: 7,
     };
     match Config::check(&raw) {
-        Ok(config) => {
-            assert_eq!(rt;
-                [
-                    config.code(),
-                    config.depth(),
-                    config.length(),
-                    config.inner()
-                ],
-                [8, 2, 4, 78]
-            );
-            assert_eq!(rt; config.invert(), Some(0));
-            assert_eq!(rt;
-                [
-                    config.randomize(),
-                    config.basis(),
-                    config.tolerance(),
-                    config.repair()
-                ],
-                [0, 1, 8, 7]
-            );
-            assert_eq!(rt;
-                [
-                    config.soft(),
-                    config.start(),
-                    config.skip(),
-                    config.workers()
-                ],
-                [1, 1, 15, 64]
-            );
-            assert_eq!(rt;
-                [
-                    config.limit(),
-                    config.fly(),
-                    config.batch(),
-                    config.pack(),
-                    config.verify()
-                ],
-                [1_099_511_627_776, 15, 31, 0, 7]
-            );
-            assert_eq!(rt;
-                [
-                    config.keep(),
-                    config.ahead(),
-                    config.phase(),
-                    config.polarity()
-                ],
-                [65_536, 4096, 2, 1]
-            );
-        }
+        Ok(config) => check_values(&rt, &config),
         Err(error) => assert!(rt; false, "{error}"),
     }
+}
+
+fn check_values(rt: &impl Abort, config: &Config) {
+    assert_eq!(rt; frames_of(config), [8, 2, 4, 0, 1, 7]);
+    assert_eq!(rt; config.invert(), Some(0));
+    assert_eq!(rt; symbols_of(config), [78, 1, 1, 15, 2]);
+    assert_eq!(rt; search_of(config), [8, 15, 7, 1, 0]);
+    assert_eq!(rt; work_of(config), [64, 1_099_511_627_776, 65_536, 4096, 31]);
+}
+
+// Of the frames and their code.
+fn frames_of(config: &Config) -> [u64; 6] {
+    [
+        config.code(),
+        config.depth(),
+        config.length(),
+        config.randomize(),
+        config.basis(),
+        config.repair(),
+    ]
+}
+
+// Of the symbols.
+fn symbols_of(config: &Config) -> [u64; 5] {
+    [
+        config.inner(),
+        config.soft(),
+        config.start(),
+        config.skip(),
+        config.phase(),
+    ]
+}
+
+// Of the search for markers, and of bits.
+fn search_of(config: &Config) -> [u64; 5] {
+    [
+        config.tolerance(),
+        config.fly(),
+        config.verify(),
+        config.polarity(),
+        config.pack(),
+    ]
+}
+
+// Of what a receiver works with.
+fn work_of(config: &Config) -> [u64; 5] {
+    [
+        config.workers(),
+        config.limit(),
+        config.keep(),
+        config.ahead(),
+        config.batch(),
+    ]
 }

@@ -6,7 +6,7 @@ pub fn changed(raw: Raw, changes: &str) -> Option<Raw> {
     let mut raw = raw;
     for change in changes.split_whitespace() {
         let (name, number) = change.split_once('=')?;
-        raw = with(raw, name, number.parse::<u64>().ok()?)?;
+        raw = with(raw, name, parsed(number)?)?;
     }
     Some(raw)
 }
@@ -22,21 +22,39 @@ fn with(raw: Raw, name: &str, number: u64) -> Option<Raw> {
         "invert" => raw.invert = Some(number),
         "randomize" => raw.randomize = number,
         "basis" => raw.basis = number,
-        "tolerance" => raw.tolerance = number,
         "repair" => raw.repair = Some(number),
+        _ => return with_reception(raw, name, number),
+    }
+    Some(raw)
+}
+
+// The same of the values that only receiving looks at.
+fn with_reception(raw: Raw, name: &str, number: u64) -> Option<Raw> {
+    let mut raw = raw;
+    match name {
+        "tolerance" => raw.tolerance = number,
         "soft" => raw.soft = number,
         "start" => raw.start = number,
         "skip" => raw.skip = number,
-        "workers" => raw.workers = number,
-        "limit" => raw.limit = number,
         "fly" => raw.fly = number,
-        "keep" => raw.keep = number,
-        "ahead" => raw.ahead = number,
         "phase" => raw.phase = number,
         "polarity" => raw.polarity = number,
+        "verify" => raw.verify = number,
+        _ => return with_size(raw, name, number),
+    }
+    Some(raw)
+}
+
+// The same of the values that say how much is worked on at a time.
+fn with_size(raw: Raw, name: &str, number: u64) -> Option<Raw> {
+    let mut raw = raw;
+    match name {
+        "workers" => raw.workers = number,
+        "limit" => raw.limit = number,
+        "keep" => raw.keep = number,
+        "ahead" => raw.ahead = number,
         "batch" => raw.batch = number,
         "pack" => raw.pack = number,
-        "verify" => raw.verify = number,
         _ => return None,
     }
     Some(raw)
@@ -45,8 +63,12 @@ fn with(raw: Raw, name: &str, number: u64) -> Option<Raw> {
 /// The three numbers of a text.
 pub fn numbers_of(text: &str) -> Option<[u64; 3]> {
     let mut fields = text.split_whitespace();
-    let first = fields.next()?.parse::<u64>().ok()?;
-    let second = fields.next()?.parse::<u64>().ok()?;
-    let third = fields.next()?.parse::<u64>().ok()?;
+    let first = parsed(fields.next()?)?;
+    let second = parsed(fields.next()?)?;
+    let third = parsed(fields.next()?)?;
     Some([first, second, third])
+}
+
+fn parsed(number: &str) -> Option<u64> {
+    number.parse::<u64>().ok()
 }

@@ -10,9 +10,17 @@ use tm_words::{Job, WordsError, read_words};
 // The words between single blanks.
 fn words_of(alloc: Global, line: &str) -> Result<Vec<String>, AllocError> {
     let mut words = Vec::new(alloc);
-    for word in line.split(' ') {
-        words.push(word.to_string(alloc)?)?;
+    let mut left = line;
+    for _ in 0..line.len() {
+        match left.split_once(' ') {
+            Some((word, rest)) => {
+                words.push(word.to_string(alloc)?)?;
+                left = rest;
+            }
+            None => break,
+        }
     }
+    words.push(left.to_string(alloc)?)?;
     Ok(words)
 }
 
