@@ -1,15 +1,23 @@
-// Tests of windows that were each begun from a wrong register: settled, their blocks are those of one thread.
-ghost use Rattle.std.specs.Prelude.{◌+◌, ◌*◌, ◌^◌, ◌<◌, ◌≡◌, length};
+// Tests of what only this crate can see. Windows that were each begun from a wrong register: settled, their blocks are
+// those of one thread. And workers that decode windows of a phase that is followed: really side by side, and the same
+// blocks whatever their number.
+ghost use Rattle.std.specs.Prelude.{◌+◌, ◌*◌, ◌^◌, ◌<◌, ◌≤◌, ◌≡◌, ℕ, length};
 ghost use Rattle.tm_windows.specs.Candidates.{AreCandidates, HaveRoom, HoldsWindows};
 
 use crate::candidate::Candidate;
+use crate::closing::{Closing, OneByOne};
 use crate::decoding::decode_window;
+use crate::gathering::Gathering;
 use crate::settling::settle_run;
+use crate::sharing::decode_evenly;
 use crate::stretch::Stretch;
 use crate::window_workers::new_candidates;
+use std::alloc::{AllocError, Global};
+use std::sync::atomic::{AtomicU64, Ordering};
 use std::test::Fail;
-use tm_base::Failed;
-use tm_conv::{Rate, steps_len};
+use std::thread::Threads;
+use tm_base::{Failed, Gate};
+use tm_conv::{Encoder, Rate, Symbols, steps_len};
 use tm_viterbi::{Block, BlockTaker, Decoder, Start, WindowDecoder, WindowShape};
 
 const KEEP: usize = 64;
@@ -47,6 +55,7 @@ impl BlockTaker for Digest {
             u64::from(b.kept),
             b.metric,
             u64::from(b.end_state),
+            u64::from(b.dropped),
         ] {
             value = mixed(value, part);
         }
@@ -141,6 +150,166 @@ fn windows_from_wrong_registers_are_decoded_again(rt: HostRuntime) -> Result<(),
         }
         assert_eq!(rt; wanted.blocks, WINDOWS as u64);
         assert_eq!(rt; digest, wanted);
+    }
+    Ok(())
+}
+
+const TURNS: u64 = 1_000_000_000;
+
+// Holds the workers that come to two windows until both have come, and counts how many of them met the other.
+#[derive(Drop)]
+struct Meeting {
+    windows: [u32; 2],
+    come: AtomicU64,
+    met: AtomicU64,
+}
+
+impl Gate for Meeting {
+    fn enter(&self, index: u32) {
+        if index != self.windows[0] && index != self.windows[1] {
+            return;
+        }
+        self.come.fetch_add(1, Ordering::SeqCst);
+        for _ in 0..TURNS {
+            if self.come.load(Ordering::SeqCst) == 2 {
+                self.met.fetch_add(1, Ordering::SeqCst);
+                return;
+            }
+        }
+    }
+}
+
+// A gate at which these two windows meet.
+fn meeting_at(first: u32, second: u32) -> Meeting {
+    Meeting {
+        windows: [first, second],
+        come: AtomicU64::new(0),
+        met: AtomicU64::new(0),
+    }
+}
+
+// Windows by all workers, which enter a gate before each.
+#[derive(Drop)]
+struct PastMeeting<'a, R: Threads + Sync> {
+    rt: &'a R,
+    gate: &'a Meeting,
+}
+
+impl<'a, R: Threads + Sync> Closing for PastMeeting<'a, R> {
+    ghost use Rattle.std.specs.Prelude.{◌≤◌, ◌^◌};
+    ghost use Rattle.std.specs.Thread.{IsSync};
+
+    ghost is_ready = { λ by count. IsSync R.row × (count ≤ 2 ^ 62) };
+
+    fn decode(&self, decoders: &mut [WindowDecoder], run: &mut [Candidate], from: &Stretch<'_>) {
+        let Stretch {
+            shape,
+            starts,
+            t,
+            octets,
+        } = *from;
+        decode_evenly(
+            self.rt,
+            self.gate,
+            shape,
+            decoders,
+            Some(starts),
+            t,
+            octets,
+            0,
+            run,
+        );
+    }
+}
+
+const FOLLOWED: WindowShape = WindowShape {
+    rate: Rate::R12,
+    invert: false,
+    keep: KEEP,
+    ahead: AHEAD,
+};
+
+// What comes of octets whose phase is followed: the blocks, and before how many windows octets were dropped.
+fn followed<C: Closing>(
+    alloc: Global,
+    closing: &C,
+    workers: u8,
+    most: usize,
+    octets: &[u8],
+) -> Result<(Digest, u64), Fail>
+    requires ready { (count : ℕ) → count ≤ 2 ^ 62 → C.is_ready closing.now count }
+    requires workers { (0 < workers) × (workers ≤ 64) }
+    requires most { (0 < most) × (most ≤ 2 ^ 17) }
+    requires long { length octets.now < 2 ^ 59 }
+{
+    let mut gathering = Gathering::new(alloc, Start::Zero, FOLLOWED, Some(89), workers, most)?;
+    let mut digest = Digest {
+        blocks: 0,
+        value: 1,
+    };
+    gathering.take(closing, octets, &mut digest)?;
+    gathering.end(closing, &mut digest)?;
+    Ok((digest, gathering.slips))
+}
+
+// The octets of the symbols of so many steps, whose bits are drawn.
+fn sent(alloc: Global, steps: usize) -> Result<Vec<u8>, AllocError> {
+    let mut octets = Vec::new(alloc);
+    let mut encoder = Encoder::new(Rate::R12, false);
+    let mut x = 1u64;
+    for _ in 0..steps {
+        x = mixed(x, 5).wrapping_add(1442695040888963407);
+        if let Symbols::Two(first, second) = encoder.step(x >> 63 == 1) {
+            for symbol in [first, second] {
+                octets.push(if symbol { 255 } else { 0 })?;
+            }
+        }
+    }
+    Ok(octets)
+}
+
+// Of eight windows each worker has four, and none of the two begins its last ones before the other has come.
+#[test]
+fn windows_with_nothing_dropped_between_are_decoded_side_by_side(
+    rt: HostRuntime,
+) -> Result<(), Fail> {
+    let alloc = rt.alloc();
+    let octets = sent(alloc, WINDOWS * KEEP + AHEAD + 1)?;
+    assert!(rt; octets.len() < 6000);
+    let gate = meeting_at(0, 4);
+    let past = PastMeeting {
+        rt: &rt,
+        gate: &gate,
+    };
+    let (digest, slips) = followed(alloc, &past, 2, WINDOWS, &octets)?;
+    assert_eq!(rt; gate.met.load(Ordering::SeqCst), 2);
+    assert_eq!(rt; digest.blocks, WINDOWS as u64 + 1);
+    assert_eq!(rt; slips, 0);
+    Ok(())
+}
+
+#[test]
+fn followed_windows_are_the_same_for_any_workers(rt: HostRuntime) -> Result<(), Fail> {
+    let alloc = rt.alloc();
+    let mut octets = sent(alloc, 40 * KEEP + AHEAD + 20)?;
+    assert!(rt; octets.len() > 4000);
+    octets.remove(3500);
+    octets.remove(1500);
+    assert!(rt; octets.len() < 6000);
+    let (wanted, slips) = followed(alloc, &OneByOne, 1, 1, &octets)?;
+    assert_eq!(rt; wanted.blocks, 41);
+    assert_eq!(rt; slips, 2);
+    let gate = meeting_at(u32::MAX, u32::MAX);
+    let past = PastMeeting {
+        rt: &rt,
+        gate: &gate,
+    };
+    for workers in [1, 2, 3, 7] {
+        for most in [1, 2, 8, 40] {
+            let (digest, slips) = followed(alloc, &past, workers, most, &octets)?;
+            assert_eq!(rt; digest, wanted);
+            assert_eq!(rt; slips, 2);
+        }
     }
     Ok(())
 }

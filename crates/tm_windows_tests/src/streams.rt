@@ -265,34 +265,55 @@ fn followed<R: Abort + Threads + Sync>(
     workers: u8,
     octets: &[u8],
     way: Way,
+    room: u64,
 ) -> Result<(Outcome, u64), Fail> {
     let mut decoder = opened(rt, alloc, UPRIGHT, Start::Zero, workers, true)?;
-    let mut digest = empty();
+    let mut digest = with_room(room);
     let answer = feed_with_workers(rt, &mut decoder, octets, way, &mut digest);
     Ok((Outcome { digest, answer }, decoder.slips()))
 }
 
-// Undisturbed octets drop none. Where a symbol is lost in the second window, one is dropped before the third, the other symbol
-// of its step.
+// Undisturbed octets drop none. Where a symbol is lost in the second window, one is dropped before the third, the other
+// symbol of its step.
 #[test]
 fn followed_streams_drop_octets(rt: HostRuntime) -> Result<(), Fail> {
     let alloc = rt.alloc();
     let mut octets = octets_for(&rt, alloc, Kind::Clean, UPRIGHT)?;
     let whole = alone(&rt, alloc, UPRIGHT, Start::Zero, &octets, u64::MAX)?;
-    let (outcome, slips) = followed(&rt, alloc, 1, &octets, Way::Once)?;
+    let (outcome, slips) = followed(&rt, alloc, 1, &octets, Way::Once, u64::MAX)?;
     assert_eq!(rt; outcome, whole);
     assert_eq!(rt; slips, 0);
     assert!(rt; octets.len() > 3000);
     octets.remove(3000);
-    let (wanted, slips) = followed(&rt, alloc, 1, &octets, Way::Once)?;
+    let (wanted, slips) = followed(&rt, alloc, 1, &octets, Way::Once, u64::MAX)?;
     assert_eq!(rt; wanted.digest.blocks, WINDOWS as u64 + 1);
     assert_eq!(rt; slips, 1);
     for workers in [1, 2, 7] {
         for way in WAYS {
-            let (outcome, slips) = followed(&rt, alloc, workers, &octets, way)?;
+            let (outcome, slips) = followed(&rt, alloc, workers, &octets, way, u64::MAX)?;
             assert_eq!(rt; outcome, wanted);
             assert_eq!(rt; slips, 1);
         }
     }
+    Ok(())
+}
+
+// Before a lost symbol stand so many windows that they are shared out; and the taker fails at one of them.
+#[test]
+fn followed_streams_are_shared_out(rt: HostRuntime) -> Result<(), Fail> {
+    let alloc = rt.alloc();
+    let mut octets = soft_octets(alloc, Rate::R12, Kind::Clean, 68 * 1024 + 500)?;
+    assert!(rt; octets.len() > 135_000);
+    octets.remove(135_000);
+    let (wanted, slips) = followed(&rt, alloc, 1, &octets, Way::Once, u64::MAX)?;
+    assert_eq!(rt; wanted.digest.blocks, 69);
+    assert_eq!(rt; slips, 1);
+    let (outcome, slips) = followed(&rt, alloc, 3, &octets, Way::Gathered, u64::MAX)?;
+    assert_eq!(rt; outcome, wanted);
+    assert_eq!(rt; slips, 1);
+    let (outcome, slips) = followed(&rt, alloc, 2, &octets, Way::Once, 40)?;
+    assert_eq!(rt; outcome.digest.blocks, 40);
+    assert_eq!(rt; outcome.answer, Err(FeedError::Taker));
+    assert_eq!(rt; slips, 0);
     Ok(())
 }
