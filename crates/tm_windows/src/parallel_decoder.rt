@@ -114,7 +114,7 @@ impl ParallelDecoder {
     /// A decoder that was given nothing yet, with 1 to 64 workers, for windows of this shape, which keeps 64 to 65,536
     /// steps, of the last window all, and has at most 4,096 ahead. Where fewer than 1,024 steps are kept or fewer than
     /// 64 stand ahead, one worker decodes all windows. Where `follow` is set a slip is looked for before each window
-    /// but the first, and as many octets are dropped; one worker decodes all windows then, too.
+    /// but the first, and as many octets are dropped; workers share out the windows before which none are dropped.
     ///
     /// It fails only where there isn't enough memory.
     pub fn open(
