@@ -4,6 +4,7 @@ ghost use Rattle.std.specs.Prelude.{◌≡◌, ◌<◌, ◌≤◌};
 use std::alloc::Global;
 use std::process::Abort;
 use std::test::Fail;
+use std::thread::Threads;
 use tm_dual::Basis;
 use tm_records::{Coding, ErasedAnswer, OpenGate, Records, nearest_records_law};
 use tm_rs_code::Params;
@@ -39,29 +40,54 @@ fn record_of(zeros: usize, erased: usize) -> [u8; 66] {
     octets
 }
 
+// Takes so many octets of a piece.
+fn take(rt: &impl Abort, records: &mut Records, piece: &[u8], count: usize)
+    ensures { records.new.coding ≡ records.old.coding }
+{
+    assert_eq!(rt; records.take(piece), count);
+}
+
+// Decodes so many records.
+fn decode(rt: &(impl Abort + Threads + Sync), records: &mut Records, count: usize)
+    ensures { records.new.coding ≡ records.old.coding }
+{
+    records.decode(rt, &OpenGate);
+    assert_eq!(rt; records.count(), count);
+}
+
+// A record became A, with such changes.
+fn check_answer(rt: &impl Abort, records: &Records, index: usize, wanted: ErasedAnswer)
+    requires { records.now.coding.params.n ≡ 33 }
+{
+    assert!(rt; index < records.count());
+    let mut octets = [0; 33];
+    assert_eq!(rt; records.answer(index, &mut octets), wanted);
+    assert_eq!(rt; octets, A);
+}
+
+fn check_beyond(rt: &impl Abort, records: &Records, index: usize)
+    requires { records.now.coding.params.n ≡ 33 }
+{
+    assert!(rt; index < records.count());
+    assert_eq!(rt; records.answer(index, &mut [0; 33]), ErasedAnswer::Beyond);
+}
+
 #[test]
 fn erased_symbols_are_filled_in(rt: HostRuntime) -> Result<(), Fail> {
     let mut records = open(&rt, rt.alloc(), 1);
     let mut piece = [0; 66];
     piece[0] = 0x7B;
     piece[34..].fill(1);
-    assert_eq!(rt; records.take(&piece), 66);
-    assert_eq!(rt; records.take(&record_of(17, 2)), 66);
-    assert_eq!(rt; records.take(&record_of(17, 1)), 66);
-    assert_eq!(rt; records.take(&piece[..65]), 65);
+    take(&rt, &mut records, &piece, 66);
+    take(&rt, &mut records, &record_of(17, 2), 66);
+    take(&rt, &mut records, &record_of(17, 1), 66);
+    take(&rt, &mut records, &piece[..65], 65);
     assert!(rt; !records.is_full());
-    records.decode(&rt, &OpenGate);
-    assert_eq!(rt; records.count(), 3);
+    decode(&rt, &mut records, 3);
     assert_eq!(rt; records.left_over(), 65);
-    for (index, answer) in [ErasedAnswer::Fixed(0, 32), ErasedAnswer::Fixed(15, 2)]
-        .iter()
-        .enumerate()
-    {
-        let mut octets = [0; 33];
-        assert_eq!(rt; records.answer(index, &mut octets), *answer);
-        assert_eq!(rt; octets, A);
-    }
-    assert_eq!(rt; records.answer(2, &mut [0; 33]), ErasedAnswer::Beyond);
+    check_answer(&rt, &records, 0, ErasedAnswer::Fixed(0, 32));
+    check_answer(&rt, &records, 1, ErasedAnswer::Fixed(15, 2));
+    check_beyond(&rt, &records, 2);
     records.clear();
     assert_eq!(rt; records.left_over(), 0);
     Ok(())
@@ -75,18 +101,12 @@ fn a_batch_has_256_records(rt: HostRuntime) -> Result<(), Fail> {
         piece.extend_from_slice(&record_of(4, 3))?;
     }
     let mut records = open(&rt, rt.alloc(), 7);
-    assert_eq!(rt; records.take(&piece), 256 * 66);
+    take(&rt, &mut records, &piece, 256 * 66);
     assert!(rt; records.is_full());
-    assert_eq!(rt; records.take(&piece), 0);
-    records.decode(&rt, &OpenGate);
-    assert_eq!(rt; records.count(), 256);
-    let mut octets = [0; 33];
+    take(&rt, &mut records, &piece, 0);
+    decode(&rt, &mut records, 256);
     for index in 0..256 {
-        assert_eq!(rt;
-            records.answer(index, &mut octets),
-            ErasedAnswer::Fixed(1, 3)
-        );
-        assert_eq!(rt; octets, A);
+        check_answer(&rt, &records, index, ErasedAnswer::Fixed(1, 3));
     }
     Ok(())
 }

@@ -87,27 +87,65 @@ fn located_with<L: Ledger>(
     solve_erased(params, syndromes, erased, steps)
 }
 
-// Syndromes of a word without erased places are given to both calls.
+// The locator of a row.
+fn test_places<L: Ledger>(
+    rt: &impl Abort,
+    row: &Row<'_>,
+    params: &Params,
+    syndromes: &[Gf; 32],
+    steps: &mut Steps<L>,
+) {
+    let n = params.n() as usize;
+    let erased = flags_of(row.erased);
+    let found = located_with(params, syndromes, &erased[..n], steps);
+    assert_eq!(rt; found, locator_of(row.coefs), "for {}", row.name);
+}
+
+// The same by the call without erased places.
+fn test_plain<L: Ledger>(
+    rt: &impl Abort,
+    row: &Row<'_>,
+    params: &Params,
+    syndromes: &[Gf; 32],
+    steps: &mut Steps<L>,
+) {
+    let found = located(params, syndromes, steps);
+    assert_eq!(rt; found, locator_of(row.coefs), "for {}", row.name);
+}
+
+// The same by the call that gives the locator's values too.
+fn test_values<L: Ledger>(
+    rt: &impl Abort,
+    row: &Row<'_>,
+    params: &Params,
+    syndromes: &[Gf; 32],
+    steps: &mut Steps<L>,
+) {
+    let n = params.n() as usize;
+    let mut values = [0; 256];
+    let found = locate(params, syndromes, &mut values, steps);
+    assert_eq!(rt;
+        found,
+        locator_of(row.coefs),
+        "with values, for {}",
+        row.name
+    );
+    if let Some(locator) = found {
+        let size = usize::from(locator.degree) + 1;
+        let plain = plain_values_at_places(&locator.coefs[..size], n);
+        assert_eq!(rt; values[..n], plain[..n], "values for {}", row.name);
+    }
+}
+
+// Syndromes of a word without erased places are given to all calls.
 fn test_row<L: Ledger>(rt: &impl Abort, row: &Row<'_>, steps: &mut Steps<L>) {
     let params = Params::new(row.e, row.n).expect(rt, "a code");
-    let n = params.n() as usize;
-    assert!(rt; n <= 255);
+    assert!(rt; params.n() <= 255);
     let syndromes = syndromes_of(row.syndromes);
-    let erased = flags_of(row.erased);
-    let wanted = locator_of(row.coefs);
-    let found = located_with(&params, &syndromes, &erased[..n], steps);
-    assert_eq!(rt; found, wanted, "for {}", row.name);
+    test_places(rt, row, &params, &syndromes, steps);
     if row.erased.len() < 2 {
-        let found = located(&params, &syndromes, steps);
-        assert_eq!(rt; found, wanted, "for {}", row.name);
-        let mut values = [0; 256];
-        let found = locate(&params, &syndromes, &mut values, steps);
-        assert_eq!(rt; found, wanted, "with values, for {}", row.name);
-        if let Some(locator) = found {
-            let size = usize::from(locator.degree) + 1;
-            let plain = plain_values_at_places(&locator.coefs[..size], n);
-            assert_eq!(rt; values[..n], plain[..n], "values for {}", row.name);
-        }
+        test_plain(rt, row, &params, &syndromes, steps);
+        test_values(rt, row, &params, &syndromes, steps);
     }
 }
 

@@ -97,26 +97,56 @@ fn decode_with<L: Ledger>(
     decode_erased(params, repair, erased, word, steps)
 }
 
+// The answer of a row, and the word that is left.
+fn test_places<L: Ledger>(
+    rt: &impl Abort,
+    row: &Row<'_>,
+    params: &Params,
+    word: &[Gf; 255],
+    wanted: &[Gf; 255],
+    steps: &mut Steps<L>,
+)
+    requires { row.now.repair ≤ params.now.e }
+{
+    let n = params.n() as usize;
+    let erased = flags_of(row.erased);
+    let mut left = *word;
+    let answer = decode_with(params, row.repair, &erased[..n], &mut left[..n], steps);
+    assert_eq!(rt; answer, row.answer, "for {}", row.name);
+    assert_eq!(rt; left, *wanted, "for {}", row.name);
+}
+
+// The same by the call without erased places.
+fn test_plain<L: Ledger>(
+    rt: &impl Abort,
+    row: &Row<'_>,
+    params: &Params,
+    word: &[Gf; 255],
+    wanted: &[Gf; 255],
+    steps: &mut Steps<L>,
+)
+    requires { row.now.repair ≤ params.now.e }
+{
+    let n = params.n() as usize;
+    let mut left = *word;
+    let answer = match decode(params, row.repair, &mut left[..n], steps) {
+        Answer::Fixed(wrong) => ErasedAnswer::Fixed(wrong, 0),
+        Answer::Beyond => ErasedAnswer::Beyond,
+    };
+    assert_eq!(rt; answer, row.answer, "for {}", row.name);
+    assert_eq!(rt; left, *wanted, "for {}", row.name);
+}
+
 // A word without erased places is given to both calls.
 fn test_row<L: Ledger>(rt: &impl Abort, row: &Row<'_>, steps: &mut Steps<L>) {
     let n = row.word.len() / 2;
     let params = Params::new(row.e, n as u64).expect(rt, "a code");
     assert!(rt; n <= 255 && params.n() == n as u64 && u64::from(row.repair) <= params.e());
     let word = symbols_of(row.word);
-    let erased = flags_of(row.erased);
     let wanted = changed(&word, row.changes);
-    let mut left = word;
-    let answer = decode_with(&params, row.repair, &erased[..n], &mut left[..n], steps);
-    assert_eq!(rt; answer, row.answer, "for {}", row.name);
-    assert_eq!(rt; left, wanted, "for {}", row.name);
+    test_places(rt, row, &params, &word, &wanted, steps);
     if row.erased.len() < 2 {
-        let mut left = word;
-        let answer = match decode(&params, row.repair, &mut left[..n], steps) {
-            Answer::Fixed(wrong) => ErasedAnswer::Fixed(wrong, 0),
-            Answer::Beyond => ErasedAnswer::Beyond,
-        };
-        assert_eq!(rt; answer, row.answer, "for {}", row.name);
-        assert_eq!(rt; left, wanted, "for {}", row.name);
+        test_plain(rt, row, &params, &word, &wanted, steps);
     }
 }
 

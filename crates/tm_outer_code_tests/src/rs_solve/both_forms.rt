@@ -31,6 +31,42 @@ fn word_with(e: u64, shift: usize, wrong: usize) -> [Gf; 255] {
     word
 }
 
+// Whether both forms agree on a word without erased places.
+fn agree_on_word<L: Ledger>(params: &Params, word: &[Gf; 255], steps: &mut Steps<L>) -> bool
+    requires { params.now.n ≡ 255 }
+{
+    let repair = params.e() as u8;
+    let (mut fast, mut plain) = (*word, *word);
+    decode_word(params, repair, &mut fast, steps)
+        == plain_decode_word(params, repair, &mut plain, steps)
+        && fast == plain
+}
+
+// The same with erased places.
+fn agree_on_erased<L: Ledger>(
+    params: &Params,
+    word: &[Gf; 255],
+    erased: &[bool; 255],
+    steps: &mut Steps<L>,
+) -> bool
+    requires { params.now.n ≡ 255 }
+{
+    let repair = params.e() as u8;
+    let (mut fast, mut plain) = (*word, *word);
+    decode_erased(params, repair, erased, &mut fast, steps)
+        == plain_decode_erased(params, repair, erased, &mut plain, steps)
+        && fast == plain
+}
+
+// So many erased places, seven apart.
+fn erased_places(count: usize) -> [bool; 255] {
+    let mut erased = [false; 255];
+    for i in 0..count {
+        erased[(i % 255 * 7 + 3) % 255] = true;
+    }
+    erased
+}
+
 // Whether both forms agree on a word without erased places, and on the same word with so many.
 fn agree_by<L: Ledger>(blank: Blank, e: u64, word: &[Gf; 255], count: usize) -> bool
     requires name { blank.name ≡ L.name }
@@ -44,18 +80,8 @@ fn agree_by<L: Ledger>(blank: Blank, e: u64, word: &[Gf; 255], count: usize) -> 
     if params.n() != 255 {
         return false;
     }
-    let repair = params.e() as u8;
-    let (mut fast, mut plain) = (*word, *word);
-    let same = decode_word(&params, repair, &mut fast, &mut steps)
-        == plain_decode_word(&params, repair, &mut plain, &mut steps);
-    let mut erased = [false; 255];
-    for i in 0..count {
-        erased[(i % 255 * 7 + 3) % 255] = true;
-    }
-    let (mut fast_erased, mut plain_erased) = (*word, *word);
-    let same_erased = decode_erased(&params, repair, &erased, &mut fast_erased, &mut steps)
-        == plain_decode_erased(&params, repair, &erased, &mut plain_erased, &mut steps);
-    same && fast == plain && same_erased && fast_erased == plain_erased
+    agree_on_word(&params, word, &mut steps)
+        && agree_on_erased(&params, word, &erased_places(count), &mut steps)
 }
 
 fn agree(e: u64, word: &[Gf; 255], count: usize) -> bool {
