@@ -2,6 +2,7 @@
 // those of one thread. And workers that decode windows of a phase that is followed: really side by side, and the same
 // blocks whatever their number.
 ghost use Rattle.std.specs.Prelude.{◌+◌, ◌*◌, ◌^◌, ◌<◌, ◌≤◌, ◌≡◌, ℕ, length};
+ghost use Rattle.tm_conv.specs.Path.{steps_size};
 ghost use Rattle.tm_windows.specs.Candidates.{AreCandidates, HaveRoom, HoldsWindows};
 
 use crate::candidate::Candidate;
@@ -13,6 +14,7 @@ use crate::sharing::decode_evenly;
 use crate::stretch::Stretch;
 use crate::window_workers::new_candidates;
 use std::alloc::{AllocError, Global};
+use std::process::Abort;
 use std::sync::atomic::{AtomicU64, Ordering};
 use std::test::Fail;
 use std::thread::Threads;
@@ -93,9 +95,71 @@ fn decode_wrongly(decoder: &mut WindowDecoder, candidates: &mut [Candidate], fro
     }
 }
 
-#[test]
-fn windows_from_wrong_registers_are_decoded_again(rt: HostRuntime) -> Result<(), Fail> {
-    let alloc = rt.alloc();
+fn empty() -> Digest {
+    Digest {
+        blocks: 0,
+        value: 1,
+    }
+}
+
+// What comes of octets by the decoder of one thread.
+fn decoded_alone(alloc: Global, rate: Rate, octets: &[u8]) -> Result<Digest, Fail> {
+    let mut digest = empty();
+    let mut alone = Decoder::open(alloc, rate, false, Start::Zero, KEEP as u32, AHEAD as u32)?;
+    alone.feed(octets, &mut digest)?;
+    Ok(digest)
+}
+
+fn starts_of(candidates: &[Candidate]) -> [Option<u8>; WINDOWS]
+    requires { length candidates.now ≡ 8 }
+{
+    let mut starts = [None; WINDOWS];
+    for k in 0..WINDOWS {
+        starts[k] = candidates[k].starts;
+    }
+    starts
+}
+
+fn check_differ(rt: &impl Abort, one: [Option<u8>; WINDOWS], other: [Option<u8>; WINDOWS]) {
+    for k in 0..WINDOWS {
+        assert!(rt; one[k] != other[k]);
+    }
+}
+
+// What comes of them where each window is decoded from a wrong register first.
+fn settled(rt: &impl Abort, alloc: Global, rate: Rate, octets: &[u8]) -> Result<Digest, Fail>
+    requires { steps_size rate 0 546 ≤ length octets.now }
+{
+    let shape = WindowShape {
+        rate,
+        invert: false,
+        keep: KEEP,
+        ahead: AHEAD,
+    };
+    let mut decoder = WindowDecoder::new(alloc, shape)?;
+    let mut room = new_candidates(alloc, KEEP + AHEAD, WINDOWS)?;
+    let candidates = room.as_mut_slice();
+    let wrong = Stretch {
+        shape,
+        starts: Some(63),
+        t: 0,
+        octets,
+    };
+    decode_wrongly(&mut decoder, candidates, &wrong);
+    let taken = starts_of(candidates);
+    let mut digest = empty();
+    let from = Stretch {
+        shape,
+        starts: Some(0),
+        t: 0,
+        octets,
+    };
+    settle_run(candidates, &mut decoder, &from, &mut digest)?;
+    check_differ(rt, starts_of(candidates), taken);
+    Ok(digest)
+}
+
+fn drawn_octets() -> [u8; 1092] {
     let mut drawn = [0; 1092];
     let mut x = 1u64;
     for k in 0..drawn.len() {
@@ -104,54 +168,25 @@ fn windows_from_wrong_registers_are_decoded_again(rt: HostRuntime) -> Result<(),
             .wrapping_add(1442695040888963407);
         drawn[k] = (x >> 56) as u8;
     }
-    for rate in [Rate::R12, Rate::R78] {
-        let size = steps_len(rate, 0, WINDOWS * KEEP + AHEAD + 1);
-        assert!(rt; size <= drawn.len());
-        let octets = &drawn[..size];
-        let mut wanted = Digest {
-            blocks: 0,
-            value: 1,
-        };
-        let mut alone = Decoder::open(alloc, rate, false, Start::Zero, KEEP as u32, AHEAD as u32)?;
-        alone.feed(octets, &mut wanted)?;
-        let shape = WindowShape {
-            rate,
-            invert: false,
-            keep: KEEP,
-            ahead: AHEAD,
-        };
-        let mut decoder = WindowDecoder::new(alloc, shape)?;
-        let mut room = new_candidates(alloc, KEEP + AHEAD, WINDOWS)?;
-        let candidates = room.as_mut_slice();
-        let wrong = Stretch {
-            shape,
-            starts: Some(63),
-            t: 0,
-            octets,
-        };
-        decode_wrongly(&mut decoder, candidates, &wrong);
-        let mut taken = [None; WINDOWS];
-        for k in 0..WINDOWS {
-            taken[k] = candidates[k].starts;
-        }
-        let mut digest = Digest {
-            blocks: 0,
-            value: 1,
-        };
-        let from = Stretch {
-            shape,
-            starts: Some(0),
-            t: 0,
-            octets,
-        };
-        settle_run(candidates, &mut decoder, &from, &mut digest)?;
-        for k in 0..WINDOWS {
-            assert!(rt; candidates[k].starts != taken[k]);
-        }
-        assert_eq!(rt; wanted.blocks, WINDOWS as u64);
-        assert_eq!(rt; digest, wanted);
-    }
+    drawn
+}
+
+fn check_rate(rt: &impl Abort, alloc: Global, rate: Rate, drawn: &[u8; 1092]) -> Result<(), Fail> {
+    let size = steps_len(rate, 0, WINDOWS * KEEP + AHEAD + 1);
+    assert!(rt; size <= drawn.len());
+    let octets = &drawn[..size];
+    let wanted = decoded_alone(alloc, rate, octets)?;
+    let digest = settled(rt, alloc, rate, octets)?;
+    assert_eq!(rt; wanted.blocks, WINDOWS as u64);
+    assert_eq!(rt; digest, wanted);
     Ok(())
+}
+
+#[test]
+fn windows_from_wrong_registers_are_decoded_again(rt: HostRuntime) -> Result<(), Fail> {
+    let drawn = drawn_octets();
+    check_rate(&rt, rt.alloc(), Rate::R12, &drawn)?;
+    check_rate(&rt, rt.alloc(), Rate::R78, &drawn)
 }
 
 const TURNS: u64 = 1_000_000_000;
@@ -243,10 +278,7 @@ fn followed<C: Closing>(
     requires long { length octets.now < 2 ^ 59 }
 {
     let mut gathering = Gathering::new(alloc, Start::Zero, FOLLOWED, Some(89), workers, most)?;
-    let mut digest = Digest {
-        blocks: 0,
-        value: 1,
-    };
+    let mut digest = empty();
     gathering.take(closing, octets, &mut digest)?;
     gathering.end(closing, &mut digest)?;
     Ok((digest, gathering.slips))
