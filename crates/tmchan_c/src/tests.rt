@@ -16,6 +16,8 @@ use crate::sender::{
 use crate::totals::TotalsState;
 use crate::unit::{tmchan_cadu, tmchan_cadu_length};
 use crate::version::tmchan_version;
+use std::alloc::Global;
+use std::process::Abort;
 use tm_buffers::Report;
 
 static WORD: [u8; 33] = [
@@ -26,53 +28,71 @@ static WORD: [u8; 33] = [
 
 #[test]
 fn words_are_encoded_and_repaired(rt: HostRuntime) {
+    check_encoding(&rt);
+    let mut word = WORD;
+    check_repair(&rt, &mut word);
+    check_filling_in(&rt, &mut word);
+}
+
+fn check_encoding(rt: &impl Abort) {
     let mut checks = [0; 32];
     assert_eq!(rt; tmchan_rs_encode(16, 1, &WORD[..1], &mut checks), 0);
     assert_eq!(rt; &checks[..], &WORD[1..]);
     assert_eq!(rt; tmchan_rs_encode(16, 1, &WORD[..1], &mut checks[1..]), -2);
     assert_eq!(rt; tmchan_rs_encode(16, 1, &[], &mut checks), -18);
-    let mut word = WORD;
+}
+
+// Two symbols are wrong.
+fn check_repair(rt: &impl Abort, word: &mut [u8; 33]) {
     word[0] = 0;
     word[32] = 0;
-    assert_eq!(rt; tmchan_rs_decode(16, 1, 1, &mut word), -1);
-    assert_eq!(rt; tmchan_rs_decode(16, 1, 2, &mut word), 2);
+    assert_eq!(rt; tmchan_rs_decode(16, 1, 1, word), -1);
+    assert_eq!(rt; tmchan_rs_decode(16, 1, 2, word), 2);
     assert_eq!(rt; &word[..], &WORD[..]);
+}
+
+// All symbols but one are erased.
+fn check_filling_in(rt: &impl Abort, word: &mut [u8; 33]) {
     let mut flags = [0; 33];
     for i in 0..32 {
         word[i] = 0;
         flags[i] = 1;
     }
-    assert_eq!(rt; tmchan_rs_decode_erased(16, 1, 0, &mut word, &flags), 32);
+    assert_eq!(rt; tmchan_rs_decode_erased(16, 1, 0, word, &flags), 32);
     assert_eq!(rt; &word[..], &WORD[..]);
-    assert_eq!(rt;
-        tmchan_rs_decode_erased(16, 1, 0, &mut word, &flags[1..]),
-        -3
-    );
+    assert_eq!(rt; tmchan_rs_decode_erased(16, 1, 0, word, &flags[1..]), -3);
 }
 
 #[test]
 fn units_are_written_and_taken_apart(rt: HostRuntime) {
-    assert_eq!(rt; tmchan_cadu_length(16, 2, 2), 70);
-    assert_eq!(rt; tmchan_cadu_length(16, 2, 3), -18);
+    assert_eq!(rt; tmchan_version(), 512);
     let mut unit = [0; 70];
-    assert_eq!(rt; tmchan_cadu(16, 2, 1, 1, &[1, 0], &mut unit), 0);
-    assert_eq!(rt; tmchan_cadu(16, 2, 1, 1, &[1, 0], &mut unit[1..]), -2);
-    assert_eq!(rt; &unit[..6], &[0x1A, 0xCF, 0xFC, 0x1D, 0xFE, 0x48][..]);
+    check_unit(&rt, &mut unit);
     let block = &mut unit[4..];
     tmchan_randomize(block);
+    check_columns(&rt, block);
+}
+
+fn check_unit(rt: &impl Abort, unit: &mut [u8; 70]) {
+    assert_eq!(rt; tmchan_cadu_length(16, 2, 2), 70);
+    assert_eq!(rt; tmchan_cadu_length(16, 2, 3), -18);
+    assert_eq!(rt; tmchan_cadu(16, 2, 1, 1, &[1, 0], unit), 0);
+    assert_eq!(rt; tmchan_cadu(16, 2, 1, 1, &[1, 0], &mut unit[1..]), -2);
+    assert_eq!(rt; &unit[..6], &[0x1A, 0xCF, 0xFC, 0x1D, 0xFE, 0x48][..]);
+}
+
+fn check_columns(rt: &impl Abort, block: &mut [u8]) {
     let mut word = [0; 33];
     assert_eq!(rt; tmchan_take_column(2, 0, block, &mut word), 0);
     assert_eq!(rt; &word[..], &WORD[..]);
     assert_eq!(rt; tmchan_put_column(2, 1, block, &word), 0);
-    assert_eq!(rt; &block[..6], &[0x01, 0x01, 0x5B, 0x5B, 0x7F, 0x7F][..]);
+    assert!(rt; block.starts_with(&[0x01, 0x01, 0x5B, 0x5B, 0x7F, 0x7F]));
     assert_eq!(rt; tmchan_put_column(2, 2, block, &word), -4);
-    assert_eq!(rt; tmchan_version(), 512);
 }
 
-#[test]
-fn frames_are_sent_and_received_after_handles(rt: HostRuntime) {
-    let alloc = rt.alloc();
-    let mut options = Options {
+// Options as C begins with them.
+fn zeros() -> Options {
+    Options {
         code: 0,
         depth: 0,
         length: 0,
@@ -95,65 +115,108 @@ fn frames_are_sent_and_received_after_handles(rt: HostRuntime) {
         batch: 0,
         pack: 0,
         verify: 0,
-    };
-    assert_eq!(rt; tmchan_config_check(&options), -17);
-    tmchan_config_defaults(&mut options);
-    assert_eq!(rt; tmchan_config_check(&options), 0);
-    options.code = 0;
-    options.length = 3;
-    options.inner = 0;
-    options.randomize = 0;
+    }
+}
+
+#[test]
+fn frames_are_sent_and_received_after_handles(rt: HostRuntime) {
+    let alloc = rt.alloc();
+    let mut options = zeros();
+    fill_in(&rt, &mut options);
     let mut handle = Handle {
         is_open: 0,
         kept: Kept::none(alloc),
     };
     let mut symbols = [0; 20];
+    check_opening(&rt, alloc, &mut handle, &options, &mut symbols);
+    check_sending(&rt, alloc, &mut handle, &options, &mut symbols);
+    check_receiving(&rt, alloc, &mut handle, &options, &symbols[..7]);
+    check_the_end(&rt, alloc, &mut handle);
+}
+
+// Frames of three octets, as they are.
+fn fill_in(rt: &impl Abort, options: &mut Options) {
+    assert_eq!(rt; tmchan_config_check(options), -17);
+    tmchan_config_defaults(options);
+    assert_eq!(rt; tmchan_config_check(options), 0);
+    options.code = 0;
+    options.length = 3;
+    options.inner = 0;
+    options.randomize = 0;
+}
+
+// A handle that is closed takes nothing, and one that is open is not opened.
+fn check_opening(
+    rt: &impl Abort,
+    alloc: Global,
+    handle: &mut Handle,
+    options: &Options,
+    symbols: &mut [u8],
+) {
+    assert_eq!(rt; tmchan_sender_push(alloc, handle, &[1, 2, 3], symbols), -5);
+    assert_eq!(rt; tmchan_sender_open(alloc, handle, options), 0);
+    assert_eq!(rt; tmchan_receiver_open(alloc, handle, options), -6);
+}
+
+fn check_sending(
+    rt: &impl Abort,
+    alloc: Global,
+    handle: &mut Handle,
+    options: &Options,
+    symbols: &mut [u8],
+) {
+    assert_eq!(rt; tmchan_sender_room(options, 4), 15);
     assert_eq!(rt;
-        tmchan_sender_push(alloc, &mut handle, &[1, 2, 3], &mut symbols),
-        -5
-    );
-    assert_eq!(rt; tmchan_sender_open(alloc, &mut handle, &options), 0);
-    assert_eq!(rt; tmchan_receiver_open(alloc, &mut handle, &options), -6);
-    assert_eq!(rt; tmchan_sender_room(&options, 4), 15);
-    assert_eq!(rt;
-        tmchan_sender_push(alloc, &mut handle, &[1, 2, 3, 4], &mut symbols),
+        tmchan_sender_push(alloc, handle, &[1, 2, 3, 4], symbols),
         7
     );
-    assert_eq!(rt; &symbols[..7], &[0x1A, 0xCF, 0xFC, 0x1D, 1, 2, 3][..]);
-    assert_eq!(rt; tmchan_sender_finish(alloc, &mut handle), 1);
-    assert_eq!(rt; tmchan_close(alloc, &mut handle), -5);
+    assert!(rt; symbols.starts_with(&[0x1A, 0xCF, 0xFC, 0x1D, 1, 2, 3]));
+    assert_eq!(rt; tmchan_sender_finish(alloc, handle), 1);
+    assert_eq!(rt; tmchan_close(alloc, handle), -5);
+}
 
-    let none = Report {
-        place: 0,
-        frame_length: 0,
-        distance: 0,
-        bridged: 0,
-        inverted: 0,
-        columns: 0,
-        repaired: [0; 8],
-    };
-    let mut reports = [none; 2];
-    let mut frames = [0; 6];
+fn check_receiving(
+    rt: &impl Abort,
+    alloc: Global,
+    handle: &mut Handle,
+    options: &Options,
+    symbols: &[u8],
+) {
     let mut octets = 0;
+    assert_eq!(rt; tmchan_receiver_room(options, 7, &mut octets), 33);
+    assert_eq!(rt; octets, 99);
+    assert_eq!(rt; tmchan_receiver_open(alloc, handle, options), 0);
+    assert_eq!(rt;
+        tmchan_receiver_push(alloc, handle, symbols, &mut [0; 6], &mut [NONE; 2]),
+        0
+    );
+    assert_eq!(rt; tmchan_receiver_slips(alloc, handle, &mut octets), 0);
+    assert_eq!(rt; octets, 0);
+}
+
+// No report.
+const NONE: Report = Report {
+    place: 0,
+    frame_length: 0,
+    distance: 0,
+    bridged: 0,
+    inverted: 0,
+    columns: 0,
+    repaired: [0; 8],
+};
+
+fn check_the_end(rt: &impl Abort, alloc: Global, handle: &mut Handle) {
+    let mut frames = [0; 6];
+    let mut reports = [NONE; 2];
     let mut totals = TotalsState { bits: 1, slips: 1 };
     let mut phase = PhaseState {
         is_chosen: 1,
         skip: 1,
         cost: 1,
     };
-    assert_eq!(rt; tmchan_receiver_room(&options, 7, &mut octets), 33);
-    assert_eq!(rt; octets, 99);
-    assert_eq!(rt; tmchan_receiver_open(alloc, &mut handle, &options), 0);
-    let received = &symbols[..7];
-    assert_eq!(rt;
-        tmchan_receiver_push(alloc, &mut handle, received, &mut frames, &mut reports),
-        0
-    );
-    assert_eq!(rt; tmchan_receiver_slips(alloc, &mut handle, &mut octets), 0);
-    assert_eq!(rt; octets, 0);
     let count = tmchan_receiver_finish(
         alloc,
-        &mut handle,
+        handle,
         &mut frames,
         &mut reports,
         &mut totals,
