@@ -1,11 +1,14 @@
 // What comes of columns with wrong octets, and of symbols whose phase is to be found.
 
+use crate::receiving::{feed, finish};
 use std::alloc::Global;
 use std::process::Abort;
 use std::test::Fail;
 use std::thread::Threads;
 use tm_base::{Failed, MemSink, Sink};
-use tm_channel::{Answer, Config, Item, ItemTaker, OpenGate, Raw, Receiver, Sender, receive_all};
+use tm_channel::{
+    AllError, Answer, Config, Item, ItemTaker, Raw, Receiver, RecvError, Sender, receive_all,
+};
 
 // The sync marker, and the codeblock of the frame 7B: the coefficients of the generator of the code that corrects 16
 // errors, in the dual basis.
@@ -62,16 +65,30 @@ fn receive<R: Abort + Threads + Sync>(
     phase: u64,
     octets: &[u8],
 ) -> Result<Last, Fail> {
-    let config = Config::check(&raw(inner, phase))?;
     let mut last = Last {
         phase: None,
         count: 0,
         answer: None,
         octet: None,
     };
-    receive_all(rt, alloc, config, octets, &mut last)?;
+    take_all(rt, alloc, config_of(&raw(inner, phase))?, octets, &mut last)?;
     assert!(rt; last.count == 1);
     Ok(last)
+}
+
+fn take_all(
+    rt: &(impl Threads + Sync),
+    alloc: Global,
+    config: Config,
+    octets: &[u8],
+    last: &mut Last,
+) -> Result<(), AllError> {
+    receive_all(rt, alloc, config, octets, last)?;
+    Ok(())
+}
+
+fn config_of(raw: &Raw) -> Result<Config, Fail> {
+    Ok(Config::check(raw)?)
 }
 
 // Frames of one octet, not randomized, and windows of 64 steps.
@@ -119,7 +136,7 @@ fn the_phase_comes_before_the_item(rt: HostRuntime) -> Result<(), Fail> {
     let alloc = rt.alloc();
     let mut sink = MemSink::new(alloc, 593, Vec::new(alloc))?;
     sink.write(&[0xFF])?;
-    let mut sender = Sender::new(Config::check(&raw(12, 0))?);
+    let mut sender = Sender::new(config_of(&raw(12, 0))?);
     sender.push(&[0x7B], &mut sink)?;
     let last = receive(&rt, alloc, 12, 1, sink.octets())?;
     assert!(rt; last.phase == Some((1, 0)));
@@ -203,42 +220,57 @@ fn disturbed() -> [u8; 1480] {
     octets
 }
 
-// What came of octets that many workers decoded, and of all bits how many.
-fn receive_by_workers<R: Abort + Threads + Sync>(
-    rt: &R,
-    alloc: Global,
-    config: Config,
+// Takes octets that many workers decode.
+fn receive_by_workers(
+    rt: &(impl Threads + Sync),
+    receiver: &mut Receiver,
     octets: &[u8],
-) -> Result<Digest, Fail> {
-    let mut taken = Digest::new();
-    let mut receiver = Receiver::open(alloc, config)?;
-    receiver.feed(rt, octets, &mut taken, &OpenGate)?;
-    let totals = receiver.finish(rt, &mut taken, &OpenGate)?;
-    taken.add(totals.bits);
-    Ok(taken)
+    taken: &mut Digest,
+) -> Result<(), RecvError> {
+    feed(rt, receiver, octets, taken)?;
+    let bits = finish(rt, receiver, taken)?;
+    taken.add(bits);
+    Ok(())
 }
 
-// What came of octets that were given in pieces, and that the caller alone decoded.
-fn receive_alone(alloc: Global, config: Config, octets: &[u8]) -> Result<Digest, Fail> {
-    let mut taken = Digest::new();
-    let mut receiver = Receiver::open(alloc, config)?;
+fn feed_alone(receiver: &mut Receiver, octets: &[u8], taken: &mut Digest) -> Result<(), RecvError> {
+    receiver.feed_in_order(octets, taken)
+}
+
+fn finish_alone(receiver: &mut Receiver, taken: &mut Digest) -> Result<u64, RecvError> {
+    Ok(receiver.finish_in_order(taken)?.bits)
+}
+
+// Takes octets that are given in pieces, and that the caller alone decodes.
+fn receive_alone(
+    receiver: &mut Receiver,
+    octets: &[u8],
+    taken: &mut Digest,
+) -> Result<(), RecvError> {
     for piece in octets.chunks(700) {
-        receiver.feed_in_order(piece, &mut taken)?;
+        feed_alone(receiver, piece, taken)?;
     }
-    let totals = receiver.finish_in_order(&mut taken)?;
-    taken.add(totals.bits);
-    Ok(taken)
+    let bits = finish_alone(receiver, taken)?;
+    taken.add(bits);
+    Ok(())
+}
+
+// A receiver of three workers.
+fn open(alloc: Global) -> Result<Receiver, Fail> {
+    let raw = Raw {
+        workers: 3,
+        ..raw(0, 0)
+    };
+    Ok(Receiver::open(alloc, config_of(&raw)?)?)
 }
 
 #[test]
 fn in_order_the_same_is_handed_over(rt: HostRuntime) -> Result<(), Fail> {
-    let config = Config::check(&Raw {
-        workers: 3,
-        ..raw(0, 0)
-    })?;
     let octets = disturbed();
-    let by_workers = receive_by_workers(&rt, rt.alloc(), config, &octets)?;
-    let alone = receive_alone(rt.alloc(), config, &octets)?;
+    let mut by_workers = Digest::new();
+    receive_by_workers(&rt, &mut open(rt.alloc())?, &octets, &mut by_workers)?;
+    let mut alone = Digest::new();
+    receive_alone(&mut open(rt.alloc())?, &octets, &mut alone)?;
     assert!(rt; by_workers.count == 40);
     assert!(rt; alone.count == 40);
     assert!(rt; alone.number == by_workers.number);

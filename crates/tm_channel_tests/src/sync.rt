@@ -79,6 +79,21 @@ fn searched(
     Ok((found, search.finish()))
 }
 
+// A search finds just these places, and so many bits are left after the last one's codeblock.
+fn check_search(
+    rt: &impl Abort,
+    alloc: Global,
+    rules: Rules,
+    bits: &[bool],
+    places: &[Found],
+    left: u64,
+) -> Result<(), AllocError> {
+    let (found, rest) = searched(rt, alloc, rules, bits)?;
+    assert_eq!(rt; found.as_slice(), places, "{rules:?}");
+    assert_eq!(rt; rest, left, "{rules:?}");
+    Ok(())
+}
+
 fn plain(place: u64, distance: u8) -> Found {
     Found {
         place,
@@ -119,12 +134,15 @@ fn rules_of(tolerance: u8, fly: u8, either: bool, block_bits: u32) -> Rules {
 #[test]
 fn marker_with_a_wrong_bit_is_found_within_the_tolerance(rt: HostRuntime) -> Result<(), Fail> {
     let bits = bits_of(rt.alloc(), &[&[0x1A, 0xCF, 0xFC, 0x1C], &CODEBLOCK])?;
-    let (found, rest) = searched(&rt, rt.alloc(), rules_of(0, 0, false, 264), &bits)?;
-    assert_eq!(rt; found.len(), 0);
-    assert_eq!(rt; rest, 296);
-    let (found, rest) = searched(&rt, rt.alloc(), rules_of(1, 0, false, 264), &bits)?;
-    assert_eq!(rt; found.as_slice(), [plain(0, 1)].as_slice());
-    assert_eq!(rt; rest, 0);
+    check_search(&rt, rt.alloc(), rules_of(0, 0, false, 264), &bits, &[], 296)?;
+    check_search(
+        &rt,
+        rt.alloc(),
+        rules_of(1, 0, false, 264),
+        &bits,
+        &[plain(0, 1)],
+        0,
+    )?;
     Ok(())
 }
 
@@ -134,12 +152,22 @@ fn first_place_within_the_tolerance_is_taken(rt: HostRuntime) -> Result<(), Fail
         rt.alloc(),
         &[&[0x1A, 0xCF, 0xFC, 0x1C], &MARKER, &CODEBLOCK],
     )?;
-    let (found, rest) = searched(&rt, rt.alloc(), rules_of(1, 0, false, 264), &bits)?;
-    assert_eq!(rt; found.as_slice(), [plain(0, 1)].as_slice());
-    assert_eq!(rt; rest, 32);
-    let (found, rest) = searched(&rt, rt.alloc(), rules_of(0, 0, false, 264), &bits)?;
-    assert_eq!(rt; found.as_slice(), [plain(32, 0)].as_slice());
-    assert_eq!(rt; rest, 0);
+    check_search(
+        &rt,
+        rt.alloc(),
+        rules_of(1, 0, false, 264),
+        &bits,
+        &[plain(0, 1)],
+        32,
+    )?;
+    check_search(
+        &rt,
+        rt.alloc(),
+        rules_of(0, 0, false, 264),
+        &bits,
+        &[plain(32, 0)],
+        0,
+    )?;
     Ok(())
 }
 
@@ -151,15 +179,22 @@ fn missing_marker_is_bridged(rt: HostRuntime) -> Result<(), Fail> {
             &MARKER, &CODEBLOCK, &[0; 4], &CODEBLOCK, &MARKER, &CODEBLOCK,
         ],
     )?;
-    let (found, rest) = searched(&rt, rt.alloc(), rules_of(0, 1, false, 264), &bits)?;
-    assert_eq!(rt;
-        found.as_slice(),
-        [plain(0, 0), bridged(296, 19), plain(592, 0)].as_slice()
-    );
-    assert_eq!(rt; rest, 0);
-    let (found, rest) = searched(&rt, rt.alloc(), rules_of(0, 0, false, 264), &bits)?;
-    assert_eq!(rt; found.as_slice(), [plain(0, 0), plain(592, 0)].as_slice());
-    assert_eq!(rt; rest, 0);
+    check_search(
+        &rt,
+        rt.alloc(),
+        rules_of(0, 1, false, 264),
+        &bits,
+        &[plain(0, 0), bridged(296, 19), plain(592, 0)],
+        0,
+    )?;
+    check_search(
+        &rt,
+        rt.alloc(),
+        rules_of(0, 0, false, 264),
+        &bits,
+        &[plain(0, 0), plain(592, 0)],
+        0,
+    )?;
     Ok(())
 }
 
@@ -171,12 +206,14 @@ fn no_more_markers_in_a_row_are_bridged_than_given(rt: HostRuntime) -> Result<()
             &MARKER, &CODEBLOCK, &[0; 4], &CODEBLOCK, &[0; 4], &CODEBLOCK, &MARKER, &CODEBLOCK,
         ],
     )?;
-    let (found, rest) = searched(&rt, rt.alloc(), rules_of(0, 1, false, 264), &bits)?;
-    assert_eq!(rt;
-        found.as_slice(),
-        [plain(0, 0), bridged(296, 19), plain(888, 0)].as_slice()
-    );
-    assert_eq!(rt; rest, 0);
+    check_search(
+        &rt,
+        rt.alloc(),
+        rules_of(0, 1, false, 264),
+        &bits,
+        &[plain(0, 0), bridged(296, 19), plain(888, 0)],
+        0,
+    )?;
     Ok(())
 }
 
@@ -186,12 +223,15 @@ fn inverted_marker_is_found(rt: HostRuntime) -> Result<(), Fail> {
     for bit in &mut bits {
         *bit = !*bit;
     }
-    let (found, rest) = searched(&rt, rt.alloc(), rules_of(0, 0, true, 264), &bits)?;
-    assert_eq!(rt; found.as_slice(), [inverted(0, 0)].as_slice());
-    assert_eq!(rt; rest, 0);
-    let (found, rest) = searched(&rt, rt.alloc(), rules_of(0, 0, false, 264), &bits)?;
-    assert_eq!(rt; found.len(), 0);
-    assert_eq!(rt; rest, 296);
+    check_search(
+        &rt,
+        rt.alloc(),
+        rules_of(0, 0, true, 264),
+        &bits,
+        &[inverted(0, 0)],
+        0,
+    )?;
+    check_search(&rt, rt.alloc(), rules_of(0, 0, false, 264), &bits, &[], 296)?;
     Ok(())
 }
 
@@ -201,9 +241,14 @@ fn marker_inside_a_codeblock_is_not_searched(rt: HostRuntime) -> Result<(), Fail
         rt.alloc(),
         &[&MARKER, &[0], &MARKER, &[0], &MARKER, &[0; 6]],
     )?;
-    let (found, rest) = searched(&rt, rt.alloc(), rules_of(0, 0, false, 48), &bits)?;
-    assert_eq!(rt; found.as_slice(), [plain(0, 0), plain(80, 0)].as_slice());
-    assert_eq!(rt; rest, 0);
+    check_search(
+        &rt,
+        rt.alloc(),
+        rules_of(0, 0, false, 48),
+        &bits,
+        &[plain(0, 0), plain(80, 0)],
+        0,
+    )?;
     Ok(())
 }
 
@@ -216,24 +261,29 @@ fn inside_counts_after_each_kind_of_marker(rt: HostRuntime) -> Result<(), Fail> 
     let mut search = Search::new(0, 1, true, 8, 0);
     let mut given = 0;
     for &bit in &bits {
-        assert!(rt; !search.pending());
-        search.push_bit(&mut [], bit);
         given = u64::saturating_add(given, 1);
-        let part = if given % 40 == 0 { 40 } else { given % 40 };
-        assert_eq!(rt;
-            search.inside(),
-            u64::checked_sub(part, 32),
-            "after {given} bits"
-        );
-        assert_eq!(rt; search.pending(), part == 40, "after {given} bits");
-        match search.next(&[]) {
-            Some(found) => assert_eq!(rt; found.bridged, given == 80),
-            None => {}
-        }
+        check_bit(&rt, &mut search, bit, given);
     }
     assert_eq!(rt; search.finish(), 0);
     laws();
     Ok(())
+}
+
+// The next bit, after which so many are given: the last of each 40 ends a codeblock, and the marker of the second is missing.
+fn check_bit(rt: &impl Abort, search: &mut Search, bit: bool, given: u64) {
+    assert!(rt; !search.pending());
+    search.push_bit(&mut [], bit);
+    let part = if given % 40 == 0 { 40 } else { given % 40 };
+    assert_eq!(rt;
+        search.inside(),
+        u64::checked_sub(part, 32),
+        "after {given} bits"
+    );
+    assert_eq!(rt; search.pending(), part == 40, "after {given} bits");
+    match search.next(&[]) {
+        Some(found) => assert_eq!(rt; found.bridged, given == 80),
+        None => {}
+    }
 }
 
 fn laws() {
@@ -364,35 +414,43 @@ fn step(state: u64) -> u64 {
     second ^ (second << 17)
 }
 
-// A list of up to six codeblocks: with gaps now and then, and with markers that have some wrong bits, are missing or
-// are inverted.
+// Appends the lowest bits of a number, the lowest first, and the same again after 32 of them.
+fn add_bits(bits: &mut Vec<bool>, number: u64, count: u32) -> Result<(), AllocError> {
+    for k in 0..count {
+        bits.push(number >> (k & 31) & 1 == 1)?;
+    }
+    Ok(())
+}
+
+// Draws a marker that may have some wrong bits, be missing or be inverted, and appends its bits.
+fn add_marker(bits: &mut Vec<bool>, state: u64) -> Result<u64, AllocError> {
+    let mut state = step(state);
+    let complemented = if state >> 8 & 3 == 0 { u32::MAX } else { 0 };
+    let mut marker = u32::from_be_bytes(MARKER) ^ complemented;
+    for _ in 0..state >> 16 & 15 {
+        state = step(state);
+        marker ^= 1 << (state >> 20 & 31);
+    }
+    if state >> 40 & 3 == 0 {
+        marker = (step(state) & 0xFFFF_FFFF) as u32;
+    }
+    for k in 0..32 {
+        bits.push(marker.rotate_left(k) >> 31 == 1)?;
+    }
+    Ok(state)
+}
+
+// A list of up to six codeblocks, with gaps now and then.
 fn drawn_bits(alloc: Global, seed: u64, block_bits: u32) -> Result<Vec<bool>, AllocError> {
     let mut bits = Vec::new(alloc);
     let mut state = seed;
     for _ in 0..2 + seed % 5 {
         state = step(state);
         if state % 4 == 0 {
-            for k in 0..state >> 8 & 7 {
-                bits.push(state >> (16 + k) & 1 == 1)?;
-            }
+            add_bits(&mut bits, state >> 16, (state >> 8 & 7) as u32)?;
         }
-        state = step(state);
-        let complemented = if state >> 8 & 3 == 0 { u32::MAX } else { 0 };
-        let mut marker = u32::from_be_bytes(MARKER) ^ complemented;
-        for _ in 0..state >> 16 & 15 {
-            state = step(state);
-            marker ^= 1 << (state >> 20 & 31);
-        }
-        if state >> 40 & 3 == 0 {
-            marker = (step(state) & 0xFFFF_FFFF) as u32;
-        }
-        for k in 0..32 {
-            bits.push(marker.rotate_left(k) >> 31 == 1)?;
-        }
-        state = step(state);
-        for k in 0..block_bits {
-            bits.push(state >> (k & 31) & 1 == 1)?;
-        }
+        state = step(add_marker(&mut bits, state)?);
+        add_bits(&mut bits, state, block_bits)?;
     }
     Ok(bits)
 }
@@ -418,16 +476,16 @@ fn place_that_further_markers_verify_is_found_with_those_after_it(
     )?;
     let mut rules = rules_of(0, 0, false, 8);
     rules.verify = 1;
-    let (found, rest) = searched(&rt, rt.alloc(), rules, &bits)?;
-    assert_eq!(rt;
-        found.as_slice(),
-        [plain(48, 0), plain(88, 0), plain(128, 0)].as_slice()
-    );
-    assert_eq!(rt; rest, 0);
+    check_search(
+        &rt,
+        rt.alloc(),
+        rules,
+        &bits,
+        &[plain(48, 0), plain(88, 0), plain(128, 0)],
+        0,
+    )?;
     rules.verify = 3;
-    let (found, rest) = searched(&rt, rt.alloc(), rules, &bits)?;
-    assert_eq!(rt; found.len(), 0);
-    assert_eq!(rt; rest, 168);
+    check_search(&rt, rt.alloc(), rules, &bits, &[], 168)?;
     Ok(())
 }
 
@@ -440,73 +498,130 @@ fn place_is_found_with_the_marker_that_verifies_it(rt: HostRuntime) -> Result<()
     )?;
     let mut rules = rules_of(0, 0, false, 8);
     rules.verify = 1;
-    let (found, rest) = searched(&rt, rt.alloc(), rules, &bits)?;
-    assert_eq!(rt; found.as_slice(), [plain(48, 0)].as_slice());
-    assert_eq!(rt; rest, 32);
+    check_search(&rt, rt.alloc(), rules, &bits, &[plain(48, 0)], 32)?;
     Ok(())
+}
+
+// How many places were bridged, inverted, and verified by further markers.
+#[derive(Drop)]
+struct Seen {
+    bridges: u64,
+    complemented: u64,
+    verified: u64,
+}
+
+impl Seen {
+    fn add(&mut self, place: &Found, verify: u8) {
+        self.bridges = self.bridges.saturating_add(u64::from(place.bridged));
+        self.complemented = self.complemented.saturating_add(u64::from(place.inverted));
+        self.verified = self.verified.saturating_add(u64::from(verify));
+    }
+}
+
+// A search finds the places of the definition in the bits of a seed.
+fn check_places(
+    rt: &impl Abort,
+    alloc: Global,
+    seed: u64,
+    bits: &[bool],
+    rules: Rules,
+    seen: &mut Seen,
+) -> Result<(), AllocError> {
+    let (found, rest) = searched(rt, alloc, rules, bits)?;
+    let (wanted, after) = defined(alloc, rules, bits)?;
+    assert_eq!(rt; found.as_slice(), wanted.as_slice(), "{rules:?} at {seed}");
+    assert_eq!(rt; rest, after, "{rules:?} at {seed}");
+    for place in &found {
+        seen.add(place, rules.verify);
+    }
+    Ok(())
+}
+
+// The same by all rules of a tolerance.
+fn check_tolerance(
+    rt: &impl Abort,
+    alloc: Global,
+    seed: u64,
+    bits: &[bool],
+    tolerance: u8,
+    seen: &mut Seen,
+) -> Result<(), AllocError> {
+    for fly in 0..3 {
+        for either in [false, true] {
+            let mut rules = rules_of(tolerance, fly, either, block_bits_of(seed));
+            rules.verify = ((seed % 3 + u64::from(tolerance) + u64::from(fly)) % 3) as u8;
+            check_places(rt, alloc, seed, bits, rules, seen)?;
+        }
+    }
+    Ok(())
+}
+
+fn block_bits_of(seed: u64) -> u32 {
+    1 + (seed % 5) as u32
 }
 
 #[test]
 fn search_finds_the_places_of_the_definition(rt: HostRuntime) -> Result<(), Fail> {
-    let mut bridges: u64 = 0;
-    let mut complemented: u64 = 0;
-    let mut verified: u64 = 0;
+    let mut seen = Seen {
+        bridges: 0,
+        complemented: 0,
+        verified: 0,
+    };
     for seed in 1..121 {
-        let block_bits = 1 + (seed % 5) as u32;
-        let bits = drawn_bits(rt.alloc(), step(step(seed)), block_bits)?;
+        let bits = drawn_bits(rt.alloc(), step(step(seed)), block_bits_of(seed))?;
         for tolerance in 0..9 {
-            for fly in 0..3 {
-                for either in [false, true] {
-                    let mut rules = rules_of(tolerance, fly, either, block_bits);
-                    rules.verify = ((seed + u64::from(tolerance) + u64::from(fly)) % 3) as u8;
-                    let (found, rest) = searched(&rt, rt.alloc(), rules, &bits)?;
-                    let (wanted, after) = defined(rt.alloc(), rules, &bits)?;
-                    assert_eq!(rt; found.as_slice(), wanted.as_slice(), "{rules:?} at {seed}");
-                    assert_eq!(rt; rest, after, "{rules:?} at {seed}");
-                    for place in &found {
-                        bridges = bridges.saturating_add(u64::from(place.bridged));
-                        complemented = complemented.saturating_add(u64::from(place.inverted));
-                        verified = verified.saturating_add(u64::from(rules.verify));
-                    }
-                }
-            }
+            check_tolerance(&rt, rt.alloc(), seed, &bits, tolerance, &mut seen)?;
         }
     }
-    assert!(rt; bridges > 100);
-    assert!(rt; complemented > 100);
-    assert!(rt; verified > 100);
+    assert!(rt; seen.bridges > 100);
+    assert!(rt; seen.complemented > 100);
+    assert!(rt; seen.verified > 100);
     Ok(())
 }
 
-// Pushes four octets where no codeblock of 33 bits becomes whole.
-fn push_four(rt: &impl Abort, search: &mut Search, octets: [u8; 4])
+// Pushes an octet where no codeblock of 33 bits becomes whole.
+fn push_octet(rt: &impl Abort, search: &mut Search, octet: u8)
     requires block { search.old.rules.block_bits ≡ 33 }
     requires alone { search.old.rules.verify ≡ 0 }
     ensures { search.new.rules ≡ search.old.rules }
 {
     assert!(rt; search.inside().unwrap_or(0) <= 25);
-    search.push_octet(octets[0]);
-    assert!(rt; search.inside().unwrap_or(0) <= 25);
-    search.push_octet(octets[1]);
-    assert!(rt; search.inside().unwrap_or(0) <= 25);
-    search.push_octet(octets[2]);
-    assert!(rt; search.inside().unwrap_or(0) <= 25);
-    search.push_octet(octets[3]);
+    search.push_octet(octet);
 }
 
-#[test]
-fn octets_are_taken_as_their_bits(rt: HostRuntime) {
-    // Two codeblocks of 33 bits, so that the second marker begins at the second bit of an octet.
-    let mut search = Search::new(0, 0, false, 33, 0);
-    push_four(&rt, &mut search, MARKER);
+// The same of four octets.
+fn push_four(rt: &impl Abort, search: &mut Search, octets: [u8; 4])
+    requires block { search.old.rules.block_bits ≡ 33 }
+    requires alone { search.old.rules.verify ≡ 0 }
+    ensures { search.new.rules ≡ search.old.rules }
+{
+    push_octet(rt, search, octets[0]);
+    push_octet(rt, search, octets[1]);
+    push_octet(rt, search, octets[2]);
+    push_octet(rt, search, octets[3]);
+}
+
+// The first of two codeblocks of 33 bits, so that the second marker begins at the second bit of an octet.
+fn check_first(rt: &impl Abort, search: &mut Search)
+    requires block { search.old.rules.block_bits ≡ 33 }
+    requires alone { search.old.rules.verify ≡ 0 }
+    ensures { search.new.rules ≡ search.old.rules }
+{
+    push_four(rt, search, MARKER);
     assert_eq!(rt; search.inside(), Some(0));
     search.push_octets(&[0xFF, 0x00, 0xFF]);
     search.push_octet(0x00);
     assert_eq!(rt; search.inside(), Some(32));
     search.push_bit(&mut [], true);
+}
+
+#[test]
+fn octets_are_taken_as_their_bits(rt: HostRuntime) {
+    let mut search = Search::new(0, 0, false, 33, 0);
+    check_first(&rt, &mut search);
     assert_eq!(rt; search.next(&[]), Some(plain(0, 0)));
     push_four(&rt, &mut search, [0x0D, 0x67, 0xFE, 0x0E]);
     assert_eq!(rt; search.inside(), None);
-    search.push_octet(0xD5);
+    push_octet(&rt, &mut search, 0xD5);
     assert_eq!(rt; search.inside(), Some(7));
 }

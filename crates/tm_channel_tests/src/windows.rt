@@ -1,9 +1,10 @@
 // Windows that many workers decode side by side.
+use crate::receiving::{feed, finish};
 use std::alloc::Global;
 use std::test::Fail;
 use std::thread::Threads;
 use tm_base::{Failed, MemSink};
-use tm_channel::{Config, Item, ItemTaker, OpenGate, Raw, Receiver, Sender};
+use tm_channel::{Config, Item, ItemTaker, Raw, Receiver, RecvError, Sender};
 
 // Keeps one number that goes on with the place and the first octet of each item, and with each turn after it.
 #[derive(Drop)]
@@ -56,39 +57,59 @@ fn raw(workers: u64) -> Raw {
     }
 }
 
+fn config(workers: u64) -> Result<Config, Fail> {
+    Ok(Config::check(&raw(workers))?)
+}
+
+fn send(alloc: Global, frames: &[u8]) -> Result<MemSink, Fail> {
+    let mut sink = MemSink::new(alloc, 30_000, Vec::new(alloc))?;
+    Sender::new(config(1)?).push(frames, &mut sink)?;
+    Ok(sink)
+}
+
 // The soft octets of 40 frames, one in 61 of them for the other symbol.
 fn sent(alloc: Global) -> Result<Vec<u8>, Fail> {
-    let mut sink = MemSink::new(alloc, 30_000, Vec::new(alloc))?;
-    let mut sender = Sender::new(Config::check(&raw(1))?);
     let mut frames = [0; 40];
     for k in 0..40u8 {
         frames[usize::from(k)] = k;
     }
-    sender.push(&frames, &mut sink)?;
-    let mut soft = Vec::new(alloc);
-    for k in 0..sink.octets().len() {
-        let octet = sink.octets()[k];
-        soft.push(if k % 61 == 7 { !octet } else { octet })?;
+    let mut soft = send(alloc, &frames)?.octets().to_vec(alloc)?;
+    for k in 0..soft.len() {
+        if k % 61 == 7 {
+            soft[k] = !soft[k];
+        }
     }
     Ok(soft)
 }
 
+// Takes pieces of this size.
+fn take(
+    rt: &(impl Threads + Sync),
+    receiver: &mut Receiver,
+    size: usize,
+    soft: &[u8],
+    taker: &mut Digest,
+) -> Result<(), RecvError> {
+    for piece in soft.chunks(size.max(1)) {
+        feed(rt, receiver, piece, taker)?;
+        taker.add(1);
+    }
+    let bits = finish(rt, receiver, taker)?;
+    taker.add(bits);
+    Ok(())
+}
+
 // What comes of pieces of this size.
-fn received<R: Threads + Sync>(
-    rt: &R,
+fn received(
+    rt: &(impl Threads + Sync),
     alloc: Global,
     workers: u64,
     size: usize,
     soft: &[u8],
 ) -> Result<u64, Fail> {
-    let mut receiver = Receiver::open(alloc, Config::check(&raw(workers))?)?;
+    let mut receiver = Receiver::open(alloc, config(workers)?)?;
     let mut taker = Digest { number: 0 };
-    for piece in soft.chunks(size.max(1)) {
-        receiver.feed(rt, piece, &mut taker, &OpenGate)?;
-        taker.add(1);
-    }
-    let totals = receiver.finish(rt, &mut taker, &OpenGate)?;
-    taker.add(totals.bits);
+    take(rt, &mut receiver, size, soft, &mut taker)?;
     Ok(taker.number)
 }
 
