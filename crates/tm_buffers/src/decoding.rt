@@ -17,7 +17,7 @@ use std::marker::Model;
 use tm_base::NoMemory;
 use tm_config::Config;
 use tm_inner::InnerReceiver;
-use tm_phase::Chosen;
+use tm_windows::Chosen;
 
 /// A decoder of the inner code whose bits go to a buffer.
 #[derive(Drop)]

@@ -19,7 +19,7 @@ use tm_base::NoMemory;
 use tm_channel::{Receiver, Totals};
 use tm_codeblock::codeblock_size;
 use tm_config::Config;
-use tm_phase::Chosen;
+use tm_windows::Chosen;
 
 /// A receiver whose items go to buffers. It starts no thread.
 #[derive(Drop)]

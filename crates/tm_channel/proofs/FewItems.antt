@@ -13,7 +13,7 @@ use Rattle.tm_interleave.specs.Interleaved.{interleaved}
 use Rattle.tm_interleave.proofs.Columns.{length-interleaved}
 use Rattle.tm_viterbi.specs.WindowBlock.{WindowBlock}
 use Rattle.tm_viterbi.specs.Clean.{kept_bits}
-use Rattle.tm_phase.specs.declared.choosing.Chosen.{Chosen}
+use Rattle.tm_windows.specs.declared.choosing.Chosen.{Chosen}
 use Rattle.tm_inner.specs.Inner.{plain_bits, plain_count, bits_at, inner_bits}
 use Rattle.tm_inner.specs.Phase.{with_phase}
 use Rattle.tm_inner.specs.Handing.{AreHandedDue}

@@ -2,7 +2,7 @@
 use Rattle.std.proofs.Common.{◌≡◌, ℕ, Bool, List, ◌++◌, refl, sym, ◌∙◌, subst, Option}
 use Rattle.tm_base.specs.Handed.{Handed}
 use Rattle.tm_config.specs.Configuration.{Configuration}
-use Rattle.tm_phase.specs.declared.choosing.Chosen.{Chosen}
+use Rattle.tm_windows.specs.declared.choosing.Chosen.{Chosen}
 use Rattle.tm_viterbi.specs.WindowBlock.{WindowBlock}
 use Rattle.tm_inner.specs.Inner.{AreInnerBlocks, Inner}
 use Rattle.tm_inner.specs.Phase.{WithPhase, skip_of}

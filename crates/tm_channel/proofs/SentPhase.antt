@@ -21,8 +21,8 @@ use Rattle.tm_viterbi.specs.Clean.{complemented_octets}
 use Rattle.tm_viterbi.specs.Starts.{starts_from}
 use Rattle.tm_viterbi.proofs.CleanBlocks.{steps-mono}
 use Rattle.tm_viterbi.proofs.HasBlocks.{HasBest}
-use Rattle.tm_phase.specs.declared.choosing.Chosen.{Chosen}
-use Rattle.tm_phase.specs.Phase.{AreCompared, IsCostAt, IsPhase, octets_at, period_size}
+use Rattle.tm_windows.specs.declared.choosing.Chosen.{Chosen}
+use Rattle.tm_windows.specs.Phase.{AreCompared, IsCostAt, IsPhase, octets_at, period_size}
 use Rattle.tm_inner.specs.Inner.{Inner, IsStartKnown, soft_value}
 use Rattle.tm_inner.specs.Phase.{IsChosen, PhaseAt, with_phase, phase_octets, skip_of, skipped_at}
 use Rattle.tm_inner.specs.Symbols.{is_inverted, low_level, symbols_by}

@@ -2,7 +2,7 @@
 use Rattle.std.proofs.Common.{◌≡◌, List, [], ◌∷◌, ◌++◌, map, refl, sym, ap, ◌∙◌, Option, Some, None}
 use Rattle.tm_base.specs.Handed.{Handed, Phase, Item}
 use Rattle.tm_base.specs.Takers.{HandedPart}
-use Rattle.tm_phase.specs.declared.choosing.Chosen.{Chosen}
+use Rattle.tm_windows.specs.declared.choosing.Chosen.{Chosen}
 use Rattle.tm_inner.specs.Phase.{with_phase}
 use Rattle.tm_inner.proofs.PhasePieces.{further}
 use Rattle.tm_channel.specs.Handing.{phase_from, phase_of}

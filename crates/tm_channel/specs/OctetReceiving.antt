@@ -9,7 +9,7 @@ use Rattle.tm_viterbi.specs.WindowBlock.{WindowBlock}
 use Rattle.tm_viterbi.specs.Clean.{kept_bits}
 use Rattle.tm_windows.specs.Followed.{slips_of}
 use Rattle.tm_conv.specs.declared.rates.Rate.{Rate}
-use Rattle.tm_phase.specs.declared.choosing.Chosen.{Chosen}
+use Rattle.tm_windows.specs.declared.choosing.Chosen.{Chosen}
 use Rattle.tm_inner.specs.Inner.{inner_bits, plain_bits, plain_count}
 use Rattle.tm_inner.specs.Phase.{IsChosen, IsChosenSoFar, with_phase}
 use Rattle.tm_inner.specs.Handing.{AreHanded, AreHandedDue}

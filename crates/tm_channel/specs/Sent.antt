@@ -1,7 +1,7 @@
 -- What is sent for a stream of octets.
 use Rattle.std.specs.Prelude.{ℕ, if◌then◌else◌, List, Option, Some, None, flat_map}
 use Rattle.tm_config.specs.Configuration.{Configuration, is_sought}
-use Rattle.tm_phase.specs.declared.choosing.Chosen.{Chosen}
+use Rattle.tm_windows.specs.declared.choosing.Chosen.{Chosen}
 use Rattle.tm_inner.specs.Symbols.{symbols_of_octets}
 use Rattle.tm_codeblock.specs.Frames.{whole_frames}
 use Rattle.tm_codeblock.specs.Cadu.{cadu}

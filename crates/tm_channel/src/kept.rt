@@ -9,8 +9,8 @@ use crate::item::ItemTaker;
 use std::alloc::{AllocError, Global};
 use std::marker::Model;
 use tm_base::Failed;
-use tm_phase::Chosen;
 use tm_viterbi::{Block, BlockTaker};
+use tm_windows::Chosen;
 
 /// Room for the bits that blocks keep, and for the symbol phase before them.
 #[derive(Drop)]

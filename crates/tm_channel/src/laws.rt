@@ -8,7 +8,7 @@ ghost use Rattle.tm_viterbi.specs.declared.block.Start.TheVariants.{Any};
 ghost use Rattle.tm_conv.specs.declared.rates.Rate.TheVariants.{R12};
 ghost use Rattle.tm_config.specs.declared.values.Sought.TheVariants.{Find};
 ghost use Rattle.tm_config.specs.Configuration.{Configuration};
-ghost use Rattle.tm_phase.specs.declared.choosing.Chosen.{Chosen};
+ghost use Rattle.tm_windows.specs.declared.choosing.Chosen.{Chosen};
 ghost use Rattle.tm_inner.specs.Inner.{Inner, IsStartKnown};
 ghost use Rattle.tm_viterbi.specs.Clean.{complemented_octets};
 ghost use Rattle.tm_inner.specs.Phase.{IsChosen, with_phase};
@@ -24,9 +24,8 @@ ghost use Rattle.tm_channel.specs.Disturbed as disturbed;
 
 use tm_conv::{best_path_law, complement_law};
 use tm_inner::{clean_inner_law, due_bits_law, inner_law};
-use tm_phase::{phase_law, whole_window_law};
 use tm_viterbi::complemented_blocks_law;
-use tm_windows::{closed_prefix_law, due_windows_law};
+use tm_windows::{closed_prefix_law, due_windows_law, phase_law, whole_window_law};
 
 /// Received octets come to one list of items. It does nothing.
 pub fn items_law()

@@ -32,10 +32,10 @@ use tm_base::{Failed, NoMemory};
 use tm_codeblock::{codeblock_size, finds_polarity};
 use tm_config::Config;
 use tm_inner::InnerReceiver;
-use tm_phase::Chosen;
 use tm_rs_code::Params;
 use tm_sync::Search;
 use tm_viterbi::AllError;
+use tm_windows::Chosen;
 use tm_workers::{Gate, OpenGate, Word, decode_batch};
 
 /// Why a receiver refused a call.

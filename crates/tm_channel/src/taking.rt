@@ -20,8 +20,7 @@ use crate::totals::Totals;
 use crate::workers::Workers;
 use tm_base::Failed;
 use tm_inner::InnerReceiver;
-use tm_phase::whole_window_law;
-use tm_windows::closed_prefix_law;
+use tm_windows::{closed_prefix_law, whole_window_law};
 
 /// How many octets go through both stages at a time.
 pub const PIECE: usize = 4096;

@@ -7,7 +7,7 @@ use Rattle.tm_config.specs.Configuration.{Configuration}
 use Rattle.tm_config.specs.declared.values.Sought.TheVariants.{Find}
 use Rattle.tm_conv.specs.declared.rates.Rate.TheVariants.{R12}
 use Rattle.tm_viterbi.specs.declared.block.Start.TheVariants.{Any}
-use Rattle.tm_phase.specs.declared.choosing.Chosen.{Chosen}
+use Rattle.tm_windows.specs.declared.choosing.Chosen.{Chosen}
 use Rattle.tm_inner.specs.Inner.{Inner, IsStartKnown}
 use Rattle.tm_inner.specs.Phase.{IsChosen, skip_of, with_phase}
 use Rattle.tm_codeblock.specs.Frames.{whole_frames}

@@ -10,7 +10,7 @@ ghost use Rattle.tm_driver.specs.declared.ending.Ending.{Ending};
 
 use tm_channel::{clean_law, disturbed_law, items_law, polarity_law, received_law};
 use tm_inner::inner_law;
-use tm_phase::phase_law;
+use tm_windows::phase_law;
 
 /// Where `decode` reads its whole input, sent frames come back, as far as they were not disturbed too much, and in the
 /// other polarity too. It does nothing.

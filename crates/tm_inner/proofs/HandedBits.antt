@@ -13,8 +13,8 @@ use Rattle.tm_conv.specs.Path.{steps_size}
 use Rattle.tm_conv.proofs.Sizes.{steps_size-is}
 use Rattle.tm_viterbi.specs.WindowBlock.{WindowBlock}
 use Rattle.tm_viterbi.specs.Clean.{kept_bits}
-use Rattle.tm_phase.specs.declared.choosing.Chosen.{Chosen}
-use Rattle.tm_phase.specs.Phase.{period_size}
+use Rattle.tm_windows.specs.declared.choosing.Chosen.{Chosen}
+use Rattle.tm_windows.specs.Phase.{period_size}
 use Rattle.tm_inner.specs.Inner.{windows_of, soft_value, soft_octets, BlocksAt, AreInnerBlocks, AreInnerDue}
 use Rattle.tm_inner.specs.Phase.{IsChosenBy, IsSettled, needed_at, skipped_at, phase_octets, skip_of, with_phase}
 use Rattle.tm_inner.specs.Receiving.{FirstAt, AreInnerFirst}

@@ -10,7 +10,7 @@ use Rattle.tm_conv.proofs.Sizes.{steps_size_ge}
 use Rattle.tm_viterbi.specs.WindowBlock.{WindowBlock}
 use Rattle.tm_inner.specs.declared.inner_decoder.InnerDecoder.{InnerDecoder}
 use Rattle.tm_windows.specs.Windows.{AreFirstIn}
-use Rattle.tm_phase.specs.declared.choosing.Chosen.{Chosen}
+use Rattle.tm_windows.specs.declared.choosing.Chosen.{Chosen}
 use Rattle.tm_inner.specs.Inner.{windows_of, soft_value, soft_octets, AreInnerBlocks, AreInnerDue, inner_bits, slips_told}
 use Rattle.tm_inner.specs.Phase.{IsChosen, IsChosenSoFar, IsChosenBy, IsChosenSoFar, IsSettledBy, IsSoFarBy, needed_at, skipped_at, phase_octets, skip_of, with_phase}
 use Rattle.tm_inner.specs.Receiving.{AreInnerFirst, HasClosedAll, HasCountedAll, IsCount, IsDecoderOf, DecodesFor, FirstFor, FirstAt, Hands, HandsPrefix, InnerReceiving, StandsFor, Phasing, Goes, PhasesFor, IsPrefixBy, IsFirstBy, soft_form}

@@ -20,7 +20,7 @@ use Rattle.tm_viterbi.specs.Settings.{Settings}
 use Rattle.tm_viterbi.specs.WindowBlock.{WindowBlock}
 use Rattle.tm_viterbi.specs.Blocks.{AreBlocksOf}
 use Rattle.tm_viterbi.specs.Clean.{IsFixed, AreClean, sure_symbols}
-use Rattle.tm_phase.specs.Slip.{steps_seen}
+use Rattle.tm_windows.specs.Slip.{steps_seen}
 use Rattle.tm_windows.specs.Followed.{Windows}
 use Rattle.tm_windows.specs.Windows.{AreBlocksIn, IsSeen}
 use Rattle.tm_windows.proofs.WindowLaws.{blocks-sent}

@@ -9,8 +9,8 @@ use Rattle.tm_config.specs.Configuration.{Configuration}
 use Rattle.tm_conv.specs.declared.rates.Rate.{Rate}
 use Rattle.tm_viterbi.specs.WindowBlock.{WindowBlock}
 use Rattle.tm_inner.specs.declared.inner_decoder.InnerDecoder.{InnerDecoder}
-use Rattle.tm_phase.specs.declared.choosing.Chosen.{Chosen}
-use Rattle.tm_phase.specs.Phase.{IsPhase, octets_needed}
+use Rattle.tm_windows.specs.declared.choosing.Chosen.{Chosen}
+use Rattle.tm_windows.specs.Phase.{IsPhase, octets_needed}
 use Rattle.tm_config.specs.declared.values.Sought.TheVariants.{Find}
 use Rattle.tm_config.proofs.Choices.{never_both}
 use Rattle.tm_inner.specs.Symbols.{is_inverted}

@@ -6,7 +6,7 @@ use Rattle.tm_viterbi.specs.Settings.{Settings}
 use Rattle.tm_viterbi.specs.WindowBlock.{WindowBlock}
 use Rattle.tm_viterbi.specs.Blocks.{AreBlocksOf}
 use Rattle.tm_viterbi.specs.Due.{AreDue, AreFirst}
-use Rattle.tm_phase.specs.Slip.{steps_seen}
+use Rattle.tm_windows.specs.Slip.{steps_seen}
 use Rattle.tm_windows.specs.Followed.{Windows}
 use Rattle.tm_windows.specs.Windows.{AreBlocksIn, AreDueIn, AreFirstIn}
 use Rattle.tm_viterbi.specs.Decoding.{Decoding}

@@ -4,8 +4,8 @@ use Rattle.tm_base.specs.Handed.{Handed, Item}
 use Rattle.tm_config.specs.Configuration.{Configuration}
 use Rattle.tm_config.proofs.Choices.{given_or_find, never_both}
 use Rattle.tm_conv.specs.declared.rates.Rate.{Rate}
-use Rattle.tm_phase.specs.declared.choosing.Chosen.{Chosen}
-use Rattle.tm_phase.specs.Phase.{IsPhase}
+use Rattle.tm_windows.specs.declared.choosing.Chosen.{Chosen}
+use Rattle.tm_windows.specs.Phase.{IsPhase}
 use Rattle.tm_inner.specs.Symbols.{is_inverted}
 use Rattle.tm_inner.specs.Phase.{PhaseAt, IsChosen, IsChosenBy, IsChosenSoFar, IsSettled, IsSettledBy, phase_octets, skip_of, skipped_at, with_phase, WithPhase, WithPhaseSettled, WithPhaseSoFar}
 use Rattle.tm_inner.specs.Receiving.{soft_form}

@@ -10,7 +10,7 @@ use Rattle.tm_viterbi.specs.declared.block.Start.TheVariants.{Zero}
 use Rattle.tm_viterbi.specs.Settings.{Settings}
 use Rattle.tm_viterbi.specs.WindowBlock.{WindowBlock}
 use Rattle.tm_viterbi.specs.Clean.{kept_bits}
-use Rattle.tm_phase.specs.Slip.{steps_seen}
+use Rattle.tm_windows.specs.Slip.{steps_seen}
 use Rattle.tm_windows.specs.Followed.{Windows, slips_of}
 use Rattle.tm_windows.specs.Windows.{AreBlocksIn, AreDueIn}
 use Rattle.tm_inner.specs.Symbols.{is_inverted}

@@ -4,8 +4,8 @@ use Rattle.tm_base.specs.Handed.{Handed, Phase, Item}
 use Rattle.tm_config.specs.Configuration.{Configuration}
 use Rattle.tm_config.specs.declared.values.Sought.TheVariants.{Given, Find}
 use Rattle.tm_conv.specs.declared.rates.Rate.{Rate}
-use Rattle.tm_phase.specs.declared.choosing.Chosen.{Chosen}
-use Rattle.tm_phase.specs.Phase.{IsPhase, octets_needed}
+use Rattle.tm_windows.specs.declared.choosing.Chosen.{Chosen}
+use Rattle.tm_windows.specs.Phase.{IsPhase, octets_needed}
 use Rattle.tm_inner.specs.Symbols.{is_inverted}
 use Rattle.tm_inner.specs.Inner.{soft_value}
 

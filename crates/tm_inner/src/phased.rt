@@ -19,9 +19,8 @@ use std::alloc::Global;
 use std::marker::Model;
 use tm_base::{Failed, Held, NoMemory};
 use tm_config::{Config, Sought};
-use tm_phase::{Chosen, choose, octets_needed, phase_law, whole_window_law};
 use tm_viterbi::BlockTaker;
-use tm_windows::closed_prefix_law;
+use tm_windows::{Chosen, choose, closed_prefix_law, octets_needed, phase_law, whole_window_law};
 
 #[derive(Drop)]
 pub struct Phased {

@@ -26,8 +26,8 @@ use std::marker::Model;
 use std::thread::Threads;
 use tm_base::{Failed, NoMemory};
 use tm_config::Config;
-use tm_phase::Chosen;
 use tm_viterbi::{BlockTaker, FeedError};
+use tm_windows::Chosen;
 
 /// What came of all octets.
 #[derive(Clone, Copy, Debug, PartialEq, Eq)]

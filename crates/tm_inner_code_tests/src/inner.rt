@@ -10,8 +10,8 @@ use std::thread::Threads;
 use takers::{Collector, Kept};
 use tm_config::{Config, Raw};
 use tm_inner::{InnerEnd, InnerReceiver, inner_all};
-use tm_phase::Chosen;
 use tm_viterbi::FeedError;
+use tm_windows::Chosen;
 
 // Options, octets, and what comes of them, with the skip and the cost of their phase where it is to be found.
 #[derive(Clone, Copy)]

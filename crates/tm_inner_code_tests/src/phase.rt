@@ -4,7 +4,7 @@ use std::alloc::{AllocError, Global};
 use std::process::Abort;
 use std::test::Fail;
 use tm_conv::{Encoder, Rate, Symbols};
-use tm_phase::{
+use tm_windows::{
     Chosen, choose, octets_needed, octets_seen, phase_law, slip, slip_law, steps_seen,
     whole_window_law,
 };
@@ -49,8 +49,8 @@ fn tie(rt: HostRuntime) {
     assert_eq!(rt; choose(Rate::R12, true, 8448, &[]), wanted);
 }
 
-// The rate, whether it is inverted, the steps of a window, how many octets are drawn from which number on, and the skip and
-// the cost of their phase.
+// The rate, whether it is inverted, the steps of a window, how many octets are drawn from which number on, and the
+// skip and the cost of their phase.
 static DRAWN: [(Rate, bool, u32, usize, u64, u8, u64); 19] = [
     (Rate::R12, true, 8448, 48, 2, 0, 3108),
     (Rate::R12, false, 8448, 48, 1, 1, 3470),
@@ -104,8 +104,8 @@ fn octets_for_a_window(rt: HostRuntime) {
     }
 }
 
-// Noise over so few steps that some of it passes for a slip: costs that tie, and an excess that is three quarters of that
-// of octet 0, or a little more or less.
+// Noise over so few steps that some of it passes for a slip: costs that tie, and an excess that is three quarters of
+// that of octet 0, or a little more or less.
 static SLIPS: [(Rate, bool, u64, usize, u64, u8); 15] = [
     (Rate::R12, true, 3, 20, 147, 0),
     (Rate::R12, true, 3, 20, 368, 0),

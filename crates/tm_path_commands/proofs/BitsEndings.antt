@@ -7,7 +7,7 @@ use Rattle.tm_base.specs.Written.{Wrote, WrotePrefix}
 use Rattle.tm_base.proofs.Packing.{AreOctets-octets_of, length-bits_of, octets_of-append, octets_of-bits_of}
 use Rattle.tm_config.specs.Accepted.{IsAccepted}
 use Rattle.tm_config.specs.Configuration.{Configuration}
-use Rattle.tm_phase.specs.declared.choosing.Chosen.{Chosen}
+use Rattle.tm_windows.specs.declared.choosing.Chosen.{Chosen}
 use Rattle.tm_viterbi.specs.WindowBlock.{WindowBlock}
 use Rattle.tm_inner.specs.Inner.{AreInnerBlocks, AreInnerDue, inner_bits, slips_told}
 use Rattle.tm_inner.specs.declared.receiver.InnerEnd.{InnerEnd}

@@ -12,7 +12,7 @@ use Rattle.tm_config.specs.Configuration.{Configuration}
 use Rattle.tm_config.specs.declared.values.Sought.TheVariants.{Given}
 use Rattle.tm_conv.specs.declared.rates.Rate.{Rate}
 use Rattle.tm_driver.specs.Lines.{phase_text}
-use Rattle.tm_phase.specs.declared.choosing.Chosen.{Chosen}
+use Rattle.tm_windows.specs.declared.choosing.Chosen.{Chosen}
 use Rattle.tm_viterbi.specs.Clean.{kept_bits}
 use Rattle.tm_viterbi.specs.WindowBlock.{WindowBlock}
 use Rattle.tm_inner.specs.Inner.{BlocksAt, DueAt, plain_bits, bits_at, inner_bits, slips_told, soft_value, AreInnerBlocks}

@@ -4,7 +4,7 @@ use Rattle.tm_base.specs.Handed.{Handed, Phase, Item, on_handed, items_of}
 use Rattle.tm_base.specs.Takers.{HandedOver, HandedPart}
 use Rattle.tm_base.proofs.HandedItems.{items_of-append, items_of-items}
 use Rattle.tm_viterbi.specs.WindowBlock.{WindowBlock}
-use Rattle.tm_phase.specs.declared.choosing.Chosen.{Chosen}
+use Rattle.tm_windows.specs.declared.choosing.Chosen.{Chosen}
 use Rattle.tm_inner.specs.Phase.{skip_of, with_phase}
 use Rattle.tm_cert_file.specs.Certifying.{Certifying, WroteBlock, WroteBlockPrefix, WroteBlocks, WroteBlocksPrefix, with_octets}
 

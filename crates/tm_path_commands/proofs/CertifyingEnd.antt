@@ -9,7 +9,7 @@ use Rattle.tm_viterbi.specs.Settings.{Settings}
 use Rattle.tm_viterbi.specs.WindowBlock.{WindowBlock}
 use Rattle.tm_viterbi.specs.Blocks.{AreBlocksOf}
 use Rattle.tm_viterbi.specs.Due.{Place, Closed, first_place}
-use Rattle.tm_phase.specs.declared.choosing.Chosen.{Chosen}
+use Rattle.tm_windows.specs.declared.choosing.Chosen.{Chosen}
 use Rattle.tm_inner.specs.Inner.{settings_of, windows_of, soft_octets, BlocksAt}
 use Rattle.tm_inner.specs.Phase.{IsChosen, phase_octets, skip_of, with_phase}
 use Rattle.tm_inner.specs.Receiving.{InnerReceiving, StandsFor, FirstAt, AreInnerFirst}

@@ -13,7 +13,7 @@ use Rattle.tm_viterbi.specs.declared.block.Start.{Start}
 use Rattle.tm_viterbi.specs.Starts.{first_start}
 use Rattle.tm_viterbi.specs.WindowBlock.{WindowBlock}
 use Rattle.tm_viterbi.specs.Due.{Place, Closed, AreDue, AreFirst, first_place}
-use Rattle.tm_phase.specs.declared.choosing.Chosen.{Chosen}
+use Rattle.tm_windows.specs.declared.choosing.Chosen.{Chosen}
 use Rattle.tm_inner.specs.Symbols.{is_inverted}
 use Rattle.tm_windows.specs.Windows.{AreFirstIn}
 use Rattle.tm_inner.specs.Inner.{settings_of, windows_of, soft_value, soft_octets, DueAt, AreInnerDue}

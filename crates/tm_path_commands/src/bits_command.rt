@@ -16,9 +16,10 @@ use tm_base::{Failed, NoMemory, Sink, Source, put_all};
 use tm_config::Config;
 use tm_driver::{Ending, Feed, Outcome, Stop, drive, phase_line};
 use tm_inner::{InnerEnd, InnerReceiver};
-use tm_phase::{Chosen, phase_law, whole_window_law};
 use tm_viterbi::{Block, BlockTaker};
-use tm_windows::{closed_prefix_law, due_windows_law, one_windows_law};
+use tm_windows::{
+    Chosen, closed_prefix_law, due_windows_law, one_windows_law, phase_law, whole_window_law,
+};
 
 // How many octets a turn reads at most.
 const PIECE: usize = 4096;

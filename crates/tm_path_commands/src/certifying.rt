@@ -16,8 +16,9 @@ use tm_config::Config;
 use tm_conv::Rate;
 use tm_driver::{Ending, Feed, Outcome, Stop, drive};
 use tm_inner::{InnerReceiver, rate_of, shape_of};
-use tm_phase::{phase_law, whole_window_law};
-use tm_windows::{closed_prefix_law, due_windows_law, one_windows_law};
+use tm_windows::{
+    closed_prefix_law, due_windows_law, one_windows_law, phase_law, whole_window_law,
+};
 
 // What is kept to write the certificate of a configuration that does not follow a phase, which was given nothing yet.
 // With no inner code it is given nothing.

@@ -13,8 +13,9 @@ use tm_base::{Failed, NoMemory, Sink, Source};
 use tm_config::Config;
 use tm_driver::{Ending, Feed, Outcome, Stop, drive};
 use tm_inner::InnerReceiver;
-use tm_phase::{phase_law, whole_window_law};
-use tm_windows::{closed_prefix_law, due_windows_law, one_windows_law};
+use tm_windows::{
+    closed_prefix_law, due_windows_law, one_windows_law, phase_law, whole_window_law,
+};
 
 // An inner receiver, and what takes its phase and windows.
 struct Tracing<'a, 'b, O> {

@@ -14,11 +14,11 @@ use Rattle.tm_viterbi.specs.Blocks.{AreSteps, IsBlock}
 use Rattle.tm_viterbi.specs.Due.{Place, Closes, after_block}
 use Rattle.tm_viterbi.proofs.HasBlocks.{HasBest, HasStart, whole_steps, has_block as has_last_block}
 use Rattle.tm_viterbi.proofs.OneList.{many}
-use Rattle.tm_phase.specs.Slip.{octets_seen}
-use Rattle.tm_phase.proofs.Phases.{period_size-most}
-use Rattle.tm_phase.proofs.Slips.{IsSlip-exists}
+use Rattle.tm_windows.specs.Slip.{octets_seen}
 use Rattle.tm_windows.specs.Followed.{Windows, Beginning, Spot, first_spot, moved, DropsBy, Begins, IsUnseen, BeginsLast, undropped, ClosesAt, spot_after, Followed, closing_size, IsLast, AreFollowedOf}
 use Rattle.tm_windows.specs.Windows.{IsSeen}
+use Rattle.tm_windows.proofs.Phases.{period_size-most}
+use Rattle.tm_windows.proofs.Slips.{IsSlip-exists}
 use Rattle.tm_windows.proofs.Beginnings.{begins-within}
 use Rattle.tm_windows.proofs.Existing.{some_start, has_block}
 use Rattle.tm_windows.proofs.Runs.{small_some}

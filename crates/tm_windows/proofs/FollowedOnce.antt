@@ -11,9 +11,9 @@ use Rattle.tm_viterbi.specs.Blocks.{AreSteps}
 use Rattle.tm_viterbi.specs.Due.{Place}
 use Rattle.tm_viterbi.proofs.Closing.{more_octets, kept_is, Closes-append, after-append}
 use Rattle.tm_viterbi.proofs.OneList.{OneBest, one_block, many}
-use Rattle.tm_phase.proofs.Slips.{IsSlip-within}
 use Rattle.tm_windows.specs.Followed.{Windows, Beginning, Spot, first_spot, moved, DropsBy, BeginsBy, Begins, BeginsLast, undropped, ClosesAt, spot_after, Followed, AreFollowedFirst, closing_size, IsOpenAt, AreFollowedDue, IsLast, AreFollowedOf}
 use Rattle.tm_windows.specs.Windows.{IsSeen}
+use Rattle.tm_windows.proofs.Slips.{IsSlip-within}
 use Rattle.tm_windows.proofs.Beginnings.{begins-one, unseen-none, begins_last-one, moved-place, begins-within, longer_beginning, longer_spot, begins-more}
 
 -- ---- one block

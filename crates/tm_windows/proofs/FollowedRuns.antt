@@ -9,11 +9,11 @@ use Rattle.tm_viterbi.specs.Blocks.{IsBlock}
 use Rattle.tm_viterbi.specs.Due.{Place, Closes, Closed, after_block}
 use Rattle.tm_viterbi.specs.declared.window_decoder.WindowShape.{WindowShape}
 use Rattle.tm_viterbi.proofs.Closing.{more_octets, kept_is, Closes-append}
-use Rattle.tm_phase.specs.Slip.{octets_seen, IsSlip}
-use Rattle.tm_phase.proofs.Slips.{IsSlip-prefix, IsSlip-within}
+use Rattle.tm_windows.specs.Slip.{octets_seen, IsSlip}
 use Rattle.tm_windows.specs.Candidates.{ClosesWith}
 use Rattle.tm_windows.specs.Followed.{Windows, Beginning, Spot, starts_after, moved, DropsBy, Begins, BeginsLast, dropped_at, ClosesAt, spot_after, Followed, IsLast, slip_at, slips_of, kept_of, undecided, IsUndropped, AreUndropped}
 use Rattle.tm_windows.specs.Gathered.{IsAt}
+use Rattle.tm_windows.proofs.Slips.{IsSlip-prefix, IsSlip-within}
 use Rattle.tm_windows.proofs.Beginnings.{begins-one, begins-within, longer_spot, begins-more}
 use Rattle.tm_windows.proofs.FollowedExists.{undropped-same}
 use Rattle.tm_windows.proofs.Runs.{more_times}

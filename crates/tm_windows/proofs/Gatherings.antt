@@ -14,7 +14,7 @@ use Rattle.tm_viterbi.specs.Due.{Place, Closed}
 use Rattle.tm_viterbi.specs.declared.window_decoder.WindowShape.{WindowShape}
 use Rattle.tm_viterbi.proofs.Closing.{Closed-append, more_octets}
 use Rattle.tm_viterbi.proofs.HasBlocks.{HasBest}
-use Rattle.tm_phase.specs.Slip.{octets_seen}
+use Rattle.tm_windows.specs.Slip.{octets_seen}
 use Rattle.tm_windows.specs.Candidates.{ClosedWith, after_windows}
 use Rattle.tm_windows.specs.Followed.{Windows, Beginning, Spot, first_spot, BeginsLast, dropped_at, Followed, AreFollowedFirst, closing_size, IsOpenAt, AreFollowedDue, IsLast, AreFollowedOf}
 use Rattle.tm_windows.specs.Windows.{AreBlocksBy, AreDueBy, AreFirstBy, IsSeen}

@@ -1,3 +1,7 @@
+mod Steps
+mod Least
+pub mod Phases
+pub mod Slips
 mod Runs
 mod Stretches
 mod Endings

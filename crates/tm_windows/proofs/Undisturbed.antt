@@ -17,9 +17,9 @@ use Rattle.tm_viterbi.proofs.Closing.{kept_is}
 use Rattle.tm_viterbi.proofs.LeastCost.{steps_le}
 use Rattle.tm_viterbi.proofs.OneList.{many}
 use Rattle.tm_viterbi.proofs.WholeBlocks.{all_blocks}
-use Rattle.tm_phase.specs.Slip.{IsSlip}
-use Rattle.tm_phase.proofs.Slips.{IsSlip-sure}
+use Rattle.tm_windows.specs.Slip.{IsSlip}
 use Rattle.tm_windows.specs.Followed.{Windows, Beginning, Spot, first_spot, moved, DropsBy, BeginsBy, Begins, BeginsLast, ClosesAt, spot_after, Followed, AreFollowedFirst, AreFollowedDue, closing_size, IsOpenAt, IsLast, AreFollowedOf}
+use Rattle.tm_windows.proofs.Slips.{IsSlip-sure}
 use Rattle.tm_windows.proofs.Endings.{one_block}
 use Rattle.tm_windows.proofs.FollowedExists.{undropped-same}
 

@@ -6,7 +6,7 @@ use Rattle.tm_viterbi.specs.Settings.{Settings}
 use Rattle.tm_viterbi.specs.WindowBlock.{WindowBlock}
 use Rattle.tm_viterbi.specs.Blocks.{AreSteps, IsBlock}
 use Rattle.tm_viterbi.specs.Due.{Place, Closes, after_block, first_place}
-use Rattle.tm_phase.specs.Slip.{octets_seen, IsSlip}
+use Rattle.tm_windows.specs.Slip.{octets_seen, IsSlip}
 
 -- How octets are cut into windows: as these settings say, and over how many steps a slip is looked
 -- for before each window but the first, or None where the phase is not followed.

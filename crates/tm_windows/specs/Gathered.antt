@@ -3,7 +3,7 @@ use Rattle.std.specs.Prelude.{ℕ, ◌≡◌, ◌+◌, ◌*◌, ◌<◌, ◌≤�
 use Rattle.tm_base.specs.Calls.{TakerCall}
 use Rattle.tm_base.specs.Outside.{HasCause}
 use Rattle.tm_conv.specs.Path.{steps_size}
-use Rattle.tm_phase.specs.Slip.{octets_seen}
+use Rattle.tm_windows.specs.Slip.{octets_seen}
 use Rattle.tm_viterbi.specs.Settings.{Settings}
 use Rattle.tm_viterbi.specs.WindowBlock.{WindowBlock}
 use Rattle.tm_viterbi.specs.Due.{Place}

@@ -1,3 +1,5 @@
+pub mod Phase
+pub mod Slip
 pub mod Candidates
 pub mod ClosedRun
 pub mod Sharing

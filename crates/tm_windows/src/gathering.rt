@@ -7,15 +7,15 @@ ghost use Rattle.tm_base.specs.Takers.{HandedOver, HandedPart};
 ghost use Rattle.tm_conv.specs.Path.{steps_size};
 ghost use Rattle.tm_viterbi.specs.Starts.{first_start};
 ghost use Rattle.tm_viterbi.specs.WindowBlock.{WindowBlock};
-ghost use Rattle.tm_phase.specs.Slip.{octets_seen};
+ghost use Rattle.tm_windows.specs.Slip.{octets_seen};
 ghost use Rattle.tm_windows.specs.Followed.{slip_at, starts_after, undecided};
 
 use crate::closing::Closing;
+use crate::slipping::{octets_seen, slip};
 use crate::window_workers::WindowWorkers;
 use std::alloc::Global;
 use tm_base::{Failed, Held, NoMemory};
 use tm_conv::{Rate, best_path_law, steps_len};
-use tm_phase::{octets_seen, slip};
 use tm_viterbi::{BlockTaker, Start, WindowShape, first_start};
 
 /// A stream whose windows before step `t` are closed, and the octets from there on, before which `dropped` octets were

@@ -4,7 +4,7 @@ ghost use Rattle.std.specs.Option.{ForSome};
 ghost use Rattle.tm_base.specs.Calls.{taker_call};
 ghost use Rattle.tm_base.specs.Takers.{HandedOver, HandedPart};
 ghost use Rattle.tm_viterbi.specs.WindowBlock.{WindowBlock};
-ghost use Rattle.tm_phase.specs.Slip.{steps_seen};
+ghost use Rattle.tm_windows.specs.Slip.{steps_seen};
 ghost use Rattle.tm_windows.specs.Followed.{slips_of, kept_of};
 ghost use Rattle.tm_windows.specs.Windows.{AreBlocksIn, AreDueIn, AreFirstIn};
 ghost use Rattle.tm_windows.specs.Gathered.{IsOpen, room_of};
@@ -13,11 +13,11 @@ ghost use Rattle.tm_windows.specs.ParallelDecoding.{Calls, Feeds, Finishes, Stan
 
 use crate::closing::{Closing, OneByOne, SideBySide};
 use crate::gathering::Gathering;
+use crate::slipping::steps_seen;
 use std::alloc::Global;
 use std::marker::Model;
 use std::thread::Threads;
 use tm_base::{Failed, NoMemory};
-use tm_phase::steps_seen;
 use tm_viterbi::{BlockTaker, FeedError, Start, WindowShape};
 
 // The steps of the windows that a worker has at a time: so many that making a thread costs little beside them.

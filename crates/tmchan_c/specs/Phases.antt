@@ -1,6 +1,6 @@
 -- The symbol phase, as a program in C has it.
 use Rattle.std.specs.Prelude.{◌==◌, if◌then◌else◌, Option, Some, None}
-use Rattle.tm_phase.specs.declared.choosing.Chosen.{Chosen}
+use Rattle.tm_windows.specs.declared.choosing.Chosen.{Chosen}
 use Rattle.tmchan_c.specs.declared.phase.PhaseState.{PhaseState}
 
 -- the phase that was chosen, or none

@@ -2,7 +2,7 @@
 ghost use Rattle.std.specs.Prelude.{◌≡◌};
 ghost use Rattle.tmchan_c.specs.Phases.{chosen_of};
 
-use tm_phase::Chosen;
+use tm_windows::Chosen;
 
 /// How many octets are skipped, and what the best path after them costs, where a phase was chosen.
 #[repr(C)]

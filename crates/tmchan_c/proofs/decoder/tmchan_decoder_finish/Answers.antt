@@ -2,7 +2,7 @@ use Rattle.std.proofs.Common.{rules, ◌≡◌, ◌++◌, ◌∙◌, length, Opt
 use Rattle.tm_config.specs.Configuration.{Configuration}
 use Rattle.tm_inner.specs.Handing.{AreHanded}
 use Rattle.tm_inner.specs.Phase.{IsChosen}
-use Rattle.tm_phase.specs.declared.choosing.Chosen.{Chosen}
+use Rattle.tm_windows.specs.declared.choosing.Chosen.{Chosen}
 use Rattle.tm_buffers.specs.Buffer.{has_room}
 use Rattle.tm_buffers.specs.Decoding.{bits_room}
 use Rattle.tmchan_c.specs.Phases.{chosen_of}

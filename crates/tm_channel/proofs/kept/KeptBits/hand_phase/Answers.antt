@@ -3,7 +3,7 @@ use Rattle.std.proofs.lemmas.Result.{on_err_weaker}
 use Rattle.tm_base.specs.Handed.{Phase, on_handed}
 use Rattle.tm_base.specs.Takers.{HandedPart}
 use Rattle.tm_base.proofs.Handing.{HandedPart-first}
-use Rattle.tm_phase.specs.declared.choosing.Chosen.{Chosen}
+use Rattle.tm_windows.specs.declared.choosing.Chosen.{Chosen}
 use Rattle.tm_inner.specs.Phase.{with_phase}
 use Rattle.tm_channel.specs.Items.{ItemValue}
 use Rattle.tm_channel.specs.OctetReceiving.{Keeping}

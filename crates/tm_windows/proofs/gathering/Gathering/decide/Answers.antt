@@ -1,5 +1,5 @@
 use Rattle.std.proofs.Common.{◌≡◌, ◌≤◌, ◌∙◌, ◌++◌, ℕ, List, Option, sym, ap, subst, arith, length, length-drop, drop}
-use Rattle.tm_phase.specs.Slip.{octets_seen, IsSlip}
+use Rattle.tm_windows.specs.Slip.{octets_seen, IsSlip}
 use Rattle.tm_windows.specs.Followed.{Spot, Begins}
 use Rattle.tm_windows.specs.Gathered.{windows_of, IsAt}
 use Rattle.tm_windows.proofs.FollowedRuns.{place_of, decided-at}

@@ -2,7 +2,7 @@ use Rattle.std.proofs.Common.{rules, ◌≡◌, ◌+◌, ◌*◌, ◌-◌, ◌�
 use Rattle.std.proofs.lemmas.List.{take_rest}
 use Rattle.tm_conv.specs.Path.{steps_size}
 use Rattle.tm_conv.proofs.Sizes.{steps_size-least}
-use Rattle.tm_phase.specs.Slip.{octets_seen, IsSlip}
+use Rattle.tm_windows.specs.Slip.{octets_seen, IsSlip}
 use Rattle.tm_windows.specs.Gathered.{settings_of, HoldsRun}
 use Rattle.tm_windows.specs.declared.gathering.Gathering.{Gathering}
 use Rattle.tm_windows.proofs.FollowedExists.{seen-first}

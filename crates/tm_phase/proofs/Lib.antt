@@ -1,4 +1,0 @@
-mod Steps
-mod Least
-pub mod Phases
-pub mod Slips
