@@ -1,12 +1,12 @@
 """tmchan again, to be read beside CCSDS 131.0-B and docs/FORMAT.md: plain, slow, the standard
-library alone. It takes the program's command line and answers as the program does:
+library alone. `python3 docs/reference decode --depth 5 < symbols > frames` answers as the program
+does. Faults of reading and writing (statuses 3 and 4) and want of memory (5) are left out.
 
-    python3 docs/reference decode --depth 5 < symbols > frames
-
-How a fault of reading or writing shows (statuses 3 and 4) and want of memory (5) are left out."""
+Each command that reads answers output, notes and status for the octets of its input. Where the
+input goes on after these, past the limit (`ended` is False), it answers what is due for them."""
 import os
 import sys
-from certificate import Ends, certificate, checked_windows
+from certificate import certificate, checked_windows
 from inner import on_the_link, received
 from options import Refused, read_words
 from outer import cadu, elements, nearest_codeword, octets_from, octets_of
@@ -16,22 +16,19 @@ BLOCK = "block {} steps {} kept {} metric {}".format
 def lines(texts):
     return "".join(text + "\n" for text in texts).encode()
 
-# Each command that reads answers output, notes and status for the octets of its input. Where the
-# input goes on after these, past the limit (`ended` is False), it answers what is due for them.
-
 def encode(data, ended, c):
-    frames = [data[at:at + c.length] for at in range(0, len(data) - c.length + 1, c.length)]
-    units = b"".join(cadu(frame, c) for frame in frames)
     left = len(data) % c.length
+    frames = [data[at:at + c.length] for at in range(0, len(data) - left, c.length)]
+    units = b"".join(cadu(frame, c) for frame in frames)
     notes = [f"left over {left}"] if ended and left else []
     return on_the_link(units, c), lines(notes), 6 if left else 0
 
 def decode(data, ended, c):
     r = received(data, ended, c)
-    found = items(r.bits, c)
+    found = list(items(r.bits, c))
     found = found if ended else found[:len(found) // c.batch * c.batch]
-    told = r.head + [line for _, line, _ in found]
-    told += (r.slips + [last_line(found, r.bits)]) * ended
+    last = r.slips + [last_line(found, r.bits)] if ended else []
+    told = r.head + [line for _, line, _ in found] + last
     frames = [frame for frame, _, _ in found if frame is not None]
     return b"".join(frames), lines(told), 1 if len(frames) < len(found) else 0
 
@@ -65,39 +62,37 @@ def check(data, ended, c):
         last = f"blocks {len(told)} bits {count} leftover 0"
     except Refused as reason:
         return output, lines(told + [f"bad {len(told)} {reason}"]), 1
-    except Ends:
+    except EOFError:
         last, status = f"cut at block {len(told)}", 6
     return output, lines(told + [last] * ended), status
 
-def nearest_line(octets, lost, c):
-    nearest = nearest_codeword(elements(octets, c), lost or [], c.E, c.repair)
+def nearest_line(octets, flags, c):
+    lost = [i for i, flag in enumerate(flags) if flag]
+    nearest = nearest_codeword(elements(octets, c), lost, c.E, c.repair)
     if not nearest:
         return "beyond"
-    counts = nearest[1] if lost is None else f"{nearest[1]} {nearest[2]}"
+    counts = f"{nearest[1]} {nearest[2]}" if flags else nearest[1]
     return f"fixed {counts} {octets_from(nearest[0], c).hex()}"
 
 def erased(data, ended, c):
-    n, told = c.codeword, []
-    for at in range(0, len(data) - 2 * n + 1, 2 * n):
-        lost = [i for i in range(n) if data[at + n + i]]
-        told.append(nearest_line(data[at:at + n], lost, c))
-    told = told if ended else told[:len(told) // 256 * 256]
-    left = len(data) % (2 * n)
+    n, left = c.codeword, len(data) % (2 * c.codeword)
+    records = [data[at:at + 2 * n] for at in range(0, len(data) - left, 2 * n)]
+    records = records if ended else records[:len(records) // 256 * 256]
+    told = [nearest_line(record[:n], record[n:], c) for record in records]
     notes = [f"left over {left}"] if ended and left else []
     return lines(told), lines(notes), 6 if left else 1 if "beyond" in told else 0
 
 def word(c):
-    line = nearest_line(c.word, None, c)
+    line = nearest_line(c.word, b"", c)
     return lines([line]), b"", 1 if line == "beyond" else 0
 
 def draws(seed):
     """PCG-XSH-RR of the seed, on stream 0: 64 bits of state, words of 32 bits."""
-    state = (seed + 1) * 6364136223846793005 + 1
+    state = seed + 1
     while True:
-        state %= 2 ** 64
+        state = (state * 6364136223846793005 + 1) % 2 ** 64
         x, turn = (state >> 18 ^ state) >> 27 & 0xFFFFFFFF, state >> 59
         yield (x >> turn | x << (32 - turn)) & 0xFFFFFFFF
-        state = state * 6364136223846793005 + 1
 
 def soak(c):
     draw, units = draws(c.seed), bytearray()
@@ -108,13 +103,11 @@ def soak(c):
             for k in range(c.hits):
                 unit[4 + (a + k) % c.codeword * c.depth + i] ^= 1 + next(draw) % 255
         units += unit
-    r = received(on_the_link(units, c), True, c)
-    found = items(r.bits, c)
-    return lines([last_line(found, r.bits)]), b"", int(any(frame is None for frame, _, _ in found))
+    _, notes, status = decode(on_the_link(units, c), True, c)
+    return notes.splitlines(True)[-1], b"", status
 
 def run(words, read):
-    """Output, notes and status for the words after the program's name. `read` gives the input,
-    up to a number of octets."""
+    """Output, notes and status of a command line. `read(n)` gives the input, at most n octets."""
     try:
         command, c = read_words([os.fsencode(text).decode() for text in words])
     except UnicodeDecodeError:

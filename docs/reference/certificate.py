@@ -9,12 +9,10 @@ def certificate(w):
     return (pack(">IIBQ", len(w.soft), w.kept, w.passed[0], w.metric) + bytes(w.bits)
             + b"".join(w.soft) + b"".join(pack(">64I", *column) for column in w.columns))
 
-class Ends(Exception):
-    """The octets end where a window has not."""
 def take(stream, count):
     octets = stream.read(count)
     if len(octets) < count:
-        raise Ends
+        raise EOFError
     return octets
 
 def check_columns(columns, soft, first, starts, metric, c):
@@ -40,16 +38,15 @@ def path_cost(bits, register, soft, first, c):
 
 def checked_windows(octets, c):
     """Of each window that passes its steps, kept steps and metric, and the soft octets of the
-    kept steps. After these `Refused` comes where a window fails, `Ends` where one is missing."""
+    kept steps. After these `Refused` comes where a window fails, `EOFError` where it ends."""
     stream, whole, first = BytesIO(octets), c.keep + c.ahead, 0
     starts = range(64) if c.start_any else (0,)
     follows, last, ahead = False, False, b""  # whether one has to, or none may; octets seen before
     while follows or stream.tell() < len(octets):
         require(not last, "shape")
         steps, kept, start, metric = unpack(">IIBQ", take(stream, 17))
-        require(1 <= steps <= whole and start <= 63, "shape")
+        require(1 <= steps <= whole and start <= 63 and (steps > c.ahead or not follows), "shape")
         require(kept == steps or (steps == whole and kept == c.keep), "shape")
-        require(not follows or steps > c.ahead, "shape")
         bits = take(stream, steps)
         require(max(bits) <= 1, "shape")
         soft = [take(stream, sum(sent(first + t, c))) for t in range(steps)]

@@ -42,8 +42,7 @@ def on_the_link(units, c):
 
 # The soft decoder (Viterbi), by whole windows.
 def cut_steps(octets, c, first=0, most=None):
-    """The soft octets of each whole step from step `first` of the stream on, at most `most` of
-    them, and how many octets are left over."""
+    """The octets of each whole step from step `first` on, at most `most`; how many are left."""
     steps, at = [], 0
     while len(steps) != most and at + (size := sum(sent(first + len(steps), c))) <= len(octets):
         steps.append(octets[at:at + size])
@@ -81,22 +80,20 @@ def traceback(columns, steps, first, c):
     return passed
 
 def path_costs(octets, first, count, c):
-    """What the best path from any register, from step `first` of the stream on, costs over the
-    octets of so many steps from octet k on, for each k below a period's symbols."""
+    """What the best path costs over so many steps from octet k on, for each k below a period."""
     return [min(path_metrics(cut_steps(octets[k:], c, first, count)[0], first, range(64), c)[-1])
             for k in range(period(c))]
 
 def symbol_phase(octets, ended, c):
     """The phase and what the best path costs from there; None while it can't be chosen."""
-    whole = len(cut_steps(octets[:max(0, len(octets) - (period(c) - 1))], c)[0])
-    if whole < c.keep + c.ahead and not ended:
+    count = len(cut_steps(octets[period(c) - 1:], c, 0, c.keep + c.ahead)[0])
+    if count < c.keep + c.ahead and not ended:
         return None
-    costs = path_costs(octets, 0, min(whole, c.keep + c.ahead), c)
+    costs = path_costs(octets, 0, count, c)
     return costs.index(min(costs)), min(costs)
 
 def dropped_octets(octets, first, c):
-    """How many octets are dropped before a window, not the first, that would begin at step `first`
-    of the stream with these octets: none where too few are there."""
+    """How many octets are dropped before a later window, which would begin with these octets."""
     count = min(c.keep + c.ahead - 8, 1024)
     size = sum(sum(sent(first + t, c)) for t in range(count))
     if len(octets) < size + period(c) - 1:
@@ -109,11 +106,11 @@ def dropped_octets(octets, first, c):
 
 def windows(octets, ended, c):
     """The windows, without the last one where the octets go on; and how many are left over."""
-    found, first, starts, at, whole = [], 0, range(64) if c.start_any else (0,), 0, c.keep + c.ahead
+    found, first, starts, whole = [], 0, range(64) if c.start_any else (0,), c.keep + c.ahead
     while True:
-        k = dropped_octets(octets[at:], first, c) if c.follow and found else 0
-        at, starts = at + k, range(64) if k else starts
-        steps, leftover = cut_steps(octets[at:], c, first, whole + 1)
+        k = dropped_octets(octets, first, c) if c.follow and found else 0
+        octets, starts = octets[k:], range(64) if k else starts
+        steps, leftover = cut_steps(octets, c, first, whole + 1)
         if len(steps) <= (0 if ended else whole):
             return found, leftover
         w = SimpleNamespace(soft=steps[:whole], dropped=k)
@@ -121,20 +118,19 @@ def windows(octets, ended, c):
         w.columns = path_metrics(w.soft, first, starts, c)
         w.passed = traceback(w.columns, w.soft, first, c)
         w.metric, w.bits = min(w.columns[-1]), [register >> 5 for register in w.passed[1:]]
-        first, starts, at = first + w.kept, (w.passed[w.kept],), at + sum(map(len, w.soft[:w.kept]))
+        first, starts = first + w.kept, (w.passed[w.kept],)
+        octets = octets[sum(map(len, w.soft[:w.kept])):]
         found.append(w)
 
 def received(data, ended, c):
-    """The windows and bits of an input, or where it goes on those that are due, and the first and
-    the last line of a report or a trace, where they are due."""
+    """The windows, bits and lines of an input, or where it goes on those that are due."""
     r, octets = SimpleNamespace(phase=(0, 0), windows=[], leftover=0), soft_form(data, c)[c.skip:]
     if c.packed:
         r.bits = bits_of(data)[c.skip:]
     elif c.inner == "none":
         r.bits = [octet >> 7 for octet in octets]  # the nearer of 00 and FF
     else:
-        if c.find_phase:
-            r.phase = symbol_phase(octets, ended, c)
+        r.phase = symbol_phase(octets, ended, c) if c.find_phase else (0, 0)
         if r.phase:
             r.windows, r.leftover = windows(octets[r.phase[0]:], ended, c)
         r.bits = [bit for w in r.windows for bit in w.bits[:w.kept]]

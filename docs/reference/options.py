@@ -73,9 +73,9 @@ def configuration(given):
     c.find_phase, c.follow = phase != "given", phase == "follow"
     c.find_polarity = chosen(given, "polarity", ("given", "find"), "given") == "find"
     c.batch = number(given, "batch", 1, 32, 32)
-    pack = chosen(given, "pack", ("on", "off"), "on") == "on"
+    # Whether octets have eight bits, and are no symbols.
+    c.packed = chosen(given, "pack", ("on", "off"), "on") == "on" and c.inner == "none"
     c.verify = number(given, "verify", 0, 7, 0)
-    c.packed = pack and c.inner == "none"       # octets have eight bits, and are no symbols
     c.codeword = c.length // c.depth + 2 * c.E  # symbols of a codeword, as they are sent
     c.codeblock = c.codeword * c.depth          # octets of a codeblock
     return c

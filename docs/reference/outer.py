@@ -36,13 +36,11 @@ def polynomial_product(a, b):
 # Tr(v) is the sum of v raised to the powers 1, 2, 4, .., 128: 0 or 1.
 def trace(v):
     return reduce(xor, (POWER[LOG[v] * 2 ** k % 255] for k in range(8))) if v else 0
-
 DUAL = bytes(sum(trace(product(u, POWER[117 * i % 255])) << (7 - i) for i in range(8))
              for u in range(256))
-FROM_DUAL = bytes(DUAL.index(octet) for octet in range(256))
 
 def elements(octets, c):
-    return list(octets.translate(FROM_DUAL) if c.dual else octets)
+    return [DUAL.index(octet) for octet in octets] if c.dual else list(octets)
 def octets_from(symbols, c):
     return bytes(symbols).translate(DUAL) if c.dual else bytes(symbols)
 
@@ -52,12 +50,11 @@ GENERATOR = {E: reduce(polynomial_product, ([1, root] for root in ROOTS[E])) for
 
 def check_symbols(data, E):
     """The remainder of data(x) x^(2E) by the generator polynomial."""
-    rest = data + [0] * (2 * E)
-    for at in range(len(data)):
-        factor = rest[at]
-        for k, coefficient in enumerate(GENERATOR[E]):
-            rest[at + k] ^= product(factor, coefficient)
-    return rest[len(data):]
+    rest = [0] * (2 * E)
+    for symbol in data:
+        factor, rest = symbol ^ rest[0], rest[1:] + [0]
+        rest = [x ^ product(factor, y) for x, y in zip(rest, GENERATOR[E][1:])]
+    return rest
 
 def error_locator(syndrome, erased):
     """Berlekamp-Massey, begun with the locator of the erased places, and the length reached."""
@@ -96,10 +93,9 @@ def nearest_codeword(word, erased, E, repair):
     is_codeword = not any(value(codeword, root) for root in ROOTS[E])
     return (codeword, elsewhere, differ.count(True)) if is_near and is_codeword else None
 
-# The codeblock ("Reed-Solomon coding", symbol interleaving and shortened codeblock length).
 def codeblock(frame, c):
-    """Octet m belongs to column m mod I, and each column is a codeword. Virtual fill need not be
-    computed with: leading zeros leave a remainder as it is."""
+    """Symbol interleaving: octet m belongs to column m mod I, each column is a codeword. Virtual
+    fill need not be computed with: leading zeros leave a remainder as it is."""
     block = bytearray(c.codeblock)
     for i in range(c.depth):
         data = elements(frame[i::c.depth], c)
