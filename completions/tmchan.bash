@@ -9,6 +9,14 @@ _tmchan() {
         before=${COMP_WORDS[COMP_CWORD - 2]}
     fi
     COMPREPLY=()
+    case $before in
+    *'<' | *'>')
+        # What is read or written is a file.
+        compopt -o filenames 2>/dev/null
+        mapfile -t COMPREPLY < <(compgen -f -- "$word")
+        return
+        ;;
+    esac
     if [ "$COMP_CWORD" -eq 1 ]; then
         words=(encode decode report trace bits erased certify check word soak)
     else
