@@ -6,6 +6,7 @@ pub mod Handed
 pub mod Calls
 pub mod Bits
 pub mod Marker
+pub mod Limits
 pub mod Count
 pub mod SourceInMemory
 pub mod SinkInMemory

@@ -4,3 +4,7 @@ use Rattle.std.specs.Prelude.{ℕ, List, [], ◌∷◌}
 -- the four octets of the attached sync marker, in the order sent
 abbrev pub marker : List ℕ
 marker = 0x1A ∷ 0xCF ∷ 0xFC ∷ 0x1D ∷ []
+
+-- the most of its bits that may be wrong
+abbrev pub most_tolerance : ℕ
+most_tolerance = 8
