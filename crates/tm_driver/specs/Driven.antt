@@ -37,6 +37,10 @@ DrivenTo fed stopped finished failed limit before now ended unended SinkFault oc
     ⊎ (Finished fed failed limit before now octets × ended)
 DrivenTo fed stopped finished failed limit before now ended unended PastLimit octets = fed before now (take limit octets) × (length octets ≡ limit + 1)
 
+-- the most octets that a turn reads
+abbrev pub turn_size : ℕ
+turn_size = 4096
+
 -- octets but for the last of them, as many as a turn reads at most
 abbrev pub but_last_turn : List ℕ → List ℕ
-but_last_turn octets = take (length octets - 4096) octets
+but_last_turn octets = take (length octets - turn_size) octets

@@ -1,6 +1,7 @@
 // Reads a source to its end or past a limit, in turns, into what is fed.
-ghost use Rattle.std.specs.Prelude.{◌≡◌, ℕ, ◌+◌, ◌≤◌, ◌^◌, List, length, true};
+ghost use Rattle.std.specs.Prelude.{◌≡◌, ℕ, ◌+◌, ◌≤◌, List, length, true};
 ghost use Rattle.tm_base.specs.Written.{Gave};
+ghost use Rattle.tm_base.specs.Limits.{most_limit};
 ghost use Rattle.tm_driver.specs.Courses.{SourceWent, source_call};
 ghost use Rattle.tm_driver.specs.Driven.{DrivenTo};
 ghost use Rattle.tm_driver.specs.Statuses.{is_sink_fault};
@@ -9,14 +10,14 @@ use crate::ending::Ending;
 use crate::feed::Feed;
 use tm_base::{Failed, Source};
 
-// The most octets that a turn reads.
-const TURN: usize = 4096;
+/// The most octets that a turn reads.
+pub const TURN: usize = 4096;
 
 /// Feeds what the source gives, up to `limit` octets, and its end. It reads at most one octet past the limit, in turns of at most
 /// 4,096, and nothing after the end, after a fault, or once what is fed has stopped. Answers how that ended.
 pub fn drive<S: Source, F: Feed>(limit: u64, source: &mut S, feed: &mut F) -> Ending
     requires ready { F.is_ready feed.old }
-    requires limit { limit ≤ 2 ^ 40 }
+    requires limit { limit ≤ most_limit }
     ensures driven { (octets : List ℕ) × Gave (S.given source.old) (S.given source.new) (S.left source.old) (S.left source.new) octets
         × (length octets ≤ limit + 1) × DrivenTo F.fed F.stopped F.finished F.failed limit feed.old feed.new
         (S.ended source.new ≡ true) (S.ended source.new ≡ S.ended source.old) result octets }

@@ -1,6 +1,7 @@
 // What takes a stream of octets in pieces, and its end.
 ghost use Rattle.std.specs.Prelude.{◌≡◌, ℕ, ◌≤◌, Bool, false, List, [], ◌++◌, length, OnOk, OnErr, IfOk, IfErr};
 ghost use Rattle.tm_driver.specs.Statuses.{failed_in_piece, failed_at_end};
+ghost use Rattle.tm_driver.specs.Driven.{turn_size};
 ghost use Rattle.tm_driver.specs.declared.ending.Outcome.{Outcome};
 ghost use Rattle.tm_driver.specs.declared.ending.Stop.{Stop};
 
@@ -33,7 +34,7 @@ pub trait Feed {
     /// Takes the next octets, at most those of a turn.
     fn feed(&mut self, piece: &[u8]) -> Result<(), Stop>
         requires ready { is_ready self.old }
-        requires few { length piece.now ≤ 4096 }
+        requires few { length piece.now ≤ turn_size }
         ensures ready { OnOk result (is_ready self.new) }
         ensures fed { OnOk result (fed self.old self.new piece.now) }
         ensures stopped { IfErr result (λ stop. stopped self.old self.new piece.now stop) }

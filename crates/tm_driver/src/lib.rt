@@ -9,7 +9,7 @@ mod feed;
 mod line;
 mod lines;
 
-pub use driver::drive;
+pub use driver::{TURN, drive};
 pub use ending::{Ending, Outcome, Stop};
 pub use feed::Feed;
 pub use line::Line;
