@@ -1,5 +1,6 @@
 -- Batches: lists of words, each of which changes in its place.
 use Rattle.std.specs.Prelude.{ℕ, ◌+◌, ◌^◌, ◌<◌, ◌≤◌, List, [], ◌∷◌}
+use Rattle.tm_base.specs.Limits.{most_workers}
 
 -- the lists are as long as each other, and each word of the first becomes the word in its place in
 -- the second
@@ -13,7 +14,7 @@ EachBecomes becomes (w ∷ ws) (w' ∷ ws') = becomes w w' × EachBecomes become
 pub record IsBatch (e repair words workers : ℕ) : Type 0 where
   pub bound : repair ≤ e
   pub count : words < 2 ^ 32
-  pub some : (0 < workers) × (workers ≤ 64)
+  pub some : (0 < workers) × (workers ≤ most_workers)
 
 -- so many words of a batch, of which this is the first one's number
 pub record IsPart (e repair first words : ℕ) : Type 0 where

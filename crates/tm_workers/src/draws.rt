@@ -1,6 +1,7 @@
 // Calls at numbers that several workers draw.
 ghost use Rattle.std.specs.Prelude.{◌≡◌, ◌+◌, ◌<◌, ◌≤◌, ◌++◌, ℕ, length, [], ◌∷◌, true, IfOk, vec_len, vec_capacity};
 ghost use Rattle.std.specs.Thread.{IsSend, IsSync};
+ghost use Rattle.tm_base.specs.Limits.{most_workers};
 ghost use Rattle.tm_workers.specs.Numbers.{times, once_below};
 ghost use Rattle.tm_workers.specs.Seats.{IsOf, numbers, shares_of, is_spent, limit_of};
 ghost use Rattle.tm_workers.specs.Working.{IsCallableBelow, IsRoom, AreRooms, AreResults, AllResults, numbers_of, all_numbers};
@@ -59,7 +60,8 @@ fn fill_all<R: Threads + Sync, X: Copy + Send, F: Fn(u32) -> X + Sync>(
 )
     requires calls { IsCallableBelow (F.pre f.now) (limit_of tickets.now) }
     requires seat { IsOf tickets.now seat.old × (numbers seat.old ≡ []) × (length rooms.old ≤ shares_of seat.old) }
-    requires rooms { (0 < length rooms.old) × (length rooms.old ≤ 64) × AreRooms (limit_of tickets.now) rooms.old }
+    requires rooms { (0 < length rooms.old) × (length rooms.old ≤ most_workers)
+        × AreRooms (limit_of tickets.now) rooms.old }
     ensures seat { IsOf tickets.now seat.new × (is_spent seat.new ≡ true) × (shares_of seat.new ≡ shares_of seat.old) }
     ensures rooms { (numbers seat.new ≡ all_numbers rooms.new)
         × AllResults (F.post f.now) (limit_of tickets.now) rooms.new }
@@ -92,9 +94,11 @@ fn fill_both<R: Threads + Sync, X: Copy + Send, F: Fn(u32) -> X + Sync>(
 )
     requires calls { IsCallableBelow (F.pre f.now) (limit_of tickets.now) }
     requires seat { IsOf tickets.now seat.old × (numbers seat.old ≡ []) × (length front.old ≤ shares_of seat.old) }
-    requires front { (0 < length front.old) × (length front.old ≤ 64) × AreRooms (limit_of tickets.now) front.old }
+    requires front { (0 < length front.old) × (length front.old ≤ most_workers)
+        × AreRooms (limit_of tickets.now) front.old }
     requires other { IsOf tickets.now other.old × (numbers other.old ≡ []) × (length back.old ≤ shares_of other.old) }
-    requires back { (0 < length back.old) × (length back.old ≤ 64) × AreRooms (limit_of tickets.now) back.old }
+    requires back { (0 < length back.old) × (length back.old ≤ most_workers)
+        × AreRooms (limit_of tickets.now) back.old }
     ensures seat { IsOf tickets.now seat.new × (is_spent seat.new ≡ true) × (shares_of seat.new ≡ shares_of seat.old) }
     ensures front { (numbers seat.new ≡ all_numbers front.new)
         × AllResults (F.post f.now) (limit_of tickets.now) front.new }
@@ -106,7 +110,7 @@ fn fill_both<R: Threads + Sync, X: Copy + Send, F: Fn(u32) -> X + Sync>(
     let mut fill_front = ||
         requires { IsSync R.row × IsSync F.row × IsSend X.row × IsCallableBelow (F.pre f.now) (limit_of tickets.now)
             × (IsOf tickets.now seat.now × (numbers seat.now ≡ []) × (length front.now ≤ shares_of seat.now))
-            × ((0 < length front.now) × (length front.now ≤ 64) × AreRooms (limit_of tickets.now) front.now) }
+            × ((0 < length front.now) × (length front.now ≤ most_workers) × AreRooms (limit_of tickets.now) front.now) }
         ensures { (IsOf tickets.entry.now seat.exit.now × (is_spent seat.exit.now ≡ true)
             × (shares_of seat.exit.now ≡ shares_of seat.entry.now))
             × ((numbers seat.exit.now ≡ all_numbers front.exit.now)
@@ -115,7 +119,7 @@ fn fill_both<R: Threads + Sync, X: Copy + Send, F: Fn(u32) -> X + Sync>(
     let mut fill_back = ||
         requires { IsSync R.row × IsSync F.row × IsSend X.row × IsCallableBelow (F.pre f.now) (limit_of tickets.now)
             × (IsOf tickets.now other.now × (numbers other.now ≡ []) × (length back.now ≤ shares_of other.now))
-            × ((0 < length back.now) × (length back.now ≤ 64) × AreRooms (limit_of tickets.now) back.now) }
+            × ((0 < length back.now) × (length back.now ≤ most_workers) × AreRooms (limit_of tickets.now) back.now) }
         ensures { (IsOf tickets.entry.now other.exit.now × (is_spent other.exit.now ≡ true)
             × (shares_of other.exit.now ≡ shares_of other.entry.now))
             × ((numbers other.exit.now ≡ all_numbers back.exit.now)
@@ -149,7 +153,7 @@ pub fn call_each<R: Threads + Sync, X: Copy + Send, F: Fn(u32) -> X + Sync>(
     f: &F,
 ) -> Result<Vec<Vec<Drawn<X>>>, AllocError>
     requires calls { IsCallableBelow (F.pre f.now) n }
-    requires workers { (0 < workers) × (workers ≤ 64) }
+    requires workers { (0 < workers) × (workers ≤ most_workers) }
     ensures each { IfOk result (λ rooms. (x : ℕ) → times x (all_numbers rooms.items) ≡ once_below x n) }
     ensures results { IfOk result (λ rooms. AllResults (F.post f.now) n rooms.items) }
 {
