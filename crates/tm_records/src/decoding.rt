@@ -1,5 +1,6 @@
 // The decoding of records.
 ghost use Rattle.std.specs.Prelude.{◌≡◌, ◌==◌, ◌<◌, ◌≤◌, ◌*◌, not, length, map, take, drop};
+ghost use Rattle.tm_base.specs.Limits.{most_workers};
 ghost use Rattle.tm_dual.specs.Octet.{element_of};
 ghost use Rattle.tm_gf256.specs.Poly.{numbers};
 ghost use Rattle.tm_records.specs.Batch.{AreRead, all_nearest};
@@ -61,7 +62,7 @@ pub fn decode_records<R: Threads + Sync, G: Gate + Sync>(
     words: &mut [ErasedWord],
 )
     requires bound { coding.now.repair ≤ coding.now.params.e }
-    requires workers { (0 < workers) × (workers ≤ 64) }
+    requires workers { (0 < workers) × (workers ≤ most_workers) }
     requires count { count ≤ length words.old }
     requires most { length words.old ≤ 256 }
     requires size { count * record_size coding.now ≤ length octets.now }

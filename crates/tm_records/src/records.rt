@@ -1,5 +1,6 @@
 // A batch of records that is filled from pieces and decoded at once.
 ghost use Rattle.std.specs.Prelude.{◌≡◌, ◌<◌, ◌≤◌, ◌*◌, ◌-◌, ◌↔◌, ◌++◌, ℕ, List, [], length, map, min, take, IfOk, IsTrue, Some, slice_get};
+ghost use Rattle.tm_base.specs.Limits.{most_workers};
 ghost use Rattle.tm_config.specs.Bounds.{longest_word};
 ghost use Rattle.tm_dual.specs.Octet.{sent_octet};
 ghost use Rattle.tm_rs_solve.specs.Answers.{found_erased};
@@ -40,6 +41,7 @@ pub struct Records {
 
 impl Model for Records {
     ghost use Rattle.std.specs.Prelude.{◌<◌, ◌≤◌, length, take};
+    ghost use Rattle.tm_base.specs.Limits.{most_workers};
     ghost use Rattle.tm_records.specs.Batch.{Batch, HasRoom, all_nearest};
     ghost use Rattle.tm_records.specs.Records.{record_size};
 
@@ -53,7 +55,7 @@ impl Model for Records {
     } };
 
     ghost invariant = { λ r. HasRoom r.coding r.size (length r.octets.items) (length r.words.items) r.taken r.decoded
-        × (r.coding.repair ≤ r.coding.params.e) × (0 < r.workers) × (r.workers ≤ 64) };
+        × (r.coding.repair ≤ r.coding.params.e) × (0 < r.workers) × (r.workers ≤ most_workers) };
 }
 
 // Room for a batch of records of so many octets.
@@ -77,7 +79,7 @@ impl Records {
     /// fails only where there isn't enough memory.
     pub fn open(alloc: Global, coding: Coding, workers: u8) -> Result<Records, NoMemory>
         requires bound { coding.repair ≤ coding.params.e }
-        requires workers { (0 < workers) × (workers ≤ 64) }
+        requires workers { (0 < workers) × (workers ≤ most_workers) }
         ensures { IfOk result (λ records. records ≡ opened coding workers) }
     {
         let size = 2 * coding.params.n() as usize;
