@@ -1,5 +1,5 @@
 -- Lists of bits that are compared with the attached sync marker.
-use Rattle.std.specs.Prelude.{ℕ, ◌+◌, Bool, true, false, List, ◌∷◌, map}
+use Rattle.std.specs.Prelude.{ℕ, ◌+◌, ◌^◌, Bool, true, false, List, ◌∷◌, map}
 use Rattle.tm_base.specs.Bits.{bits_of}
 use Rattle.tm_base.specs.Marker.{marker}
 
@@ -32,3 +32,7 @@ differences _ _ = 0
 -- the 32 bits of the attached sync marker
 abbrev pub marker_bits : List Bool
 marker_bits = bits_of marker
+
+-- the most bits that a search is given in all
+abbrev pub bits_bound : ℕ
+bits_bound = 2 ^ 63

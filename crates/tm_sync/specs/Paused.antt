@@ -1,5 +1,6 @@
 -- A search as plain values.
 use Rattle.std.specs.Prelude.{Bool, ◌&&◌, nat_le}
+use Rattle.tm_base.specs.Marker.{most_tolerance}
 use Rattle.tm_sync.specs.declared.found.Paused.{Paused}
 use Rattle.tm_sync.specs.Searching.{Searching, inside_by}
 
@@ -23,4 +24,5 @@ resumed p = record {
 
 -- a search can have these values
 abbrev pub is_resumable : Paused → Bool
-is_resumable p = nat_le p.tolerance 8 && nat_le p.after (inside_by p.verify p.block_bits)
+is_resumable p =
+    nat_le p.tolerance most_tolerance && nat_le p.after (inside_by p.verify p.block_bits)

@@ -1,6 +1,7 @@
 // Laws of the places in a list of bits.
 ghost use Rattle.std.specs.Prelude.{◌≡◌, ◌≢◌, ◌≤◌, ◌<◌, ◌+◌, ◌*◌, ◌⊎◌, ℕ, Bool, true, false, List, [], ◌++◌, length, drop, map, Option, Some, None};
 ghost use Rattle.std.specs.List.{AllByRecursion};
+ghost use Rattle.tm_base.specs.Marker.{most_tolerance};
 ghost use Rattle.tm_sync.specs.declared.found.Before.{Before};
 ghost use Rattle.tm_sync.specs.Bits.{complement};
 ghost use Rattle.tm_sync.specs.Places.{Rules, wrong_bits, match_of, way_of, settled_by, places, complemented_place};
@@ -8,14 +9,14 @@ ghost use Rattle.tm_sync.specs.Marked.{Entry, IsMarked, joined, places_of, clean
 
 /// With a tolerance of at most 8 no 32 bits match both upright and inverted.
 pub fn one_polarity_law()
-    ensures { (bits : List Bool) (tolerance : ℕ) → length bits ≡ 32 → tolerance ≤ 8
+    ensures { (bits : List Bool) (tolerance : ℕ) → length bits ≡ 32 → tolerance ≤ most_tolerance
         → wrong_bits false bits ≤ tolerance → tolerance < wrong_bits true bits }
 {}
 
 /// Where inverted markers match too, the places in the complemented bits are those in the bits, each in the other
 /// polarity.
 pub fn polarity_law()
-    ensures { (rules : Rules) (bits : List Bool) → rules.either ≡ true → rules.tolerance ≤ 8
+    ensures { (rules : Rules) (bits : List Bool) → rules.either ≡ true → rules.tolerance ≤ most_tolerance
         → places rules (complement bits) ≡ map complemented_place (places rules bits) }
 {}
 

@@ -2,15 +2,20 @@
 ghost use Rattle.std.specs.Prelude.{◌≡◌, ◌<◌, ◌≤◌, ◌^◌, ◌+◌, ◌-◌, ◌*◌, ◌/◌, ◌%◌, ◌↔◌, ◌⊎◌, ℕ, Bool, true, false, List, [], ◌∷◌, ◌++◌, length, take, drop, slice_index_or, IsTrue, IsSome, IfSome, IfNone, Some, None, Option, count_ones, unwrap_or};
 ghost use Rattle.std.specs.Option.{option_map};
 ghost use Rattle.tm_base.specs.Bits.{number_of, bits_of, bits_of_octet};
+ghost use Rattle.tm_base.specs.Marker.{most_tolerance};
 ghost use Rattle.tm_sync.specs.declared.found.Found.{Found};
 ghost use Rattle.tm_sync.specs.declared.found.Before.{Before};
 ghost use Rattle.tm_sync.specs.Places.{Rules, wrong_bits, match_of, are_verified, way_of, verify_bits, found_at, place_by, places};
 ghost use Rattle.tm_sync.specs.Paused.{is_resumable, resumed};
 ghost use Rattle.tm_sync.specs.Searching.{Counts, IsNewlyTold, Recalls, Remembers, Searching, StandsFor, awaited_at, far_count, end_of, inside_ahead, inside_by, inside_next, inside_of, is_pending, is_right_after, most_inside, waiting_of};
+ghost use Rattle.tm_sync.specs.Bits.{bits_bound};
 
 use crate::found::{Awaited, Before, Found, Paused};
 use std::marker::Model;
 use tm_base::MARKER;
+
+// The most bits of a marker that may be wrong.
+const MOST_TOLERANCE: u8 = 8;
 
 /// What a search keeps of the bits that it was given.
 #[derive(Drop)]
@@ -37,7 +42,8 @@ pub struct Search {
 }
 
 impl Model for Search {
-    ghost use Rattle.std.specs.Prelude.{◌≡◌, ◌<◌, ◌≤◌, ◌+◌, ◌-◌, ◌^◌, None};
+    ghost use Rattle.std.specs.Prelude.{◌≡◌, ◌<◌, ◌≤◌, ◌+◌, ◌-◌, None};
+    ghost use Rattle.tm_base.specs.Marker.{most_tolerance};
     ghost use Rattle.tm_sync.specs.Searching.{Searching, far_count, inside_by};
 
     ghost Value = { Searching };
@@ -58,7 +64,7 @@ impl Model for Search {
       after = s.after;
     } };
 
-    ghost invariant = { λ s. (s.after ≤ inside_by s.verify s.block_bits) × (s.tolerance ≤ 8) × (s.too_many ≡ s.tolerance + 1)
+    ghost invariant = { λ s. (s.after ≤ inside_by s.verify s.block_bits) × (s.tolerance ≤ most_tolerance) × (s.too_many ≡ s.tolerance + 1)
         × (0 < s.far → (s.far ≡ far_count s.tolerance s.either) × (s.awaited ≡ None) × (s.start + 32 ≤ s.pushed)) };
 }
 
@@ -70,7 +76,7 @@ impl Search {
     /// the size of a codeblock in bits; and `verify` is how many further markers, each right after the codeblock of the
     /// one before, must match in the same polarity before a place that is searched for is taken.
     pub fn new(tolerance: u8, fly: u8, either: bool, block_bits: u32, verify: u8) -> Search
-        requires { tolerance ≤ 8 }
+        requires { tolerance ≤ most_tolerance }
         ensures rules { result.rules ≡ record {
           tolerance = tolerance;
           fly = fly;
@@ -113,7 +119,7 @@ impl Search {
         ensures some { IfSome result (λ search. search ≡ resumed paused.now) }
         ensures valid { IsTrue (is_resumable paused.now) ↔ IsSome result }
     {
-        if paused.tolerance > 8 || paused.after > most_after(paused.verify, paused.block_bits) {
+        if paused.tolerance > MOST_TOLERANCE || paused.after > most_after(paused.verify, paused.block_bits) {
             return None;
         }
         Some(Search {
@@ -165,7 +171,7 @@ impl Search {
         ensures first { IfNone (inside_of self.old) (IsNewlyTold self.new) }
         ensures within { unwrap_or (inside_of self.new) 0 ≤ most_inside self.new.rules }
         ensures size { length room.new ≡ length room.old }
-        ensures stands { (bits : List Bool) (found : List Found) → length bits < 2 ^ 63
+        ensures stands { (bits : List Bool) (found : List Found) → length bits < bits_bound
             → StandsFor self.old room.old bits found → StandsFor self.new room.new (bits ++ bit ∷ []) found }
     {
         remember(room, self.pushed, self.word >> 31 == 1);
@@ -190,7 +196,7 @@ impl Search {
         ensures more { IfSome (inside_of self.old) (λ count. inside_of self.new ≡ Some (count + 8)) }
         ensures first { IfNone (inside_of self.old) (unwrap_or (inside_of self.new) 0 < 8) }
         ensures within { unwrap_or (inside_of self.new) 0 ≤ self.new.rules.block_bits }
-        ensures stands { (room : List ℕ) (bits : List Bool) (found : List Found) → length bits + 8 ≤ 2 ^ 63
+        ensures stands { (room : List ℕ) (bits : List Bool) (found : List Found) → length bits + 8 ≤ bits_bound
             → StandsFor self.old room bits found → StandsFor self.new room (bits ++ bits_of_octet octet) found }
     {
         match self.awaited {
@@ -209,7 +215,7 @@ impl Search {
         ensures rules { self.new.rules ≡ self.old.rules }
         ensures more { inside_of self.new ≡ Some (unwrap_or (inside_of self.old) 0 + 8 * length octets.now) }
         ensures stands { (room : List ℕ) (bits : List Bool) (found : List Found)
-            → length bits + 8 * length octets.now ≤ 2 ^ 63
+            → length bits + 8 * length octets.now ≤ bits_bound
             → StandsFor self.old room bits found → StandsFor self.new room (bits ++ bits_of octets.now) found }
     {
         self.word = last_bits(self.word, octets);
@@ -225,7 +231,7 @@ impl Search {
         requires fits { 8 ≤ self.old.rules.block_bits }
         ensures rules { self.new.rules ≡ self.old.rules }
         ensures first { unwrap_or (inside_of self.new) 0 < 8 }
-        ensures stands { (room : List ℕ) (bits : List Bool) (found : List Found) → length bits + 8 ≤ 2 ^ 63
+        ensures stands { (room : List ℕ) (bits : List Bool) (found : List Found) → length bits + 8 ≤ bits_bound
             → StandsFor self.old room bits found → StandsFor self.new room (bits ++ bits_of_octet octet) found }
     {
         if self.pass_octet(octet) {
@@ -248,7 +254,7 @@ impl Search {
         ensures rules { self.new.rules ≡ self.old.rules }
         ensures free { inside_of self.new ≡ None }
         ensures stands { IsTrue result → (room : List ℕ) (bits : List Bool) (found : List Found)
-            → length bits + 8 ≤ 2 ^ 63
+            → length bits + 8 ≤ bits_bound
             → StandsFor self.old room bits found → StandsFor self.new room (bits ++ bits_of_octet octet) found }
     {
         let since = self.pushed.wrapping_sub(self.start);
@@ -283,7 +289,7 @@ impl Search {
         ensures first { IfNone (inside_of self.old) (IsNewlyTold self.new) }
         ensures within { unwrap_or (inside_of self.new) 0 ≤ most_inside self.new.rules }
         ensures stands { (s : Searching) (was : List ℕ) (bit : Bool) (bits : List Bool) (found : List Found)
-            → length bits < 2 ^ 63 → Counts s self.old bit → Remembers was room.now bits bit
+            → length bits < bits_bound → Counts s self.old bit → Remembers was room.now bits bit
             → StandsFor s was bits found → StandsFor self.new room.now (bits ++ bit ∷ []) found }
     {
         if self.awaited.is_some() {
@@ -313,7 +319,7 @@ impl Search {
         ensures first { (result.1 ≡ 0) ⊎ (result.1 ≡ verify_bits self.now.rules) }
         ensures fresh { IfNone result.0 (result.1 ≡ 0) }
         ensures stands { (s : Searching) (was : List ℕ) (bit : Bool) (bits : List Bool) (found : List Found)
-            → length bits < 2 ^ 63 → Counts s self.now bit → Remembers was room.now bits bit → s.awaited ≡ None
+            → length bits < bits_bound → Counts s self.now bit → Remembers was room.now bits bit → s.awaited ≡ None
             → StandsFor s was bits found
             → StandsFor (record self.now { awaited = result.0; after = result.1 }) room.now (bits ++ bit ∷ []) found }
     {
@@ -464,7 +470,7 @@ impl Search {
 
     /// The number of bits after the last codeblock that is whole, or of all bits where none is.
     pub fn finish(self) -> u64
-        ensures { (room : List ℕ) (bits : List Bool) (found : List Found) → length bits < 2 ^ 63
+        ensures { (room : List ℕ) (bits : List Bool) (found : List Found) → length bits < bits_bound
             → StandsFor self room bits found → result ≡ length bits - end_of self.rules (places self.rules bits) }
     {
         if self.pending() {
@@ -529,7 +535,7 @@ fn window(bits: u64, left: u32) -> u32
 // How many numbers of wrong bits, from one more than the tolerance on, show without a closer look that 32 bits are no
 // place: none while a place is awaited, or may directly follow the last codeblock found.
 fn far_while(awaited: Option<Awaited>, start: u64, pushed: u64, tolerance: u8, either: bool) -> u8
-    requires { tolerance ≤ 8 }
+    requires { tolerance ≤ most_tolerance }
     ensures { 0 < result → (result ≡ far_count tolerance either) × (awaited ≡ None) × (start + 32 ≤ pushed) }
 {
     if awaited.is_some() || pushed < 32 || pushed - 32 < start {
@@ -543,7 +549,7 @@ fn far_while(awaited: Option<Awaited>, start: u64, pushed: u64, tolerance: u8, e
 
 // Whether the last 32 bits match in no way.
 fn is_far(word: u32, too_many: u8, far: u8) -> bool
-    ensures { IsTrue result → (0 < far) × ((rules : Rules) (bits : List Bool) → rules.tolerance ≤ 8
+    ensures { IsTrue result → (0 < far) × ((rules : Rules) (bits : List Bool) → rules.tolerance ≤ most_tolerance
         → too_many ≡ rules.tolerance + 1 → far ≡ far_count rules.tolerance rules.either → length bits ≡ 32
         → word ≡ number_of bits → match_of rules bits ≡ None) }
 {
