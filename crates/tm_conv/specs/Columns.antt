@@ -32,3 +32,8 @@ pub record IsLeastTo (starts : ℕ → Bool) (rate : Rate) (invert : Bool) (t : 
 pub record IsColumn (starts : ℕ → Bool) (rate : Rate) (invert : Bool) (t : ℕ) (octets column : List ℕ) : Type 0 where
   pub long : length column ≡ 64
   pub each : (last : ℕ) → last < 64 → IsLeastTo starts rate invert t octets last (slice_index column last)
+
+-- the last step that certificates have, and from which columns are computed; a stream of fewer
+-- octets has no step after it
+abbrev pub last_certified : ℕ
+last_certified = 2 ^ 44

@@ -1,6 +1,6 @@
 -- Code paths and their symbols (CCSDS 131.0-B, Convolutional Coding). Bits and symbols are the numbers 0 and 1. A register is
 -- the number whose binary digits are the six bits before a step, from u[t-1] of weight 32 to u[t-6] of weight 1.
-use Rattle.std.specs.Prelude.{ℕ, zero, suc, ◌+◌, ◌*◌, ◌/◌, ◌%◌, ◌-◌, ◌<◌, ◌==◌, Bool, if◌then◌else◌, List, [], ◌∷◌, ◌++◌, length, slice_index, map, All}
+use Rattle.std.specs.Prelude.{ℕ, zero, suc, ◌+◌, ◌*◌, ◌/◌, ◌%◌, ◌^◌, ◌-◌, ◌<◌, ◌==◌, Bool, if◌then◌else◌, List, [], ◌∷◌, ◌++◌, length, slice_index, map, All}
 use Rattle.tm_conv.specs.declared.rates.Rate.{Rate}
 use Rattle.tm_conv.specs.declared.rates.Rate.TheVariants.{R12, R23, R34, R56, R78}
 
@@ -75,6 +75,10 @@ step_size rate t = (if keeps_c1 rate t then 1 else 0) + (if keeps_c2 rate t then
 unfoldable pub steps_size : Rate → ℕ → ℕ → ℕ
 steps_size rate t zero = 0
 steps_size rate t (suc count) = step_size rate t + steps_size rate (t + 1) count
+
+-- the farthest step up to which symbols are counted
+abbrev pub farthest_step : ℕ
+farthest_step = 2 ^ 62
 
 -- the symbols of a path: from a register at step t, by these bits
 abbrev pub path : Rate → Bool → ℕ → ℕ → List ℕ → List ℕ

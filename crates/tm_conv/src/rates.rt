@@ -1,6 +1,6 @@
 // The rates, and which symbols their steps keep.
-ghost use Rattle.std.specs.Prelude.{◌≡◌, ◌+◌, ◌/◌, ◌<◌, ◌≤◌, ◌^◌, length};
-ghost use Rattle.tm_conv.specs.Path.{c1_pattern, c2_pattern, keeps_c1, keeps_c2, period, step_size, steps_size};
+ghost use Rattle.std.specs.Prelude.{◌≡◌, ◌+◌, ◌/◌, ◌<◌, ◌≤◌, length};
+ghost use Rattle.tm_conv.specs.Path.{c1_pattern, c2_pattern, keeps_c1, keeps_c2, period, step_size, steps_size, farthest_step};
 
 /// The rate of the code: that of the code itself, or of one of its puncture patterns (CCSDS 131.0-B, Convolutional Coding).
 #[derive(Clone, Copy, Debug, PartialEq, Eq)]
@@ -80,7 +80,7 @@ pub fn period(rate: Rate) -> u8
 
 /// How many symbols the first `bits` steps of the stream send; at most 2^62 bits.
 pub fn symbols_of(rate: Rate, bits: u64) -> u64
-    requires { bits ≤ 2 ^ 62 }
+    requires { bits ≤ farthest_step }
     ensures { result ≡ steps_size rate 0 bits }
 {
     // A step sends one symbol, and the first of each period one more.
@@ -89,7 +89,7 @@ pub fn symbols_of(rate: Rate, bits: u64) -> u64
 
 /// How many symbols `count` steps send from step `t` on, counted from the stream's first bit; `t + count` is at most 2^62.
 pub fn steps_len(rate: Rate, t: u64, count: usize) -> usize
-    requires { t + count ≤ 2 ^ 62 }
+    requires { t + count ≤ farthest_step }
     ensures { result ≡ steps_size rate t count }
 {
     let after = symbols_of(rate, t + count as u64);
