@@ -1,3 +1,4 @@
+pub mod WindowSizes
 pub mod Starts
 pub mod Settings
 pub mod WindowBlock

@@ -1,5 +1,5 @@
 // The decoder.
-ghost use Rattle.std.specs.Prelude.{◌≡◌, ◌↔◌, ◌++◌, ◌∷◌, ℕ, ◌+◌, ◌^◌, ◌<◌, ◌≤◌, IsTrue, List, [], true, false, IfOk, OnOk, IsErrOf, length};
+ghost use Rattle.std.specs.Prelude.{◌≡◌, ◌↔◌, ◌++◌, ◌∷◌, ℕ, ◌+◌, ◌<◌, ◌≤◌, IsTrue, List, [], true, false, IfOk, OnOk, IsErrOf, length};
 ghost use Rattle.tm_base.specs.Takers.{HandedOver, HandedPart};
 ghost use Rattle.tm_base.specs.Calls.{taker_call};
 ghost use Rattle.tm_viterbi.specs.WindowBlock.{WindowBlock};
@@ -7,6 +7,7 @@ ghost use Rattle.tm_viterbi.specs.Settings.{Settings};
 ghost use Rattle.tm_viterbi.specs.Blocks.{AreBlocksOf};
 ghost use Rattle.tm_viterbi.specs.Due.{AreDue, AreFirst};
 ghost use Rattle.tm_viterbi.specs.Decoding.{Calls, StandsFor};
+ghost use Rattle.tm_viterbi.specs.WindowSizes.{least_keep, most_keep, most_ahead, stream_bound};
 
 use crate::block::{BlockTaker, Start};
 use crate::stream::Stream;
@@ -16,6 +17,9 @@ use std::marker::Model;
 use thiserror::Error;
 use tm_base::{Failed, NoMemory};
 use tm_conv::Rate;
+
+/// The octets given to a decoder in all are fewer.
+pub const STREAM_BOUND: u64 = 1 << 60;
 
 /// Why a call of a decoder was refused.
 #[derive(Clone, Copy, Debug, PartialEq, Eq, Error)]
@@ -39,15 +43,16 @@ pub struct Decoder {
 }
 
 impl Model for Decoder {
-    ghost use Rattle.std.specs.Prelude.{◌≤◌, ◌<◌, ◌^◌};
+    ghost use Rattle.std.specs.Prelude.{◌≤◌, ◌<◌};
     ghost use Rattle.tm_viterbi.specs.Streaming.{settings_of, reached, IsOpenStep};
     ghost use Rattle.tm_viterbi.specs.Decoding.{Decoding};
+    ghost use Rattle.tm_viterbi.specs.WindowSizes.{stream_bound};
 
     ghost Value = { Decoding };
 
     ghost view = { λ d. record { settings = settings_of d.stream; has_stopped = d.has_stopped; count = d.count; stream = d.stream } };
 
-    ghost invariant = { λ d. (reached d.stream ≤ d.count) × (d.count < 2 ^ 60) × IsOpenStep d.stream };
+    ghost invariant = { λ d. (reached d.stream ≤ d.count) × (d.count < stream_bound) × IsOpenStep d.stream };
 }
 
 impl Decoder {
@@ -62,8 +67,8 @@ impl Decoder {
         keep: u32,
         ahead: u32,
     ) -> Result<Decoder, NoMemory>
-        requires keep { (64 ≤ keep) × (keep ≤ 65536) }
-        requires ahead { ahead ≤ 4096 }
+        requires keep { (least_keep ≤ keep) × (keep ≤ most_keep) }
+        requires ahead { ahead ≤ most_ahead }
         ensures settings { IfOk result (λ d. d.settings ≡ record { rate = rate; invert = invert; start = start; keep = keep; ahead = ahead }) }
         ensures fresh { IfOk result (λ d. d.has_stopped ≡ false) }
         ensures stands { IfOk result (λ d. StandsFor d [] []) }
@@ -97,7 +102,7 @@ impl Decoder {
         ensures stops { IsTrue self.new.has_stopped ↔ OnOk result ⊥ }
         ensures settings { self.new.settings ≡ self.old.settings }
         ensures handed { OnOk result ((more : List WindowBlock) × HandedOver B.took blocks.old more blocks.new
-            × ((given : List ℕ) (done : List WindowBlock) → length given + length piece.now < 2 ^ 60 → StandsFor self.old given done
+            × ((given : List ℕ) (done : List WindowBlock) → length given + length piece.now < stream_bound → StandsFor self.old given done
             → StandsFor self.new (given ++ piece.now) (done ++ more) × AreDue self.old.settings (given ++ piece.now) (done ++ more))) }
         ensures prefix { IsErrOf result FeedError.Taker → (tried : List WindowBlock) × HandedPart B.took B.broke blocks.old tried blocks.new
             × ((given : List ℕ) (done : List WindowBlock) → StandsFor self.old given done → AreFirst self.old.settings (given ++ piece.now) (done ++ tried)) }
@@ -105,7 +110,7 @@ impl Decoder {
         if self.has_stopped {
             return Err(FeedError::Stopped);
         }
-        if piece.len() as u64 >= (1 << 60) - self.count {
+        if piece.len() as u64 >= STREAM_BOUND - self.count {
             return Ok(());
         }
         self.count += piece.len() as u64;

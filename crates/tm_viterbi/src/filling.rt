@@ -3,6 +3,7 @@ ghost use Rattle.std.specs.Prelude.{◌≡◌, IfOk, IsTrue, ℕ, ◌+◌, ◌-�
 ghost use Rattle.tm_conv.specs.Path.{steps_size};
 ghost use Rattle.tm_viterbi.specs.Starts.{starts_from};
 ghost use Rattle.tm_viterbi.specs.Totals.{AreAtMost};
+ghost use Rattle.tm_viterbi.specs.WindowSizes.{most_window, window_bound};
 
 use crate::passes::run;
 use crate::traceback::{end_register, trace_back};
@@ -35,7 +36,7 @@ pub(crate) struct Window {
     pub(crate) filled: usize,
     sums: [u32; 64],
     survivors: Vec<u64>,
-    ghost few: { keep + ahead ≤ 69632 },
+    ghost few: { keep + ahead ≤ most_window },
     ghost room: { vec_len survivors ≡ keep + ahead },
     ghost within: { filled ≤ keep + ahead },
     ghost bounded: { AreAtMost (2 ^ 30 + 510 * filled) sums },
@@ -59,7 +60,7 @@ impl Window {
         shape: WindowShape,
         starts: Option<u8>,
     ) -> Result<Window, AllocError>
-        requires { shape.keep + shape.ahead ≤ 69632 }
+        requires { shape.keep + shape.ahead ≤ most_window }
         ensures holds { IfOk result (λ w. Holds w []) }
         ensures began { IfOk result (λ w. (w.rate ≡ shape.rate) × (w.invert ≡ shape.invert) × (w.keep ≡ shape.keep)
             × (w.ahead ≡ shape.ahead) × (w.starts ≡ starts) × (w.t ≡ 0) × (w.filled ≡ 0)) }
@@ -96,7 +97,7 @@ impl Window {
     pub(crate) fn take_steps(&mut self, count: usize, octets: &[u8])
         requires room { self.old.filled + count ≤ self.old.keep + self.old.ahead }
         requires size { length octets.now ≡ steps_size self.old.rate (self.old.t + self.old.filled) count }
-        requires few { self.old.t < 2 ^ 61 }
+        requires few { self.old.t < window_bound }
         ensures holds { (given : List ℕ) → Holds self.old given → Holds self.new (given ++ octets.now) }
         ensures steps { self.new.filled ≡ self.old.filled + count }
         ensures same { (self.new.rate ≡ self.old.rate) × (self.new.invert ≡ self.old.invert) × (self.new.keep ≡ self.old.keep) × (self.new.ahead ≡ self.old.ahead)

@@ -1,7 +1,8 @@
 // One window after another.
-ghost use Rattle.std.specs.Prelude.{◌≡◌, IfOk, IsTrue, ℕ, ◌+◌, ◌-◌, ◌*◌, ◌^◌, ◌<◌, ◌≤◌, ◌++◌, List, Option, [], length, drop, take};
+ghost use Rattle.std.specs.Prelude.{◌≡◌, IfOk, IsTrue, ℕ, ◌+◌, ◌-◌, ◌*◌, ◌<◌, ◌≤◌, ◌++◌, List, Option, [], length, drop, take};
 ghost use Rattle.tm_conv.specs.Path.{steps_size};
 ghost use Rattle.tm_viterbi.specs.Starts.{starts_from};
+ghost use Rattle.tm_viterbi.specs.WindowSizes.{most_window, stream_bound, window_bound};
 
 use crate::filling::{BestPath, Window};
 use crate::window_decoder::WindowShape;
@@ -30,7 +31,7 @@ impl Flow {
         shape: WindowShape,
         starts: Option<u8>,
     ) -> Result<Flow, AllocError>
-        requires { shape.keep + shape.ahead ≤ 69632 }
+        requires { shape.keep + shape.ahead ≤ most_window }
         ensures keeps { IfOk result (λ f. Keeps f []) }
         ensures began { IfOk result (λ f. (f.window.rate ≡ shape.rate) × (f.window.invert ≡ shape.invert)
             × (f.window.keep ≡ shape.keep) × (f.window.ahead ≡ shape.ahead) × (f.window.starts ≡ starts)
@@ -46,7 +47,7 @@ impl Flow {
         requires room { self.old.window.filled + count ≤ self.old.window.keep + self.old.window.ahead }
         requires side { self.old.window.filled < self.old.window.keep → self.old.window.filled + count ≤ self.old.window.keep }
         requires size { length octets.now ≡ steps_size self.old.window.rate (self.old.window.t + self.old.window.filled) count }
-        requires few { self.old.window.t < 2 ^ 61 }
+        requires few { self.old.window.t < window_bound }
         ensures keeps { (given : List ℕ) → Keeps self.old given → Keeps self.new (given ++ octets.now) }
         ensures steps { self.new.window.filled ≡ self.old.window.filled + count }
         ensures same { (self.new.window.rate ≡ self.old.window.rate) × (self.new.window.invert ≡ self.old.window.invert) × (self.new.window.keep ≡ self.old.window.keep)
@@ -62,7 +63,7 @@ impl Flow {
     /// Begins the next window, after the kept steps, from this register.
     pub(crate) fn next_window(&mut self, end_state: u8)
         requires full { self.old.window.filled ≡ self.old.window.keep + self.old.window.ahead }
-        requires few { self.old.window.t < 2 ^ 60 }
+        requires few { self.old.window.t < stream_bound }
         ensures keeps { (given : List ℕ) → Keeps self.old given → Keeps self.new (drop (steps_size self.old.window.rate self.old.window.t self.old.window.keep) given) }
         ensures place { (self.new.window.t ≡ self.old.window.t + self.old.window.keep) × (self.new.window.filled ≡ self.old.window.ahead) × (self.new.window.starts ≡ Option.Some end_state) }
         ensures same { (self.new.window.rate ≡ self.old.window.rate) × (self.new.window.invert ≡ self.old.window.invert) × (self.new.window.keep ≡ self.old.window.keep) × (self.new.window.ahead ≡ self.old.window.ahead) }
@@ -82,7 +83,7 @@ impl Flow {
         requires full { self.old.window.filled ≡ self.old.window.keep + self.old.window.ahead }
         requires bits { length bits.old ≡ self.old.window.keep + self.old.window.ahead }
         requires start { (register : ℕ) × (register < 64) × IsTrue (starts_from self.old.window.starts register) }
-        requires few { self.old.window.t < 2 ^ 60 }
+        requires few { self.old.window.t < stream_bound }
         ensures closes { (given after : List ℕ) → Keeps self.old given
             → steps_size self.old.window.rate self.old.window.t (self.old.window.keep + self.old.window.ahead + 1) ≤ length (given ++ after)
             → Closes self.old.window.rate self.old.window.invert self.old.window.keep self.old.window.ahead

@@ -26,7 +26,7 @@ mod window_decoder;
 pub use block::{Block, BlockTaker, Start, first_start};
 pub use clean_laws::{clean_blocks_law, closed_windows_law, complemented_blocks_law};
 pub use columns::plain_column;
-pub use decoder::{Decoder, FeedError};
+pub use decoder::{Decoder, FeedError, STREAM_BOUND};
 pub use filling::BestPath;
 pub use lanes::lane_column;
 pub use laws::{due_law, one_list_law};

@@ -1,6 +1,6 @@
 // The steps of the forward pass.
 ghost use Rattle.std.specs.Prelude.{◌≡◌, ◌++◌, min, IsTrue, ℕ, ◌+◌, ◌-◌, ◌*◌, ◌/◌, ◌%◌, ◌^◌, ◌<◌, ◌≤◌, List, take, drop, reverse, length, slice_index, nat_lt, if◌then◌else◌};
-ghost use Rattle.tm_conv.specs.Path.{step_size, steps_size};
+ghost use Rattle.tm_conv.specs.Path.{step_size, steps_size, farthest_step};
 ghost use Rattle.tm_viterbi.specs.Totals.{StepsTo, AreAtMost};
 ghost use Rattle.tm_viterbi.specs.Carries.{Carries};
 
@@ -94,7 +94,7 @@ pub(crate) fn run(
     most: u32,
 )
     requires size { length soft.now ≡ steps_size rate t (length survivors.old) }
-    requires first { t < 2 ^ 62 }
+    requires first { t < farthest_step }
     requires room { most + 510 * length survivors.old + 65536 < 2 ^ 32 }
     requires bounded { AreAtMost most sums.old }
     ensures bounded { AreAtMost (most + 510 * length survivors.new) sums.new }

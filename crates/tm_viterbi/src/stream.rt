@@ -3,10 +3,11 @@ ghost use Rattle.std.specs.Prelude.{◌≡◌, ◌++◌, ◌∷◌, ℕ, ◌+◌
 ghost use Rattle.std.specs.Option.{ForSome};
 ghost use Rattle.tm_base.specs.Takers.{HandedOver, HandedPart};
 ghost use Rattle.tm_base.specs.Outside.{HasCause};
-ghost use Rattle.tm_conv.specs.Path.{period, step_size, steps_size};
+ghost use Rattle.tm_conv.specs.Path.{period, step_size, steps_size, farthest_step};
 ghost use Rattle.tm_viterbi.specs.Starts.{starts_from, first_start};
 ghost use Rattle.tm_viterbi.specs.NextSteps.{AreNextSteps};
 ghost use Rattle.tm_viterbi.specs.WindowBlock.{WindowBlock};
+ghost use Rattle.tm_viterbi.specs.WindowSizes.{least_keep, most_window, stream_bound};
 
 use crate::block::{Block, BlockTaker, Start, first_start};
 use crate::filling::BestPath;
@@ -25,7 +26,7 @@ pub(crate) struct Stream {
     waiting: Option<u8>,
     ghost room: { vec_len bits ≡ flow.window.keep + flow.window.ahead },
     ghost some: { ForSome flow.window.starts (λ register. register < 64) },
-    ghost sizes: { (64 ≤ flow.window.keep) × (flow.window.keep + flow.window.ahead ≤ 69632) },
+    ghost sizes: { (least_keep ≤ flow.window.keep) × (flow.window.keep + flow.window.ahead ≤ most_window) },
 }
 
 // How many whole steps the next octets have from step t on, at most `limit`, and how many octets these steps take.
@@ -33,7 +34,7 @@ pub(crate) struct Stream {
 fn count_steps(rate: Rate, t: u64, limit: usize, len: usize) -> (usize, usize)
     requires step { step_size rate t ≤ len }
     requires limit { 0 < limit }
-    requires few { t + limit < 2 ^ 62 }
+    requires few { t + limit < farthest_step }
     ensures { AreNextSteps rate t limit len result.0 result.1 }
 {
     // A period sends one symbol more than it has steps, wherever it begins.
@@ -59,7 +60,7 @@ fn count_steps(rate: Rate, t: u64, limit: usize, len: usize) -> (usize, usize)
 pub(crate) fn whole_steps(rate: Rate, t: u64, limit: usize, len: usize) -> (usize, usize)
     requires step { step_size rate t ≤ len }
     requires limit { 0 < limit }
-    requires few { t + limit < 2 ^ 62 }
+    requires few { t + limit < farthest_step }
     ensures { AreNextSteps rate t limit len result.0 result.1 }
 {
     match rate {
@@ -105,7 +106,7 @@ impl Stream {
 
     /// A stream of which no octet was given yet. It takes its memory here.
     pub(crate) fn new(alloc: Global, start: Start, shape: WindowShape) -> Result<Stream, AllocError>
-        requires { (64 ≤ shape.keep) × (shape.keep + shape.ahead ≤ 69632) }
+        requires { (least_keep ≤ shape.keep) × (shape.keep + shape.ahead ≤ most_window) }
         ensures settings { IfOk result (λ s. settings_of s ≡ record {
           rate = shape.rate;
           invert = shape.invert;
@@ -128,7 +129,7 @@ impl Stream {
     // Where the window is full, closes it and hands its block over. It is called where the next step is whole by `rest`.
     fn make_room<B: BlockTaker>(&mut self, rest: &[u8], blocks: &mut B) -> Result<(), Failed>
         requires step { step_size self.old.flow.window.rate (self.old.flow.window.t + self.old.flow.window.filled) ≤ length (waiting_octets self.old.waiting ++ rest.now) }
-        requires few { self.old.flow.window.t < 2 ^ 60 }
+        requires few { self.old.flow.window.t < stream_bound }
         ensures ok { OnOk result ((more : List WindowBlock) × HandedOver B.took blocks.old more blocks.new
             × ((all : List ℕ) (done : List WindowBlock) → Reaches self.old all rest.now done → Reaches self.new all rest.now (done ++ more))) }
         ensures err { OnErr result ((block : WindowBlock) × B.broke blocks.old block blocks.new
@@ -166,7 +167,7 @@ impl Stream {
         requires room { self.old.flow.window.filled + count ≤ self.old.flow.window.keep + self.old.flow.window.ahead }
         requires side { self.old.flow.window.filled < self.old.flow.window.keep → self.old.flow.window.filled + count ≤ self.old.flow.window.keep }
         requires size { length octets.now ≡ steps_size self.old.flow.window.rate (self.old.flow.window.t + self.old.flow.window.filled) count }
-        requires few { self.old.flow.window.t < 2 ^ 60 }
+        requires few { self.old.flow.window.t < stream_bound }
         ensures reaches { (all taken rest : List ℕ) (done : List WindowBlock) → octets.now ≡ waiting_octets self.old.waiting ++ taken
             → Reaches self.old all (taken ++ rest) done → Reaches self.new all rest done }
         ensures steps { self.new.flow.window.filled ≡ self.old.flow.window.filled + count }
@@ -195,7 +196,7 @@ impl Stream {
         requires room { self.old.flow.window.filled < self.old.flow.window.keep + self.old.flow.window.ahead }
         requires step { step_size self.old.flow.window.rate (self.old.flow.window.t + self.old.flow.window.filled) ≤ length (waiting_octets self.old.waiting ++ rest.now) }
         requires open_step { IsOpenStep self.old }
-        requires few { self.old.flow.window.t < 2 ^ 60 }
+        requires few { self.old.flow.window.t < stream_bound }
         ensures some { (0 < result) × (result ≤ length rest.now) }
         ensures reaches { (all : List ℕ) (done : List WindowBlock) → Reaches self.old all rest.now done → Reaches self.new all (drop result rest.now) done }
         ensures counted { reached self.new ≤ reached self.old + result }
@@ -226,7 +227,7 @@ impl Stream {
     fn take_next<B: BlockTaker>(&mut self, rest: &[u8], blocks: &mut B) -> Result<usize, Failed>
         requires some { 0 < length rest.now }
         requires open_step { IsOpenStep self.old }
-        requires few { self.old.flow.window.t + self.old.flow.window.filled < 2 ^ 60 }
+        requires few { self.old.flow.window.t + self.old.flow.window.filled < stream_bound }
         ensures ok { IfOk result (λ n. (0 < n) × (n ≤ length rest.now) × (more : List WindowBlock) × HandedOver B.took blocks.old more blocks.new
             × ((all : List ℕ) (done : List WindowBlock) → Reaches self.old all rest.now done → Reaches self.new all (drop n rest.now) (done ++ more))) }
         ensures err { OnErr result ((block : WindowBlock) × B.broke blocks.old block blocks.new
@@ -256,7 +257,7 @@ impl Stream {
     /// Takes a piece, and hands over the blocks of the windows that are closed by it.
     pub(crate) fn take<B: BlockTaker>(&mut self, piece: &[u8], blocks: &mut B) -> Result<(), Failed>
         requires open_step { IsOpenStep self.old }
-        requires few { reached self.old + length piece.now < 2 ^ 60 }
+        requires few { reached self.old + length piece.now < stream_bound }
         ensures ok { OnOk result ((more : List WindowBlock) × HandedOver B.took blocks.old more blocks.new
             × ((all : List ℕ) (done : List WindowBlock) → Reaches self.old all piece.now done → Reaches self.new all [] (done ++ more))) }
         ensures err { OnErr result ((tried : List WindowBlock) × HandedPart B.took B.broke blocks.old tried blocks.new

@@ -1,11 +1,12 @@
 // The path metrics of the Viterbi algorithm without its survivors.
-ghost use Rattle.std.specs.Prelude.{◌≡◌, ◌++◌, ℕ, ◌+◌, ◌*◌, ◌^◌, ◌<◌, ◌≤◌, List, [], IfSome, length};
+ghost use Rattle.std.specs.Prelude.{◌≡◌, ◌++◌, ℕ, ◌+◌, ◌*◌, ◌<◌, ◌≤◌, List, [], IfSome, length};
 ghost use Rattle.tm_conv.specs.Path.{path, step_size, steps_size};
 ghost use Rattle.tm_conv.specs.Cost.{cost};
 ghost use Rattle.tm_conv.specs.Best.{IsBest};
-ghost use Rattle.tm_conv.specs.Columns.{IsColumn};
+ghost use Rattle.tm_conv.specs.Columns.{IsColumn, last_certified};
 ghost use Rattle.tm_viterbi.specs.Starts.{starts_from, first_start};
 ghost use Rattle.tm_viterbi.specs.Summing.{SumsFor};
+ghost use Rattle.tm_viterbi.specs.WindowSizes.{most_window};
 
 use crate::block::Start;
 use crate::passes::step;
@@ -26,14 +27,17 @@ pub struct Sums {
 
 impl Model for Sums {
     ghost use Rattle.std.specs.Prelude.{◌≤◌, ◌+◌, ◌*◌, ◌^◌};
+    ghost use Rattle.tm_conv.specs.Columns.{last_certified};
     ghost use Rattle.tm_viterbi.specs.Totals.{AreAtMost};
     ghost use Rattle.tm_viterbi.specs.Summing.{Summing};
+    ghost use Rattle.tm_viterbi.specs.WindowSizes.{most_window};
 
     ghost Value = { Summing };
 
     ghost view = { λ s. record { rate = s.rate; invert = s.invert; first = s.first; start = s.start; steps = s.steps; column = s.column } };
 
-    ghost invariant = { λ s. (s.first ≤ 2 ^ 44) × (s.steps ≤ 69632) × AreAtMost (2 ^ 30 + 510 * s.steps) s.column };
+    ghost invariant = { λ s. (s.first ≤ last_certified) × (s.steps ≤ most_window)
+        × AreAtMost (2 ^ 30 + 510 * s.steps) s.column };
 }
 
 impl Sums {
@@ -41,7 +45,7 @@ impl Sums {
     /// else 2^30.
     #[tactic(auto, unfolding(tm_conv::specs::Path::steps_size))]
     pub fn new(rate: Rate, invert: bool, first: u64, start: Option<u8>) -> Sums
-        requires first { first ≤ 2 ^ 44 }
+        requires first { first ≤ last_certified }
         requires start { IfSome start (λ register. register < 64) }
         ensures began { (result.rate ≡ rate) × (result.invert ≡ invert) × (result.first ≡ first) × (result.start ≡ start) × (result.steps ≡ 0) }
         ensures stands { SumsFor result [] }
@@ -59,7 +63,7 @@ impl Sums {
     /// Takes the soft octets of the next step, just as many as it sends symbols; at most 69,632 steps in all.
     pub fn step(&mut self, octets: &[u8])
         requires size { length octets.now ≡ step_size self.old.rate (self.old.first + self.old.steps) }
-        requires few { self.old.steps < 69632 }
+        requires few { self.old.steps < most_window }
         ensures began { (self.new.rate ≡ self.old.rate) × (self.new.invert ≡ self.old.invert) × (self.new.first ≡ self.old.first) × (self.new.start ≡ self.old.start) }
         ensures steps { self.new.steps ≡ self.old.steps + 1 }
         ensures stands { (given : List ℕ) → SumsFor self.old given → SumsFor self.new (given ++ octets.now) }

@@ -10,6 +10,7 @@ ghost use Rattle.tm_viterbi.specs.WindowBlock.{WindowBlock};
 ghost use Rattle.tm_viterbi.specs.Settings.{Settings};
 ghost use Rattle.tm_viterbi.specs.Blocks.{AreBlocksOf};
 ghost use Rattle.tm_viterbi.specs.Due.{AreFirst};
+ghost use Rattle.tm_viterbi.specs.WindowSizes.{least_keep, most_keep, most_ahead, most_window, stream_bound};
 
 use crate::block::{BlockTaker, Start, first_start};
 use crate::decoder::Decoder;
@@ -46,12 +47,12 @@ pub fn decode_all<B: BlockTaker>(
     soft: &[u8],
     blocks: &mut B,
 ) -> Result<u8, AllError>
-    requires keep { (64 ≤ keep) × (keep ≤ 65536) }
-    requires ahead { ahead ≤ 4096 }
+    requires keep { (least_keep ≤ keep) × (keep ≤ most_keep) }
+    requires ahead { ahead ≤ most_ahead }
     ensures handed { IfOk result (λ left. (all : List WindowBlock) × HandedOver B.took blocks.old all blocks.new
-        × (length soft.now < 2 ^ 60 → AreBlocksOf (record { rate = rate; invert = invert; start = start; keep = keep; ahead = ahead }) soft.now all left)) }
+        × (length soft.now < stream_bound → AreBlocksOf (record { rate = rate; invert = invert; start = start; keep = keep; ahead = ahead }) soft.now all left)) }
     ensures prefix { IsErrOf result AllError.Taker → (tried : List WindowBlock) × HandedPart B.took B.broke blocks.old tried blocks.new
-        × (length soft.now < 2 ^ 60 → AreFirst (record { rate = rate; invert = invert; start = start; keep = keep; ahead = ahead }) soft.now tried
+        × (length soft.now < stream_bound → AreFirst (record { rate = rate; invert = invert; start = start; keep = keep; ahead = ahead }) soft.now tried
         ⊎ ((left : ℕ) × AreBlocksOf (record { rate = rate; invert = invert; start = start; keep = keep; ahead = ahead }) soft.now tried left)) }
     ensures left { IfOk result (λ left. left ≤ 1) }
     ensures unchanged { IsErrOf result AllError.Memory → blocks.new ≡ blocks.old }
@@ -73,7 +74,7 @@ pub fn decode_all<B: BlockTaker>(
 
 /// What the best path over soft octets from step 0 on costs. They are the symbols of at most 69,632 steps. It takes no memory.
 pub fn least_cost(rate: Rate, invert: bool, start: Start, soft: &[u8]) -> u64
-    requires { (steps : ℕ) × (steps ≤ 69632) × (length soft.now ≡ steps_size rate 0 steps) }
+    requires { (steps : ℕ) × (steps ≤ most_window) × (length soft.now ≡ steps_size rate 0 steps) }
     ensures { (initial : ℕ) × (bits : List ℕ) × IsBest (starts_from (first_start start)) rate invert 0 soft.now initial bits
         × (result ≡ cost (path rate invert 0 initial bits) soft.now) }
 {
@@ -82,8 +83,8 @@ pub fn least_cost(rate: Rate, invert: bool, start: Start, soft: &[u8]) -> u64
 
 /// The same from step `t` on, below 2^60.
 pub fn least_cost_from(rate: Rate, invert: bool, start: Start, t: u64, soft: &[u8]) -> u64
-    requires steps { (steps : ℕ) × (steps ≤ 69632) × (length soft.now ≡ steps_size rate t steps) }
-    requires few { t < 2 ^ 60 }
+    requires steps { (steps : ℕ) × (steps ≤ most_window) × (length soft.now ≡ steps_size rate t steps) }
+    requires few { t < stream_bound }
     ensures cost { (initial : ℕ) × (bits : List ℕ) × IsBest (starts_from (first_start start)) rate invert t soft.now initial bits
         × (result ≡ cost (path rate invert t initial bits) soft.now) }
     ensures small { result < 2 ^ 32 }

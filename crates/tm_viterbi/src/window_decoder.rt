@@ -1,8 +1,9 @@
 // One window, decoded by itself.
-ghost use Rattle.std.specs.Prelude.{◌≡◌, ℕ, ◌+◌, ◌^◌, ◌<◌, ◌≤◌, IfOk, length};
+ghost use Rattle.std.specs.Prelude.{◌≡◌, ℕ, ◌+◌, ◌<◌, ◌≤◌, IfOk, length};
 ghost use Rattle.std.specs.Option.{ForSome};
 ghost use Rattle.tm_conv.specs.Path.{steps_size};
 ghost use Rattle.tm_viterbi.specs.Blocks.{IsBlock, window_steps, kept_steps};
+ghost use Rattle.tm_viterbi.specs.WindowSizes.{most_window, window_bound};
 
 use crate::filling::{BestPath, Window};
 use std::alloc::Global;
@@ -45,7 +46,7 @@ impl Model for WindowDecoder {
 impl WindowDecoder {
     /// A decoder of windows of this shape, which have at most 69,632 steps. It fails only where there isn't enough memory.
     pub fn new(alloc: Global, shape: WindowShape) -> Result<WindowDecoder, NoMemory>
-        requires { shape.keep + shape.ahead ≤ 69632 }
+        requires { shape.keep + shape.ahead ≤ most_window }
         ensures { IfOk result (λ d. d ≡ shape) }
     {
         match Window::new(alloc, shape, None) {
@@ -69,7 +70,7 @@ impl WindowDecoder {
         requires kept { kept ≤ length bits.old }
         requires octets { steps_size self.old.rate t (length bits.old) ≤ length octets.now }
         requires start { ForSome starts (λ register. register < 64) }
-        requires few { t < 2 ^ 61 }
+        requires few { t < window_bound }
         ensures block { (remaining : ℕ) → length bits.old ≡ window_steps self.old.keep self.old.ahead remaining → kept ≡ kept_steps self.old.keep self.old.ahead remaining
             → IsBlock self.old.rate self.old.invert self.old.keep self.old.ahead starts t remaining octets.now
             (record { start = result.start; steps = length bits.old; kept = kept; metric = result.metric; bits = bits.new; end_state = result.end_state; dropped = 0 }) }
