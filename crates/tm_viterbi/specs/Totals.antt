@@ -33,3 +33,11 @@ pub record StepsTo (rate : Rate) (invert : Bool) (t : ℕ) (octets sums next : L
 
 abbrev pub AreAtMost : ℕ → List ℕ → Type 0
 AreAtMost most sums = (s : ℕ) → s < 64 → slice_index sums s ≤ most
+
+-- by how much path metrics differ at most that go in sixteen bits
+abbrev pub most_spread : ℕ
+most_spread = 4096
+
+-- for how many steps they go in sixteen bits at most
+abbrev pub most_narrow : ℕ
+most_narrow = 120

@@ -2,7 +2,7 @@
 ghost use Rattle.std.specs.Prelude.{◌≡◌, ◌++◌, Bool, ℕ, ◌+◌, ◌-◌, ◌*◌, ◌^◌, ◌<◌, ◌≤◌, [], ◌∷◌, take, length};
 ghost use Rattle.tm_conv.specs.Path.{step_size, steps_size};
 ghost use Rattle.tm_viterbi.specs.Column.{AreSortedPlaces};
-ghost use Rattle.tm_viterbi.specs.Totals.{StepsTo, AreAtMost};
+ghost use Rattle.tm_viterbi.specs.Totals.{StepsTo, AreAtMost, most_spread, most_narrow};
 ghost use Rattle.tm_viterbi.specs.Carries.{Carries, lifted};
 ghost use Rattle.tm_viterbi.specs.Masks.{two_step_masks};
 
@@ -44,7 +44,7 @@ fn narrow_run(
     survivors: &mut [u64],
 ) -> (Simd<u16, 32>, Simd<u16, 32>, usize)
     requires size { steps_size rate t (length survivors.old) ≤ length soft.now }
-    requires few { length survivors.old ≤ 120 }
+    requires few { length survivors.old ≤ most_narrow }
     requires first { t + length survivors.old < 2 ^ 63 }
     requires room { AreAtMost (2 ^ 16 - 1 - 510 * length survivors.old) (first_low ++ first_high) }
     ensures taken { result.2 ≡ steps_size rate t (length survivors.new) }
@@ -157,7 +157,7 @@ fn narrow_half_rate(
     survivors: &mut [u64],
 ) -> (Simd<u16, 32>, Simd<u16, 32>, usize)
     requires size { steps_size Rate.R12 t (length survivors.old) ≤ length soft.now }
-    requires few { length survivors.old ≤ 120 }
+    requires few { length survivors.old ≤ most_narrow }
     requires first { t + length survivors.old < 2 ^ 63 }
     requires room { AreAtMost (2 ^ 16 - 1 - 510 * length survivors.old) (first_low ++ first_high) }
     ensures taken { result.2 ≡ steps_size Rate.R12 t (length survivors.new) }
@@ -210,9 +210,9 @@ pub(crate) fn narrow_at(
     survivors: &mut [u64],
 ) -> (Simd<u16, 32>, Simd<u16, 32>, usize)
     requires size { steps_size rate t (length survivors.old) ≤ length soft.now }
-    requires few { length survivors.old ≤ 120 }
+    requires few { length survivors.old ≤ most_narrow }
     requires first { t + length survivors.old < 2 ^ 63 }
-    requires bounded { AreAtMost 4096 (low ++ high) }
+    requires bounded { AreAtMost most_spread (low ++ high) }
     ensures taken { result.2 ≡ steps_size rate t (length survivors.new) }
     ensures carries { (base : ℕ) → Carries rate invert t (take result.2 soft.now)
         (lifted base (low ++ high)) (lifted base (result.0 ++ result.1)) survivors.new }

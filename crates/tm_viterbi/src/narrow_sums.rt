@@ -1,7 +1,11 @@
 // Path metrics in sixteen bits: less the least of them.
 ghost use Rattle.std.specs.Prelude.{◌≡◌, ◌++◌, IsTrue, ℕ, ◌+◌, ◌^◌, ◌<◌, ◌≤◌, length, slice_index};
+ghost use Rattle.tm_viterbi.specs.Totals.{most_spread};
 
 use std::simd::prelude::*;
+
+// By how much path metrics differ at most that go in sixteen bits.
+const MOST_SPREAD: u32 = 4096;
 
 // The least path metric.
 pub(crate) fn least_sum(sums: &[u32; 64]) -> u32
@@ -29,15 +33,15 @@ fn greatest_sum(sums: &[u32; 64]) -> u32
 // for 120 steps, by each of which they grow by at most 510.
 pub(crate) fn are_close(sums: &[u32; 64], least: u32) -> bool
     requires { (s : ℕ) → s < 64 → least ≤ slice_index sums.now s }
-    ensures { IsTrue result → (s : ℕ) → s < 64 → slice_index sums.now s ≤ least + 4096 }
+    ensures { IsTrue result → (s : ℕ) → s < 64 → slice_index sums.now s ≤ least + most_spread }
 {
-    greatest_sum(sums) - least <= 4096
+    greatest_sum(sums) - least <= MOST_SPREAD
 }
 
 // The path metrics less the least of them.
 pub(crate) fn less_least(sums: &[u32; 64], least: u32) -> [u16; 64]
     requires least { (s : ℕ) → s < 64 → least ≤ slice_index sums.now s }
-    requires close { (s : ℕ) → s < 64 → slice_index sums.now s ≤ least + 4096 }
+    requires close { (s : ℕ) → s < 64 → slice_index sums.now s ≤ least + most_spread }
     ensures long { length result ≡ 64 }
     ensures each { (s : ℕ) → s < 64 → least + slice_index result s ≡ slice_index sums.now s }
 {

@@ -1,7 +1,7 @@
 // The steps of the forward pass.
 ghost use Rattle.std.specs.Prelude.{◌≡◌, ◌++◌, min, IsTrue, ℕ, ◌+◌, ◌-◌, ◌*◌, ◌/◌, ◌%◌, ◌^◌, ◌<◌, ◌≤◌, List, take, drop, reverse, length, slice_index, nat_lt, if◌then◌else◌};
 ghost use Rattle.tm_conv.specs.Path.{step_size, steps_size, farthest_step};
-ghost use Rattle.tm_viterbi.specs.Totals.{StepsTo, AreAtMost};
+ghost use Rattle.tm_viterbi.specs.Totals.{StepsTo, AreAtMost, most_spread, most_narrow};
 ghost use Rattle.tm_viterbi.specs.Carries.{Carries};
 
 use crate::costs::{step_costs, wide_costs};
@@ -9,6 +9,9 @@ use crate::lanes::lane_column;
 use crate::narrow_steps::narrow_at;
 use crate::narrow_sums::{are_close, halves_of, least_sum, less_least, with_least};
 use tm_conv::{Rate, step_len};
+
+// For how many steps path metrics go in sixteen bits at most.
+pub(crate) const MOST_NARROW: usize = 120;
 
 // One step in thirty-two bits. No path metric is above `most` before it: what only the proof needs.
 pub(crate) fn step(
@@ -43,11 +46,11 @@ fn narrow_block(
     survivors: &mut [u64],
 ) -> usize
     requires size { steps_size rate t (length survivors.old) ≤ length soft.now }
-    requires few { length survivors.old ≤ 120 }
+    requires few { length survivors.old ≤ most_narrow }
     requires first { t + length survivors.old < 2 ^ 63 }
     requires room { least + 65536 < 2 ^ 32 }
     requires least { (s : ℕ) → s < 64 → least ≤ slice_index sums.old s }
-    requires close { (s : ℕ) → s < 64 → slice_index sums.old s ≤ least + 4096 }
+    requires close { (s : ℕ) → s < 64 → slice_index sums.old s ≤ least + most_spread }
     ensures taken { result ≡ steps_size rate t (length survivors.new) }
     ensures carries { Carries rate invert t (take result soft.now) sums.old sums.new survivors.new }
     ensures bounded { (m : ℕ) → AreAtMost m sums.old → AreAtMost (m + 510 * length survivors.new) sums.new }
@@ -106,7 +109,7 @@ pub(crate) fn run(
         let now = t + done as u64;
         let least = least_sum(sums);
         if are_close(sums, least) {
-            let end = (survivors.len() - done).min(120) + done;
+            let end = (survivors.len() - done).min(MOST_NARROW) + done;
             at += narrow_block(
                 rate,
                 invert,

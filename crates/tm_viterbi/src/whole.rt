@@ -14,7 +14,7 @@ ghost use Rattle.tm_viterbi.specs.WindowSizes.{least_keep, most_keep, most_ahead
 
 use crate::block::{BlockTaker, Start, first_start};
 use crate::decoder::Decoder;
-use crate::passes::run;
+use crate::passes::{MOST_NARROW, run};
 use crate::stream::whole_steps;
 use crate::window::{first_sums, least_register};
 use std::alloc::Global;
@@ -90,7 +90,7 @@ pub fn least_cost_from(rate: Rate, invert: bool, start: Start, t: u64, soft: &[u
     ensures small { result < 2 ^ 32 }
 {
     let mut sums = first_sums(first_start(start));
-    let mut survivors = [0u64; 120];
+    let mut survivors = [0u64; MOST_NARROW];
     let mut done = 0usize;
     let mut at = 0usize;
     while at < soft.len() {
