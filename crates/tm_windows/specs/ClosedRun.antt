@@ -1,11 +1,12 @@
 -- When several windows may be closed, and what closing them hands over and answers.
-use Rattle.std.specs.Prelude.{ℕ, ◌+◌, ◌*◌, ◌^◌, ◌<◌, ◌≤◌, List, length, Option, Result, IfOk, OnErr}
+use Rattle.std.specs.Prelude.{ℕ, ◌+◌, ◌*◌, ◌<◌, ◌≤◌, List, length, Option, Result, IfOk, OnErr}
 use Rattle.std.specs.Option.{ForSome}
 use Rattle.tm_base.specs.Calls.{TakerCall}
 use Rattle.tm_base.specs.Outside.{HasCause}
 use Rattle.tm_conv.specs.Path.{steps_size}
 use Rattle.tm_viterbi.specs.WindowBlock.{WindowBlock}
 use Rattle.tm_viterbi.specs.Due.{Place}
+use Rattle.tm_viterbi.specs.WindowSizes.{window_bound}
 use Rattle.tm_viterbi.specs.declared.window_decoder.WindowShape.{WindowShape}
 use Rattle.tm_windows.specs.Candidates.{ClosedWith, after_windows}
 use Rattle.tm_windows.specs.Sharing.{Sharing}
@@ -18,7 +19,7 @@ pub record CanClose (workers : Sharing) (starts : Option ℕ) (t : ℕ) (octets 
   pub start : ForSome starts (λ register. register < 64)
   pub room : steps_size workers.shape.rate t
       (count * workers.shape.keep + workers.shape.ahead + 1) ≤ length octets
-  pub few : t + count * workers.shape.keep < 2 ^ 61
+  pub few : t + count * workers.shape.keep < window_bound
 
 -- The blocks of the next `count` windows from step t on with the octets went to the taker, and the
 -- register is answered from which the window after them starts; or the taker failed at one of the

@@ -1,8 +1,9 @@
 -- What contracts see of a decoder with workers, and for which octets, given so far, and which
 -- blocks, handed over so far, it stands.
-use Rattle.std.specs.Prelude.{ℕ, ◌≡◌, ◌↔◌, ◌⊎◌, ◌+◌, ◌^◌, ◌<◌, ◌≤◌, ◌++◌, Bool, true, List, [], length, Result, IfOk, OnOk, IsErrOf, IsTrue}
+use Rattle.std.specs.Prelude.{ℕ, ◌≡◌, ◌↔◌, ◌⊎◌, ◌+◌, ◌<◌, ◌≤◌, ◌++◌, Bool, true, List, [], length, Result, IfOk, OnOk, IsErrOf, IsTrue}
 use Rattle.tm_base.specs.Calls.{CallAnswers, TakerCall}
 use Rattle.tm_viterbi.specs.WindowBlock.{WindowBlock}
+use Rattle.tm_viterbi.specs.WindowSizes.{stream_bound}
 use Rattle.tm_viterbi.specs.declared.decoder.FeedError.{FeedError}
 use Rattle.tm_viterbi.specs.declared.decoder.FeedError.TheVariants.{Stopped, Taker}
 use Rattle.tm_windows.specs.Followed.{Windows, slips_of, kept_of}
@@ -45,7 +46,7 @@ pub record Feeds {R : Type 0} (before now : ParallelDecoding) (octets : List ℕ
   pub stops : IsTrue now.has_stopped ↔ OnOk result ⊥
   pub windows : now.windows ≡ before.windows
   pub handed : OnOk result ((more : List WindowBlock) × taker.took more
-      × ((given : List ℕ) (done : List WindowBlock) → length given + length octets < 2 ^ 60
+      × ((given : List ℕ) (done : List WindowBlock) → length given + length octets < stream_bound
       → StandsFor before given done
       → StandsFor now (given ++ octets) (done ++ more)
       × AreDueIn before.windows (given ++ octets) (done ++ more)))

@@ -1,6 +1,6 @@
 -- What contracts see of the workers that decode windows side by side, and how many windows they
 -- are given.
-use Rattle.std.specs.Prelude.{ℕ, ◌*◌, ◌/◌, nat_lt, if◌then◌else◌}
+use Rattle.std.specs.Prelude.{ℕ, ◌*◌, ◌/◌, ◌^◌, nat_lt, if◌then◌else◌}
 use Rattle.tm_viterbi.specs.declared.window_decoder.WindowShape.{WindowShape}
 
 -- the shape of their windows, how many they take at a time, and how many workers there are
@@ -19,3 +19,11 @@ workers_for workers keep ahead =
 -- 131,072 steps
 abbrev pub windows_for : ℕ → ℕ → ℕ
 windows_for workers keep = if nat_lt 1 workers then workers * (131072 / keep) else 1
+
+-- the most windows that workers have at a time
+abbrev pub most_windows : ℕ
+most_windows = 2 ^ 17
+
+-- the most octets that windows are decoded from at a time
+abbrev pub most_octets : ℕ
+most_octets = 2 ^ 62

@@ -1,6 +1,7 @@
 // The choice of the symbol phase.
 ghost use Rattle.std.specs.Prelude.{◌≡◌, ℕ, ◌+◌, ◌-◌, ◌*◌, ◌^◌, ◌<◌, ◌≤◌, length};
 ghost use Rattle.tm_conv.specs.Path.{steps_size};
+ghost use Rattle.tm_viterbi.specs.WindowSizes.{most_window, stream_bound};
 ghost use Rattle.tm_windows.specs.Phase.{period_size, octets_needed, AreCompared, IsCostAt, IsFirstLeast, IsPhase};
 
 use tm_conv::{Rate, symbols_of};
@@ -19,7 +20,7 @@ pub struct Chosen {
 /// starts from any register at step 0. Compared are the first steps after each candidate: `window` of them, 1 to 69,632, or
 /// as many as are whole at every candidate. It takes no memory (CCSDS 131.0-B, Convolutional Coding).
 pub fn choose(rate: Rate, invert: bool, window: u32, soft: &[u8]) -> Chosen
-    requires { (1 ≤ window) × (window ≤ 69632) }
+    requires { (1 ≤ window) × (window ≤ most_window) }
     ensures { IsPhase rate invert window soft.now result }
 {
     let size = compared(rate, window, soft);
@@ -44,7 +45,7 @@ pub fn octets_needed(rate: Rate, window: u32) -> usize
 
 // How many octets of each candidate are compared.
 fn compared(rate: Rate, window: u32, soft: &[u8]) -> usize
-    requires { window ≤ 69632 }
+    requires { window ≤ most_window }
     ensures { (steps : ℕ) × AreCompared rate window soft.now steps × (result ≡ steps_size rate 0 steps) }
 {
     let size = usize::from(period_size(rate));
@@ -65,8 +66,8 @@ pub(crate) fn first_least(
     first: u64,
 ) -> Chosen
     requires inside { size + (period_size rate - 1) ≤ length soft.now }
-    requires whole { (steps : ℕ) × (steps ≤ 69632) × (size ≡ steps_size rate t steps) }
-    requires few { t < 2 ^ 60 }
+    requires whole { (steps : ℕ) × (steps ≤ most_window) × (size ≡ steps_size rate t steps) }
+    requires few { t < stream_bound }
     requires first { (steps : ℕ) → size ≡ steps_size rate t steps → IsCostAt rate invert t steps soft.now 0 first }
     requires small { first < 2 ^ 32 }
     ensures least { (steps : ℕ) → size ≡ steps_size rate t steps
@@ -89,8 +90,8 @@ pub(crate) fn first_least(
 // What the best path costs over them from octet `skip` on.
 pub(crate) fn cost_at(rate: Rate, invert: bool, t: u64, size: usize, soft: &[u8], skip: u8) -> u64
     requires inside { skip + size ≤ length soft.now }
-    requires whole { (steps : ℕ) × (steps ≤ 69632) × (size ≡ steps_size rate t steps) }
-    requires few { t < 2 ^ 60 }
+    requires whole { (steps : ℕ) × (steps ≤ most_window) × (size ≡ steps_size rate t steps) }
+    requires few { t < stream_bound }
     ensures cost { (steps : ℕ) → size ≡ steps_size rate t steps → IsCostAt rate invert t steps soft.now skip result }
     ensures small { result < 2 ^ 32 }
 {

@@ -1,6 +1,8 @@
 // How windows are decoded that close: side by side, by many workers, or one after another, with no thread.
 ghost use Rattle.std.specs.Prelude.{◌≡◌, ◌+◌, ◌*◌, ◌^◌, ◌<◌, ◌≤◌, ℕ, length};
 ghost use Rattle.std.specs.List.{All};
+ghost use Rattle.tm_base.specs.Limits.{most_workers};
+ghost use Rattle.tm_viterbi.specs.WindowSizes.{window_bound};
 ghost use Rattle.tm_windows.specs.Candidates.{AreCandidates, HaveRoom, HoldsWindows};
 
 use crate::candidate::Candidate;
@@ -23,12 +25,12 @@ pub(crate) trait Closing {
     /// from a guess of it.
     fn decode(&self, decoders: &mut [WindowDecoder], run: &mut [Candidate], from: &Stretch<'_>)
         requires ready { is_ready self.now (length from.now.octets.now) }
-        requires some { (0 < length decoders.old) × (length decoders.old ≤ 64) }
+        requires some { (0 < length decoders.old) × (length decoders.old ≤ most_workers) }
         requires shape { All (λ d. d ≡ from.now.shape) decoders.old }
         requires most { length run.old ≤ 2 ^ 32 }
         requires bits { HaveRoom (from.now.shape.keep + from.now.shape.ahead) run.old }
         requires room { HoldsWindows from.now (length run.old) }
-        requires few { from.now.t + length run.old * from.now.shape.keep < 2 ^ 61 }
+        requires few { from.now.t + length run.old * from.now.shape.keep < window_bound }
         ensures candidates { AreCandidates from.now.shape from.now.t from.now.octets.now 0 (length run.old) run.new }
         ensures bits { HaveRoom (from.now.shape.keep + from.now.shape.ahead) run.new }
         ensures shape { All (λ d. d ≡ from.now.shape) decoders.new };
@@ -41,10 +43,11 @@ pub(crate) struct SideBySide<'a, R: Threads + Sync> {
 }
 
 impl<'a, R: Threads + Sync> Closing for SideBySide<'a, R> {
-    ghost use Rattle.std.specs.Prelude.{◌≤◌, ◌^◌};
+    ghost use Rattle.std.specs.Prelude.{◌≤◌};
     ghost use Rattle.std.specs.Thread.{IsSync};
+    ghost use Rattle.tm_windows.specs.Sharing.{most_octets};
 
-    ghost is_ready = { λ by count. IsSync R.row × (count ≤ 2 ^ 62) };
+    ghost is_ready = { λ by count. IsSync R.row × (count ≤ most_octets) };
 
     fn decode(&self, decoders: &mut [WindowDecoder], run: &mut [Candidate], from: &Stretch<'_>) {
         if run.len() * from.shape.keep < LEAST_SHARED {

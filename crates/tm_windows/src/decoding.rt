@@ -1,6 +1,7 @@
 // Windows decoded one after another.
-ghost use Rattle.std.specs.Prelude.{◌≡◌, ◌+◌, ◌*◌, ◌^◌, ◌<◌, ◌≤◌, length, vec_len};
+ghost use Rattle.std.specs.Prelude.{◌≡◌, ◌+◌, ◌*◌, ◌<◌, ◌≤◌, length, vec_len};
 ghost use Rattle.tm_conv.specs.Path.{steps_size};
+ghost use Rattle.tm_viterbi.specs.WindowSizes.{window_bound};
 ghost use Rattle.tm_windows.specs.Candidates.{IsCandidate, AreCandidates, HaveRoom, HoldsWindows};
 
 use crate::candidate::Candidate;
@@ -18,7 +19,7 @@ pub(crate) fn decode_window(
     requires bits { vec_len candidate.old.bits ≡ from.now.shape.keep + from.now.shape.ahead }
     requires room { steps_size from.now.shape.rate from.now.t (from.now.shape.keep + from.now.shape.ahead + 1)
         ≤ length from.now.octets.now }
-    requires few { from.now.t < 2 ^ 61 }
+    requires few { from.now.t < window_bound }
     ensures candidate { IsCandidate from.now.shape from.now.t from.now.octets.now candidate.new }
     ensures starts { candidate.new.starts ≡ from.now.starts }
     ensures bits { vec_len candidate.new.bits ≡ vec_len candidate.old.bits }
@@ -40,7 +41,7 @@ pub(crate) fn decode_run<G: Gate>(
     requires shape { decoder.old ≡ from.now.shape }
     requires bits { HaveRoom (from.now.shape.keep + from.now.shape.ahead) candidates.old }
     requires room { HoldsWindows from.now (length candidates.old) }
-    requires few { from.now.t + length candidates.old * from.now.shape.keep < 2 ^ 61 }
+    requires few { from.now.t + length candidates.old * from.now.shape.keep < window_bound }
     ensures candidates { AreCandidates from.now.shape from.now.t from.now.octets.now 0 (length candidates.old)
         candidates.new }
     ensures bits { HaveRoom (from.now.shape.keep + from.now.shape.ahead) candidates.new }

@@ -4,11 +4,14 @@ ghost use Rattle.std.specs.Option.{ForSome};
 ghost use Rattle.tm_base.specs.Calls.{taker_call};
 ghost use Rattle.tm_base.specs.Outside.{HasCause};
 ghost use Rattle.tm_base.specs.Takers.{HandedOver, HandedPart};
+ghost use Rattle.tm_base.specs.Limits.{most_workers};
 ghost use Rattle.tm_conv.specs.Path.{steps_size};
 ghost use Rattle.tm_viterbi.specs.Starts.{first_start};
 ghost use Rattle.tm_viterbi.specs.WindowBlock.{WindowBlock};
-ghost use Rattle.tm_windows.specs.Slip.{octets_seen};
+ghost use Rattle.tm_viterbi.specs.WindowSizes.{least_keep, most_keep, most_ahead, stream_bound};
+ghost use Rattle.tm_windows.specs.Slip.{octets_seen, most_seen};
 ghost use Rattle.tm_windows.specs.Followed.{slip_at, starts_after, undecided};
+ghost use Rattle.tm_windows.specs.Sharing.{most_windows, most_octets};
 
 use crate::closing::Closing;
 use crate::slipping::{octets_seen, slip};
@@ -36,10 +39,10 @@ pub(crate) struct Gathering {
     pub(crate) workers: WindowWorkers,
     ghost workers_shape: { workers.shape ≡ shape },
     ghost workers_most: { workers.most ≡ most },
-    ghost sizes: { (64 ≤ shape.keep) × (shape.keep ≤ 65536) × (shape.ahead ≤ 4096) },
-    ghost some: { (0 < most) × (most ≤ 2 ^ 17) },
+    ghost sizes: { (least_keep ≤ shape.keep) × (shape.keep ≤ most_keep) × (shape.ahead ≤ most_ahead) },
+    ghost some: { (0 < most) × (most ≤ most_windows) },
     ghost register: { ForSome starts (λ register. register < 64) },
-    ghost looks: { ForSome seen (λ steps. (1 ≤ steps) × (steps ≤ 1024) × (steps + 8 ≤ shape.keep + shape.ahead)) },
+    ghost looks: { ForSome seen (λ steps. (1 ≤ steps) × (steps ≤ most_seen) × (steps + 8 ≤ shape.keep + shape.ahead)) },
     ghost unfollowed: { seen ≡ None → dropped ≡ Option.Some 0 },
     ghost counted: { slips ≤ t },
     ghost room: { (2 * (most * shape.keep + shape.ahead + 1) ≤ held.room) × (held.room ≤ 2 ^ 40) },
@@ -47,7 +50,7 @@ pub(crate) struct Gathering {
 
 // How many whole steps so many octets have from step t on, at most `limit`.
 fn whole_steps(rate: Rate, t: u64, len: usize, limit: usize) -> usize
-    requires few { (t < 2 ^ 60) × (limit < 2 ^ 60) }
+    requires few { (t < stream_bound) × (limit < stream_bound) }
     ensures whole { steps_size rate t result ≤ len }
     ensures most { result ≤ limit }
     ensures all { result < limit → len < steps_size rate t (result + 1) }
@@ -67,9 +70,9 @@ fn whole_steps(rate: Rate, t: u64, len: usize, limit: usize) -> usize
 
 // How many windows so many octets close from step t on, at most `most`.
 fn closed_windows(shape: WindowShape, t: u64, len: usize, most: usize) -> usize
-    requires sizes { (64 ≤ shape.keep) × (shape.keep ≤ 65536) × (shape.ahead ≤ 4096) }
-    requires most { most ≤ 2 ^ 17 }
-    requires few { t < 2 ^ 60 }
+    requires sizes { (least_keep ≤ shape.keep) × (shape.keep ≤ most_keep) × (shape.ahead ≤ most_ahead) }
+    requires most { most ≤ most_windows }
+    requires few { t < stream_bound }
     ensures most { result ≤ most }
     ensures room { 0 < result → steps_size shape.rate t (result * shape.keep + shape.ahead + 1) ≤ len }
     ensures some { 0 < most → steps_size shape.rate t (shape.keep + shape.ahead + 1) ≤ len → 0 < result }
@@ -123,10 +126,11 @@ impl Gathering {
         workers: u8,
         most: usize,
     ) -> Result<Gathering, NoMemory>
-        requires looks { ForSome seen (λ steps. (1 ≤ steps) × (steps ≤ 1024) × (steps + 8 ≤ shape.keep + shape.ahead)) }
-        requires sizes { (64 ≤ shape.keep) × (shape.keep ≤ 65536) × (shape.ahead ≤ 4096) }
-        requires workers { (0 < workers) × (workers ≤ 64) }
-        requires most { (0 < most) × (most ≤ 2 ^ 17) }
+        requires looks { ForSome seen (λ steps. (1 ≤ steps) × (steps ≤ most_seen)
+            × (steps + 8 ≤ shape.keep + shape.ahead)) }
+        requires sizes { (least_keep ≤ shape.keep) × (shape.keep ≤ most_keep) × (shape.ahead ≤ most_ahead) }
+        requires workers { (0 < workers) × (workers ≤ most_workers) }
+        requires most { (0 < most) × (most ≤ most_windows) }
         ensures shape { IfOk result (λ g. (g.shape ≡ shape) × (g.start ≡ start) × (g.seen ≡ seen)) }
         ensures workers { IfOk result (λ g. g.workers ≡ record { shape = shape; most = most; workers = workers }) }
         ensures began { IfOk result (λ g. (reached g ≡ 0) × HasRoom g × Reaches g [] [] []) }
@@ -152,7 +156,7 @@ impl Gathering {
 
     // For how many octets there is room beside those that are held.
     fn room_left(&self) -> usize
-        requires few { self.now.t < 2 ^ 60 }
+        requires few { self.now.t < stream_bound }
         ensures { result ≡ room_of self.now - length self.now.held.octets }
     {
         let steps = self.most * self.shape.keep + self.shape.ahead + 1;
@@ -162,7 +166,7 @@ impl Gathering {
     // Takes of the next octets as many as there is room for, and answers how many.
     fn fill(&mut self, rest: &[u8]) -> usize
         requires room { HasRoom self.old }
-        requires few { self.old.t < 2 ^ 60 }
+        requires few { self.old.t < stream_bound }
         ensures count { result ≡ min (length rest.now) (room_of self.old - length self.old.held.octets) }
         ensures reaches { (all : List ℕ) (done : List WindowBlock) → Reaches self.old all rest.now done
             → Reaches self.new all (drop result rest.now) done }
@@ -181,8 +185,8 @@ impl Gathering {
         closing: &C,
         blocks: &mut B,
     ) -> Result<(), Failed>
-        requires ready { (count : ℕ) → count ≤ 2 ^ 62 → C.is_ready closing.now count }
-        requires few { reached self.old < 2 ^ 60 }
+        requires ready { (count : ℕ) → count ≤ most_octets → C.is_ready closing.now count }
+        requires few { reached self.old < stream_bound }
         ensures { ClosesHeld self.old self.new
             (taker_call B.took B.broke B.faults B.is_last blocks.old blocks.new) result }
     {
@@ -198,7 +202,7 @@ impl Gathering {
 
     // Whether the octets held close the next window, once it was decided how many are dropped before it.
     fn is_closed(&mut self) -> bool
-        requires few { self.old.t < 2 ^ 60 }
+        requires few { self.old.t < stream_bound }
         ensures reaches { (all rest : List ℕ) (done : List WindowBlock) → Reaches self.old all rest done
             → Reaches self.new all rest done }
         ensures closed { IsTrue result → HoldsNext self.new }
@@ -216,7 +220,7 @@ impl Gathering {
     // Decides how many octets are dropped before the next window, and drops them, where enough are there to look for a
     // slip. Answers whether it is decided.
     fn decide(&mut self) -> bool
-        requires few { self.old.t < 2 ^ 60 }
+        requires few { self.old.t < stream_bound }
         ensures reaches { (all rest : List ℕ) (done : List WindowBlock) → Reaches self.old all rest done
             → Reaches self.new all rest done }
         ensures decided { IsTrue result → (dropped : ℕ) × (self.new.dropped ≡ Option.Some dropped) }
@@ -250,9 +254,9 @@ impl Gathering {
         closing: &C,
         blocks: &mut B,
     ) -> Result<(), Failed>
-        requires ready { (count : ℕ) → count ≤ 2 ^ 62 → C.is_ready closing.now count }
+        requires ready { (count : ℕ) → count ≤ most_octets → C.is_ready closing.now count }
         requires closed { HoldsNext self.old }
-        requires few { reached self.old < 2 ^ 60 }
+        requires few { reached self.old < stream_bound }
         ensures { ClosesNext self.old self.new
             (taker_call B.took B.broke B.faults B.is_last blocks.old blocks.new) result }
     {
@@ -270,10 +274,10 @@ impl Gathering {
         closing: &C,
         blocks: &mut B,
     ) -> Result<(), Failed>
-        requires ready { (count : ℕ) → count ≤ 2 ^ 62 → C.is_ready closing.now count }
+        requires ready { (count : ℕ) → count ≤ most_octets → C.is_ready closing.now count }
         requires undropped { self.old.dropped ≡ Option.Some 0 }
         requires closed { HoldsNext self.old }
-        requires few { reached self.old < 2 ^ 60 }
+        requires few { reached self.old < stream_bound }
         ensures { ClosesNext self.old self.new
             (taker_call B.took B.broke B.faults B.is_last blocks.old blocks.new) result }
     {
@@ -303,7 +307,7 @@ impl Gathering {
     // How many windows the octets held close from the next one on, with nothing dropped before any but the next.
     fn count_run(&self) -> usize
         requires closed { HoldsNext self.now }
-        requires few { reached self.now < 2 ^ 60 }
+        requires few { reached self.now < stream_bound }
         ensures some { 0 < result }
         ensures most { result ≤ self.now.most }
         ensures room { HoldsRun self.now result }
@@ -327,7 +331,7 @@ impl Gathering {
         requires followed { self.now.seen ≡ Option.Some steps }
         requires number { number < self.now.most }
         requires room { HoldsRun self.now (number + 1) }
-        requires few { reached self.now < 2 ^ 60 }
+        requires few { reached self.now < stream_bound }
         ensures { IsTrue result → IsUndropped (windows_of self.now) (self.now.t + number * self.now.shape.keep)
             (drop (steps_size self.now.shape.rate self.now.t (number * self.now.shape.keep)) self.now.held.octets) }
     {
@@ -343,7 +347,7 @@ impl Gathering {
         requires dropped { self.old.dropped ≡ Option.Some dropped }
         requires followed { (steps : ℕ) × (self.old.seen ≡ Option.Some steps) }
         requires closed { HoldsNext self.old }
-        requires few { reached self.old < 2 ^ 60 }
+        requires few { reached self.old < stream_bound }
         ensures { ClosesNext self.old self.new
             (taker_call B.took B.broke B.faults B.is_last blocks.old blocks.new) result }
     {
@@ -377,9 +381,9 @@ impl Gathering {
         rest: &[u8],
         blocks: &mut B,
     ) -> Result<usize, Failed>
-        requires ready { (count : ℕ) → count ≤ 2 ^ 62 → C.is_ready closing.now count }
+        requires ready { (count : ℕ) → count ≤ most_octets → C.is_ready closing.now count }
         requires room { HasRoom self.old }
-        requires few { reached self.old + length rest.now < 2 ^ 60 }
+        requires few { reached self.old + length rest.now < stream_bound }
         ensures ok { IfOk result (λ n. (n ≤ length rest.now) × (more : List WindowBlock)
             × HandedOver B.took blocks.old more blocks.new
             × ((all : List ℕ) (done : List WindowBlock) → Reaches self.old all rest.now done
@@ -408,9 +412,9 @@ impl Gathering {
         piece: &[u8],
         blocks: &mut B,
     ) -> Result<(), Failed>
-        requires ready { (count : ℕ) → count ≤ 2 ^ 62 → C.is_ready closing.now count }
+        requires ready { (count : ℕ) → count ≤ most_octets → C.is_ready closing.now count }
         requires room { HasRoom self.old }
-        requires few { reached self.old + length piece.now < 2 ^ 60 }
+        requires few { reached self.old + length piece.now < stream_bound }
         ensures ok { OnOk result ((more : List WindowBlock) × HandedOver B.took blocks.old more blocks.new
             × ((all : List ℕ) (done : List WindowBlock) → Reaches self.old all piece.now done
             → Reaches self.new all [] (done ++ more))) }
@@ -438,7 +442,7 @@ impl Gathering {
     /// Takes a piece, where there is room for it, and decodes nothing. Answers whether there was room.
     pub(crate) fn gather(&mut self, piece: &[u8]) -> bool
         requires room { HasRoom self.old }
-        requires few { self.old.t < 2 ^ 60 }
+        requires few { self.old.t < stream_bound }
         ensures fits { IsTrue result ↔ length self.old.held.octets + length piece.now ≤ room_of self.old }
         ensures reaches { IsTrue result → (all : List ℕ) (done : List WindowBlock)
             → Reaches self.old all piece.now done → Reaches self.new all [] done }
@@ -457,7 +461,7 @@ impl Gathering {
     /// How many windows the octets held close, or more where the phase is followed, since octets may be dropped.
     pub(crate) fn count_closed(&self) -> usize
         requires room { HasRoom self.now }
-        requires few { self.now.t < 2 ^ 60 }
+        requires few { self.now.t < stream_bound }
         ensures most { result ≤ self.now.most }
         ensures due { (all : List ℕ) (done : List WindowBlock) → Reaches self.now all [] done
             → (more : List WindowBlock) × (length more ≤ result) × (self.now.seen ≡ None → length more ≡ result)
@@ -474,8 +478,8 @@ impl Gathering {
         closing: &C,
         blocks: &mut B,
     ) -> Result<u8, Failed>
-        requires ready { (count : ℕ) → count ≤ 2 ^ 62 → C.is_ready closing.now count }
-        requires few { self.old.t + length self.old.held.octets < 2 ^ 60 }
+        requires ready { (count : ℕ) → count ≤ most_octets → C.is_ready closing.now count }
+        requires few { self.old.t + length self.old.held.octets < stream_bound }
         ensures ok { IfOk result (λ left. (last : List WindowBlock) × HandedOver B.took blocks.old last blocks.new
             × ((all : List ℕ) (done : List WindowBlock) → Reaches self.old all [] done
             → AreFollowedOf (windows_of self.old) all (done ++ last) left
@@ -503,7 +507,7 @@ impl Gathering {
     fn end_open<B: BlockTaker>(&mut self, blocks: &mut B) -> Result<u8, Failed>
         requires is_open { IsOpen self.old }
         requires decided { IsDecided self.old }
-        requires few { self.old.t < 2 ^ 60 }
+        requires few { self.old.t < stream_bound }
         ensures ok { IfOk result (λ left. (last : List WindowBlock) × HandedOver B.took blocks.old last blocks.new
             × ((all : List ℕ) (done : List WindowBlock) → Reaches self.old all [] done
             → AreFollowedOf (windows_of self.old) all (done ++ last) left

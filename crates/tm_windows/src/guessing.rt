@@ -1,6 +1,7 @@
 // A guess of the register that a window starts from.
-ghost use Rattle.std.specs.Prelude.{◌≡◌, ◌+◌, ◌^◌, ◌<◌, ◌≤◌, vec_len};
+ghost use Rattle.std.specs.Prelude.{◌≡◌, ◌+◌, ◌<◌, ◌≤◌, vec_len};
 ghost use Rattle.std.specs.Option.{ForSome};
+ghost use Rattle.tm_viterbi.specs.WindowSizes.{window_bound};
 
 use crate::candidate::Candidate;
 use tm_conv::steps_len;
@@ -22,7 +23,7 @@ fn guess(
 ) -> u8
     requires shape { decoder.old ≡ shape }
     requires bits { vec_len candidate.old.bits ≡ shape.keep + shape.ahead }
-    requires few { t < 2 ^ 61 }
+    requires few { t < window_bound }
     ensures register { result < 64 }
     ensures bits { vec_len candidate.new.bits ≡ vec_len candidate.old.bits }
     ensures same { decoder.new ≡ shape }
@@ -63,7 +64,7 @@ pub(crate) fn known_or_guessed(
     requires shape { decoder.old ≡ shape }
     requires bits { vec_len candidate.old.bits ≡ shape.keep + shape.ahead }
     requires start { ForSome known (λ starts. ForSome starts (λ register. register < 64)) }
-    requires few { t < 2 ^ 61 }
+    requires few { t < window_bound }
     ensures start { ForSome result (λ register. register < 64) }
     ensures bits { vec_len candidate.new.bits ≡ vec_len candidate.old.bits }
     ensures same { decoder.new ≡ shape }

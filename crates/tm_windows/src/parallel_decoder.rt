@@ -1,14 +1,16 @@
 // The decoder of a stream, with workers.
-ghost use Rattle.std.specs.Prelude.{◌≡◌, ◌↔◌, ◌++◌, ◌⊎◌, ℕ, ◌+◌, ◌*◌, ◌^◌, ◌<◌, ◌≤◌, IsTrue, List, [], true, false, Option, Some, None, if◌then◌else◌, IfOk, OnOk, IsErrOf, length};
+ghost use Rattle.std.specs.Prelude.{◌≡◌, ◌↔◌, ◌++◌, ◌⊎◌, ℕ, ◌+◌, ◌*◌, ◌<◌, ◌≤◌, IsTrue, List, [], true, false, Option, Some, None, if◌then◌else◌, IfOk, OnOk, IsErrOf, length};
 ghost use Rattle.std.specs.Option.{ForSome};
 ghost use Rattle.tm_base.specs.Calls.{taker_call};
 ghost use Rattle.tm_base.specs.Takers.{HandedOver, HandedPart};
+ghost use Rattle.tm_base.specs.Limits.{most_workers};
 ghost use Rattle.tm_viterbi.specs.WindowBlock.{WindowBlock};
-ghost use Rattle.tm_windows.specs.Slip.{steps_seen};
+ghost use Rattle.tm_viterbi.specs.WindowSizes.{least_keep, most_keep, most_ahead, stream_bound};
+ghost use Rattle.tm_windows.specs.Slip.{steps_seen, most_seen};
 ghost use Rattle.tm_windows.specs.Followed.{slips_of, kept_of};
 ghost use Rattle.tm_windows.specs.Windows.{AreBlocksIn, AreDueIn, AreFirstIn};
 ghost use Rattle.tm_windows.specs.Gathered.{IsOpen, room_of};
-ghost use Rattle.tm_windows.specs.Sharing.{workers_for, windows_for};
+ghost use Rattle.tm_windows.specs.Sharing.{workers_for, windows_for, most_windows, most_octets};
 ghost use Rattle.tm_windows.specs.ParallelDecoding.{Calls, Feeds, Finishes, StandsFor};
 
 use crate::closing::{Closing, OneByOne, SideBySide};
@@ -18,16 +20,16 @@ use std::alloc::Global;
 use std::marker::Model;
 use std::thread::Threads;
 use tm_base::{Failed, NoMemory};
-use tm_viterbi::{BlockTaker, FeedError, Start, WindowShape};
+use tm_viterbi::{BlockTaker, FeedError, STREAM_BOUND, Start, WindowShape};
 
 // The steps of the windows that a worker has at a time: so many that making a thread costs little beside them.
 const STEPS_EACH: usize = 131_072;
 
 // The least windows for which workers pay: a guess runs over some hundred steps, and is often wrong where few stand
 // ahead.
-const LEAST_KEEP: usize = 1_024;
+const LEAST_SHARED_KEEP: usize = 1_024;
 
-const LEAST_AHEAD: usize = 64;
+const LEAST_SHARED_AHEAD: usize = 64;
 
 /// The soft decoder (CCSDS 131.0-B, Convolutional Coding), fed in pieces of soft octets as `tm_viterbi::Decoder` is,
 /// whose windows many workers decode side by side: all those that octets close. Octets may also be gathered, so that
@@ -41,7 +43,8 @@ pub struct ParallelDecoder {
 }
 
 impl Model for ParallelDecoder {
-    ghost use Rattle.std.specs.Prelude.{◌≤◌, ◌<◌, ◌^◌};
+    ghost use Rattle.std.specs.Prelude.{◌≤◌, ◌<◌};
+    ghost use Rattle.tm_viterbi.specs.WindowSizes.{stream_bound};
     ghost use Rattle.tm_windows.specs.Gathered.{windows_of, reached, HasRoom};
     ghost use Rattle.tm_windows.specs.ParallelDecoding.{ParallelDecoding};
 
@@ -54,14 +57,14 @@ impl Model for ParallelDecoder {
       gathering = d.gathering;
     } };
 
-    ghost invariant = { λ d. (reached d.gathering ≤ d.count) × (d.count < 2 ^ 60) × HasRoom d.gathering };
+    ghost invariant = { λ d. (reached d.gathering ≤ d.count) × (d.count < stream_bound) × HasRoom d.gathering };
 }
 
 // How many of so many workers windows are shared out among.
 fn worker_count(workers: u8, keep: usize, ahead: usize) -> u8
     ensures { result ≡ workers_for workers keep ahead }
 {
-    if keep < LEAST_KEEP || ahead < LEAST_AHEAD {
+    if keep < LEAST_SHARED_KEEP || ahead < LEAST_SHARED_AHEAD {
         1
     } else {
         workers
@@ -70,10 +73,10 @@ fn worker_count(workers: u8, keep: usize, ahead: usize) -> u8
 
 // How many windows so many workers have at a time.
 fn window_count(workers: u8, keep: usize) -> usize
-    requires workers { (0 < workers) × (workers ≤ 64) }
-    requires keep { (64 ≤ keep) × (keep ≤ 65536) }
+    requires workers { (0 < workers) × (workers ≤ most_workers) }
+    requires keep { (least_keep ≤ keep) × (keep ≤ most_keep) }
     ensures value { result ≡ windows_for workers keep }
-    ensures small { (0 < result) × (result ≤ 2 ^ 17) }
+    ensures small { (0 < result) × (result ≤ most_windows) }
 {
     if workers > 1 {
         usize::from(workers) * (STEPS_EACH / keep)
@@ -84,10 +87,10 @@ fn window_count(workers: u8, keep: usize) -> usize
 
 // Over how many steps a slip is looked for, where the phase is followed.
 fn seen_of(follow: bool, keep: usize, ahead: usize) -> Option<usize>
-    requires keep { (64 ≤ keep) × (keep ≤ 65536) }
-    requires ahead { ahead ≤ 4096 }
+    requires keep { (least_keep ≤ keep) × (keep ≤ most_keep) }
+    requires ahead { ahead ≤ most_ahead }
     ensures value { result ≡ (if follow then Some (steps_seen keep ahead) else None) }
-    ensures looks { ForSome result (λ steps. (1 ≤ steps) × (steps ≤ 1024) × (steps + 8 ≤ keep + ahead)) }
+    ensures looks { ForSome result (λ steps. (1 ≤ steps) × (steps ≤ most_seen) × (steps + 8 ≤ keep + ahead)) }
 {
     if follow {
         Some(steps_seen(keep, ahead))
@@ -98,12 +101,12 @@ fn seen_of(follow: bool, keep: usize, ahead: usize) -> Option<usize>
 
 // The octets of a piece, or none of them where more would be given in all than are counted.
 fn counted(count: u64, piece: &[u8]) -> &[u8]
-    requires { count < 2 ^ 60 }
-    ensures fits { count + length result.now < 2 ^ 60 }
-    ensures all { count + length piece.now < 2 ^ 60 → result.now ≡ piece.now }
+    requires { count < stream_bound }
+    ensures fits { count + length result.now < stream_bound }
+    ensures all { count + length piece.now < stream_bound → result.now ≡ piece.now }
     ensures prefix { (more : List ℕ) × (result.now ++ more ≡ piece.now) }
 {
-    if piece.len() as u64 >= (1 << 60) - count {
+    if piece.len() as u64 >= STREAM_BOUND - count {
         &piece[..0]
     } else {
         piece
@@ -124,9 +127,9 @@ impl ParallelDecoder {
         workers: u8,
         follow: bool,
     ) -> Result<ParallelDecoder, NoMemory>
-        requires keep { (64 ≤ shape.keep) × (shape.keep ≤ 65536) }
-        requires ahead { shape.ahead ≤ 4096 }
-        requires workers { (0 < workers) × (workers ≤ 64) }
+        requires keep { (least_keep ≤ shape.keep) × (shape.keep ≤ most_keep) }
+        requires ahead { shape.ahead ≤ most_ahead }
+        requires workers { (0 < workers) × (workers ≤ most_workers) }
         ensures windows { IfOk result (λ d. d.windows ≡ record {
           settings = record {
             rate = shape.rate;
@@ -192,13 +195,13 @@ impl ParallelDecoder {
         piece: &[u8],
         blocks: &mut B,
     ) -> Result<(), FeedError>
-        requires ready { (count : ℕ) → count ≤ 2 ^ 62 → C.is_ready closing.now count }
+        requires ready { (count : ℕ) → count ≤ most_octets → C.is_ready closing.now count }
         ensures call { Calls self.old self.new
             (taker_call B.took B.broke B.faults B.is_last blocks.old blocks.new) result }
         ensures stops { IsTrue self.new.has_stopped ↔ OnOk result ⊥ }
         ensures windows { self.new.windows ≡ self.old.windows }
         ensures handed { OnOk result ((more : List WindowBlock) × HandedOver B.took blocks.old more blocks.new
-            × ((given : List ℕ) (done : List WindowBlock) → length given + length piece.now < 2 ^ 60
+            × ((given : List ℕ) (done : List WindowBlock) → length given + length piece.now < stream_bound
             → StandsFor self.old given done
             → StandsFor self.new (given ++ piece.now) (done ++ more)
             × AreDueIn self.old.windows (given ++ piece.now) (done ++ more))) }
@@ -229,14 +232,15 @@ impl ParallelDecoder {
     ///
     /// The octets given in all are to be below 2^60.
     pub fn gather(&mut self, piece: &[u8]) -> bool
-        ensures fits { IsTrue result ↔ (self.old.has_stopped ≡ false) × (self.old.count + length piece.now < 2 ^ 60)
+        ensures fits { IsTrue result ↔ (self.old.has_stopped ≡ false)
+            × (self.old.count + length piece.now < stream_bound)
             × (length self.old.gathering.held.octets + length piece.now ≤ room_of self.old.gathering) }
         ensures unchanged { result ≡ false → self.new ≡ self.old }
         ensures windows { (self.new.windows ≡ self.old.windows) × (self.new.has_stopped ≡ self.old.has_stopped) }
         ensures gathered { IsTrue result → (given : List ℕ) (done : List WindowBlock) → StandsFor self.old given done
             → StandsFor self.new (given ++ piece.now) done }
     {
-        if self.has_stopped || piece.len() as u64 >= (1 << 60) - self.count {
+        if self.has_stopped || piece.len() as u64 >= STREAM_BOUND - self.count {
             return false;
         }
         if !self.gathering.gather(piece) {
@@ -302,7 +306,7 @@ impl ParallelDecoder {
         closing: &C,
         blocks: &mut B,
     ) -> Result<u8, FeedError>
-        requires ready { (count : ℕ) → count ≤ 2 ^ 62 → C.is_ready closing.now count }
+        requires ready { (count : ℕ) → count ≤ most_octets → C.is_ready closing.now count }
         ensures call { Calls self.old self.new
             (taker_call B.took B.broke B.faults B.is_last blocks.old blocks.new) result }
         ensures stops { self.new.has_stopped ≡ true }

@@ -1,11 +1,12 @@
 // The blocks of windows that were decoded from registers which were only taken to be their starts, settled in order.
-ghost use Rattle.std.specs.Prelude.{◌≡◌, ◌+◌, ◌*◌, ◌^◌, ◌<◌, ◌≤◌, IsTrue, IfOk, OnErr, OnOk, List, length, vec_len};
+ghost use Rattle.std.specs.Prelude.{◌≡◌, ◌+◌, ◌*◌, ◌<◌, ◌≤◌, IsTrue, IfOk, OnErr, OnOk, List, length, vec_len};
 ghost use Rattle.std.specs.Option.{ForSome};
 ghost use Rattle.tm_conv.specs.Path.{steps_size};
 ghost use Rattle.tm_base.specs.Takers.{HandedOver, HandedPart};
 ghost use Rattle.tm_base.specs.Outside.{HasCause};
 ghost use Rattle.tm_viterbi.specs.WindowBlock.{WindowBlock};
 ghost use Rattle.tm_viterbi.specs.Due.{Place};
+ghost use Rattle.tm_viterbi.specs.WindowSizes.{most_window, window_bound};
 ghost use Rattle.tm_windows.specs.Candidates.{IsCandidate, AreCandidates, HaveRoom, HoldsWindows, ClosesWith, ClosedWith, IsLastBlock, block_of, after_windows, stretch_place};
 ghost use Rattle.tm_windows.specs.Followed.{dropped_at};
 
@@ -34,7 +35,7 @@ fn hand_block<B: BlockTaker>(
     dropped: u8,
     blocks: &mut B,
 ) -> Result<u8, Failed>
-    requires { shape.keep + shape.ahead ≤ 69632 }
+    requires { shape.keep + shape.ahead ≤ most_window }
     ensures ok { IfOk result (λ next. (next ≡ candidate.now.path.end_state)
         × B.took blocks.old (dropped_at dropped (block_of shape candidate.now)) blocks.new) }
     ensures err { OnErr result (B.broke blocks.old (dropped_at dropped (block_of shape candidate.now)) blocks.new) }
@@ -65,9 +66,9 @@ fn settle<B: BlockTaker>(
 ) -> Result<u8, Failed>
     requires candidate { IsCandidate from.now.shape from.now.t from.now.octets.now candidate.old }
     requires shape { decoder.old ≡ from.now.shape }
-    requires small { from.now.shape.keep + from.now.shape.ahead ≤ 69632 }
+    requires small { from.now.shape.keep + from.now.shape.ahead ≤ most_window }
     requires bits { vec_len candidate.old.bits ≡ from.now.shape.keep + from.now.shape.ahead }
-    requires few { from.now.t < 2 ^ 61 }
+    requires few { from.now.t < window_bound }
     ensures ok { IfOk result (λ next. (block : WindowBlock) × B.took blocks.old block blocks.new
         × (block.end_state ≡ next) × (block.kept ≡ from.now.shape.keep)
         × ClosesWith from.now.shape (stretch_place from.now) block) }
@@ -94,11 +95,11 @@ pub(crate) fn hand_window<B: BlockTaker>(
     blocks: &mut B,
 ) -> Result<u8, Failed>
     requires shape { decoder.old ≡ from.now.shape }
-    requires small { from.now.shape.keep + from.now.shape.ahead ≤ 69632 }
+    requires small { from.now.shape.keep + from.now.shape.ahead ≤ most_window }
     requires bits { vec_len candidate.old.bits ≡ from.now.shape.keep + from.now.shape.ahead }
     requires room { steps_size from.now.shape.rate from.now.t (from.now.shape.keep + from.now.shape.ahead + 1)
         ≤ length from.now.octets.now }
-    requires few { from.now.t < 2 ^ 61 }
+    requires few { from.now.t < window_bound }
     ensures ok { IfOk result (λ next. (block : WindowBlock) × B.took blocks.old (dropped_at dropped block) blocks.new
         × (block.end_state ≡ next) × (block.kept ≡ from.now.shape.keep)
         × ClosesWith from.now.shape (stretch_place from.now) block) }
@@ -125,9 +126,9 @@ pub(crate) fn settle_run<B: BlockTaker>(
         candidates.old }
     requires bits { HaveRoom (from.now.shape.keep + from.now.shape.ahead) candidates.old }
     requires room { HoldsWindows from.now (length candidates.old) }
-    requires few { from.now.t + length candidates.old * from.now.shape.keep < 2 ^ 61 }
+    requires few { from.now.t + length candidates.old * from.now.shape.keep < window_bound }
     requires shape { decoder.old ≡ from.now.shape }
-    requires small { from.now.shape.keep + from.now.shape.ahead ≤ 69632 }
+    requires small { from.now.shape.keep + from.now.shape.ahead ≤ most_window }
     ensures ok { IfOk result (λ next. (more : List WindowBlock) × HandedOver B.took blocks.old more blocks.new
         × ClosedWith from.now.shape (stretch_place from.now) more
         (after_windows from.now.shape from.now.t from.now.octets.now (length candidates.old) next)) }
@@ -158,11 +159,11 @@ pub(crate) fn hand_last<B: BlockTaker>(
     blocks: &mut B,
 ) -> Result<(), Failed>
     requires shape { decoder.old ≡ from.now.shape }
-    requires small { from.now.shape.keep + from.now.shape.ahead ≤ 69632 }
+    requires small { from.now.shape.keep + from.now.shape.ahead ≤ most_window }
     requires bits { vec_len candidate.old.bits ≡ from.now.shape.keep + from.now.shape.ahead }
     requires steps { steps ≤ from.now.shape.keep + from.now.shape.ahead }
     requires octets { steps_size from.now.shape.rate from.now.t steps ≤ length from.now.octets.now }
-    requires few { from.now.t < 2 ^ 61 }
+    requires few { from.now.t < window_bound }
     ensures ok { OnOk result ((last : WindowBlock) × B.took blocks.old (dropped_at dropped last) blocks.new
         × IsLastBlock from.now steps last) }
     ensures err { OnErr result ((last : WindowBlock) × B.broke blocks.old (dropped_at dropped last) blocks.new

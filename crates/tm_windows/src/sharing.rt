@@ -3,8 +3,11 @@ ghost use Rattle.std.specs.Prelude.{◌≡◌, ◌+◌, ◌*◌, ◌^◌, ◌<�
 ghost use Rattle.std.specs.List.{All};
 ghost use Rattle.std.specs.Option.{ForSome};
 ghost use Rattle.std.specs.Thread.{IsSend, IsSync};
+ghost use Rattle.tm_base.specs.Limits.{most_workers};
 ghost use Rattle.tm_conv.specs.Path.{steps_size};
+ghost use Rattle.tm_viterbi.specs.WindowSizes.{window_bound};
 ghost use Rattle.tm_windows.specs.Candidates.{AreCandidates, HaveRoom};
+ghost use Rattle.tm_windows.specs.Sharing.{most_octets};
 
 use crate::candidate::Candidate;
 use crate::decoding::decode_run;
@@ -31,7 +34,7 @@ fn decode_part<G: Gate>(
     requires start { ForSome known (λ starts. ForSome starts (λ register. register < 64)) }
     requires room { at + steps_size shape.rate t
         (length candidates.old * shape.keep + shape.ahead + 1) ≤ length octets.now }
-    requires few { t + length candidates.old * shape.keep < 2 ^ 61 }
+    requires few { t + length candidates.old * shape.keep < window_bound }
     ensures candidates { AreCandidates shape t (drop at octets.now) 0 (length candidates.old) candidates.new }
     ensures bits { HaveRoom (shape.keep + shape.ahead) candidates.new }
     ensures same { decoder.new ≡ shape }
@@ -65,15 +68,15 @@ pub(crate) fn decode_evenly<R: Threads + Sync, G: Gate + Sync>(
     at: usize,
     candidates: &mut [Candidate],
 )
-    requires some { (0 < length decoders.old) × (length decoders.old ≤ 64) }
+    requires some { (0 < length decoders.old) × (length decoders.old ≤ most_workers) }
     requires shape { All (λ d. d ≡ shape) decoders.old }
     requires bits { HaveRoom (shape.keep + shape.ahead) candidates.old }
-    requires long { (length candidates.old ≤ 2 ^ 32) × (length octets.now ≤ 2 ^ 62) }
+    requires long { (length candidates.old ≤ 2 ^ 32) × (length octets.now ≤ most_octets) }
     requires start { ForSome known (λ starts. ForSome starts (λ register. register < 64)) }
     requires within { at ≤ length octets.now }
     requires room { at + steps_size shape.rate t
         (length candidates.old * shape.keep + shape.ahead + 1) ≤ length octets.now }
-    requires few { t + length candidates.old * shape.keep < 2 ^ 61 }
+    requires few { t + length candidates.old * shape.keep < window_bound }
     ensures candidates { AreCandidates shape t (drop at octets.now) 0 (length candidates.old) candidates.new }
     ensures bits { HaveRoom (shape.keep + shape.ahead) candidates.new }
     ensures shape { All (λ d. d ≡ shape) decoders.new }
@@ -123,17 +126,17 @@ fn decode_both<R: Threads + Sync, G: Gate + Sync>(
     back: &mut [Candidate],
 )
     requires start { ForSome known (λ starts. ForSome starts (λ register. register < 64)) }
-    requires long { length octets.now ≤ 2 ^ 62 }
-    requires first { ((0 < length first.old) × (length first.old ≤ 64)) × All (λ d. d ≡ shape) first.old }
+    requires long { length octets.now ≤ most_octets }
+    requires first { ((0 < length first.old) × (length first.old ≤ most_workers)) × All (λ d. d ≡ shape) first.old }
     requires front { HaveRoom (shape.keep + shape.ahead) front.old × (length front.old ≤ 2 ^ 32)
         × (at ≤ length octets.now)
         × (at + steps_size shape.rate t (length front.old * shape.keep + shape.ahead + 1) ≤ length octets.now)
-        × (t + length front.old * shape.keep < 2 ^ 61) }
-    requires others { ((0 < length others.old) × (length others.old ≤ 64)) × All (λ d. d ≡ shape) others.old }
+        × (t + length front.old * shape.keep < window_bound) }
+    requires others { ((0 < length others.old) × (length others.old ≤ most_workers)) × All (λ d. d ≡ shape) others.old }
     requires back { HaveRoom (shape.keep + shape.ahead) back.old × (length back.old ≤ 2 ^ 32)
         × (place ≤ length octets.now)
         × (place + steps_size shape.rate after (length back.old * shape.keep + shape.ahead + 1) ≤ length octets.now)
-        × (after + length back.old * shape.keep < 2 ^ 61) }
+        × (after + length back.old * shape.keep < window_bound) }
     ensures front { AreCandidates shape t (drop at octets.now) 0 (length front.old) front.new
         × HaveRoom (shape.keep + shape.ahead) front.new × All (λ d. d ≡ shape) first.new }
     ensures back { AreCandidates shape after (drop place octets.now) 0 (length back.old) back.new
@@ -141,21 +144,21 @@ fn decode_both<R: Threads + Sync, G: Gate + Sync>(
 {
     let mut decode_front = ||
         requires { IsSync R.row × IsSync G.row × ForSome known (λ starts. ForSome starts (λ register. register < 64))
-            × (length octets.now ≤ 2 ^ 62)
-            × ((0 < length first.now) × (length first.now ≤ 64)) × All (λ d. d ≡ shape) first.now
+            × (length octets.now ≤ most_octets)
+            × ((0 < length first.now) × (length first.now ≤ most_workers)) × All (λ d. d ≡ shape) first.now
             × HaveRoom (shape.keep + shape.ahead) front.now × (length front.now ≤ 2 ^ 32) × (at ≤ length octets.now)
             × (at + steps_size shape.rate t (length front.now * shape.keep + shape.ahead + 1) ≤ length octets.now)
-            × (t + length front.now * shape.keep < 2 ^ 61) }
+            × (t + length front.now * shape.keep < window_bound) }
         ensures { AreCandidates shape t (drop at octets.entry.now) 0 (length front.entry.now) front.exit.now
             × HaveRoom (shape.keep + shape.ahead) front.exit.now × All (λ d. d ≡ shape) first.exit.now }
     { decode_evenly(rt, gate, shape, first, known, t, octets, at, front) };
     let mut decode_back = ||
-        requires { IsSync R.row × IsSync G.row × (length octets.now ≤ 2 ^ 62)
-            × ((0 < length others.now) × (length others.now ≤ 64)) × All (λ d. d ≡ shape) others.now
+        requires { IsSync R.row × IsSync G.row × (length octets.now ≤ most_octets)
+            × ((0 < length others.now) × (length others.now ≤ most_workers)) × All (λ d. d ≡ shape) others.now
             × HaveRoom (shape.keep + shape.ahead) back.now × (length back.now ≤ 2 ^ 32) × (place ≤ length octets.now)
             × (place + steps_size shape.rate after
             (length back.now * shape.keep + shape.ahead + 1) ≤ length octets.now)
-            × (after + length back.now * shape.keep < 2 ^ 61) }
+            × (after + length back.now * shape.keep < window_bound) }
         ensures { AreCandidates shape after (drop place octets.entry.now) 0 (length back.entry.now) back.exit.now
             × HaveRoom (shape.keep + shape.ahead) back.exit.now × All (λ d. d ≡ shape) others.exit.now }
     { decode_evenly(rt, gate, shape, others, None, after, octets, place, back) };

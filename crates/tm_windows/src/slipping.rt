@@ -2,11 +2,15 @@
 ghost use Rattle.std.specs.Prelude.{◌≡◌, ℕ, ◌+◌, ◌*◌, ◌^◌, ◌<◌, ◌≤◌, length};
 ghost use Rattle.tm_conv.specs.declared.rates.Rate.{Rate};
 ghost use Rattle.tm_conv.specs.Path.{steps_size};
+ghost use Rattle.tm_viterbi.specs.WindowSizes.{most_window, stream_bound};
 ghost use Rattle.tm_windows.specs.Phase.{period_size, octets_at};
-ghost use Rattle.tm_windows.specs.Slip.{steps_seen, octets_seen, least_distances, excess, decided, IsSlip};
+ghost use Rattle.tm_windows.specs.Slip.{steps_seen, octets_seen, least_distances, excess, decided, IsSlip, most_seen};
 
 use crate::choosing::{cost_at, first_least, period_size};
 use tm_conv::{Rate, steps_len};
+
+// The most steps over which a slip is looked for.
+const MOST_SEEN: usize = 1024;
 
 /// How many octets are to be dropped before a window from step `t` on, below 2^60, that would begin with these octets:
 /// of as many candidates as a period sends symbols, the first whose best path costs least, where four times its excess
@@ -14,8 +18,8 @@ use tm_conv::{Rate, steps_len};
 /// 1,024. Its excess is what it costs beyond the sum of the lesser distance of each octet, so that data with a period,
 /// and noise alone, seldom pass for a slip. It takes no memory.
 pub fn slip(rate: Rate, invert: bool, t: u64, steps: usize, soft: &[u8]) -> u8
-    requires steps { steps ≤ 1024 }
-    requires few { t < 2 ^ 60 }
+    requires steps { steps ≤ most_seen }
+    requires few { t < stream_bound }
     requires octets { octets_seen rate t steps ≤ length soft.now }
     ensures slip { IsSlip rate invert t steps soft.now result }
     ensures small { result < period_size rate }
@@ -30,8 +34,8 @@ pub fn slip(rate: Rate, invert: bool, t: u64, steps: usize, soft: &[u8]) -> u8
 
 /// How many octets from step `t` on, below 2^60, are looked at for a slip over `steps` steps, at most 1,024.
 pub fn octets_seen(rate: Rate, t: u64, steps: usize) -> usize
-    requires steps { steps ≤ 1024 }
-    requires few { t < 2 ^ 60 }
+    requires steps { steps ≤ most_seen }
+    requires few { t < stream_bound }
     ensures value { result ≡ octets_seen rate t steps }
     ensures at_most { result ≤ 2 * steps + 7 }
 {
@@ -41,16 +45,16 @@ pub fn octets_seen(rate: Rate, t: u64, steps: usize) -> usize
 /// Over how many steps a slip is looked for where windows keep `keep` steps and `ahead` follow them: at most 1,024, and
 /// at least 8 fewer than those.
 pub fn steps_seen(keep: usize, ahead: usize) -> usize
-    requires { keep + ahead ≤ 69632 }
+    requires { keep + ahead ≤ most_window }
     ensures { result ≡ steps_seen keep ahead }
 {
-    (keep + ahead).saturating_sub(8).min(1024)
+    (keep + ahead).saturating_sub(8).min(MOST_SEEN)
 }
 
 // What a path over the octets of a candidate costs beyond what they cost whatever the path.
 fn excess_at(size: usize, soft: &[u8], skip: u8, cost: u64) -> u64
     requires inside { skip + size ≤ length soft.now }
-    requires few { size ≤ 2048 }
+    requires few { size ≤ 2 * most_seen }
     ensures value { (rate : Rate) (t steps : ℕ) → size ≡ steps_size rate t steps
         → result ≡ excess cost (octets_at rate t steps soft.now skip) }
     ensures less { result ≤ cost }
@@ -61,7 +65,7 @@ fn excess_at(size: usize, soft: &[u8], skip: u8, cost: u64) -> u64
 
 // What octets cost whatever the path.
 fn least_distances(soft: &[u8]) -> u64
-    requires { length soft.now ≤ 2048 }
+    requires { length soft.now ≤ 2 * most_seen }
     ensures { result ≡ least_distances soft.now }
 {
     let mut sum = 0;

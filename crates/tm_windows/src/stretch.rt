@@ -1,7 +1,8 @@
 // Where windows are decoded from.
-ghost use Rattle.std.specs.Prelude.{◌≡◌, ◌+◌, ◌^◌, ◌<◌, ◌≤◌, Some, drop, length};
+ghost use Rattle.std.specs.Prelude.{◌≡◌, ◌+◌, ◌<◌, ◌≤◌, Some, drop, length};
 ghost use Rattle.std.specs.Option.{ForSome};
 ghost use Rattle.tm_conv.specs.Path.{steps_size};
+ghost use Rattle.tm_viterbi.specs.WindowSizes.{window_bound};
 
 use tm_conv::steps_len;
 use tm_viterbi::WindowShape;
@@ -22,7 +23,7 @@ impl<'a> Stretch<'a> {
     pub(crate) fn next(&self, register: u8) -> Stretch<'a>
         requires register { register < 64 }
         requires within { steps_size self.now.shape.rate self.now.t self.now.shape.keep ≤ length self.now.octets.now }
-        requires few { self.now.t + self.now.shape.keep < 2 ^ 61 }
+        requires few { self.now.t + self.now.shape.keep < window_bound }
         ensures shape { result.shape ≡ self.now.shape }
         ensures starts { result.starts ≡ Some register }
         ensures t { result.t ≡ self.now.t + self.now.shape.keep }

@@ -2,8 +2,11 @@
 // those of one thread. And workers that decode windows of a phase that is followed: really side by side, and the same
 // blocks whatever their number.
 ghost use Rattle.std.specs.Prelude.{◌+◌, ◌*◌, ◌^◌, ◌<◌, ◌≤◌, ◌≡◌, ℕ, length};
+ghost use Rattle.tm_base.specs.Limits.{most_workers};
 ghost use Rattle.tm_conv.specs.Path.{steps_size};
+ghost use Rattle.tm_viterbi.specs.WindowSizes.{window_bound};
 ghost use Rattle.tm_windows.specs.Candidates.{AreCandidates, HaveRoom, HoldsWindows};
+ghost use Rattle.tm_windows.specs.Sharing.{most_windows, most_octets};
 
 use crate::candidate::Candidate;
 use crate::closing::{Closing, OneByOne};
@@ -82,7 +85,7 @@ fn decode_wrongly(decoder: &mut WindowDecoder, candidates: &mut [Candidate], fro
     requires shape { decoder.old ≡ from.now.shape }
     requires bits { HaveRoom (from.now.shape.keep + from.now.shape.ahead) candidates.old }
     requires room { HoldsWindows from.now (length candidates.old) }
-    requires few { from.now.t + length candidates.old * from.now.shape.keep < 2 ^ 61 }
+    requires few { from.now.t + length candidates.old * from.now.shape.keep < window_bound }
     ensures candidates { AreCandidates from.now.shape from.now.t from.now.octets.now 0 (length candidates.old)
         candidates.new }
     ensures bits { HaveRoom (from.now.shape.keep + from.now.shape.ahead) candidates.new }
@@ -231,10 +234,11 @@ struct PastMeeting<'a, R: Threads + Sync> {
 }
 
 impl<'a, R: Threads + Sync> Closing for PastMeeting<'a, R> {
-    ghost use Rattle.std.specs.Prelude.{◌≤◌, ◌^◌};
+    ghost use Rattle.std.specs.Prelude.{◌≤◌};
     ghost use Rattle.std.specs.Thread.{IsSync};
+    ghost use Rattle.tm_windows.specs.Sharing.{most_octets};
 
-    ghost is_ready = { λ by count. IsSync R.row × (count ≤ 2 ^ 62) };
+    ghost is_ready = { λ by count. IsSync R.row × (count ≤ most_octets) };
 
     fn decode(&self, decoders: &mut [WindowDecoder], run: &mut [Candidate], from: &Stretch<'_>) {
         let Stretch {
@@ -272,9 +276,9 @@ fn followed<C: Closing>(
     most: usize,
     octets: &[u8],
 ) -> Result<(Digest, u64), Fail>
-    requires ready { (count : ℕ) → count ≤ 2 ^ 62 → C.is_ready closing.now count }
-    requires workers { (0 < workers) × (workers ≤ 64) }
-    requires most { (0 < most) × (most ≤ 2 ^ 17) }
+    requires ready { (count : ℕ) → count ≤ most_octets → C.is_ready closing.now count }
+    requires workers { (0 < workers) × (workers ≤ most_workers) }
+    requires most { (0 < most) × (most ≤ most_windows) }
     requires long { length octets.now < 2 ^ 59 }
 {
     let mut gathering = Gathering::new(alloc, Start::Zero, FOLLOWED, Some(89), workers, most)?;

@@ -4,12 +4,15 @@ ghost use Rattle.std.specs.List.{All};
 ghost use Rattle.std.specs.Option.{ForSome};
 ghost use Rattle.tm_base.specs.Calls.{taker_call};
 ghost use Rattle.tm_base.specs.Outside.{HasCause};
+ghost use Rattle.tm_base.specs.Limits.{most_workers};
 ghost use Rattle.tm_conv.specs.Path.{steps_size};
 ghost use Rattle.tm_viterbi.specs.WindowBlock.{WindowBlock};
 ghost use Rattle.tm_viterbi.specs.Blocks.{IsBlock};
+ghost use Rattle.tm_viterbi.specs.WindowSizes.{most_window, window_bound};
 ghost use Rattle.tm_windows.specs.Candidates.{HaveRoom, HoldsWindows, ClosesWith};
 ghost use Rattle.tm_windows.specs.ClosedRun.{CanClose, ClosedRun};
 ghost use Rattle.tm_windows.specs.Followed.{dropped_at};
+ghost use Rattle.tm_windows.specs.Sharing.{most_octets};
 
 use crate::candidate::Candidate;
 use crate::closing::Closing;
@@ -34,6 +37,8 @@ pub struct WindowWorkers {
 impl Model for WindowWorkers {
     ghost use Rattle.std.specs.Prelude.{◌≡◌, ◌+◌, ◌<◌, ◌≤◌, ◌^◌, vec_len};
     ghost use Rattle.std.specs.List.{All};
+    ghost use Rattle.tm_base.specs.Limits.{most_workers};
+    ghost use Rattle.tm_viterbi.specs.WindowSizes.{most_window};
     ghost use Rattle.tm_windows.specs.Candidates.{HaveRoom};
     ghost use Rattle.tm_windows.specs.Sharing.{Sharing};
 
@@ -41,7 +46,7 @@ impl Model for WindowWorkers {
 
     ghost view = { λ w. record { shape = w.shape; most = vec_len w.candidates; workers = vec_len w.decoders } };
 
-    ghost invariant = { λ w. (w.shape.keep + w.shape.ahead ≤ 69632) × ((0 < vec_len w.decoders) × (vec_len w.decoders ≤ 64)) × (vec_len w.candidates ≤ 2 ^ 32)
+    ghost invariant = { λ w. (w.shape.keep + w.shape.ahead ≤ most_window) × ((0 < vec_len w.decoders) × (vec_len w.decoders ≤ most_workers)) × (vec_len w.candidates ≤ 2 ^ 32)
         × All (λ d. d ≡ w.shape) w.decoders.items × HaveRoom (w.shape.keep + w.shape.ahead) w.candidates.items };
 }
 
@@ -50,7 +55,7 @@ fn new_decoders(
     shape: WindowShape,
     count: usize,
 ) -> Result<Vec<WindowDecoder>, AllocError>
-    requires { shape.keep + shape.ahead ≤ 69632 }
+    requires { shape.keep + shape.ahead ≤ most_window }
     ensures shape { IfOk result (λ decoders. All (λ d. d ≡ shape) decoders.items) }
     ensures count { IfOk result (λ decoders. vec_len decoders ≡ count) }
 {
@@ -89,14 +94,14 @@ fn close_run<C: Closing, B: BlockTaker>(
     count: usize,
     blocks: &mut B,
 ) -> Result<Option<u8>, Failed>
-    requires some { (0 < length decoders.old) × (length decoders.old ≤ 64) }
+    requires some { (0 < length decoders.old) × (length decoders.old ≤ most_workers) }
     requires ready { C.is_ready by.now (length from.now.octets.now) }
     requires shape { All (λ d. d ≡ from.now.shape) decoders.old }
-    requires small { from.now.shape.keep + from.now.shape.ahead ≤ 69632 }
+    requires small { from.now.shape.keep + from.now.shape.ahead ≤ most_window }
     requires most { (count ≤ length candidates.old) × (length candidates.old ≤ 2 ^ 32) }
     requires bits { HaveRoom (from.now.shape.keep + from.now.shape.ahead) candidates.old }
     requires room { HoldsWindows from.now count }
-    requires few { from.now.t + count * from.now.shape.keep < 2 ^ 61 }
+    requires few { from.now.t + count * from.now.shape.keep < window_bound }
     ensures closed { ClosedRun from.now.shape from.now.starts from.now.t from.now.octets.now count
         (taker_call B.took B.broke B.faults B.is_last blocks.old blocks.new) result }
     ensures bits { HaveRoom (from.now.shape.keep + from.now.shape.ahead) candidates.new }
@@ -120,15 +125,15 @@ fn close_side_by_side<R: Threads + Sync, B: BlockTaker, G: Gate + Sync>(
     count: usize,
     blocks: &mut B,
 ) -> Result<Option<u8>, Failed>
-    requires some { (0 < length decoders.old) × (length decoders.old ≤ 64) }
-    requires long { length octets.now ≤ 2 ^ 62 }
+    requires some { (0 < length decoders.old) × (length decoders.old ≤ most_workers) }
+    requires long { length octets.now ≤ most_octets }
     requires shape { All (λ d. d ≡ shape) decoders.old }
-    requires small { shape.keep + shape.ahead ≤ 69632 }
+    requires small { shape.keep + shape.ahead ≤ most_window }
     requires most { (count ≤ length candidates.old) × (length candidates.old ≤ 2 ^ 32) }
     requires bits { HaveRoom (shape.keep + shape.ahead) candidates.old }
     requires start { ForSome starts (λ register. register < 64) }
     requires room { steps_size shape.rate t (count * shape.keep + shape.ahead + 1) ≤ length octets.now }
-    requires few { t + count * shape.keep < 2 ^ 61 }
+    requires few { t + count * shape.keep < window_bound }
     ensures closed { ClosedRun shape starts t octets.now count
         (taker_call B.took B.broke B.faults B.is_last blocks.old blocks.new) result }
     ensures bits { HaveRoom (shape.keep + shape.ahead) candidates.new }
@@ -154,8 +159,8 @@ impl WindowWorkers {
         workers: u8,
         most: usize,
     ) -> Result<WindowWorkers, NoMemory>
-        requires steps { shape.keep + shape.ahead ≤ 69632 }
-        requires workers { (0 < workers) × (workers ≤ 64) }
+        requires steps { shape.keep + shape.ahead ≤ most_window }
+        requires workers { (0 < workers) × (workers ≤ most_workers) }
         requires most { most ≤ 2 ^ 32 }
         ensures { IfOk result (λ w. w ≡ record { shape = shape; most = most; workers = workers }) }
     {
@@ -189,7 +194,7 @@ impl WindowWorkers {
         blocks: &mut B,
         gate: &G,
     ) -> Result<Option<u8>, Failed>
-        requires long { length octets.now ≤ 2 ^ 62 }
+        requires long { length octets.now ≤ most_octets }
         requires closes { CanClose self.old starts t octets.now count }
         ensures closed { ClosedRun self.old.shape starts t octets.now count
             (taker_call B.took B.broke B.faults B.is_last blocks.old blocks.new) result }
@@ -245,7 +250,7 @@ impl WindowWorkers {
         requires some { 0 < self.old.most }
         requires start { ForSome starts (λ register. register < 64) }
         requires room { steps_size self.old.shape.rate t (self.old.shape.keep + self.old.shape.ahead + 1) ≤ length octets.now }
-        requires few { t < 2 ^ 61 }
+        requires few { t < window_bound }
         ensures ok { IfOk result (λ next. (block : WindowBlock) × B.took blocks.old (dropped_at dropped block) blocks.new
             × (block.end_state ≡ next) × (block.kept ≡ self.old.shape.keep)
             × ClosesWith self.old.shape (record { starts = starts; t = t; octets = octets.now }) block) }
@@ -283,7 +288,7 @@ impl WindowWorkers {
         requires start { ForSome starts (λ register. register < 64) }
         requires steps { steps ≤ self.old.shape.keep + self.old.shape.ahead }
         requires octets { steps_size self.old.shape.rate t steps ≤ length octets.now }
-        requires few { t < 2 ^ 61 }
+        requires few { t < window_bound }
         ensures ok { OnOk result ((last : WindowBlock) × B.took blocks.old (dropped_at dropped last) blocks.new
             × IsBlock self.old.shape.rate self.old.shape.invert self.old.shape.keep self.old.shape.ahead starts t steps octets.now last) }
         ensures err { OnErr result ((last : WindowBlock) × B.broke blocks.old (dropped_at dropped last) blocks.new
