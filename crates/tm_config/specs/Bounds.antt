@@ -1,5 +1,6 @@
--- The bounds of the options' values. The constants of the code are proved to be these numbers.
-use Rattle.std.specs.Prelude.{ℕ, ◌^◌}
+-- The bounds of the options' values, but for those that crates below have: tm_base `Limits` and
+-- `Marker`, tm_viterbi `WindowSizes`. The constants of the code are proved to be these numbers.
+use Rattle.std.specs.Prelude.{ℕ}
 
 -- the most symbols of a codeword (CCSDS 131.0-B, Reed-Solomon Coding)
 abbrev pub longest_word : ℕ
@@ -13,35 +14,13 @@ deepest = 8
 abbrev pub longest_codeblock : ℕ
 longest_codeblock = 2040
 
--- the most bits of a sync marker that may be wrong
-abbrev pub most_tolerance : ℕ
-most_tolerance = 8
-
 -- the most symbols that are dropped first
 abbrev pub most_skip : ℕ
 most_skip = 15
 
-abbrev pub most_workers : ℕ
-most_workers = 64
-
--- the most octets that are read
-abbrev pub most_limit : ℕ
-most_limit = 2 ^ 40
-
 -- the most markers in a row that may be missing
 abbrev pub most_fly : ℕ
 most_fly = 15
-
--- the steps of a window that are kept
-abbrev pub least_keep : ℕ
-least_keep = 64
-
-abbrev pub most_keep : ℕ
-most_keep = 65536
-
--- the most steps of a window beyond those that are kept
-abbrev pub most_ahead : ℕ
-most_ahead = 4096
 
 -- the most codeblocks that are repaired at once
 abbrev pub most_batch : ℕ

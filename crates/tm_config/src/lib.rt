@@ -11,4 +11,5 @@ mod values;
 
 pub use config::Config;
 pub use error::ConfigError;
+pub use ranges::LONGEST_CODEBLOCK;
 pub use values::{OuterCode, Raw, SoftForm, Sought, Values};

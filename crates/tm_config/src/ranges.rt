@@ -9,8 +9,8 @@ use crate::{ConfigError, OuterCode, Raw};
 // The most symbols of a codeword.
 pub const LONGEST_WORD: u64 = 255;
 
-// The most octets of a codeblock: those of eight such words, which interleave at the greatest depth.
-pub const LONGEST_CODEBLOCK: u64 = 2040;
+/// The most octets of a codeblock: those of eight such words, which interleave at the greatest depth.
+pub const LONGEST_CODEBLOCK: usize = 2040;
 
 pub const DEEPEST: u64 = 8;
 
@@ -40,7 +40,7 @@ fn most_data(code: OuterCode) -> u64
     ensures { result ≡ most_data code }
 {
     match code {
-        OuterCode::Uncoded => LONGEST_CODEBLOCK,
+        OuterCode::Uncoded => LONGEST_CODEBLOCK as u64,
         _ => LONGEST_WORD.saturating_sub(code.correctable().saturating_mul(2)),
     }
 }
