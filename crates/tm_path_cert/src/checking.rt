@@ -2,6 +2,7 @@
 ghost use Rattle.std.specs.Prelude.{◌≡◌, ◌↔◌, ℕ, ◌+◌, ◌-◌, ◌*◌, ◌/◌, ◌%◌, ◌^◌, ◌<◌, ◌≤◌, List, [], ◌∷◌, ◌++◌, All, IsTrue, OnSome, IfSome, IfNone, length, slice_index};
 ghost use Rattle.tm_conv.specs.Path.{AreBits, steps_size};
 ghost use Rattle.tm_conv.specs.Best.{IsCandidate};
+ghost use Rattle.tm_conv.specs.Columns.{last_certified};
 ghost use Rattle.tm_path_cert.specs.Claim.{AreRegisters, is_start, path_cost};
 ghost use Rattle.tm_path_cert.specs.Tests.{HoldsAt, IsFirstFailing, first_place};
 
@@ -29,6 +30,7 @@ pub struct Check<'a> {
 impl<'a> Model for Check<'a> {
     ghost use Rattle.std.specs.Prelude.{◌≡◌, ◌≤◌, ◌-◌, ◌^◌, length};
     ghost use Rattle.tm_conv.specs.Path.{steps_size};
+    ghost use Rattle.tm_conv.specs.Columns.{last_certified};
     ghost use Rattle.tm_path_cert.specs.Claim.{AreRegisters};
     ghost use Rattle.tm_path_cert.specs.Checking.{Checking};
 
@@ -36,7 +38,7 @@ impl<'a> Model for Check<'a> {
 
     ghost view = { λ c. record { claim = record { rate = c.rate; invert = c.invert; first = c.first; starts = c.starts; soft = c.soft.now }; count = c.count; last = c.last; wrong = c.wrong } };
 
-    ghost invariant = { λ c. (c.place ≡ steps_size c.rate c.first (c.count - 1)) × (length c.soft.now ≤ 2 ^ 25) × (c.first ≤ 2 ^ 44) };
+    ghost invariant = { λ c. (c.place ≡ steps_size c.rate c.first (c.count - 1)) × (length c.soft.now ≤ 2 ^ 25) × (c.first ≤ last_certified) };
 }
 
 impl<'a> Check<'a> {
@@ -46,7 +48,7 @@ impl<'a> Check<'a> {
     /// It was given no column yet.
     pub fn new(rate: Rate, invert: bool, first: u64, start: Starts, soft: &'a [u8]) -> Check<'a>
         requires steps { (steps : ℕ) × (steps ≤ 2 ^ 24) × (length soft.now ≡ steps_size rate first steps) }
-        requires first { first ≤ 2 ^ 44 }
+        requires first { first ≤ last_certified }
         requires start { AreRegisters start }
         ensures claim { result.claim ≡ record { rate = rate; invert = invert; first = first; starts = start; soft = soft.now } }
         ensures count { result.count ≡ 0 }

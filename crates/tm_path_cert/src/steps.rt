@@ -2,6 +2,7 @@
 ghost use Rattle.std.specs.Prelude.{◌≡◌, ℕ, ◌+◌, ◌*◌, ◌≤◌, ◌<◌, ◌^◌, length, slice_index};
 ghost use Rattle.tm_conv.specs.Path.{c1, c2, sent, step_size, step_symbols, steps_size, AreBits, path};
 ghost use Rattle.tm_conv.specs.Cost as metric;
+ghost use Rattle.tm_conv.specs.Columns.{last_certified};
 
 use tm_conv::{Rate, kept, step_len};
 
@@ -92,7 +93,7 @@ pub(crate) fn path_sum(
 ) -> u64
     requires register { register < 64 }
     requires bits { AreBits bits.now }
-    requires first { first ≤ 2 ^ 44 }
+    requires first { first ≤ last_certified }
     requires few { length soft.now ≤ 2 ^ 25 }
     requires steps { length soft.now ≡ steps_size rate first (length bits.now) }
     ensures { result ≡ metric.cost (path rate invert first register bits.now) soft.now }
