@@ -1,5 +1,5 @@
 -- What a certificate is read by, and what its next window has to agree with.
-use Rattle.std.specs.Prelude.{ℕ, ◌+◌, ◌||◌, Bool, if◌then◌else◌, List, [], take, drop, nat_lt}
+use Rattle.std.specs.Prelude.{ℕ, ◌+◌, ◌^◌, ◌||◌, Bool, if◌then◌else◌, List, [], take, drop, nat_lt}
 use Rattle.tm_conv.specs.declared.rates.Rate.{Rate}
 use Rattle.tm_conv.specs.Path.{steps_size, register_after}
 use Rattle.tm_path_cert.specs.declared.verdicts.Starts.{Starts}
@@ -44,3 +44,7 @@ after_window rules before w = record {
   octets = drop (steps_size rules.rate before.t w.kept) w.octets;
   next = next_after rules w.steps w.kept;
 }
+
+-- the most steps that the windows before one keep together
+abbrev pub most_kept : ℕ
+most_kept = 2 ^ 43

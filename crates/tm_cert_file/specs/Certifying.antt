@@ -1,10 +1,12 @@
 -- What contracts see of a certificate that is being written.
-use Rattle.std.specs.Prelude.{◌≡◌, ℕ, ◌+◌, ◌^◌, ◌<◌, ◌≤◌, Bool, List, [], ◌∷◌, ◌++◌, Option, length, take}
+use Rattle.std.specs.Prelude.{◌≡◌, ℕ, ◌+◌, ◌<◌, ◌≤◌, Bool, List, [], ◌∷◌, ◌++◌, Option, length, take}
 use Rattle.tm_base.specs.Written.{Wrote, WrotePrefix}
 use Rattle.tm_conv.specs.declared.rates.Rate.{Rate}
 use Rattle.tm_conv.specs.Path.{steps_size}
+use Rattle.tm_conv.specs.Columns.{last_certified}
 use Rattle.tm_viterbi.specs.WindowBlock.{WindowBlock}
 use Rattle.tm_viterbi.specs.Due.{Place, after_block}
+use Rattle.tm_viterbi.specs.WindowSizes.{most_window}
 use Rattle.tm_cert_file.specs.Certificate.{IsCertified, AreCertified}
 
 -- where the next window begins, with the soft octets from there on, and how many octets there is room for
@@ -28,9 +30,9 @@ advanced c block = with_place c (after_block c.rate c.place block)
 
 -- this is the block of a window whose octets are there
 pub record Fits (c : Certifying) (block : WindowBlock) : Type 0 where
-  pub steps : block.steps ≤ 69632
+  pub steps : block.steps ≤ most_window
   pub kept : block.kept ≤ block.steps
-  pub few : c.place.t + block.steps ≤ 2 ^ 44
+  pub few : c.place.t + block.steps ≤ last_certified
   pub bits : length block.bits ≡ block.steps
   pub octets : steps_size c.rate c.place.t block.steps ≤ length c.place.octets
   pub start : block.start < 64

@@ -1,8 +1,10 @@
 // A certificate that is being written, block by block.
-ghost use Rattle.std.specs.Prelude.{◌≡◌, ◌↔◌, ◌++◌, ◌+◌, ◌*◌, ◌-◌, ◌^◌, ◌<◌, ◌≤◌, [], IfOk, IsTrue, OnOk, OnErr, drop, length, take};
+ghost use Rattle.std.specs.Prelude.{◌≡◌, ◌↔◌, ◌++◌, ◌+◌, ◌*◌, ◌-◌, ◌<◌, ◌≤◌, [], IfOk, IsTrue, OnOk, OnErr, drop, length, take};
 ghost use Rattle.tm_base.specs.Outside.{HasCause};
 ghost use Rattle.tm_conv.specs.Path.{steps_size};
+ghost use Rattle.tm_conv.specs.Columns.{last_certified};
 ghost use Rattle.tm_viterbi.specs.Starts.{first_start};
+ghost use Rattle.tm_viterbi.specs.WindowSizes.{most_keep, most_ahead};
 ghost use Rattle.tm_cert_file.specs.Certifying.{Fits, WroteBlock, WroteBlockPrefix, with_octets};
 
 use crate::writing::write_window;
@@ -15,9 +17,15 @@ use tm_viterbi::{Block, BlockTaker, Start, WindowShape, first_start};
 /// The most octets that are given at a time.
 pub const PIECE: usize = 256;
 
+// The most steps of a window.
+const MOST_WINDOW: u32 = 69_632;
+
+// The last step of a certificate.
+const LAST_CERTIFIED: u64 = 1 << 44;
+
 // How many symbols so many steps from step t on send.
 pub(crate) fn span(rate: Rate, t: u64, steps: u64) -> usize
-    requires { t + steps ≤ 2 ^ 44 }
+    requires { t + steps ≤ last_certified }
     ensures { result ≡ steps_size rate t steps }
 {
     (symbols_of(rate, t + steps) - symbols_of(rate, t)) as usize
@@ -35,23 +43,24 @@ pub struct Certifying {
 }
 
 impl Model for Certifying {
-    ghost use Rattle.std.specs.Prelude.{◌≤◌, ◌<◌, ◌^◌};
+    ghost use Rattle.std.specs.Prelude.{◌≤◌, ◌<◌};
     ghost use Rattle.std.specs.Option.{ForSome};
+    ghost use Rattle.tm_conv.specs.Columns.{last_certified};
     ghost use Rattle.tm_cert_file.specs.Certifying as cert;
 
     ghost Value = { cert.Certifying };
 
     ghost view = { λ c. record { rate = c.rate; invert = c.invert; place = record { starts = c.start; t = c.t; octets = c.octets.octets }; room = c.octets.room } };
 
-    ghost invariant = { λ c. (c.t ≤ 2 ^ 44) × ForSome c.start (λ register. register < 64) };
+    ghost invariant = { λ c. (c.t ≤ last_certified) × ForSome c.start (λ register. register < 64) };
 }
 
 impl Certifying {
     /// Before the first octet, for windows of this shape, which keeps at most 65,536 steps and has at most 4,096 ahead.
     /// It fails only where there isn't enough memory.
     pub fn open(alloc: Global, start: Start, shape: WindowShape) -> Result<Certifying, NoMemory>
-        requires keep { shape.keep ≤ 65536 }
-        requires ahead { shape.ahead ≤ 4096 }
+        requires keep { shape.keep ≤ most_keep }
+        requires ahead { shape.ahead ≤ most_ahead }
         ensures { IfOk result (λ c. c ≡ record {
           rate = shape.rate;
           invert = shape.invert;
@@ -91,9 +100,9 @@ impl Certifying {
     fn fits(&self, block: &Block<'_>) -> bool
         ensures { IsTrue result ↔ Fits self.now block.now }
     {
-        block.steps <= 69632
+        block.steps <= MOST_WINDOW
             && block.kept <= block.steps
-            && self.t + u64::from(block.steps) <= 1 << 44
+            && self.t + u64::from(block.steps) <= LAST_CERTIFIED
             && block.bits.len() == block.steps as usize
             && span(self.rate, self.t, u64::from(block.steps)) <= self.octets.as_slice().len()
             && block.start < 64

@@ -1,6 +1,8 @@
 // The tests of a window's octets.
-ghost use Rattle.std.specs.Prelude.{◌≡◌, ◌+◌, ◌*◌, ◌^◌, ◌<◌, ◌≤◌, ℕ, IsTrue, length};
+ghost use Rattle.std.specs.Prelude.{◌≡◌, ◌+◌, ◌*◌, ◌<◌, ◌≤◌, ℕ, IsTrue, length};
 ghost use Rattle.tm_conv.specs.Path.{AreBits, steps_size, register_after};
+ghost use Rattle.tm_conv.specs.Columns.{last_certified};
+ghost use Rattle.tm_viterbi.specs.WindowSizes.{most_keep, most_ahead, most_window};
 ghost use Rattle.tm_path_cert.specs.Checking.{IsVerdict};
 ghost use Rattle.tm_path_cert.specs.Claim.{AreRegisters, is_start};
 ghost use Rattle.tm_cert_file.specs.Before as before;
@@ -14,7 +16,7 @@ use tm_path_cert::{Check, Starts, Verdict, is_start};
 
 /// Whether the numbers before a window's bits are those of a window.
 pub(crate) fn has_shape(keep: u32, ahead: u32, next: Next, steps: u32, kept: u32, start: u8) -> bool
-    requires { (keep ≤ 65536) × (ahead ≤ 4096) }
+    requires { (keep ≤ most_keep) × (ahead ≤ most_ahead) }
     ensures { (rules : before.Rules) → rules.keep ≡ keep → rules.ahead ≡ ahead → result ≡ seen.has_shape rules next steps kept start }
 {
     let most = keep + ahead;
@@ -50,7 +52,7 @@ pub(crate) fn is_joined(starts: Starts, start: u8, octets: &[u8], tail: &[u8]) -
 
 /// Whether a window comes after one of so many steps, of which so many are kept.
 pub(crate) fn next_after(keep: u32, ahead: u32, steps: u32, kept: u32) -> Next
-    requires { (keep ≤ 65536) × (ahead ≤ 4096) }
+    requires { (keep ≤ most_keep) × (ahead ≤ most_ahead) }
     ensures { (rules : before.Rules) → rules.keep ≡ keep → rules.ahead ≡ ahead → result ≡ before.next_after rules steps kept }
 {
     if kept < steps {
@@ -88,9 +90,9 @@ pub(crate) fn verdict_on(
     start: u8,
     metric: u64,
 ) -> Verdict
-    requires few { length bits.now ≤ 69632 }
+    requires few { length bits.now ≤ most_window }
     requires bits { AreBits bits.now }
-    requires first { first ≤ 2 ^ 44 }
+    requires first { first ≤ last_certified }
     requires starts { AreRegisters starts }
     requires soft { length soft.now ≡ steps_size rate first (length bits.now) }
     requires columns { length columns.now ≡ 256 * (length bits.now + 1) }

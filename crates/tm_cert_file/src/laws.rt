@@ -1,13 +1,15 @@
 // What holds of certificates, over the definitions alone.
-ghost use Rattle.std.specs.Prelude.{◌≡◌, ℕ, ◌+◌, ◌-◌, ◌^◌, ◌<◌, ◌≤◌, Bool, List, ◌++◌, length, map, take, Option};
+ghost use Rattle.std.specs.Prelude.{◌≡◌, ℕ, ◌+◌, ◌-◌, ◌<◌, ◌≤◌, Bool, List, ◌++◌, length, map, take, Option};
 ghost use Rattle.tm_base.specs.Bits.{AreOctets};
 ghost use Rattle.tm_base.specs.Written.{Wrote, WrotePrefix};
 ghost use Rattle.tm_conv.specs.declared.rates.Rate.{Rate};
 ghost use Rattle.tm_conv.specs.Path.{steps_size};
+ghost use Rattle.tm_conv.specs.Columns.{last_certified};
 ghost use Rattle.tm_viterbi.specs.Settings.{Settings};
 ghost use Rattle.tm_viterbi.specs.WindowBlock.{WindowBlock};
 ghost use Rattle.tm_viterbi.specs.Blocks.{AreBlocks, AreBlocksOf};
 ghost use Rattle.tm_viterbi.specs.Due.{Place, Closed};
+ghost use Rattle.tm_viterbi.specs.WindowSizes.{most_keep, most_ahead, most_window};
 ghost use Rattle.tm_cert_file.specs.declared.seen.Reason.{Reason};
 ghost use Rattle.tm_cert_file.specs.declared.seen.Seen.{Seen};
 ghost use Rattle.tm_cert_file.specs.declared.seen.Seen.TheVariants.{Failed};
@@ -43,17 +45,17 @@ pub fn certified_law()
         → Closed rate invert keep ahead from blocks to → AreCertified rate invert from.starts from.t from.octets blocks text
         → AreCertified rate invert from.starts from.t (from.octets ++ more) blocks text }
     ensures closed { (c now : Certifying) (keep ahead : ℕ) (to : Place) (blocks : List WindowBlock) (taken taken_now : Option (List ℕ))
-        → keep ≤ 65536 → ahead ≤ 4096 → c.place.t + length c.place.octets ≤ 2 ^ 44 → Closed c.rate c.invert keep ahead c.place blocks to
+        → keep ≤ most_keep → ahead ≤ most_ahead → c.place.t + length c.place.octets ≤ last_certified → Closed c.rate c.invert keep ahead c.place blocks to
         → WroteBlocks c now blocks taken taken_now → (now ≡ with_place c to) × (text : List ℕ) × AreNext c blocks text × Wrote taken taken_now text }
     ensures last { (c now : Certifying) (keep ahead steps : ℕ) (blocks : List WindowBlock) (taken taken_now : Option (List ℕ))
-        → keep ≤ 65536 → ahead ≤ 4096 → c.place.t + length c.place.octets ≤ 2 ^ 44 → steps_size c.rate c.place.t steps ≤ length c.place.octets
+        → keep ≤ most_keep → ahead ≤ most_ahead → c.place.t + length c.place.octets ≤ last_certified → steps_size c.rate c.place.t steps ≤ length c.place.octets
         → AreBlocks c.rate c.invert keep ahead c.place.starts c.place.t steps c.place.octets blocks
         → WroteBlocks c now blocks taken taken_now → (text : List ℕ) × AreNext c blocks text × Wrote taken taken_now text }
     ensures closed_prefix { (c : Certifying) (keep ahead : ℕ) (to : Place) (blocks : List WindowBlock) (taken taken_now : Option (List ℕ))
-        → keep ≤ 65536 → ahead ≤ 4096 → c.place.t + length c.place.octets ≤ 2 ^ 44 → Closed c.rate c.invert keep ahead c.place blocks to
+        → keep ≤ most_keep → ahead ≤ most_ahead → c.place.t + length c.place.octets ≤ last_certified → Closed c.rate c.invert keep ahead c.place blocks to
         → WroteBlocksPrefix c blocks taken taken_now → (text : List ℕ) × AreNext c blocks text × WrotePrefix taken taken_now text }
     ensures last_prefix { (c : Certifying) (keep ahead steps : ℕ) (blocks : List WindowBlock) (taken taken_now : Option (List ℕ))
-        → keep ≤ 65536 → ahead ≤ 4096 → c.place.t + length c.place.octets ≤ 2 ^ 44 → steps_size c.rate c.place.t steps ≤ length c.place.octets
+        → keep ≤ most_keep → ahead ≤ most_ahead → c.place.t + length c.place.octets ≤ last_certified → steps_size c.rate c.place.t steps ≤ length c.place.octets
         → AreBlocks c.rate c.invert keep ahead c.place.starts c.place.t steps c.place.octets blocks
         → WroteBlocksPrefix c blocks taken taken_now → (text : List ℕ) × AreNext c blocks text × WrotePrefix taken taken_now text }
 {
@@ -92,7 +94,7 @@ pub fn shown_law()
 /// their kept octets are all but those left over. A window keeps a step or more, and has 69,632 steps at most. It does nothing.
 pub fn passes_law()
     ensures { (s : Settings) (octets : List ℕ) (blocks : List WindowBlock) (left : ℕ) (text : List ℕ)
-        → 0 < s.keep → s.keep + s.ahead ≤ 69632 → AreOctets octets
+        → 0 < s.keep → s.keep + s.ahead ≤ most_window → AreOctets octets
         → AreBlocksOf s octets blocks left → IsCertificate s octets blocks text
         → (windows : List Window) × IsWhole (rules_by s) text windows × (map block_of windows ≡ blocks)
         × (all_kept s.rate 0 windows ≡ take (length octets - left) octets) }

@@ -1,9 +1,10 @@
 // A certificate that is being read, window by window.
-ghost use Rattle.std.specs.Prelude.{◌≡◌, ◌++◌, ◌∷◌, ◌+◌, ◌-◌, ◌*◌, ◌^◌, ◌<◌, ◌≤◌, ℕ, List, [], IfOk, length, take};
+ghost use Rattle.std.specs.Prelude.{◌≡◌, ◌++◌, ◌∷◌, ◌+◌, ◌-◌, ◌*◌, ◌<◌, ◌≤◌, ℕ, List, [], IfOk, length, take};
 ghost use Rattle.tm_conv.specs.Path.{register_after};
+ghost use Rattle.tm_viterbi.specs.WindowSizes.{most_keep, most_ahead};
 ghost use Rattle.tm_path_cert.specs.Claim.{AreRegisters};
 ghost use Rattle.tm_cert_file.specs.Window.{Window, steps_in, kept_in, metric_in, window_in};
-ghost use Rattle.tm_cert_file.specs.Before.{at_first, after_window};
+ghost use Rattle.tm_cert_file.specs.Before.{at_first, after_window, most_kept};
 ghost use Rattle.tm_cert_file.specs.Seen.{IsSeen};
 ghost use Rattle.tm_cert_file.specs.File.{is_cut, kept_octets};
 ghost use Rattle.tm_cert_file.specs.Reading.{IsOpen, HasPassed, StandsFor};
@@ -19,6 +20,9 @@ use std::marker::Model;
 use tm_base::{Held, NoMemory};
 use tm_conv::Rate;
 use tm_path_cert::Starts;
+
+// The most steps that the windows before one keep together.
+const MOST_KEPT: u64 = 1 << 43;
 
 /// Reads a certificate in pieces, and checks each of its windows once it is whole. It keeps the octets of one window, and of the one before
 /// those after its kept steps. It takes its memory at `open`: 259 octets for each step of a window, two for each step after the kept
@@ -40,9 +44,11 @@ pub struct Reader {
 }
 
 impl Model for Reader {
-    ghost use Rattle.std.specs.Prelude.{◌≤◌, ◌<◌, ◌+◌, ◌*◌, ◌^◌, length};
+    ghost use Rattle.std.specs.Prelude.{◌≤◌, ◌<◌, ◌+◌, ◌*◌, length};
+    ghost use Rattle.tm_viterbi.specs.WindowSizes.{most_keep, most_ahead};
     ghost use Rattle.tm_path_cert.specs.Claim.{AreRegisters};
     ghost use Rattle.tm_cert_file.specs.Reading.{Reading};
+    ghost use Rattle.tm_cert_file.specs.Before.{most_kept};
 
     ghost Value = { Reading };
 
@@ -52,7 +58,7 @@ impl Model for Reader {
       octets = r.octets.octets;
     } };
 
-    ghost invariant = { λ r. (r.keep ≤ 65536) × (r.ahead ≤ 4096) × (r.t ≤ 2 ^ 43) × AreRegisters r.starts
+    ghost invariant = { λ r. (r.keep ≤ most_keep) × (r.ahead ≤ most_ahead) × (r.t ≤ most_kept) × AreRegisters r.starts
         × (2 * r.ahead ≤ r.tail.room) × (273 + 259 * (r.keep + r.ahead) ≤ r.octets.room) };
 }
 
@@ -67,8 +73,8 @@ impl Reader {
         keep: u32,
         ahead: u32,
     ) -> Result<Reader, NoMemory>
-        requires keep { keep ≤ 65536 }
-        requires ahead { ahead ≤ 4096 }
+        requires keep { keep ≤ most_keep }
+        requires ahead { ahead ≤ most_ahead }
         requires start { AreRegisters starts }
         ensures rules { IfOk result (λ r. r.rules ≡ record { rate = rate; invert = invert; starts = starts; keep = keep; ahead = ahead }) }
         ensures fresh { IfOk result (λ r. (r.before ≡ at_first r.rules) × (r.octets ≡ []) × IsOpen r) }
@@ -259,9 +265,9 @@ impl Reader {
         ensures rules { self.new.rules ≡ self.old.rules }
         ensures octets { self.new.octets ≡ [] }
         ensures open { IsOpen self.new }
-        ensures before { self.old.before.t + kept_in self.old.octets ≤ 2 ^ 43
+        ensures before { self.old.before.t + kept_in self.old.octets ≤ most_kept
             → self.new.before ≡ after_window self.old.rules self.old.before (window_in self.old.rules.rate self.old.before.t self.old.octets) }
-        ensures stands { (given : List ℕ) (windows : List Window) → self.old.before.t + kept_in self.old.octets ≤ 2 ^ 43 → StandsFor self.old given windows
+        ensures stands { (given : List ℕ) (windows : List Window) → self.old.before.t + kept_in self.old.octets ≤ most_kept → StandsFor self.old given windows
             → StandsFor self.new given (windows ++ window_in self.old.rules.rate self.old.before.t self.old.octets ∷ []) }
     {
         let steps = self.steps();
@@ -275,7 +281,7 @@ impl Reader {
         let register = register_after(held[8], &held[HEADER..HEADER + kept as usize]);
         self.starts = Starts::One(register);
         self.next = next_after(self.keep, self.ahead, steps, kept);
-        self.t = (self.t + u64::from(kept)).min(1 << 43);
+        self.t = (self.t + u64::from(kept)).min(MOST_KEPT);
         self.octets.clear();
     }
 

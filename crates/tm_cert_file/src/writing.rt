@@ -1,8 +1,10 @@
 // A window of a certificate as it is written.
-ghost use Rattle.std.specs.Prelude.{◌≡◌, ◌^◌, ◌+◌, ◌<◌, ◌≤◌, ℕ, List, Option, IfSome, OnOk, OnErr, flat_map, length};
+ghost use Rattle.std.specs.Prelude.{◌≡◌, ◌+◌, ◌<◌, ◌≤◌, ℕ, List, Option, IfSome, OnOk, OnErr, flat_map, length};
 ghost use Rattle.tm_base.specs.Outside.{HasCause};
 ghost use Rattle.tm_base.specs.Written.{Wrote, WrotePrefix};
 ghost use Rattle.tm_conv.specs.Path.{steps_size};
+ghost use Rattle.tm_conv.specs.Columns.{last_certified};
+ghost use Rattle.tm_viterbi.specs.WindowSizes.{most_window};
 ghost use Rattle.tm_cert_file.specs.Window.{column_octets};
 ghost use Rattle.tm_cert_file.specs.Certificate.{AreColumns, IsCertified};
 
@@ -20,9 +22,9 @@ fn write_columns<O: Sink>(
     start: Option<u8>,
     octets: &[u8],
 ) -> Result<(), Failed>
-    requires first { first ≤ 2 ^ 44 }
+    requires first { first ≤ last_certified }
     requires start { IfSome start (λ register. register < 64) }
-    requires steps { (steps : ℕ) × (steps ≤ 69632) × (length octets.now ≡ steps_size rate first steps) }
+    requires steps { (steps : ℕ) × (steps ≤ most_window) × (length octets.now ≡ steps_size rate first steps) }
     ensures ok { OnOk result ((steps : ℕ) → length octets.now ≡ steps_size rate first steps
         → (columns : List (List ℕ)) × AreColumns rate invert start first steps octets.now columns
         × Wrote (O.taken out.old) (O.taken out.new) (flat_map column_octets columns)) }
@@ -58,9 +60,9 @@ pub fn write_window<O: Sink>(
     octets: &[u8],
     block: &Block<'_>,
 ) -> Result<(), Failed>
-    requires first { first ≤ 2 ^ 44 }
+    requires first { first ≤ last_certified }
     requires start { IfSome start (λ register. register < 64) }
-    requires few { block.now.steps ≤ 69632 }
+    requires few { block.now.steps ≤ most_window }
     requires bits { length block.now.bits ≡ block.now.steps }
     requires steps { length octets.now ≡ steps_size rate first block.now.steps }
     ensures ok { OnOk result ((text : List ℕ) × IsCertified rate invert start first octets.now block.now text × Wrote (O.taken out.old) (O.taken out.new) text) }
