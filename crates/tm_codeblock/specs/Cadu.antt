@@ -1,9 +1,10 @@
 -- The channel access data unit of a transfer frame: its codeblock after the attached sync marker
 -- (CCSDS 131.0-B, Reed-Solomon Coding, Pseudo-Randomizer and Frame Synchronization).
-use Rattle.std.specs.Prelude.{ℕ, if◌then◌else◌, List, ◌++◌, map}
+use Rattle.std.specs.Prelude.{ℕ, ◌+◌, if◌then◌else◌, List, ◌++◌, map}
 use Rattle.std.specs.List.{range_with_len}
 use Rattle.tm_base.specs.Marker.{marker}
 use Rattle.tm_config.specs.Configuration.{Configuration, correctable, is_uncoded, word_length}
+use Rattle.tm_config.specs.Bounds.{longest_codeblock}
 use Rattle.tm_dual.specs.Octet.{sent_octet, element_of}
 use Rattle.tm_dual.specs.declared.basis.Basis.{Basis}
 use Rattle.tm_interleave.specs.Column.{column}
@@ -34,3 +35,7 @@ sent_codeblock c frame = if c.randomize then masked (codeblock_of c frame) else 
 -- the unit: the marker, which is neither coded nor randomized, and the codeblock
 unfoldable pub cadu : Configuration → List ℕ → List ℕ
 cadu c frame = marker ++ sent_codeblock c frame
+
+-- the most octets of a unit: the marker's, and those of the longest codeblock
+abbrev pub longest_cadu : ℕ
+longest_cadu = 4 + longest_codeblock

@@ -2,19 +2,22 @@
 ghost use Rattle.std.specs.Prelude.{◌≡◌, ◌≢◌, ℕ, ◌+◌, ◌-◌, ◌*◌, ◌<◌, ◌≤◌, ◌++◌, length, true, false};
 ghost use Rattle.tm_config.specs.Accepted.{IsAccepted};
 ghost use Rattle.tm_config.specs.Configuration.{correctable, word_length, codeblock_length};
-ghost use Rattle.tm_config.specs.Bounds.{longest_codeblock};
+ghost use Rattle.tm_config.specs.Bounds.{longest_codeblock, deepest};
 ghost use Rattle.tm_interleave.specs.Column.{column};
 ghost use Rattle.tm_codeblock.specs.ReceivedCodeblock.{column_count};
 ghost use Rattle.tm_codeblock.specs.Cadu.{coded_octets, coded_column, codeblock_of, cadu};
 
 use tm_base::MARKER;
-use tm_config::{Config, OuterCode};
+use tm_config::{Config, LONGEST_CODEBLOCK, OuterCode};
 use tm_dual::Basis;
 use tm_gf256::Gf;
 use tm_interleave::{put_word, take_word};
 use tm_random::mask;
 use tm_rs_code::Params;
 use tm_rs_encode::checks;
+
+/// The most octets of a channel access data unit: those of the marker, and of the longest codeblock.
+pub const LONGEST_CADU: usize = 4 + LONGEST_CODEBLOCK;
 
 // The most data symbols of a codeword, those of the code with 16 check symbols.
 const MOST_DATA: usize = 239;
@@ -130,7 +133,7 @@ pub fn has_code(config: &Config) -> bool
 /// How many columns a codeblock is repaired as: none with no outer code.
 pub fn column_count(config: &Config) -> usize
     ensures value { result ≡ column_count config.now }
-    ensures most { result ≤ 8 }
+    ensures most { result ≤ deepest }
 {
     match config.values().code {
         OuterCode::Uncoded => 0,

@@ -1,14 +1,16 @@
 // The bits of a codeblock, gathered into octets.
 ghost use Rattle.std.specs.Prelude.{◌≡◌, ◌+◌, ◌*◌, ◌%◌, ◌<◌, ◌≤◌, List, [], ◌∷◌, ◌++◌, length};
 ghost use Rattle.tm_base.specs.Bits.{bits_of, bits_of_octet, low_bits};
+ghost use Rattle.tm_config.specs.Bounds.{longest_codeblock};
 ghost use Rattle.tm_codeblock.specs.RoomBits.{room_bits};
 
 use std::marker::Model;
+use tm_config::LONGEST_CODEBLOCK;
 
 /// The bits of a codeblock so far, at most 16,320, as octets whose most significant bit is the first.
 #[derive(Drop)]
 pub struct Gathering {
-    octets: [u8; 2040],
+    octets: [u8; LONGEST_CODEBLOCK],
     whole: usize,
     // The bits after the last whole octet are the lowest `extra` ones of this octet.
     partial: u8,
@@ -18,12 +20,13 @@ pub struct Gathering {
 impl Model for Gathering {
     ghost use Rattle.std.specs.Prelude.{Bool, List, ◌++◌, take, ◌≤◌, ◌<◌};
     ghost use Rattle.tm_base.specs.Bits.{bits_of, low_bits};
+    ghost use Rattle.tm_config.specs.Bounds.{longest_codeblock};
 
     ghost Value = { List Bool };
 
     ghost view = { λ g. bits_of (take g.whole g.octets) ++ low_bits g.extra g.partial };
 
-    ghost invariant = { λ g. (g.whole ≤ 2040) × (g.extra < 8) };
+    ghost invariant = { λ g. (g.whole ≤ longest_codeblock) × (g.extra < 8) };
 }
 
 impl Gathering {
@@ -32,7 +35,7 @@ impl Gathering {
         ensures { result ≡ [] }
     {
         Gathering {
-            octets: [0; 2040],
+            octets: [0; LONGEST_CODEBLOCK],
             whole: 0,
             partial: 0,
             extra: 0,
@@ -51,7 +54,7 @@ impl Gathering {
 
     /// Adds a bit.
     pub fn push_bit(&mut self, bit: bool)
-        requires { length self.old < 16320 }
+        requires { length self.old < 8 * longest_codeblock }
         ensures { self.new ≡ self.old ++ bit ∷ [] }
     {
         self.partial = (self.partial << 1) | u8::from(bit);
@@ -65,7 +68,7 @@ impl Gathering {
 
     /// Adds the eight bits of an octet, the most significant one first.
     pub fn push_octet(&mut self, octet: u8)
-        requires { length self.old + 8 ≤ 16320 }
+        requires { length self.old + 8 ≤ 8 * longest_codeblock }
         ensures { self.new ≡ self.old ++ bits_of_octet octet }
     {
         self.octets[self.whole] = joined(self.partial, octet, self.extra);
@@ -75,7 +78,7 @@ impl Gathering {
 
     /// Adds the bits of octets.
     pub fn push_octets(&mut self, octets: &[u8])
-        requires { length self.old + 8 * length octets.now ≤ 16320 }
+        requires { length self.old + 8 * length octets.now ≤ 8 * longest_codeblock }
         ensures { self.new ≡ self.old ++ bits_of octets.now }
     {
         if self.extra == 0 {
@@ -93,7 +96,7 @@ impl Gathering {
     pub fn recall(&mut self, count: usize, room: &[u8], from: u64)
         requires none { self.old ≡ [] }
         requires some { 0 < length room.now }
-        requires few { count ≤ 16320 }
+        requires few { count ≤ 8 * longest_codeblock }
         ensures { self.new ≡ room_bits room.now from count }
     {
         let mut at = (from % room.len() as u64) as usize;

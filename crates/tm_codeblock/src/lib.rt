@@ -9,7 +9,7 @@ mod gathering;
 mod packing;
 mod received;
 
-pub use cadus::{basis_of, cadu, codeblock_size, column_count, has_code, params_of};
+pub use cadus::{LONGEST_CADU, basis_of, cadu, codeblock_size, column_count, has_code, params_of};
 pub use gathering::Gathering;
 pub use packing::{bits_of_octet, pack, run_length};
 pub use received::{finds_polarity, read_codeblock};
