@@ -1,9 +1,10 @@
 -- What the calls of an inner receiver, and of the decoder within it, promise.
-use Rattle.std.specs.Prelude.{◌≡◌, ◌↔◌, ℕ, ◌+◌, ◌^◌, ◌<◌, ◌≤◌, ◌++◌, true, false, List, length, Result, IfOk, OnErr, OnOk, IsErrOf, IsTrue}
+use Rattle.std.specs.Prelude.{◌≡◌, ◌↔◌, ℕ, ◌+◌, ◌<◌, ◌≤◌, ◌++◌, true, false, List, length, Result, IfOk, OnErr, OnOk, IsErrOf, IsTrue}
 use Rattle.tm_base.specs.Calls.{CallAnswers, TakerCall}
 use Rattle.tm_base.specs.Handed.{Handed, items_of}
 use Rattle.tm_base.specs.Outside.{HasCause}
 use Rattle.tm_viterbi.specs.WindowBlock.{WindowBlock}
+use Rattle.tm_viterbi.specs.WindowSizes.{stream_bound}
 use Rattle.tm_viterbi.specs.declared.decoder.FeedError.{FeedError}
 use Rattle.tm_viterbi.specs.declared.decoder.FeedError.TheVariants.{Stopped, Taker}
 use Rattle.tm_windows.specs.Windows.{AreFirstIn}
@@ -49,12 +50,14 @@ pub record Feeds {R : Type 0} (before now : InnerReceiving) (octets : List ℕ)
       → before.has_stopped ≡ false
       → IsChosenSoFar before.config (given ++ octets) now.phased.chosen
   pub handed : OnOk result ((more : List (Handed WindowBlock)) × taker.took more
-      × ((given : List ℕ) (done : List (Handed WindowBlock)) → length given + length octets < 2 ^ 60
+      × ((given : List ℕ) (done : List (Handed WindowBlock))
+      → length given + length octets < stream_bound
       → StandsFor before given done
       → StandsFor now (given ++ octets) (done ++ more)
       × AreHandedDue before.config (given ++ octets) (done ++ more)))
   pub prefix : IsErrOf result Taker → (tried : List (Handed WindowBlock)) × taker.broke tried
-      × ((given : List ℕ) (done : List (Handed WindowBlock)) → length given + length octets < 2 ^ 60
+      × ((given : List ℕ) (done : List (Handed WindowBlock))
+      → length given + length octets < stream_bound
       → StandsFor before given done
       → AreHandedFirst before.config (given ++ octets) (done ++ tried))
 

@@ -1,12 +1,13 @@
 -- What an inner receiver keeps, and for which octets, given so far, and which blocks, handed over
 -- so far, it stands.
-use Rattle.std.specs.Prelude.{◌≡◌, ◌⊎◌, ℕ, ◌+◌, ◌^◌, ◌<◌, ◌≤◌, ◌%◌, Bool, false, if◌then◌else◌, List, [], ◌++◌, length, map, drop, Option, Some, None}
+use Rattle.std.specs.Prelude.{◌≡◌, ◌⊎◌, ℕ, ◌+◌, ◌<◌, ◌≤◌, ◌%◌, Bool, false, if◌then◌else◌, List, [], ◌++◌, length, map, drop, Option, Some, None}
 use Rattle.tm_base.specs.Handed.{Handed}
 use Rattle.tm_base.specs.Takers.{HandedOver, HandedPart}
 use Rattle.tm_config.specs.Configuration.{Configuration}
 use Rattle.tm_config.specs.declared.values.Sought.TheVariants.{Find}
 use Rattle.tm_conv.specs.declared.rates.Rate.{Rate}
 use Rattle.tm_viterbi.specs.WindowBlock.{WindowBlock}
+use Rattle.tm_viterbi.specs.WindowSizes.{stream_bound}
 use Rattle.tm_inner.specs.declared.inner_decoder.InnerDecoder.{InnerDecoder}
 use Rattle.tm_windows.specs.declared.choosing.Chosen.{Chosen}
 use Rattle.tm_windows.specs.Windows.{AreFirstIn}
@@ -114,7 +115,7 @@ pub record InnerReceiving : Type 0 where
 -- this
 pub record StandsFor (r : InnerReceiving) (given : List ℕ) (done : List (Handed WindowBlock)) : Type 0 where
   pub count : length given ≡ r.count
-  pub few : length given < 2 ^ 60
+  pub few : length given < stream_bound
   pub same : r.phased.config ≡ r.config
   pub phases : PhasesFor r.phased (phase_octets r.config given) done
 
@@ -140,7 +141,7 @@ pub record Hands {T I S : Type 0} (took : T → I → T → Type 0)
     (taker taker_now : T) (octets : List ℕ) : Type 0 where
   pub more : List I
   pub handed : HandedOver took taker more taker_now
-  pub stands : (given : List ℕ) (done : List I) → length given + length octets < 2 ^ 60
+  pub stands : (given : List ℕ) (done : List I) → length given + length octets < stream_bound
       → Stands before given done
       → Stands now (given ++ octets) (done ++ more)
 
@@ -150,6 +151,6 @@ pub record HandsPrefix {T I S : Type 0} (took broke : T → I → T → Type 0)
     (First : List ℕ → List I → Type 0) (before : S) (taker taker_now : T) (octets : List ℕ) : Type 0 where
   pub tried : List I
   pub handed : HandedPart took broke taker tried taker_now
-  pub first : (given : List ℕ) (done : List I) → length given + length octets < 2 ^ 60
+  pub first : (given : List ℕ) (done : List I) → length given + length octets < stream_bound
       → Stands before given done
       → First (given ++ octets) (done ++ tried)

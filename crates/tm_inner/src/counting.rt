@@ -2,6 +2,7 @@
 ghost use Rattle.std.specs.Prelude.{◌≡◌, ℕ, ◌+◌, ◌-◌, ◌^◌, ◌<◌, ◌≤◌, ◌⊎◌, List, length, min, None, false};
 ghost use Rattle.tm_conv.specs.Path.{steps_size};
 ghost use Rattle.tm_viterbi.specs.WindowBlock.{WindowBlock};
+ghost use Rattle.tm_viterbi.specs.WindowSizes.{stream_bound};
 ghost use Rattle.tm_inner.specs.Inner.{AreInnerBlocks, inner_bits, plain_count};
 
 use crate::code::{is_packed, rate_of};
@@ -12,7 +13,8 @@ use tm_conv::{Rate, period};
 // the inner code after the phase, or with none all after the skipped ones.
 pub fn count_bits(config: &Config, phase: u64, octets: u64) -> u64
     requires { (config.now.inner ≡ None) ⊎ (config.now.follow ≡ false) }
-    ensures { (given : List ℕ) (blocks : List WindowBlock) (left : ℕ) → length given ≡ octets → length given < 2 ^ 60
+    ensures { (given : List ℕ) (blocks : List WindowBlock) (left : ℕ) → length given ≡ octets
+        → length given < stream_bound
         → AreInnerBlocks config.now phase given blocks left → result ≡ length (inner_bits config.now given blocks) }
 {
     match rate_of(config) {

@@ -2,6 +2,7 @@
 ghost use Rattle.std.specs.Prelude.{◌≡◌, ◌≢◌, ◌<◌, ◌≤◌, ◌++◌, ◌⊎◌, ℕ, Bool, List, [], None, true, false, IfOk, IfSome, IsSome, OnOk, OnErr, length, take};
 ghost use Rattle.tm_base.specs.Outside.{HasCause};
 ghost use Rattle.tm_base.specs.Takers.{HandedOver, HandedPart};
+ghost use Rattle.tm_base.specs.Limits.{most_workers};
 ghost use Rattle.tm_config.specs.Configuration.{Configuration};
 ghost use Rattle.tm_viterbi.specs.WindowBlock.{WindowBlock};
 ghost use Rattle.tm_windows.specs.Followed.{slips_of, kept_of};
@@ -28,7 +29,7 @@ pub fn decoder_of(
     config: &Config,
     workers: u8,
 ) -> Result<Option<InnerDecoder>, NoMemory>
-    requires { (0 < workers) × (workers ≤ 64) }
+    requires { (0 < workers) × (workers ≤ most_workers) }
     ensures of { IfOk result (IsDecoderOf config.now) }
     ensures fresh { IfOk result (HasStopped false) }
     ensures stands { IfOk result (λ d. DecodesFor d [] []) }

@@ -1,9 +1,11 @@
 // The decoder of the inner code after the choice of the symbol phase.
-ghost use Rattle.std.specs.Prelude.{◌≡◌, ◌≢◌, ◌↔◌, ◌++◌, ◌^◌, ◌<◌, ◌≤◌, ◌⊎◌, ℕ, List, [], None, false, IfOk, IfSome, IsSome, IsTrue, OnOk, OnErr, length, map, take};
+ghost use Rattle.std.specs.Prelude.{◌≡◌, ◌≢◌, ◌↔◌, ◌++◌, ◌<◌, ◌≤◌, ◌⊎◌, ℕ, List, [], None, false, IfOk, IfSome, IsSome, IsTrue, OnOk, OnErr, length, map, take};
 ghost use Rattle.tm_base.specs.Handed.{Handed, Item, on_handed};
 ghost use Rattle.tm_base.specs.Outside.{HasCause};
 ghost use Rattle.tm_base.specs.Takers.{HandedOver, HandedPart};
+ghost use Rattle.tm_base.specs.Limits.{most_workers};
 ghost use Rattle.tm_viterbi.specs.WindowBlock.{WindowBlock};
+ghost use Rattle.tm_viterbi.specs.WindowSizes.{stream_bound};
 ghost use Rattle.tm_windows.specs.Followed.{slips_of, kept_of};
 ghost use Rattle.tm_inner.specs.Phase.{IsChosenBy, IsSoFarBy, PhaseAt, needed_at, phase_octets, skip_of};
 ghost use Rattle.tm_inner.specs.InnerDecoding.{HasWorkers};
@@ -54,7 +56,7 @@ impl Model for Phased {
 impl Phased {
     // The decoder of a configuration with so many workers, which was given nothing yet. It takes all its memory here.
     pub fn open(alloc: Global, config: &Config, workers: u8) -> Result<Phased, NoMemory>
-        requires { (0 < workers) × (workers ≤ 64) }
+        requires { (0 < workers) × (workers ≤ most_workers) }
         ensures config { IfOk result (λ p. p.config ≡ config.now) }
         ensures fresh { IfOk result (λ p. HasStopped false p.decoder) }
         ensures stands { IfOk result (λ p. PhasesFor p [] []) }
@@ -165,13 +167,13 @@ impl Phased {
             → IsChosenBy self.old.config soft self.new.chosen }
         ensures handed { IfOk result (λ left. (last : List (Handed WindowBlock))
             × HandedOver (on_handed B.took_phase B.took) blocks.old last blocks.new
-            × ((given : List ℕ) (done : List (Handed WindowBlock)) → length given < 2 ^ 60
+            × ((given : List ℕ) (done : List (Handed WindowBlock)) → length given < stream_bound
             → PhasesFor self.old (phase_octets self.old.config given) done
             → (all : AreHanded self.old.config given (done ++ last) left) × (all.chosen ≡ self.new.chosen)
             × HasCountedAll self.new.decoder all.items)) }
         ensures prefix { OnErr result ((tried : List (Handed WindowBlock))
             × HandedPart (on_handed B.took_phase B.took) (on_handed B.broke_phase B.broke) blocks.old tried blocks.new
-            × ((given : List ℕ) (done : List (Handed WindowBlock)) → length given < 2 ^ 60
+            × ((given : List ℕ) (done : List (Handed WindowBlock)) → length given < stream_bound
             → PhasesFor self.old (phase_octets self.old.config given) done
             → AreHandedPrefix self.old.config given (done ++ tried))) }
         ensures left { IfOk result (λ left. left ≤ 1) }
@@ -235,11 +237,13 @@ impl Phased {
             → IsChosenBy self.old.config soft self.new.chosen }
         ensures handed { OnOk result ((more : List (Handed WindowBlock))
             × HandedOver (on_handed B.took_phase B.took) blocks.old more blocks.new
-            × ((soft : List ℕ) (done : List (Handed WindowBlock)) → length soft < 2 ^ 60 → PhasesFor self.old soft done
+            × ((soft : List ℕ) (done : List (Handed WindowBlock)) → length soft < stream_bound
+            → PhasesFor self.old soft done
             → Goes self.new soft (done ++ more))) }
         ensures prefix { OnErr result ((tried : List (Handed WindowBlock))
             × HandedPart (on_handed B.took_phase B.took) (on_handed B.broke_phase B.broke) blocks.old tried blocks.new
-            × ((soft : List ℕ) (done : List (Handed WindowBlock)) → length soft < 2 ^ 60 → PhasesFor self.old soft done
+            × ((soft : List ℕ) (done : List (Handed WindowBlock)) → length soft < stream_bound
+            → PhasesFor self.old soft done
             → IsPrefixBy self.old.config soft (done ++ tried))) }
         ensures cause { HasCause (B.faults blocks.old) (B.faults blocks.new) (B.is_last blocks.new) result }
     {
@@ -260,11 +264,13 @@ impl Phased {
         ensures chosen { IsChosenBy self.old.config self.old.held self.new.chosen }
         ensures handed { OnOk result ((more : List (Handed WindowBlock))
             × HandedOver (on_handed B.took_phase B.took) blocks.old more blocks.new
-            × ((soft : List ℕ) (done : List (Handed WindowBlock)) → length soft < 2 ^ 60 → Waits self.old soft done
+            × ((soft : List ℕ) (done : List (Handed WindowBlock)) → length soft < stream_bound
+            → Waits self.old soft done
             → Goes self.new soft (done ++ more))) }
         ensures prefix { OnErr result ((tried : List (Handed WindowBlock))
             × HandedPart (on_handed B.took_phase B.took) (on_handed B.broke_phase B.broke) blocks.old tried blocks.new
-            × ((soft : List ℕ) (done : List (Handed WindowBlock)) → length soft < 2 ^ 60 → Waits self.old soft done
+            × ((soft : List ℕ) (done : List (Handed WindowBlock)) → length soft < stream_bound
+            → Waits self.old soft done
             → IsPrefixBy self.old.config soft (done ++ tried))) }
         ensures cause { HasCause (B.faults blocks.old) (B.faults blocks.new) (B.is_last blocks.new) result }
     {

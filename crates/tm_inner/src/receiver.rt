@@ -1,12 +1,14 @@
 // The receiver's first stage.
-ghost use Rattle.std.specs.Prelude.{◌≡◌, ◌↔◌, ◌++◌, ℕ, ◌+◌, ◌-◌, ◌^◌, ◌<◌, ◌≤◌, ◌==◌, IsTrue, List, [], true, false, IfOk, OnOk, IsErrOf, None, length, drop, map, min, take};
+ghost use Rattle.std.specs.Prelude.{◌≡◌, ◌↔◌, ◌++◌, ℕ, ◌+◌, ◌-◌, ◌<◌, ◌≤◌, ◌==◌, IsTrue, List, [], true, false, IfOk, OnOk, IsErrOf, None, length, drop, map, min, take};
 ghost use Rattle.std.specs.Option.{is_some};
 ghost use Rattle.tm_base.specs.Calls.{taker_call};
 ghost use Rattle.tm_base.specs.Handed.{Handed, Item, items_of, on_handed};
 ghost use Rattle.tm_base.specs.Takers.{HandedOver, HandedPart};
+ghost use Rattle.tm_base.specs.Limits.{most_workers};
 ghost use Rattle.tm_conv.specs.Path.{AreBits};
 ghost use Rattle.tm_viterbi.specs.WindowBlock.{WindowBlock};
 ghost use Rattle.tm_viterbi.specs.Clean.{kept_bits};
+ghost use Rattle.tm_viterbi.specs.WindowSizes.{stream_bound};
 ghost use Rattle.tm_windows.specs.Followed.{slips_of};
 ghost use Rattle.tm_inner.specs.Inner.{AreInnerBlocks, inner_bits, nearest_bit, plain_bits, plain_count, slips_told};
 ghost use Rattle.tm_inner.specs.Phase.{IsChosen, IsChosenSoFar, phase_octets, skip_of, skipped_at};
@@ -77,7 +79,7 @@ impl InnerReceiver {
 
     /// The same with 1 to 64 workers, by which windows are decoded side by side where the calls are given threads.
     pub fn open_for(alloc: Global, config: &Config, workers: u8) -> Result<InnerReceiver, NoMemory>
-        requires workers { (0 < workers) × (workers ≤ 64) }
+        requires workers { (0 < workers) × (workers ≤ most_workers) }
         ensures config { IfOk result (λ r. r.config ≡ config.now) }
         ensures fresh { IfOk result (λ r. r.has_stopped ≡ false) }
         ensures stands { IfOk result (λ r. StandsFor r [] []) }
@@ -140,14 +142,14 @@ impl InnerReceiver {
             → IsChosenSoFar self.old.config (given ++ octets.now) self.new.phased.chosen }
         ensures handed { OnOk result ((more : List (Handed WindowBlock))
             × HandedOver (on_handed B.took_phase B.took) blocks.old more blocks.new
-            × ((given : List ℕ) (done : List (Handed WindowBlock)) → length given + length octets.now < 2 ^ 60
+            × ((given : List ℕ) (done : List (Handed WindowBlock)) → length given + length octets.now < stream_bound
             → StandsFor self.old given done
             → StandsFor self.new (given ++ octets.now) (done ++ more)
             × AreHandedDue self.old.config (given ++ octets.now) (done ++ more))) }
         ensures prefix { IsErrOf result FeedError.Taker
             → (tried : List (Handed WindowBlock))
             × HandedPart (on_handed B.took_phase B.took) (on_handed B.broke_phase B.broke) blocks.old tried blocks.new
-            × ((given : List ℕ) (done : List (Handed WindowBlock)) → length given + length octets.now < 2 ^ 60
+            × ((given : List ℕ) (done : List (Handed WindowBlock)) → length given + length octets.now < stream_bound
             → StandsFor self.old given done
             → AreHandedFirst self.old.config (given ++ octets.now) (done ++ tried)) }
     {
@@ -176,7 +178,7 @@ impl InnerReceiver {
         ensures stopped { self.new.has_stopped ≡ self.old.has_stopped }
         ensures chosen { self.new.phased.chosen ≡ self.old.phased.chosen }
         ensures most { result ≤ length octets.now }
-        ensures gathered { (given : List ℕ) (done : List (Handed WindowBlock)) → length given + result < 2 ^ 60
+        ensures gathered { (given : List ℕ) (done : List (Handed WindowBlock)) → length given + result < stream_bound
             → StandsFor self.old given done → StandsFor self.new (given ++ take result octets.now) done }
     {
         if self.has_stopped || self.octets_to_skip(octets.len()) > 0 {
@@ -362,7 +364,7 @@ fn ended(config: &Config, phased: &Phased, count: u64, leftover: u8) -> InnerEnd
     requires { phased.now.config ≡ config.now }
     ensures left { result.leftover ≡ leftover }
     ensures counts { (given : List ℕ) (blocks : List WindowBlock) (left : ℕ) → length given ≡ count
-        → length given < 2 ^ 60 → AreInnerBlocks config.now (skip_of phased.now.chosen) given blocks left
+        → length given < stream_bound → AreInnerBlocks config.now (skip_of phased.now.chosen) given blocks left
         → HasCountedAll phased.now.decoder blocks
         → (result.bits ≡ length (inner_bits config.now given blocks)) × (result.slips ≡ slips_told config.now blocks) }
 {
@@ -376,7 +378,8 @@ fn ended(config: &Config, phased: &Phased, count: u64, leftover: u8) -> InnerEnd
 // How many bits were received with so many octets: a bit for each step, where these were counted.
 fn bits_received(config: &Config, phased: &Phased, count: u64) -> u64
     requires { phased.now.config ≡ config.now }
-    ensures { (given : List ℕ) (blocks : List WindowBlock) (left : ℕ) → length given ≡ count → length given < 2 ^ 60
+    ensures { (given : List ℕ) (blocks : List WindowBlock) (left : ℕ) → length given ≡ count
+        → length given < stream_bound
         → AreInnerBlocks config.now (skip_of phased.now.chosen) given blocks left
         → HasCountedAll phased.now.decoder blocks → result ≡ length (inner_bits config.now given blocks) }
 {

@@ -1,9 +1,10 @@
 // Octets received at once.
-ghost use Rattle.std.specs.Prelude.{◌≡◌, ◌≢◌, ℕ, ◌^◌, ◌<◌, ◌≤◌, List, IfOk, IsErrOf, Err, length};
+ghost use Rattle.std.specs.Prelude.{◌≡◌, ◌≢◌, ℕ, ◌<◌, ◌≤◌, List, IfOk, IsErrOf, Err, length};
 ghost use Rattle.tm_base.specs.Handed.{Handed, items_of, on_handed};
 ghost use Rattle.tm_base.specs.Takers.{HandedOver, HandedPart};
 ghost use Rattle.tm_base.specs.Outside.{Rose};
 ghost use Rattle.tm_viterbi.specs.WindowBlock.{WindowBlock};
+ghost use Rattle.tm_viterbi.specs.WindowSizes.{stream_bound};
 ghost use Rattle.tm_inner.specs.Inner.{inner_bits, slips_told};
 ghost use Rattle.tm_inner.specs.Handing.{AreHanded, AreHandedPrefix};
 
@@ -26,13 +27,13 @@ pub fn inner_all<B: BlockTaker>(
 ) -> Result<InnerEnd, AllError>
     ensures handed { IfOk result (λ end. (all : List (Handed WindowBlock))
         × HandedOver (on_handed B.took_phase B.took) blocks.old all blocks.new
-        × (length octets.now < 2 ^ 60 → AreHanded config.now octets.now all end.leftover
+        × (length octets.now < stream_bound → AreHanded config.now octets.now all end.leftover
         × (end.bits ≡ length (inner_bits config.now octets.now (items_of all)))
         × (end.slips ≡ slips_told config.now (items_of all)))) }
     ensures prefix { IsErrOf result AllError.Taker
         → (tried : List (Handed WindowBlock)) × HandedPart (on_handed B.took_phase B.took)
         (on_handed B.broke_phase B.broke) blocks.old tried blocks.new
-        × (length octets.now < 2 ^ 60 → AreHandedPrefix config.now octets.now tried) }
+        × (length octets.now < stream_bound → AreHandedPrefix config.now octets.now tried) }
     ensures left { IfOk result (λ end. end.leftover ≤ 1) }
     ensures unchanged { IsErrOf result AllError.Memory → blocks.new ≡ blocks.old }
     ensures later { B.faults blocks.old ≤ B.faults blocks.new }

@@ -1,8 +1,9 @@
 // How the decoder of the inner code is fed: with its workers, or with no thread.
-ghost use Rattle.std.specs.Prelude.{◌≡◌, ◌≢◌, ◌↔◌, ◌++◌, ◌⊎◌, ℕ, ◌+◌, ◌^◌, ◌<◌, ◌≤◌, IsTrue, List, None, true, false, IfOk, OnOk, IfSome, IsErrOf, Err, length};
+ghost use Rattle.std.specs.Prelude.{◌≡◌, ◌≢◌, ◌↔◌, ◌++◌, ◌⊎◌, ℕ, ◌+◌, ◌<◌, ◌≤◌, IsTrue, List, None, true, false, IfOk, OnOk, IfSome, IsErrOf, Err, length};
 ghost use Rattle.tm_base.specs.Outside.{Rose};
 ghost use Rattle.tm_base.specs.Takers.{HandedOver, HandedPart};
 ghost use Rattle.tm_viterbi.specs.WindowBlock.{WindowBlock};
+ghost use Rattle.tm_viterbi.specs.WindowSizes.{stream_bound};
 ghost use Rattle.tm_windows.specs.Followed.{slips_of, kept_of};
 ghost use Rattle.tm_windows.specs.Windows.{AreBlocksIn, AreDueIn, AreFirstIn};
 ghost use Rattle.tm_inner.specs.InnerDecoding.{HasClosed, HasCounted, windows_in, has_stopped_in, StandsIn};
@@ -27,7 +28,7 @@ pub trait Feeding<B: BlockTaker> {
         ensures stops { IsTrue (has_stopped_in decoder.new) ↔ OnOk result ⊥ }
         ensures windows { windows_in decoder.new ≡ windows_in decoder.old }
         ensures handed { OnOk result ((more : List WindowBlock) × HandedOver B.took blocks.old more blocks.new
-            × ((given : List ℕ) (done : List WindowBlock) → length given + length piece.now < 2 ^ 60
+            × ((given : List ℕ) (done : List WindowBlock) → length given + length piece.now < stream_bound
             → StandsIn decoder.old given done → StandsIn decoder.new (given ++ piece.now) (done ++ more))) }
         ensures closed { OnOk result (HasClosed decoder.new) }
         ensures prefix { IsErrOf result FeedError.Taker → (tried : List WindowBlock)
