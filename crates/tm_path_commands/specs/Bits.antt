@@ -1,5 +1,5 @@
 -- The command `bits`: the bits that are received, eight an octet, and what is said of them.
-use Rattle.std.specs.Prelude.{◌≡◌, ◌⊎◌, ℕ, ◌+◌, ◌*◌, ◌/◌, ◌%◌, ◌^◌, ◌<◌, ◌==◌, Bool, false, List, [], ◌∷◌, ◌++◌, length, take, drop, map, Option, Some, None}
+use Rattle.std.specs.Prelude.{◌≡◌, ◌⊎◌, ℕ, ◌+◌, ◌*◌, ◌/◌, ◌%◌, ◌<◌, ◌==◌, Bool, false, List, [], ◌∷◌, ◌++◌, length, take, drop, map, Option, Some, None}
 use Rattle.tm_base.specs.Bits.{octets_of}
 use Rattle.tm_base.specs.Count.{raised_by}
 use Rattle.tm_base.specs.Handed.{Handed, Phase, Item, items_of, on_handed}
@@ -9,8 +9,11 @@ use Rattle.tm_config.specs.Accepted.{IsAccepted}
 use Rattle.tm_config.specs.Configuration.{Configuration}
 use Rattle.tm_driver.specs.Lines.{phase_text}
 use Rattle.tm_driver.specs.Meaning.{Meaning, Output, Taken}
+use Rattle.tm_driver.specs.Driven.{turn_size}
+use Rattle.tm_conv.specs.Columns.{last_certified}
 use Rattle.tm_windows.specs.declared.choosing.Chosen.{Chosen}
 use Rattle.tm_viterbi.specs.WindowBlock.{WindowBlock}
+use Rattle.tm_viterbi.specs.WindowSizes.{stream_bound}
 use Rattle.tm_inner.specs.Inner.{inner_bits, slips_told}
 use Rattle.tm_inner.specs.Handing.{AreHanded, AreHandedDue}
 use Rattle.tm_inner.specs.Receiving.{InnerReceiving, StandsFor}
@@ -142,7 +145,7 @@ pub record Holds (c : Configuration) (receiver : InnerReceiving) (packing : Pack
     (written : List Bool) (octets : List ℕ) (handed : List (Handed WindowBlock)) : Type 0 where
   pub config : receiver.config ≡ c
   pub stands : StandsAt receiver octets handed
-  pub room : packing.room ≡ c.keep + c.ahead + 4096
+  pub room : packing.room ≡ c.keep + c.ahead + turn_size
   pub bits : written ++ packing.bits ≡ bits_of_handed c octets handed
   pub windows : packing.windows ≡ length (items_of handed)
 
@@ -165,7 +168,7 @@ pub record HandsWindows (receiver receiver_now : InnerReceiving) (packing packin
   pub more : List (Handed WindowBlock)
   pub handed : HandedOver (on_handed AddsPhase AddsWindow) packing more packing_now
   pub stands : (given : List ℕ) (done : List (Handed WindowBlock))
-      → length given + length octets < 2 ^ 60 → StandsFor receiver given done
+      → length given + length octets < stream_bound → StandsFor receiver given done
       → StandsFor receiver_now (given ++ octets) (done ++ more)
       × AreHandedDue receiver.config (given ++ octets) (done ++ more)
 
@@ -174,7 +177,7 @@ pub record Gathers (receiver receiver_now : InnerReceiving) (packing packing_now
     (octets : List ℕ) : Type 0 where
   pub more : List (Handed WindowBlock)
   pub holds : (c : Configuration) (written : List Bool) (given : List ℕ)
-      (done : List (Handed WindowBlock)) → IsAccepted c → length (given ++ octets) < 2 ^ 44
+      (done : List (Handed WindowBlock)) → IsAccepted c → length (given ++ octets) < last_certified
       → Holds c receiver packing written given done → IsWritten packing
       → Holds c receiver_now packing_now written (given ++ octets) (done ++ more)
       × PhaseWaits packing_now written more
@@ -245,16 +248,16 @@ abbrev pub WritesMore : InnerReceiving → Packing → (out notes : Option (List
     → List ℕ → Type 0
 WritesMore receiver packing out notes receiver_now packing_now out_now notes_now octets =
     (c : Configuration) (start noted : Option (List ℕ)) (given : List ℕ) → IsAccepted c
-    → (length given < 2 ^ 44 → Writes c receiver packing start out noted notes given)
-    → length (given ++ octets) < 2 ^ 44
+    → (length given < last_certified → Writes c receiver packing start out noted notes given)
+    → length (given ++ octets) < last_certified
     → Writes c receiver_now packing_now start out_now noted notes_now (given ++ octets)
 
 abbrev pub FailsWriting : InnerReceiving → Packing
     → (out notes out_now notes_now : Option (List ℕ)) → List ℕ → Type 0
 FailsWriting receiver packing out notes out_now notes_now octets =
     (c : Configuration) (start noted : Option (List ℕ)) (given : List ℕ) → IsAccepted c
-    → (length given < 2 ^ 44 → Writes c receiver packing start out noted notes given)
-    → length (given ++ octets) < 2 ^ 44
+    → (length given < last_certified → Writes c receiver packing start out noted notes given)
+    → length (given ++ octets) < last_certified
     → WritesPart c start out_now noted notes_now (given ++ octets)
 
 -- what was begun is written to its end, or a sink fails in it

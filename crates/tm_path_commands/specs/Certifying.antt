@@ -1,9 +1,10 @@
 -- How far a certificate is written.
-use Rattle.std.specs.Prelude.{◌≡◌, ◌⊎◌, ℕ, ◌+◌, ◌*◌, ◌-◌, ◌^◌, ◌<◌, ◌≤◌, false, List, [], ◌++◌, length, take, Option, Some, None}
+use Rattle.std.specs.Prelude.{◌≡◌, ◌⊎◌, ℕ, ◌+◌, ◌*◌, ◌-◌, ◌<◌, ◌≤◌, false, List, [], ◌++◌, length, take, Option, Some, None}
 use Rattle.tm_base.specs.Handed.{Handed}
 use Rattle.tm_base.specs.Written.{Wrote, WrotePrefix}
 use Rattle.tm_config.specs.Accepted.{IsAccepted}
 use Rattle.tm_config.specs.Configuration.{Configuration}
+use Rattle.tm_conv.specs.Columns.{last_certified}
 use Rattle.tm_conv.specs.declared.rates.Rate.{Rate}
 use Rattle.tm_viterbi.specs.Due.{Closed, first_place}
 use Rattle.tm_viterbi.specs.WindowBlock.{WindowBlock}
@@ -52,7 +53,7 @@ pub record Certifies (c : Configuration) (receiver : InnerReceiving) (now : Cert
     (taken taken_now : Option (List ℕ)) (octets : List ℕ) : Type 0 where
   pub config : receiver.config ≡ c
   pub unfollowed : c.follow ≡ false
-  pub few : length octets < 2 ^ 44
+  pub few : length octets < last_certified
   pub handed : List (Handed WindowBlock)
   pub stands : StandsAt receiver octets handed
   pub text : List ℕ
@@ -99,16 +100,16 @@ abbrev pub CertifiesMore : (receiver : InnerReceiving) (kept : Certifying) (out 
     → Type 0
 CertifiesMore receiver kept out receiver_now kept_now out_now octets =
     (c : Configuration) (start : Option (List ℕ)) (given : List ℕ) → IsAccepted c
-    → (length given < 2 ^ 44 → Certifies c receiver kept start out given)
-    → length (given ++ octets) < 2 ^ 44
+    → (length given < last_certified → Certifies c receiver kept start out given)
+    → length (given ++ octets) < last_certified
     → Certifies c receiver_now kept_now start out_now (given ++ octets)
 
 abbrev pub FailsCertifying : (receiver : InnerReceiving) (kept : Certifying)
     (out out_now : Option (List ℕ)) → List ℕ → Type 0
 FailsCertifying receiver kept out out_now octets =
     (c : Configuration) (start : Option (List ℕ)) (given : List ℕ) → IsAccepted c
-    → (length given < 2 ^ 44 → Certifies c receiver kept start out given)
-    → length (given ++ octets) < 2 ^ 44 → CertifyFails c start out_now (given ++ octets)
+    → (length given < last_certified → Certifies c receiver kept start out given)
+    → length (given ++ octets) < last_certified → CertifyFails c start out_now (given ++ octets)
 
 -- what was begun is written to its end, or the sink fails in it
 abbrev pub EndsCertificate : InnerReceiving → Certifying → (out out_now : Option (List ℕ)) → Type 0

@@ -1,10 +1,10 @@
 -- How far a certificate is checked.
-use Rattle.std.specs.Prelude.{◌≡◌, ◌⊎◌, ℕ, ◌^◌, ◌<◌, ◌≤◌, List, [], ◌∷◌, ◌++◌, length, take, Option}
+use Rattle.std.specs.Prelude.{◌≡◌, ◌⊎◌, ℕ, ◌<◌, ◌≤◌, List, [], ◌∷◌, ◌++◌, length, take, Option}
 use Rattle.tm_base.specs.Written.{Wrote, WrotePrefix}
 use Rattle.tm_cert_file.specs.declared.seen.Reason.{Reason}
 use Rattle.tm_cert_file.specs.declared.seen.Seen.TheVariants.{More}
 use Rattle.tm_cert_file.specs.Window.{Window, window_in}
-use Rattle.tm_cert_file.specs.Before.{Rules}
+use Rattle.tm_cert_file.specs.Before.{Rules, most_kept}
 use Rattle.tm_cert_file.specs.File.{IsRead, IsBroken, all_kept, kept_octets}
 use Rattle.tm_cert_file.specs.Reading.{Reading, StandsFor}
 use Rattle.tm_config.specs.Configuration.{Configuration}
@@ -115,8 +115,8 @@ abbrev pub PassesMore : Reading → Progress → (out notes : Option (List ℕ))
     → List ℕ → Type 0
 PassesMore reading progress out notes reading_now progress_now out_now notes_now octets =
     (rules : Rules) (start noted : Option (List ℕ)) (given : List ℕ)
-    → (length given < 2 ^ 43 → Passes rules reading progress start out noted notes given)
-    → length (given ++ octets) < 2 ^ 43
+    → (length given < most_kept → Passes rules reading progress start out noted notes given)
+    → length (given ++ octets) < most_kept
     → Passes rules reading_now progress_now start out_now noted notes_now (given ++ octets)
 
 abbrev pub StopsInPiece : Stop → Reading → Progress
@@ -124,8 +124,8 @@ abbrev pub StopsInPiece : Stop → Reading → Progress
     → List ℕ → Type 0
 StopsInPiece stop reading progress out notes out_now notes_now octets =
     (rules : Rules) (start noted : Option (List ℕ)) (given : List ℕ)
-    → (length given < 2 ^ 43 → Passes rules reading progress start out noted notes given)
-    → length (given ++ octets) < 2 ^ 43
+    → (length given < most_kept → Passes rules reading progress start out noted notes given)
+    → length (given ++ octets) < most_kept
     → StopsBy stop rules start out_now noted notes_now (given ++ octets)
 
 -- at the end of what was checked the command ends so

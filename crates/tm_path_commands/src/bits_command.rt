@@ -6,6 +6,7 @@ ghost use Rattle.tm_base.specs.Written.{Wrote, WrotePrefix};
 ghost use Rattle.tm_driver.specs.Answered.{Answered};
 ghost use Rattle.tm_driver.specs.Courses.{SinksWent, sink_call, source_call};
 ghost use Rattle.tm_driver.specs.Statuses.{failed_at_end};
+ghost use Rattle.tm_driver.specs.Driven.{turn_size};
 ghost use Rattle.tm_inner.specs.Inner.{nearest_bit, plain_bits};
 ghost use Rattle.tm_path_commands.specs.Bits.{Adds, CutsWriting, EndsWriting, FailsWriting, Gathers, GathersLast, HandsWindows, IsEmptied, WrotePart, WritesMore, WroteWaiting, bits_meaning, line_of};
 
@@ -14,15 +15,12 @@ use std::alloc::Global;
 use std::marker::Model;
 use tm_base::{Failed, NoMemory, Sink, Source, put_all};
 use tm_config::Config;
-use tm_driver::{Ending, Feed, Outcome, Stop, drive, phase_line};
+use tm_driver::{Ending, Feed, Outcome, Stop, TURN, drive, phase_line};
 use tm_inner::{InnerEnd, InnerReceiver};
 use tm_viterbi::{Block, BlockTaker};
 use tm_windows::{
     Chosen, closed_prefix_law, due_windows_law, one_windows_law, phase_law, whole_window_law,
 };
-
-// How many octets a turn reads at most.
-const PIECE: usize = 4096;
 
 // Bits that wait to be written, packed to octets, and the symbol phase before them. It counts windows.
 #[derive(Drop)]
@@ -206,7 +204,7 @@ fn decode(receiver: &mut InnerReceiver, packer: &mut Packer, piece: &[u8])
 // Gives a receiver the next octets, and packs the bits that come of them.
 fn gather(receiver: &mut InnerReceiver, packer: &mut Packer, piece: &[u8])
     requires ready { receiver.old.has_stopped ≡ false }
-    requires few { length piece.now ≤ 4096 }
+    requires few { length piece.now ≤ turn_size }
     ensures ready { receiver.new.has_stopped ≡ false }
     ensures gathers { Gathers receiver.old receiver.new packer.old packer.new piece.now }
 {
@@ -219,7 +217,7 @@ fn gather(receiver: &mut InnerReceiver, packer: &mut Packer, piece: &[u8])
 
 // Packs the bits of octets after the first `skip` ones, where there is no inner code.
 fn add_after(receiver: &InnerReceiver, packer: &mut Packer, skip: u64, octets: &[u8])
-    requires { length octets.now ≤ 4096 }
+    requires { length octets.now ≤ turn_size }
     ensures { Adds packer.old (drop skip (plain_bits receiver.now.config octets.now)) packer.new }
 {
     if receiver.is_packed() {
@@ -231,11 +229,11 @@ fn add_after(receiver: &InnerReceiver, packer: &mut Packer, skip: u64, octets: &
 
 // The same of octets that are nearest to one bit each.
 fn add_nearest(receiver: &InnerReceiver, packer: &mut Packer, skip: u64, octets: &[u8])
-    requires { length octets.now ≤ 4096 }
+    requires { length octets.now ≤ turn_size }
     ensures { Adds packer.old (drop skip (map (nearest_bit receiver.now.config) octets.now)) packer.new }
 {
     let from = skip.min(octets.len() as u64) as usize;
-    let mut room = [0; PIECE];
+    let mut room = [0; TURN];
     let bits = &mut room[..octets.len() - from];
     receiver.nearest_bits(&octets[from..], bits);
     packer.add_bits(bits);
@@ -303,7 +301,7 @@ fn write_piece<O: Sink, N: Sink>(
     piece: &[u8],
 ) -> Result<(), Failed>
     requires ready { receiver.old.has_stopped ≡ false }
-    requires few { length piece.now ≤ 4096 }
+    requires few { length piece.now ≤ turn_size }
     ensures ready { OnOk result (receiver.new.has_stopped ≡ false) }
     ensures ok { OnOk result (WritesMore receiver.old packer.old (O.taken out.old) (N.taken notes.old) receiver.new
         packer.new (O.taken out.new) (N.taken notes.new) piece.now) }
@@ -348,13 +346,14 @@ struct BitWriting<'a, 'b, 'c, 'd, O, N> {
 }
 
 impl<'a, 'b, 'c, 'd, O: Sink, N: Sink> Feed for BitWriting<'a, 'b, 'c, 'd, O, N> {
-    ghost use Rattle.std.specs.Prelude.{◌≡◌, ◌^◌, ◌<◌, ◌++◌, length, false, refl};
+    ghost use Rattle.std.specs.Prelude.{◌≡◌, ◌<◌, ◌++◌, length, false, refl};
     ghost use Rattle.std.proofs.Common.{◌∙◌, subst, sym, append_assoc};
     ghost use Rattle.std.proofs.lemmas.List.{append-nil};
     ghost use Rattle.tm_driver.specs.Courses.{SinksWent, sink_call};
     ghost use Rattle.tm_driver.specs.declared.ending.Outcome.TheVariants.{Done};
     ghost use Rattle.tm_driver.specs.declared.ending.Stop.TheVariants.{SinkFault};
     ghost use Rattle.tm_driver.proofs.TwoSinks.{fault-after};
+    ghost use Rattle.tm_conv.specs.Columns.{last_certified};
     ghost use Rattle.tm_path_commands.specs.Bits.{CutsWriting, EndsWriting, FailsWriting, Writes, WritesMore, WritesPart};
 
     ghost fed = { λ a b octets. WritesMore a.receiver.now a.packer.now (O.taken a.out.now) (N.taken a.notes.now)
@@ -382,18 +381,20 @@ impl<'a, 'b, 'c, 'd, O: Sink, N: Sink> Feed for BitWriting<'a, 'b, 'c, 'd, O, N>
     ghost same_more = { λ a b c p q. (q.0 ∙ p.0, q.1 ∙ p.1, q.2 ∙ p.2, q.3 ∙ p.3) };
 
     ghost fed_none = { λ a ready c start noted given accepted.
-        subst (λ o. length o < 2 ^ 44 → Writes c a.receiver.now a.packer.now start (O.taken a.out.now) noted
+        subst (λ o. length o < last_certified → Writes c a.receiver.now a.packer.now start (O.taken a.out.now) noted
         (N.taken a.notes.now) o) (sym (append-nil given)) };
 
     ghost fed_more = { λ a b last first second p q c start noted given accepted was.
-        subst (λ o. length o < 2 ^ 44 → Writes c last.receiver.now last.packer.now start (O.taken last.out.now) noted
+        subst (λ o. length o < last_certified
+        → Writes c last.receiver.now last.packer.now start (O.taken last.out.now) noted
         (N.taken last.notes.now) o)
         (append_assoc given first second) (q c start noted (given ++ first) accepted (p c start noted given accepted was)) };
 
     ghost stopped_more = { λ a b last first second stop p q. (
       q.0,
       λ c start noted given accepted was.
-          subst (λ o. length o < 2 ^ 44 → WritesPart c start (O.taken last.out.now) noted (N.taken last.notes.now) o)
+          subst (λ o. length o < last_certified
+          → WritesPart c start (O.taken last.out.now) noted (N.taken last.notes.now) o)
           (append_assoc given first second)
           (q.1 c start noted (given ++ first) accepted (p c start noted given accepted was)),
     ) };
@@ -443,7 +444,7 @@ pub fn bits<S: Source, O: Sink, N: Sink>(
     let Ok(mut receiver) = InnerReceiver::open(alloc, config) else {
         return Err(NoMemory);
     };
-    let room = (config.keep() + config.ahead()) as usize + PIECE;
+    let room = (config.keep() + config.ahead()) as usize + TURN;
     let Ok(mut packer) = Packer::open(alloc, room) else {
         return Err(NoMemory);
     };

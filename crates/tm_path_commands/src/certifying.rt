@@ -1,10 +1,11 @@
 // The command `certify`: the certificate of the windows of the soft decoder.
-ghost use Rattle.std.specs.Prelude.{◌≡◌, ℕ, ◌+◌, ◌^◌, ◌<◌, ◌≤◌, List, [], ◌++◌, length, Option, false, true, OnOk, OnErr, IfOk};
+ghost use Rattle.std.specs.Prelude.{◌≡◌, ℕ, ◌+◌, ◌<◌, ◌≤◌, List, [], ◌++◌, length, Option, false, true, OnOk, OnErr, IfOk};
 ghost use Rattle.tm_base.specs.Outside.{HasCause};
 ghost use Rattle.tm_config.specs.Accepted.{IsAccepted};
 ghost use Rattle.tm_config.specs.Configuration.{Configuration};
 ghost use Rattle.tm_driver.specs.Answered.{AnsweredAlone};
 ghost use Rattle.tm_driver.specs.Courses.{sink_call, source_call};
+ghost use Rattle.tm_conv.specs.Columns.{last_certified};
 ghost use Rattle.tm_inner.specs.Receiving.{InnerReceiving, StandsFor};
 ghost use Rattle.tm_path_commands.specs.Certify.{certify_meaning};
 ghost use Rattle.tm_path_commands.specs.Certifying.{Certifies, CertifyFails, CutsCertificate, EndsCertificate, GavePiece};
@@ -57,11 +58,11 @@ fn certify_piece<O: Sink>(
     requires few { length piece.now ≤ 256 }
     ensures ready { OnOk result (receiver.new.has_stopped ≡ false) }
     ensures ok { OnOk result ((c : Configuration) (start : Option (List ℕ)) (given : List ℕ) → IsAccepted c
-        → length given + length piece.now < 2 ^ 44
+        → length given + length piece.now < last_certified
         → Certifies c receiver.old certifying.old start (O.taken out.old) given
         → Certifies c receiver.new certifying.new start (O.taken out.new) (given ++ piece.now)) }
     ensures err { OnErr result ((c : Configuration) (start : Option (List ℕ)) (given : List ℕ) → IsAccepted c
-        → length given + length piece.now < 2 ^ 44
+        → length given + length piece.now < last_certified
         → Certifies c receiver.old certifying.old start (O.taken out.old) given
         → CertifyFails c start (O.taken out.new) (given ++ piece.now)) }
     ensures cause { HasCause (O.faults out.old) (O.faults out.new) (O.is_last out.new) result }
@@ -87,11 +88,11 @@ fn certify_pieces<O: Sink>(
     requires { receiver.old.has_stopped ≡ false }
     ensures ready { OnOk result (receiver.new.has_stopped ≡ false) }
     ensures ok { OnOk result ((c : Configuration) (start : Option (List ℕ)) (given : List ℕ) → IsAccepted c
-        → length given + length octets.now < 2 ^ 44
+        → length given + length octets.now < last_certified
         → Certifies c receiver.old certifying.old start (O.taken out.old) given
         → Certifies c receiver.new certifying.new start (O.taken out.new) (given ++ octets.now)) }
     ensures err { OnErr result ((c : Configuration) (start : Option (List ℕ)) (given : List ℕ) → IsAccepted c
-        → length given + length octets.now < 2 ^ 44
+        → length given + length octets.now < last_certified
         → Certifies c receiver.old certifying.old start (O.taken out.old) given
         → CertifyFails c start (O.taken out.new) (given ++ octets.now)) }
     ensures cause { HasCause (O.faults out.old) (O.faults out.new) (O.is_last out.new) result }
@@ -137,13 +138,14 @@ struct Certificate<'a, 'b, 'c, O> {
 }
 
 impl<'a, 'b, 'c, O: Sink> Feed for Certificate<'a, 'b, 'c, O> {
-    ghost use Rattle.std.specs.Prelude.{◌≡◌, ℕ, ◌^◌, ◌<◌, List, ◌++◌, length, Option, false, refl};
+    ghost use Rattle.std.specs.Prelude.{◌≡◌, ℕ, ◌<◌, List, ◌++◌, length, Option, false, refl};
     ghost use Rattle.std.proofs.Common.{◌∙◌, subst, sym, append_assoc};
     ghost use Rattle.std.proofs.lemmas.List.{append-nil};
     ghost use Rattle.tm_driver.specs.Courses.{SinkWent, sink_call};
     ghost use Rattle.tm_driver.specs.declared.ending.Outcome.TheVariants.{Done};
     ghost use Rattle.tm_driver.specs.declared.ending.Stop.TheVariants.{SinkFault};
     ghost use Rattle.tm_driver.proofs.TwoSinks.{sink-after};
+    ghost use Rattle.tm_conv.specs.Columns.{last_certified};
     ghost use Rattle.tm_path_commands.specs.Certifying.{Certifies, CertifiesMore, CertifyFails, CutsCertificate, EndsCertificate, FailsCertifying};
 
     ghost fed = { λ a b octets. CertifiesMore a.receiver.now a.certifying.now (O.taken a.out.now)
@@ -170,18 +172,18 @@ impl<'a, 'b, 'c, O: Sink> Feed for Certificate<'a, 'b, 'c, O> {
     ghost same_more = { λ a b c p q. (q.0 ∙ p.0, q.1 ∙ p.1, q.2 ∙ p.2) };
 
     ghost fed_none = { λ a ready. λ c start given accepted.
-        subst (λ o. length o < 2 ^ 44 → Certifies c a.receiver.now a.certifying.now start (O.taken a.out.now) o)
+        subst (λ o. length o < last_certified → Certifies c a.receiver.now a.certifying.now start (O.taken a.out.now) o)
         (sym (append-nil given)) };
 
     ghost fed_more = { λ a b last first second p q. λ c start given accepted was.
-        subst (λ o. length o < 2 ^ 44 → Certifies c last.receiver.now last.certifying.now start
+        subst (λ o. length o < last_certified → Certifies c last.receiver.now last.certifying.now start
         (O.taken last.out.now) o)
         (append_assoc given first second) (q c start (given ++ first) accepted (p c start given accepted was)) };
 
     ghost stopped_more = { λ a b last first second stop p q. (
       q.0,
       λ c start given accepted was.
-          subst (λ o. length o < 2 ^ 44 → CertifyFails c start (O.taken last.out.now) o)
+          subst (λ o. length o < last_certified → CertifyFails c start (O.taken last.out.now) o)
           (append_assoc given first second) (q.1 c start (given ++ first) accepted (p c start given accepted was)),
     ) };
 

@@ -1,12 +1,13 @@
 // The command `check`: a certificate is read, and each of its windows is checked.
-ghost use Rattle.std.specs.Prelude.{◌≡◌, ◌≢◌, ℕ, ◌+◌, ◌^◌, ◌<◌, ◌≤◌, List, ◌++◌, length, take, true, Option, None, OnOk, OnErr, IfOk, IfErr};
+ghost use Rattle.std.specs.Prelude.{◌≡◌, ◌≢◌, ℕ, ◌+◌, ◌<◌, ◌≤◌, List, ◌++◌, length, take, true, Option, None, OnOk, OnErr, IfOk, IfErr};
 ghost use Rattle.tm_base.specs.Outside.{HasCause};
 ghost use Rattle.tm_driver.specs.Answered.{Answered};
 ghost use Rattle.tm_driver.specs.Courses.{SinkWent, SinksWent, sink_call, source_call};
 ghost use Rattle.tm_driver.specs.Statuses.{ending_at_end, ending_of_stop, failed_at_end, failed_in_piece, is_sink_fault};
+ghost use Rattle.tm_driver.specs.Driven.{turn_size};
 ghost use Rattle.tm_driver.specs.declared.ending.Ending.TheVariants.{SinkFault};
 ghost use Rattle.tm_driver.specs.declared.ending.Outcome.TheVariants.{Bad};
-ghost use Rattle.tm_cert_file.specs.Before.{Rules};
+ghost use Rattle.tm_cert_file.specs.Before.{Rules, most_kept};
 ghost use Rattle.tm_cert_file.specs.Passes.{starts_by};
 ghost use Rattle.tm_cert_file.specs.Reading.{HasPassed, IsOpen};
 ghost use Rattle.tm_path_commands.specs.Check.{check_meaning};
@@ -66,10 +67,12 @@ fn end_window<O: Sink, N: Sink>(
 ) -> Result<(), Failed>
     requires { HasPassed reader.old }
     ensures open { OnOk result (IsOpen reader.new) }
-    ensures ok { OnOk result ((rules : Rules) (start noted : Option (List ℕ)) (given : List ℕ) → length given < 2 ^ 43
+    ensures ok { OnOk result ((rules : Rules) (start noted : Option (List ℕ)) (given : List ℕ)
+        → length given < most_kept
         → Passes rules reader.old progress.old start (O.taken out.old) noted (N.taken notes.old) given
         → Passes rules reader.new progress.new start (O.taken out.new) noted (N.taken notes.new) given) }
-    ensures err { OnErr result ((rules : Rules) (start noted : Option (List ℕ)) (given : List ℕ) → length given < 2 ^ 43
+    ensures err { OnErr result ((rules : Rules) (start noted : Option (List ℕ)) (given : List ℕ)
+        → length given < most_kept
         → Passes rules reader.old progress.old start (O.taken out.old) noted (N.taken notes.old) given
         → Breaks rules start (O.taken out.new) noted (N.taken notes.new) given) }
     ensures sinks { SinksWent (failed_at_end result) (sink_call O.taken O.faults O.is_last out.old out.new)
@@ -108,16 +111,16 @@ fn check_window<O: Sink, N: Sink>(
 ) -> Result<usize, Stop>
     requires open { IsOpen reader.old }
     requires some { 0 < length piece.now }
-    requires few { length piece.now ≤ 4096 }
+    requires few { length piece.now ≤ turn_size }
     ensures open { OnOk result (IsOpen reader.new) }
     ensures count { IfOk result (λ count. (0 < count) × (count ≤ length piece.now)) }
     ensures ok { IfOk result (λ count. (rules : Rules) (start noted : Option (List ℕ)) (given : List ℕ)
-        → length given + length piece.now < 2 ^ 43
+        → length given + length piece.now < most_kept
         → Passes rules reader.old progress.old start (O.taken out.old) noted (N.taken notes.old) given
         → Passes rules reader.new progress.new start (O.taken out.new) noted (N.taken notes.new)
         (given ++ take count piece.now)) }
     ensures stopped { IfErr result (λ stop. (rules : Rules) (start noted : Option (List ℕ)) (given : List ℕ)
-        → length given + length piece.now < 2 ^ 43
+        → length given + length piece.now < most_kept
         → Passes rules reader.old progress.old start (O.taken out.old) noted (N.taken notes.old) given
         → StopsBy stop rules start (O.taken out.new) noted (N.taken notes.new) (given ++ piece.now)) }
     ensures sinks { SinksWent (failed_in_piece result) (sink_call O.taken O.faults O.is_last out.old out.new)
@@ -145,15 +148,15 @@ fn check_octets<O: Sink, N: Sink>(
     octets: &[u8],
 ) -> Result<(), Stop>
     requires open { IsOpen reader.old }
-    requires few { length octets.now ≤ 4096 }
+    requires few { length octets.now ≤ turn_size }
     ensures open { OnOk result (IsOpen reader.new) }
     ensures ok { OnOk result ((rules : Rules) (start noted : Option (List ℕ)) (given : List ℕ)
-        → length given + length octets.now < 2 ^ 43
+        → length given + length octets.now < most_kept
         → Passes rules reader.old progress.old start (O.taken out.old) noted (N.taken notes.old) given
         → Passes rules reader.new progress.new start (O.taken out.new) noted (N.taken notes.new)
         (given ++ octets.now)) }
     ensures stopped { IfErr result (λ stop. (rules : Rules) (start noted : Option (List ℕ)) (given : List ℕ)
-        → length given + length octets.now < 2 ^ 43
+        → length given + length octets.now < most_kept
         → Passes rules reader.old progress.old start (O.taken out.old) noted (N.taken notes.old) given
         → StopsBy stop rules start (O.taken out.new) noted (N.taken notes.new) (given ++ octets.now)) }
     ensures sinks { SinksWent (failed_in_piece result) (sink_call O.taken O.faults O.is_last out.old out.new)
@@ -202,7 +205,7 @@ struct Checking<'a, 'b, 'c, O, N> {
 }
 
 impl<'a, 'b, 'c, O: Sink, N: Sink> Feed for Checking<'a, 'b, 'c, O, N> {
-    ghost use Rattle.std.specs.Prelude.{◌≡◌, ◌^◌, ◌<◌, ◌++◌, length, refl};
+    ghost use Rattle.std.specs.Prelude.{◌≡◌, ◌<◌, ◌++◌, length, refl};
     ghost use Rattle.std.proofs.Common.{◌∙◌, subst, sym, append_assoc};
     ghost use Rattle.std.proofs.lemmas.List.{append-nil};
     ghost use Rattle.tm_driver.specs.Courses.{SinksWent, sink_call};
@@ -211,6 +214,7 @@ impl<'a, 'b, 'c, O: Sink, N: Sink> Feed for Checking<'a, 'b, 'c, O, N> {
     ghost use Rattle.tm_driver.specs.declared.ending.Outcome.TheVariants.{Bad};
     ghost use Rattle.tm_driver.proofs.TwoSinks.{fault-after};
     ghost use Rattle.tm_cert_file.specs.Reading.{IsOpen};
+    ghost use Rattle.tm_cert_file.specs.Before.{most_kept};
     ghost use Rattle.tm_path_commands.specs.Checking.{EndsBy, Passes, PassesMore, StopsBy, StopsInPiece};
 
     ghost fed = { λ a b octets. IsOpen b.reader.now
@@ -243,20 +247,21 @@ impl<'a, 'b, 'c, O: Sink, N: Sink> Feed for Checking<'a, 'b, 'c, O, N> {
     ghost fed_none = { λ a ready. (
       ready,
       λ rules start noted given.
-          subst (λ o. length o < 2 ^ 43 → Passes rules a.reader.now a.progress start (O.taken a.out.now) noted
+          subst (λ o. length o < most_kept → Passes rules a.reader.now a.progress start (O.taken a.out.now) noted
           (N.taken a.notes.now) o) (sym (append-nil given)),
     ) };
 
     ghost fed_more = { λ a b last first second p q. (
       q.0,
       λ rules start noted given was.
-          subst (λ o. length o < 2 ^ 43 → Passes rules last.reader.now last.progress start (O.taken last.out.now) noted
+          subst (λ o. length o < most_kept
+          → Passes rules last.reader.now last.progress start (O.taken last.out.now) noted
           (N.taken last.notes.now) o)
           (append_assoc given first second) (q.1 rules start noted (given ++ first) (p.1 rules start noted given was)),
     ) };
 
     ghost stopped_more = { λ a b last first second stop p q. λ rules start noted given was.
-        subst (λ o. length o < 2 ^ 43 → StopsBy stop rules start (O.taken last.out.now) noted
+        subst (λ o. length o < most_kept → StopsBy stop rules start (O.taken last.out.now) noted
         (N.taken last.notes.now) o)
         (append_assoc given first second) (q rules start noted (given ++ first) (p.1 rules start noted given was)) };
 
