@@ -1,12 +1,14 @@
 -- What a receiver keeps, and for which octets, given so far, and which items, handed over so far,
 -- it stands.
-use Rattle.std.specs.Prelude.{◌≡◌, false, ◌==◌, ◌+◌, ◌-◌, ◌*◌, ◌^◌, ◌<◌, ◌≤◌, ℕ, Bool, List, ◌++◌, length, take, drop, map, Option, Some, None}
+use Rattle.std.specs.Prelude.{◌≡◌, false, ◌==◌, ◌+◌, ◌-◌, ◌*◌, ◌<◌, ◌≤◌, ℕ, Bool, List, ◌++◌, length, take, drop, map, Option, Some, None}
 use Rattle.tm_base.specs.Handed.{Handed, Item, items_of}
 use Rattle.tm_base.specs.Takers.{HandedOver, HandedPart}
 use Rattle.tm_config.specs.Configuration.{Configuration}
 use Rattle.tm_sync.specs.Searching.{Searching}
+use Rattle.tm_sync.specs.Bits.{bits_bound}
 use Rattle.tm_viterbi.specs.WindowBlock.{WindowBlock}
 use Rattle.tm_viterbi.specs.Clean.{kept_bits}
+use Rattle.tm_viterbi.specs.WindowSizes.{stream_bound}
 use Rattle.tm_windows.specs.Followed.{slips_of}
 use Rattle.tm_conv.specs.declared.rates.Rate.{Rate}
 use Rattle.tm_windows.specs.declared.choosing.Chosen.{Chosen}
@@ -67,7 +69,7 @@ StagesOn s given done blocks = (stands : StagesFor s given done)
 pub record StagesHand {T : Type 0} (took : T → Handed ItemValue → T → Type 0) (before now : Stages) (taker taker_now : T) (octets : List ℕ) : Type 0 where
   pub more : List (Handed ItemValue)
   pub handed : HandedOver took taker more taker_now
-  pub stands : (given : List ℕ) (done : List (Handed ItemValue)) → length given + length octets < 2 ^ 60
+  pub stands : (given : List ℕ) (done : List (Handed ItemValue)) → length given + length octets < stream_bound
       → (stood : StagesFor before given done)
       → StagesOn now (given ++ octets) (done ++ more) stood.handed
 
@@ -103,11 +105,13 @@ abbrev pub FeedHands : {T : Type 0} → (T → Handed ItemValue → T → Type 0
     → OctetReceiving → T → T → List ℕ → Type 0
 FeedHands took before now taker taker_now octets = (more : List (Handed ItemValue))
     × HandedOver took taker more taker_now
-    × ((given : List ℕ) (done : List (Handed ItemValue)) → length given + length octets < 2 ^ 60
+    × ((given : List ℕ) (done : List (Handed ItemValue))
+    → length given + length octets < stream_bound
     → StandsFor before given done
     → StandsFor now (given ++ octets) (done ++ more)
     × AreReceivedDue before.config (given ++ octets) (done ++ more))
-    × ((given : List ℕ) (done : List (Handed ItemValue)) → length given + length octets < 2 ^ 60
+    × ((given : List ℕ) (done : List (Handed ItemValue))
+    → length given + length octets < stream_bound
     → StandsFor before given done → AreFew before.config (length octets) (items_of more))
 
 -- the taker failed at something of what is due with these octets
@@ -115,14 +119,15 @@ abbrev pub FeedBreaks : {T : Type 0} → (T → Handed ItemValue → T → Type 
     → (T → Handed ItemValue → T → Type 0) → OctetReceiving → T → T → List ℕ → Type 0
 FeedBreaks took broke before taker taker_now octets = (tried : List (Handed ItemValue))
     × HandedPart took broke taker tried taker_now
-    × ((given : List ℕ) (done : List (Handed ItemValue)) → length given + length octets < 2 ^ 60
+    × ((given : List ℕ) (done : List (Handed ItemValue))
+    → length given + length octets < stream_bound
     → StandsFor before given done
     → AreReceivedFirst before.config (given ++ octets) (done ++ tried))
 
 -- the phase that is kept now is the one that is chosen of these octets, if one is
 abbrev pub FeedChooses : OctetReceiving → OctetReceiving → List ℕ → Type 0
 FeedChooses before now octets = (given : List ℕ) (done : List (Handed ItemValue))
-    → length given + length octets < 2 ^ 60
+    → length given + length octets < stream_bound
     → StandsFor before given done → before.has_stopped ≡ false
     → IsChosenSoFar before.config (given ++ octets) now.stages.inner.phased.chosen
 
@@ -155,14 +160,14 @@ FinishChooses before now = (given : List ℕ) (done : List (Handed ItemValue))
 -- Whatever bits it stood for, and whichever were given then, of which the search was told nothing:
 -- it stands for all now, and these are the items that are due with the last ones.
 abbrev pub Settles : BitReceiving → BitReceiving → List ItemValue → Type 0
-Settles before now items = (bits more : List Bool) → length (bits ++ more) < 2 ^ 63
+Settles before now items = (bits more : List Bool) → length (bits ++ more) < bits_bound
     → HoldsMore before.search before.room before.batch (due_count before.batch.config bits) bits
     more
     → StandsForBits now (bits ++ more) × AreFurther before.batch.config bits more items
 
 -- these are first ones of the items that are due with the last ones
 abbrev pub SettlesPart : BitReceiving → List ItemValue → Type 0
-SettlesPart before tried = (bits more : List Bool) → length (bits ++ more) < 2 ^ 63
+SettlesPart before tried = (bits more : List Bool) → length (bits ++ more) < bits_bound
     → HoldsMore before.search before.room before.batch (due_count before.batch.config bits) bits
     more
     → AreFirstFurther before.batch.config bits more tried
@@ -257,7 +262,8 @@ HasRoom c waiting count room =
 -- the blocks that wait now keep at most so many bits
 abbrev pub Gathers : InnerReceiving → InnerReceiving → List ℕ → ℕ → Type 0
 Gathers inner inner_now octets most =
-    (given : List ℕ) (done : List (Handed WindowBlock)) → length given + length octets < 2 ^ 60
+    (given : List ℕ) (done : List (Handed WindowBlock))
+    → length given + length octets < stream_bound
     → InnerStandsFor inner given done
     → InnerStandsFor inner_now (given ++ octets) done
     × ((waiting : List WindowBlock) × (length (kept_bits waiting) ≤ most)
@@ -275,7 +281,8 @@ abbrev pub Grows : InnerReceiving → InnerReceiving → ℕ → List ℕ → Op
     → Type 0
 Grows inner inner_now room octets phase piece =
     (given : List ℕ) (done : List (Handed WindowBlock)) (waiting : List WindowBlock)
-    → length given + length octets < 2 ^ 60 → HasRoom inner.config waiting (length octets) room
+    → length given + length octets < stream_bound
+    → HasRoom inner.config waiting (length octets) room
     → InnerStandsFor inner given done → AreWaiting inner.config given done waiting
     → Further inner inner_now given octets done phase piece
 

@@ -1,10 +1,11 @@
 -- What a receiver keeps of the bits that it was given, and which items it has handed over of them.
-use Rattle.std.specs.Prelude.{◌≡◌, ℕ, ◌+◌, ◌-◌, ◌*◌, ◌<◌, ◌≤◌, ◌^◌, Bool, false, List, [], ◌∷◌, ◌++◌, length, take, drop, map, get_or, unwrap_or, nat_lt, if◌then◌else◌, ◌⊎◌}
+use Rattle.std.specs.Prelude.{◌≡◌, ℕ, ◌+◌, ◌-◌, ◌*◌, ◌<◌, ◌≤◌, Bool, false, List, [], ◌∷◌, ◌++◌, length, take, drop, map, get_or, unwrap_or, nat_lt, if◌then◌else◌, ◌⊎◌}
 use Rattle.tm_base.specs.Bits.{bits_of}
 use Rattle.tm_config.specs.Configuration.{Configuration, codeblock_length}
 use Rattle.tm_sync.specs.declared.found.Found.{Found}
 use Rattle.tm_sync.specs.Places.{places, verify_bits}
 use Rattle.tm_sync.specs.Searching.{Searching, StandsFor, inside_of, is_pending}
+use Rattle.tm_sync.specs.Bits.{bits_bound}
 use Rattle.tm_codeblock.specs.ReceivedCodeblock.{rules_of, codeblock_in}
 use Rattle.tm_channel.specs.Items.{ItemValue, IsItem, AreItemsOf, AreFirstItemsOf}
 use Rattle.tm_channel.specs.Due.{due_count, due}
@@ -28,12 +29,13 @@ AreFirstFurther c bits piece items = AreFirstItemsOf c (bits ++ piece)
 -- whatever bits the receiver stood for, these are the items that are due with the piece and were
 -- not due before
 abbrev pub AreDue : Configuration → (List Bool → Type 0) → List Bool → List ItemValue → Type 0
-AreDue c Stood piece items = (bits : List Bool) → length (bits ++ piece) < 2 ^ 63 → Stood bits
+AreDue c Stood piece items = (bits : List Bool) → length (bits ++ piece) < bits_bound → Stood bits
     → AreFurther c bits piece items
 
 -- the same of the first ones
 abbrev pub AreFirstDue : Configuration → (List Bool → Type 0) → List Bool → List ItemValue → Type 0
-AreFirstDue c Stood piece items = (bits : List Bool) → length (bits ++ piece) < 2 ^ 63 → Stood bits
+AreFirstDue c Stood piece items = (bits : List Bool) → length (bits ++ piece) < bits_bound
+    → Stood bits
     → AreFirstFurther c bits piece items
 
 -- whatever bits the receiver stood for, these are the items that were not due before the end of the
@@ -49,7 +51,7 @@ AreFirstLast c Stood items = (bits : List Bool) → Stood bits
 
 -- whatever bits the receiver stood for, it stands for these and the piece
 abbrev pub GoesOn : (List Bool → Type 0) → (List Bool → Type 0) → List Bool → Type 0
-GoesOn Stood Stands piece = (bits : List Bool) → length (bits ++ piece) < 2 ^ 63 → Stood bits
+GoesOn Stood Stands piece = (bits : List Bool) → length (bits ++ piece) < bits_bound → Stood bits
     → Stands (bits ++ piece)
 
 -- ---- what is kept
@@ -161,3 +163,7 @@ waiting_bits c count = if nat_lt 1 c.workers then count * (32 + (rules_of c).blo
 -- the bits of octets after the first `from` ones, up to bit `to`
 abbrev pub bits_between : ℕ → ℕ → List ℕ → List Bool
 bits_between from to octets = take (to - from) (drop from (bits_of octets))
+
+-- the most octets that go through both stages at a time
+abbrev pub piece_size : ℕ
+piece_size = 4096

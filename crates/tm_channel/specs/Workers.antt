@@ -1,6 +1,7 @@
 -- What a function does that decodes the words of a batch.
 use Rattle.std.specs.Prelude.{ℕ, ◌<◌, ◌≤◌, ◌^◌, List, length}
 use Rattle.std.specs.Global.{Global}
+use Rattle.tm_base.specs.Limits.{most_workers}
 use denote.Param.Members.{Shared}
 use denote.Ref.{Bor, MutBor}
 use Rattle.tm_rs_code.specs.Code.{Code}
@@ -15,7 +16,7 @@ abbrev pub DecodesWords : {F : Type 0}
     × (MutBor (List Word) × Unit {0})) → F → Type 0
 DecodesWords g f = (alloc : Global) (params : Bor Code) (repair : ℕ) (words : MutBor (List Word))
     (workers : ℕ)
-    → repair ≤ params.now.e → length words.now < 2 ^ 32 → (0 < workers) × (workers ≤ 64)
+    → repair ≤ params.now.e → length words.now < 2 ^ 32 → (0 < workers) × (workers ≤ most_workers)
     → g.pre f (alloc, (params, (repair, (words, (workers, tt)))))
     × ((left : MutBor (List Word))
     → g.post f (alloc, (params, (repair, (words, (workers, tt))))) (tt, (left, tt))

@@ -6,6 +6,7 @@ ghost use Rattle.tm_base.specs.Takers.{HandedOver, HandedPart};
 ghost use Rattle.tm_sync.specs.declared.found.Found.{Found};
 ghost use Rattle.tm_sync.specs.Places.{places};
 ghost use Rattle.tm_sync.specs.Searching.{inside_of, waiting_of};
+ghost use Rattle.tm_sync.specs.Bits.{bits_bound};
 ghost use Rattle.tm_config.specs.Configuration.{codeblock_length};
 ghost use Rattle.tm_codeblock.specs.ReceivedCodeblock.{rules_of};
 ghost use Rattle.tm_codeblock.specs.RoomBits.{room_bits};
@@ -62,7 +63,7 @@ impl BitReceiver {
     ) -> Result<(), Failed>
         requires workers { P.is_ready by.now }
         requires from { from ≤ 8 * length octets.now }
-        requires most { 8 * length octets.now < 2 ^ 63 }
+        requires most { 8 * length octets.now < bits_bound }
         requires ready { IsReady self.old.search self.old.room.items self.old.batch }
         ensures ready { IsReady self.new.search self.new.room.items self.new.batch }
         ensures config { self.new.batch.config ≡ self.old.batch.config }
@@ -131,7 +132,7 @@ impl BitReceiver {
     // bits.
     fn push(&mut self, octets: &[u8], at: usize) -> usize
         requires at { at < 8 * length octets.now }
-        requires most { 8 * length octets.now < 2 ^ 63 }
+        requires most { 8 * length octets.now < bits_bound }
         requires ready { IsReady self.old.search self.old.room.items self.old.batch }
         ensures some { 0 < result }
         ensures within { at + result ≤ 8 * length octets.now }
@@ -139,7 +140,7 @@ impl BitReceiver {
         ensures config { self.new.batch.config ≡ self.old.batch.config }
         ensures kept { self.new.batch.kept ≡ self.old.batch.kept }
         ensures holds { (handed : ℕ) (bits : List Bool)
-            → length (bits ++ bits_between at (at + result) octets.now) < 2 ^ 63
+            → length (bits ++ bits_between at (at + result) octets.now) < bits_bound
             → Holds self.old.search self.old.room.items self.old.batch handed bits
             → HoldsMore self.new.search self.new.room.items self.new.batch handed bits
             (bits_between at (at + result) octets.now) }
@@ -166,7 +167,7 @@ impl BitReceiver {
         ensures agree { Agree self.new.search self.new.room.items self.new.batch }
         ensures config { self.new.batch.config ≡ self.old.batch.config }
         ensures kept { self.new.batch.kept ≡ self.old.batch.kept }
-        ensures holds { (handed : ℕ) (bits : List Bool) → length (bits ++ bit ∷ []) < 2 ^ 63
+        ensures holds { (handed : ℕ) (bits : List Bool) → length (bits ++ bit ∷ []) < bits_bound
             → Holds self.old.search self.old.room.items self.old.batch handed bits
             → HoldsMore self.new.search self.new.room.items self.new.batch handed bits (bit ∷ []) }
     {
@@ -186,7 +187,7 @@ impl BitReceiver {
         ensures agree { Agree self.new.search self.new.room.items self.new.batch }
         ensures config { self.new.batch.config ≡ self.old.batch.config }
         ensures kept { self.new.batch.kept ≡ self.old.batch.kept }
-        ensures holds { (handed : ℕ) (bits : List Bool) → length (bits ++ bits_of octets.now) < 2 ^ 63
+        ensures holds { (handed : ℕ) (bits : List Bool) → length (bits ++ bits_of octets.now) < bits_bound
             → Holds self.old.search self.old.room.items self.old.batch handed bits
             → HoldsMore self.new.search self.new.room.items self.new.batch handed bits (bits_of octets.now) }
     {
@@ -204,7 +205,7 @@ impl BitReceiver {
         ensures agree { Agree self.new.search self.new.room.items self.new.batch }
         ensures config { self.new.batch.config ≡ self.old.batch.config }
         ensures kept { self.new.batch.kept ≡ self.old.batch.kept }
-        ensures holds { (handed : ℕ) (bits : List Bool) → length (bits ++ bits_of_octet octet) < 2 ^ 63
+        ensures holds { (handed : ℕ) (bits : List Bool) → length (bits ++ bits_of_octet octet) < bits_bound
             → Holds self.old.search self.old.room.items self.old.batch handed bits
             → HoldsMore self.new.search self.new.room.items self.new.batch handed bits (bits_of_octet octet) }
     {
@@ -228,7 +229,7 @@ impl BitReceiver {
             → HoldsTold self.new.search self.new.room.items self.new.batch handed bits told
             × (places (rules_of self.old.batch.config) bits ≡ told) }
         ensures kept { IsTrue result → (f : Found) × ((handed : ℕ) (bits : List Bool) (told : List Found)
-            → length bits < 2 ^ 63 → HoldsTold self.old.search self.old.room.items self.old.batch handed bits told
+            → length bits < bits_bound → HoldsTold self.old.search self.old.room.items self.old.batch handed bits told
             → HoldsTold self.new.search self.new.room.items self.new.batch handed bits (told ++ f ∷ [])) }
     {
         match self.search.next(self.room.as_slice()) {

@@ -27,6 +27,7 @@ pub struct Item<'a> {
 
 impl<'a> Model for Item<'a> {
     ghost use Rattle.std.specs.Prelude.{◌≤◌, length};
+    ghost use Rattle.tm_config.specs.Bounds.{deepest};
     ghost use Rattle.tm_channel.specs.Items.{ItemValue};
 
     ghost Value = { ItemValue };
@@ -37,7 +38,7 @@ impl<'a> Model for Item<'a> {
       frame = i.frame.now;
     } };
 
-    ghost invariant = { λ i. length i.answers.now ≤ 8 };
+    ghost invariant = { λ i. length i.answers.now ≤ deepest };
 }
 
 /// What takes the symbol phase, where it is to be found, and then items, one after another. It counts its faults, and

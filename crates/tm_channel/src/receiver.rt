@@ -1,9 +1,10 @@
 // The receiver: octets in, items out.
-ghost use Rattle.std.specs.Prelude.{◌≡◌, ◌≢◌, ◌↔◌, ◌⊎◌, ◌++◌, ℕ, ◌+◌, ◌^◌, ◌<◌, ◌≤◌, true, false, List, [], length, None, IfOk, OnOk, IsErrOf, Err, IsTrue};
+ghost use Rattle.std.specs.Prelude.{◌≡◌, ◌≢◌, ◌↔◌, ◌⊎◌, ◌++◌, ℕ, ◌+◌, ◌<◌, ◌≤◌, true, false, List, [], length, None, IfOk, OnOk, IsErrOf, Err, IsTrue};
 ghost use Rattle.std.specs.Thread.{IsSync};
 ghost use Rattle.tm_base.specs.Handed.{Handed, on_handed};
 ghost use Rattle.tm_base.specs.Outside.{Rose};
 ghost use Rattle.tm_base.specs.Takers.{HandedOver, HandedPart};
+ghost use Rattle.tm_base.specs.Limits.{most_workers};
 ghost use Rattle.tm_inner.specs.InnerDecoding.{HasWorkers};
 ghost use Rattle.tm_inner.specs.Phase.{IsChosen, IsChosenSoFar};
 ghost use Rattle.tm_sync.specs.Places.{verify_bits};
@@ -11,6 +12,7 @@ ghost use Rattle.tm_sync.specs.Searching.{StandsFor as SearchStandsFor, inside_o
 ghost use Rattle.tm_codeblock.specs.ReceivedCodeblock.{rules_of};
 ghost use Rattle.tm_workers.specs.Batch.{EachBecomes, IsBatch};
 ghost use Rattle.tm_workers.specs.Words.{Decodes};
+ghost use Rattle.tm_viterbi.specs.WindowSizes.{stream_bound};
 ghost use Rattle.tm_channel.specs.Items.{ItemValue};
 ghost use Rattle.tm_channel.specs.Handing.{AreReceived, AreReceivedDue, AreReceivedFirst, AreReceivedPrefix};
 ghost use Rattle.tm_channel.specs.Calls.{Calls, Feeds, Finishes};
@@ -67,7 +69,7 @@ pub struct Receiver {
 impl Model for Receiver {
     ghost use Rattle.std.specs.Prelude.{◌≡◌, ◌≤◌, ◌+◌, ◌*◌, false};
     ghost use Rattle.tm_config.specs.Accepted.{IsAccepted};
-    ghost use Rattle.tm_channel.specs.Receiving.{waiting_bits};
+    ghost use Rattle.tm_channel.specs.Receiving.{waiting_bits, piece_size};
     ghost use Rattle.tm_channel.specs.OctetReceiving.{OctetReceiving};
 
     ghost Value = { OctetReceiving };
@@ -79,7 +81,7 @@ impl Model for Receiver {
     } };
 
     ghost invariant = { λ r. (r.inner.config ≡ r.config) × (r.stream.batch.config ≡ r.config) × (r.has_stopped ≡ false → r.inner.has_stopped ≡ false)
-        × (waiting_bits r.inner.config r.inner.config.batch + 3 * (r.inner.config.keep + r.inner.config.ahead) + 7 + 4096 ≤ r.kept.size) × IsAccepted r.config };
+        × (waiting_bits r.inner.config r.inner.config.batch + 3 * (r.inner.config.keep + r.inner.config.ahead) + 7 + piece_size ≤ r.kept.size) × IsAccepted r.config };
 }
 
 impl Receiver {
@@ -96,7 +98,7 @@ impl Receiver {
 
     /// The same with windows of the inner code for so many workers, 1 to 64, whatever the configuration says.
     pub fn open_for(alloc: Global, config: Config, workers: u8) -> Result<Receiver, NoMemory>
-        requires workers { (0 < workers) × (workers ≤ 64) }
+        requires workers { (0 < workers) × (workers ≤ most_workers) }
         ensures config { IfOk result (λ r. r.config ≡ config) }
         ensures fresh { IfOk result (λ r. r.has_stopped ≡ false) }
         ensures stands { IfOk result (λ r. StandsFor r [] []) }
@@ -319,11 +321,11 @@ pub fn receive_all<R: Threads + Sync, T: ItemTaker>(
 ) -> Result<Totals, AllError>
     ensures handed { IfOk result (λ totals. (all : List (Handed ItemValue))
         × HandedOver (on_handed T.took_phase T.took) taker.old all taker.new
-        × (length octets.now < 2 ^ 60 → AreReceived config octets.now all totals)) }
+        × (length octets.now < stream_bound → AreReceived config octets.now all totals)) }
     ensures prefix { IsErrOf result AllError.Taker
         → (tried : List (Handed ItemValue)) × HandedPart (on_handed T.took_phase T.took)
         (on_handed T.broke_phase T.broke) taker.old tried taker.new
-        × (length octets.now < 2 ^ 60 → AreReceivedFirst config octets.now tried ⊎ AreReceivedPrefix config octets.now tried) }
+        × (length octets.now < stream_bound → AreReceivedFirst config octets.now tried ⊎ AreReceivedPrefix config octets.now tried) }
     ensures unchanged { IsErrOf result AllError.Memory → taker.new ≡ taker.old }
     ensures later { T.faults taker.old ≤ T.faults taker.new }
     ensures rose { IsErrOf result AllError.Taker

@@ -1,6 +1,7 @@
 // The repair of codeblocks, all columns at once.
 ghost use Rattle.std.specs.Prelude.{◌≢◌, ◌≡◌, ◌<◌, ◌≤◌, ◌*◌, length, map, take};
 ghost use Rattle.tm_config.specs.Configuration.{codeblock_length};
+ghost use Rattle.tm_config.specs.Bounds.{most_batch};
 ghost use Rattle.tm_codeblock.specs.ReceivedCodeblock.{column_count};
 ghost use Rattle.tm_channel.specs.Receiving.{AreItemsFor};
 ghost use Rattle.tm_channel.specs.Storing.{AreDecoded, AreRead, item_in, kept_in};
@@ -25,7 +26,7 @@ pub fn repair<P: Workers>(
 )
     requires workers { P.is_ready by.now }
     requires count { count ≤ length slots.old }
-    requires slots { length slots.old ≤ 32 }
+    requires slots { length slots.old ≤ most_batch }
     requires words { length words.old ≡ length slots.old * column_count config.now }
     ensures kept { map (kept_in (codeblock_length config.now)) (take count slots.new)
         ≡ map (kept_in (codeblock_length config.now)) (take count slots.old) }
@@ -44,7 +45,7 @@ pub fn repair<P: Workers>(
 // Decodes the columns of all codeblocks.
 fn decode<P: Workers>(by: &P, alloc: Global, config: &Config, slots: &[Slot], words: &mut [Word])
     requires workers { P.is_ready by.now }
-    requires slots { length slots.now ≤ 32 }
+    requires slots { length slots.now ≤ most_batch }
     requires words { length words.old ≡ length slots.now * column_count config.now }
     ensures decoded { AreDecoded config.now slots.now words.new }
     ensures length { length words.new ≡ length words.old }
@@ -61,7 +62,7 @@ fn decode<P: Workers>(by: &P, alloc: Global, config: &Config, slots: &[Slot], wo
 // Reads the columns of all codeblocks.
 fn read_slots(config: &Config, slots: &[Slot], words: &mut [Word])
     requires coded { config.now.code ≢ OuterCode.Uncoded }
-    requires slots { length slots.now ≤ 32 }
+    requires slots { length slots.now ≤ most_batch }
     requires words { length words.old ≡ length slots.now * config.now.depth }
     ensures read { AreRead config.now slots.now words.new }
     ensures length { length words.new ≡ length words.old }
@@ -80,7 +81,7 @@ fn read_slots(config: &Config, slots: &[Slot], words: &mut [Word])
 
 // Writes the items of all codeblocks, whose columns were decoded.
 fn write_items(config: &Config, words: &[Word], slots: &mut [Slot])
-    requires slots { length slots.old ≤ 32 }
+    requires slots { length slots.old ≤ most_batch }
     requires words { length words.now ≡ length slots.old * column_count config.now }
     requires decoded { AreDecoded config.now slots.old words.now }
     ensures kept { map (kept_in (codeblock_length config.now)) slots.new

@@ -10,32 +10,30 @@ ghost use Rattle.tm_channel.specs.Steps.{SendsFrames, SendsFramesPrefix};
 
 use std::marker::Model;
 use tm_base::{Failed, Sink};
-use tm_codeblock::{cadu, codeblock_size};
-use tm_config::Config;
+use tm_codeblock::{LONGEST_CADU, cadu, codeblock_size};
+use tm_config::{Config, LONGEST_CODEBLOCK};
 use tm_inner::{InnerSender, SendError};
-
-// The octets of the longest channel access data unit: a codeblock of 2,040 octets after its marker.
-const LONGEST_CADU: usize = 2044;
 
 /// Takes the octets of transfer frames in pieces, and writes the symbols of the unit of each frame once the frame is
 /// whole. It keeps a prefix of one frame, and no history.
 #[derive(Drop)]
 pub struct Sender {
     config: Config,
-    frame: [u8; 2040],
+    frame: [u8; LONGEST_CODEBLOCK],
     count: usize,
     inner: InnerSender,
 }
 
 impl Model for Sender {
     ghost use Rattle.std.specs.Prelude.{◌≡◌, ◌<◌, ◌≤◌, take};
+    ghost use Rattle.tm_config.specs.Bounds.{longest_codeblock};
     ghost use Rattle.tm_channel.specs.Sending.{Sending};
 
     ghost Value = { Sending };
 
     ghost view = { λ s. record { config = s.config; held = take s.count s.frame; inner = s.inner } };
 
-    ghost invariant = { λ s. (s.count < s.config.frame_length) × (s.config.frame_length ≤ 2040) × (s.inner.config ≡ s.config) };
+    ghost invariant = { λ s. (s.count < s.config.frame_length) × (s.config.frame_length ≤ longest_codeblock) × (s.inner.config ≡ s.config) };
 }
 
 impl Sender {
@@ -47,7 +45,7 @@ impl Sender {
     {
         Sender {
             config,
-            frame: [0; 2040],
+            frame: [0; LONGEST_CODEBLOCK],
             count: 0,
             inner: InnerSender::new(&config),
         }

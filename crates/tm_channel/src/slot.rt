@@ -2,6 +2,7 @@
 ghost use Rattle.std.specs.Prelude.{◌≡◌, ◌<◌, ◌≤◌, length, take};
 ghost use Rattle.tm_base.specs.Bits.{bits_of};
 ghost use Rattle.tm_config.specs.Configuration.{codeblock_length};
+ghost use Rattle.tm_config.specs.Bounds.{longest_codeblock};
 ghost use Rattle.tm_codeblock.specs.ReceivedCodeblock.{column_count};
 ghost use Rattle.tm_channel.specs.Items.{IsItem};
 ghost use Rattle.tm_channel.specs.Receiving.{kept_of};
@@ -10,7 +11,7 @@ ghost use Rattle.tm_channel.specs.Storing.{IsDecoded, answers_of, item_in, kept_
 use crate::columns::write_frame;
 use crate::item::{Item, are_fixed};
 use tm_codeblock::{column_count, has_code, read_codeblock};
-use tm_config::Config;
+use tm_config::{Config, LONGEST_CODEBLOCK};
 use tm_rs_solve::Answer;
 use tm_sync::Found;
 use tm_workers::Word;
@@ -19,16 +20,16 @@ use tm_workers::Word;
 #[derive(Clone, Copy)]
 pub struct Slot {
     pub found: Found,
-    pub octets: [u8; 2040],
+    pub octets: [u8; LONGEST_CODEBLOCK],
     pub answers: [Answer; 8],
-    pub frame: [u8; 2040],
+    pub frame: [u8; LONGEST_CODEBLOCK],
 }
 
 impl Slot {
     /// Writes the codeblock that was received as these octets at this place.
     pub fn fill(&mut self, config: &Config, found: Found, size: usize, received: &[u8])
         requires size { length received.now ≡ size }
-        requires most { size ≤ 2040 }
+        requires most { size ≤ longest_codeblock }
         ensures { kept_in size self.new ≡ kept_of config.now found (bits_of received.now) }
     {
         self.found = found;

@@ -13,7 +13,7 @@ use crate::workers::Workers;
 use std::alloc::{AllocError, Global};
 use std::marker::Model;
 use tm_codeblock::{Gathering, codeblock_size, column_count};
-use tm_config::Config;
+use tm_config::{Config, LONGEST_CODEBLOCK};
 use tm_gf256::Gf;
 use tm_rs_solve::Answer;
 use tm_sync::{Found, NO_PLACE};
@@ -37,6 +37,7 @@ pub struct Codeblocks {
 impl Model for Codeblocks {
     ghost use Rattle.std.specs.Prelude.{◌≡◌, ◌<◌, ◌≤◌, ◌*◌, take, map, length};
     ghost use Rattle.tm_config.specs.Configuration.{codeblock_length};
+    ghost use Rattle.tm_config.specs.Bounds.{longest_codeblock, most_batch};
     ghost use Rattle.tm_channel.specs.Receiving.{Batching};
     ghost use Rattle.tm_codeblock.specs.ReceivedCodeblock.{column_count};
     ghost use Rattle.tm_channel.specs.Storing.{item_in, kept_in};
@@ -50,9 +51,9 @@ impl Model for Codeblocks {
       items = map (item_in s.config) (take s.count s.slots.items);
     } };
 
-    ghost invariant = { λ s. (s.size ≡ codeblock_length s.config) × (s.size ≤ 2040) × (length s.slots.items ≡ s.config.batch)
+    ghost invariant = { λ s. (s.size ≡ codeblock_length s.config) × (s.size ≤ longest_codeblock) × (length s.slots.items ≡ s.config.batch)
         × (length s.words.items ≡ s.config.batch * column_count s.config) × (s.count ≤ s.config.batch)
-        × (0 < s.config.batch) × (s.config.batch ≤ 32) };
+        × (0 < s.config.batch) × (s.config.batch ≤ most_batch) };
 }
 
 impl Codeblocks {
@@ -67,9 +68,9 @@ impl Codeblocks {
         };
         let slot = Slot {
             found: NO_PLACE,
-            octets: [0; 2040],
+            octets: [0; LONGEST_CODEBLOCK],
             answers: [Answer::Beyond; 8],
-            frame: [0; 2040],
+            frame: [0; LONGEST_CODEBLOCK],
         };
         let room = config.batch() as usize;
         Ok(Codeblocks {

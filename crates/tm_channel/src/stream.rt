@@ -1,9 +1,10 @@
 // Bits in, items out, with no codeblock whole between two calls.
-ghost use Rattle.std.specs.Prelude.{◌≡◌, ◌*◌, ◌<◌, ◌≤◌, ◌^◌, [], drop, length, None, OnOk, OnErr};
+ghost use Rattle.std.specs.Prelude.{◌≡◌, ◌*◌, ◌<◌, ◌≤◌, [], drop, length, None, OnOk, OnErr};
 ghost use Rattle.tm_base.specs.Bits.{bits_of};
 ghost use Rattle.tm_base.specs.Outside.{HasCause};
 ghost use Rattle.tm_sync.specs.Places.{verify_bits};
 ghost use Rattle.tm_sync.specs.Searching.{StandsFor as SearchStandsFor, inside_of};
+ghost use Rattle.tm_sync.specs.Bits.{bits_bound};
 ghost use Rattle.tm_codeblock.specs.ReceivedCodeblock.{rules_of};
 ghost use Rattle.tm_channel.specs.Receiving.{waiting_bits};
 ghost use Rattle.tm_channel.specs.OctetReceiving.{AreSpare, StandsForBits, Received, ReceivedPart, ReceivedLast, ReceivedLastPart};
@@ -70,7 +71,7 @@ impl BitStream {
     ) -> Result<(), Failed>
         requires workers { P.is_ready by.now }
         requires from { from ≤ 8 * length octets.now }
-        requires most { 8 * length octets.now < 2 ^ 63 }
+        requires most { 8 * length octets.now < bits_bound }
         ensures config { self.new.batch.config ≡ self.old.batch.config }
         ensures handed { OnOk result
             (Received T.took self.old self.new taker.old taker.new (drop from (bits_of octets.now))) }

@@ -9,7 +9,7 @@ ghost use Rattle.tm_inner.specs.Phase.{IsChosen, with_phase};
 ghost use Rattle.tm_inner.specs.Receiving.{HandsPrefix, StandsFor as InnerStandsFor};
 ghost use Rattle.tm_viterbi.specs.WindowBlock.{WindowBlock};
 ghost use Rattle.tm_channel.specs.Calls.{TakesBits, TakesOctets};
-ghost use Rattle.tm_channel.specs.Receiving.{waiting_bits};
+ghost use Rattle.tm_channel.specs.Receiving.{waiting_bits, piece_size};
 ghost use Rattle.tm_channel.specs.OctetReceiving.{Ends, FirstWith, Gathers, Grows, Received, ReceivedPart, StagesFor, StagesHand, received_bits};
 
 use crate::item::ItemTaker;
@@ -40,7 +40,7 @@ pub fn take<P: Workers, T: ItemTaker>(
     requires fresh { inner.old.has_stopped ≡ false }
     requires of { stream.old.batch.config ≡ inner.old.config }
     requires room { waiting_bits inner.old.config inner.old.config.batch + 3 * (inner.old.config.keep + inner.old.config.ahead)
-        + 7 + 4096 ≤ kept.old.size }
+        + 7 + piece_size ≤ kept.old.size }
     ensures { TakesOctets (on_handed T.took_phase T.took) (on_handed T.broke_phase T.broke) T.faults T.is_last
         (record { inner = inner.old; bits = stream.old }) (record { inner = inner.new; bits = stream.new })
         kept.old.size kept.new.size taker.old taker.new octets.now result }
@@ -71,7 +71,7 @@ fn take_piece<P: Workers, T: ItemTaker>(
     requires workers { P.is_ready by.now }
     requires fresh { inner.old.has_stopped ≡ false }
     requires of { stream.old.batch.config ≡ inner.old.config }
-    requires most { length octets.now ≤ 4096 }
+    requires most { length octets.now ≤ piece_size }
     requires room { waiting_bits inner.old.config inner.old.config.batch + 3 * (inner.old.config.keep + inner.old.config.ahead)
         + 7 + length octets.now ≤ kept.old.size }
     ensures inner { inner.new.config ≡ inner.old.config }
@@ -160,7 +160,7 @@ fn take_after<P: Workers, T: ItemTaker>(
     taker: &mut T,
 ) -> Result<(), Failed>
     requires workers { P.is_ready by.now }
-    requires most { length octets.now ≤ 4096 }
+    requires most { length octets.now ≤ piece_size }
     ensures stream { stream.new.batch.config ≡ stream.old.batch.config }
     ensures handed { OnOk result (Received T.took stream.old stream.new taker.old taker.new
         (drop skip (plain_bits inner.now.config octets.now))) }
@@ -188,7 +188,7 @@ fn take_nearest<P: Workers, T: ItemTaker>(
     taker: &mut T,
 ) -> Result<(), Failed>
     requires workers { P.is_ready by.now }
-    requires most { length octets.now ≤ 4096 }
+    requires most { length octets.now ≤ piece_size }
     ensures { TakesBits T.took T.broke T.faults T.is_last stream.old stream.new taker.old taker.new
         (drop skip (map (nearest_bit inner.now.config) octets.now)) result }
 {

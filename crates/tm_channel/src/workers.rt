@@ -2,7 +2,9 @@
 ghost use Rattle.std.specs.Prelude.{◌≡◌, ◌<◌, ◌≤◌, ◌+◌, ◌^◌, ◌++◌, ℕ, List, length, take, false};
 ghost use Rattle.tm_base.specs.Handed.{Handed, items_of, on_handed};
 ghost use Rattle.tm_base.specs.Takers.{HandedOver};
+ghost use Rattle.tm_base.specs.Limits.{most_workers};
 ghost use Rattle.tm_viterbi.specs.WindowBlock.{WindowBlock};
+ghost use Rattle.tm_viterbi.specs.WindowSizes.{stream_bound};
 ghost use Rattle.tm_inner.specs.Inner.{inner_bits};
 ghost use Rattle.tm_inner.specs.Phase.{IsChosen};
 ghost use Rattle.tm_inner.specs.Handing.{AreHanded, AreHandedDue};
@@ -37,7 +39,7 @@ pub trait Workers {
         ensures config { inner.new.config ≡ inner.old.config }
         ensures stopped { inner.new.has_stopped ≡ inner.old.has_stopped }
         ensures most { result ≤ length octets.now }
-        ensures gathered { (given : List ℕ) (done : List (Handed WindowBlock)) → length given + result < 2 ^ 60
+        ensures gathered { (given : List ℕ) (done : List (Handed WindowBlock)) → length given + result < stream_bound
             → StandsFor inner.old given done → StandsFor inner.new (given ++ take result octets.now) done };
 
     /// Gives it the next octets, and keeps the phase and the bits of its blocks, where there is room for them.
@@ -48,7 +50,7 @@ pub trait Workers {
         ensures fresh { inner.new.has_stopped ≡ false }
         ensures handed { (more : List (Handed WindowBlock))
             × HandedOver (on_handed KeepsPhase Keeps) kept.old more kept.new
-            × ((given : List ℕ) (done : List (Handed WindowBlock)) → length given + length octets.now < 2 ^ 60
+            × ((given : List ℕ) (done : List (Handed WindowBlock)) → length given + length octets.now < stream_bound
             → StandsFor inner.old given done
             → StandsFor inner.new (given ++ octets.now) (done ++ more)
             × AreHandedDue inner.old.config (given ++ octets.now) (done ++ more)) };
@@ -73,7 +75,7 @@ pub trait Workers {
         requires ready { is_ready self.now }
         requires bound { repair ≤ params.now.e }
         requires count { length words.old < 2 ^ 32 }
-        requires workers { (0 < workers) × (workers ≤ 64) }
+        requires workers { (0 < workers) × (workers ≤ most_workers) }
         ensures { EachBecomes (Decodes params.now repair) words.old words.new };
 }
 
