@@ -6,3 +6,7 @@ pub record HeldSymbols : Type 0 where
   pub octets : List ℕ
   -- there was no room for more
   pub is_full : Bool
+
+-- for how many symbols there is room
+abbrev pub unit_room : ℕ
+unit_room = 32768

@@ -1,5 +1,5 @@
 -- What is received of the octets that were read, and what is handed over of it.
-use Rattle.std.specs.Prelude.{◌≡◌, ◌⊎◌, ℕ, ◌+◌, ◌^◌, ◌<◌, ◌≤◌, Bool, true, false, List, ◌++◌, length, take}
+use Rattle.std.specs.Prelude.{◌≡◌, ◌⊎◌, ℕ, ◌+◌, ◌<◌, ◌≤◌, Bool, true, false, List, ◌++◌, length, take}
 use Rattle.tm_base.specs.Handed.{Handed}
 use Rattle.tm_base.specs.Takers.{HandedOver, HandedPart}
 use Rattle.tm_config.specs.Configuration.{Configuration}
@@ -11,6 +11,7 @@ use Rattle.tm_driver.specs.Courses.{SinkState}
 use Rattle.tm_driver.specs.Texts.{TookText}
 use Rattle.tm_driver.specs.declared.ending.Ending.{Ending}
 use Rattle.tm_driver.specs.declared.ending.Ending.TheVariants.{Done, Bad, BadWindow, LeftOver, SourceFault, SinkFault, PastLimit}
+use Rattle.tm_viterbi.specs.WindowSizes.{stream_bound}
 use Rattle.tm_cli.specs.Taken.{no_counts, ReportedAll, handed_frames}
 use Rattle.tm_cli.specs.declared.counts.Counts.{Counts}
 
@@ -20,7 +21,7 @@ pub record HandedDue (c : Configuration) (receiver : OctetReceiving) (took : Lis
     (Handed ItemValue) → Type 0) (octets : List ℕ) : Type 0 where
   pub handed : List (Handed ItemValue)
   pub config : receiver.config ≡ c
-  pub stands : length octets < 2 ^ 60 → StandsFor receiver octets handed
+  pub stands : length octets < stream_bound → StandsFor receiver octets handed
       × AreReceivedDue c octets handed
   pub holds : took handed
 
@@ -28,7 +29,7 @@ pub record HandedDue (c : Configuration) (receiver : OctetReceiving) (took : Lis
 pub record HandedFirst (c : Configuration) (broke : List (Handed ItemValue)
     → Type 0) (octets : List ℕ) : Type 0 where
   pub handed : List (Handed ItemValue)
-  pub are_first : length octets < 2 ^ 60 → AreReceivedFirst c octets handed
+  pub are_first : length octets < stream_bound → AreReceivedFirst c octets handed
   pub holds : broke handed
 
 -- From a receiver and a taker to later ones exactly these octets were received, and what is due of

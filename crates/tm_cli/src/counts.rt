@@ -1,6 +1,6 @@
 // What a report counts.
 ghost use Rattle.std.specs.Prelude.{◌≡◌, ◌≤◌, length};
-ghost use Rattle.tm_config.specs.Bounds.{longest_codeblock};
+ghost use Rattle.tm_config.specs.Bounds.{longest_codeblock, deepest};
 ghost use Rattle.tm_cli.specs.Report.{fixed_of};
 ghost use Rattle.tm_cli.specs.Taken.{no_counts, number_of, counts_after};
 
@@ -38,7 +38,7 @@ impl Counts {
 
     /// Counts a codeblock whose columns have these answers.
     pub fn add(&mut self, answers: &[Answer])
-        requires { length answers.now ≤ 8 }
+        requires { length answers.now ≤ deepest }
         ensures counted { self.new ≡ counts_after self.old answers.now }
         ensures few { fixed_of answers.now ≤ longest_codeblock }
     {
@@ -51,7 +51,7 @@ impl Counts {
 
 // The sum of the symbols repaired.
 fn fixed_of(answers: &[Answer]) -> u64
-    requires { length answers.now ≤ 8 }
+    requires { length answers.now ≤ deepest }
     ensures sum { result ≡ fixed_of answers.now }
     ensures few { result ≤ longest_codeblock }
 {

@@ -7,9 +7,7 @@ use rand_core::utils::NextWord;
 use rand_pcg::Lcg64Xsh32;
 use tm_base::MARKER;
 use tm_channel::{Config, cadu};
-
-// The most octets of a frame.
-const MOST: usize = 2040;
+use tm_config::LONGEST_CODEBLOCK;
 
 // Writes the low eight bits of a draw to each octet.
 fn draw_octets(draws: &mut Lcg64Xsh32, octets: &mut [u8])
@@ -69,7 +67,7 @@ pub fn generate_unit(draws: &mut Lcg64Xsh32, config: &Config, hits: u64, unit: &
     ensures draws { draws.new ≡ drawn (draw_count config.now hits) draws.old }
     ensures size { length unit.new ≡ length unit.old }
 {
-    let mut room = [0; MOST];
+    let mut room = [0; LONGEST_CODEBLOCK];
     let frame = &mut room[..config.length() as usize];
     draw_octets(draws, frame);
     cadu(config, frame, unit);

@@ -17,6 +17,7 @@ ghost use Rattle.tm_cli.specs.declared.counts.Counts.{Counts};
 ghost use Rattle.tm_driver.specs.Courses.{SinkWent, sink_call};
 ghost use Rattle.tm_driver.specs.Meaning.{Ends, taken_by};
 ghost use Rattle.tm_driver.specs.Statuses.{is_sink_fault};
+ghost use Rattle.tm_codeblock.specs.Cadu.{longest_cadu};
 
 use crate::counts::Counts;
 use crate::generated::generate_unit;
@@ -27,10 +28,8 @@ use std::alloc::Global;
 use std::thread::Threads;
 use tm_base::{Failed, NoMemory, Sink};
 use tm_channel::{Config, InnerSender, Item, ItemTaker, OpenGate, Receiver, Totals, received_law};
+use tm_codeblock::LONGEST_CADU;
 use tm_driver::Ending;
-
-// The most octets of a unit.
-const MOST: usize = 2044;
 
 // Counts the items, and writes none.
 impl ItemTaker for Counts {
@@ -67,7 +66,7 @@ fn pass_unit<R: Threads + Sync>(
     receiver: &mut Receiver,
     counts: &mut Counts,
 )
-    requires unit { length unit.now ≤ 2044 }
+    requires unit { length unit.now ≤ longest_cadu }
     requires fresh { sender.old.has_failed ≡ false }
     requires stands { (given : List ℕ) × SenderStandsFor sender.old given }
     requires ready { receiver.old.has_stopped ≡ false }
@@ -114,7 +113,7 @@ fn pass_frames<R: Threads + Sync>(
     let mut sender = InnerSender::new(config);
     let mut counts = Counts::new();
     let size = (config.depth() * config.word_length()) as usize + 4;
-    let mut room = [0; MOST];
+    let mut room = [0; LONGEST_CADU];
     let unit = &mut room[..size];
     for _frame in 0..frames {
         generate_unit(&mut draws, config, hits, unit);

@@ -1,5 +1,6 @@
 // The symbols of one unit, as a sink takes them.
 ghost use Rattle.std.specs.Prelude.{◌≡◌, ◌≤◌, [], length, false, true};
+ghost use Rattle.tm_cli.specs.HeldSymbols.{unit_room};
 
 use std::marker::Model;
 use tm_base::{Failed, Sink};
@@ -10,20 +11,20 @@ const ROOM: usize = 32768;
 /// The symbols of one unit. It fails only where its room is full.
 #[derive(Drop)]
 pub struct UnitSymbols {
-    room: [u8; 32768],
+    room: [u8; ROOM],
     count: usize,
     is_full: bool,
 }
 
 impl Model for UnitSymbols {
     ghost use Rattle.std.specs.Prelude.{◌≡◌, ◌≤◌, true, take};
-    ghost use Rattle.tm_cli.specs.HeldSymbols.{HeldSymbols};
+    ghost use Rattle.tm_cli.specs.HeldSymbols.{HeldSymbols, unit_room};
 
     ghost Value = { HeldSymbols };
 
     ghost view = { λ s. record { octets = take s.count s.room; is_full = s.is_full } };
 
-    ghost invariant = { λ s. (s.count ≤ 32768) × (s.is_full ≡ true → s.count ≡ 32768) };
+    ghost invariant = { λ s. (s.count ≤ unit_room) × (s.is_full ≡ true → s.count ≡ unit_room) };
 }
 
 impl UnitSymbols {
@@ -41,7 +42,7 @@ impl UnitSymbols {
     /// The symbols.
     pub fn octets(&self) -> &[u8]
         ensures octets { result.now ≡ self.now.octets }
-        ensures full { self.now.is_full ≡ true → length self.now.octets ≡ 32768 }
+        ensures full { self.now.is_full ≡ true → length self.now.octets ≡ unit_room }
     {
         &self.room[..self.count]
     }
