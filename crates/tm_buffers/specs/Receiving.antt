@@ -1,5 +1,5 @@
 -- A receiver whose items go to buffers.
-use Rattle.std.specs.Prelude.{◌≡◌, ℕ, ◌*◌, ◌^◌, ◌≤◌, nat_le, false, if◌then◌else◌, List, ◌++◌, length, Option, Some, None, IsSome}
+use Rattle.std.specs.Prelude.{◌≡◌, ℕ, ◌*◌, ◌≤◌, nat_le, false, if◌then◌else◌, List, ◌++◌, length, Option, Some, None, IsSome}
 use Rattle.tm_base.specs.Handed.{Handed, items_of}
 use Rattle.tm_channel.specs.declared.totals.Totals.{Totals}
 use Rattle.tm_channel.specs.Handing.{AreReceived, AreReceivedDue}
@@ -9,12 +9,13 @@ use Rattle.tm_channel.specs.Most.{most_items}
 use Rattle.tm_channel.specs.OctetReceiving.{OctetReceiving, StandsFor}
 use Rattle.tm_inner.specs.Phase.{IsChosen}
 use Rattle.tm_buffers.specs.Items.{Tells}
+use Rattle.tm_buffers.specs.Buffer.{most_taken}
 use Rattle.tm_buffers.specs.declared.items.Report.{Report}
 
 -- For how many items there has to be room where so many more octets are given, or fewer, and at the
 -- end, whatever was given before. It is said for no more than 2^40 octets at a time.
 abbrev pub items_room : Configuration → ℕ → Option ℕ
-items_room c count = if nat_le count (2 ^ 40) then Some (most_items c count) else None
+items_room c count = if nat_le count most_taken then Some (most_items c count) else None
 
 -- there is room for a report and a frame of each of so many items
 abbrev pub HasRoom : Configuration → Option ℕ → List ℕ → List Report → Type 0

@@ -1,9 +1,10 @@
 -- A sender whose symbols go to a buffer.
-use Rattle.std.specs.Prelude.{◌≡◌, ℕ, ◌+◌, ◌*◌, ◌/◌, ◌^◌, nat_le, false, if◌then◌else◌, List, Option, Some, None}
+use Rattle.std.specs.Prelude.{◌≡◌, ℕ, ◌+◌, ◌*◌, ◌/◌, nat_le, false, if◌then◌else◌, List, Option, Some, None}
 use Rattle.std.specs.Option.{is_some}
 use Rattle.tm_base.specs.Bits.{AreOctets}
 use Rattle.tm_config.specs.Configuration.{Configuration, codeblock_length}
 use Rattle.tm_channel.specs.Sending.{Sending, StandsFor}
+use Rattle.tm_buffers.specs.Buffer.{most_taken}
 
 -- how many symbols an octet comes to at most: two for each of its bits, or with no inner code
 -- itself, or one for each bit where these are not packed
@@ -14,7 +15,7 @@ most_symbols c = if is_some c.inner then 16 else if c.pack then 1 else 8
 -- unit for each frame that may become whole, and one more. No more than 2^40 octets are taken at a
 -- time.
 abbrev pub symbols_room : Configuration → ℕ → Option ℕ
-symbols_room c count = if nat_le count (2 ^ 40) then Some ((count / c.frame_length + 1) * (codeblock_length c + 4) * most_symbols c + 1) else None
+symbols_room c count = if nat_le count most_taken then Some ((count / c.frame_length + 1) * (codeblock_length c + 4) * most_symbols c + 1) else None
 
 -- a sender that was given these octets and no others, and whose symbols all found room
 pub record IsSending (sender : Sending) (given : List ℕ) : Type 0 where

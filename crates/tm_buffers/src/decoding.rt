@@ -7,6 +7,7 @@ ghost use Rattle.tm_inner.specs.Handing.{AreHanded};
 ghost use Rattle.tm_inner.specs.Phase.{IsChosen, IsChosenSoFar};
 ghost use Rattle.tm_viterbi.specs.Clean.{kept_bits};
 ghost use Rattle.tm_viterbi.specs.WindowBlock.{WindowBlock};
+ghost use Rattle.tm_viterbi.specs.WindowSizes.{stream_bound};
 ghost use Rattle.tm_buffers.specs.Buffer.{Fills, has_room};
 ghost use Rattle.tm_buffers.specs.Decoding.{IsDecoding, Decodes, DecodesLast, bits_room};
 
@@ -59,7 +60,7 @@ impl BufferDecoder {
         ensures refused { has_room (bits_room self.old.config (length octets.now)) (length bits.old) ≡ false
             → (result ≡ None) × (self.new ≡ self.old) × (bits.new ≡ bits.old) }
         ensures decoded { (given : List ℕ) (done : List (Handed WindowBlock))
-            → length given + length octets.now < 2 ^ 60 → IsDecoding self.old given done
+            → length given + length octets.now < stream_bound → IsDecoding self.old given done
             → has_room (bits_room self.old.config (length octets.now)) (length bits.old) ≡ true
             → Decodes self.new given octets.now done result bits.new }
     {

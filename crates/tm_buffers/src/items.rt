@@ -1,5 +1,6 @@
 // Items, in arrays.
 ghost use Rattle.std.specs.Prelude.{◌≡◌, ◌≤◌, length, map, take};
+ghost use Rattle.tm_config.specs.Bounds.{deepest};
 ghost use Rattle.tm_channel.specs.Items.{ItemValue};
 ghost use Rattle.tm_buffers.specs.Reports.{IsReport, repaired_of};
 
@@ -117,7 +118,7 @@ fn report_of(item: &Item<'_>) -> Report
 
 // For each answer how many symbols were wrong.
 fn repaired(answers: &[Answer]) -> [u8; 8]
-    requires { length answers.now ≤ 8 }
+    requires { length answers.now ≤ deepest }
     ensures { take (length answers.now) result ≡ map repaired_of answers.now }
 {
     let mut repaired = [0; 8];

@@ -1,6 +1,7 @@
 // Received octets in, frames and reports out into buffers.
 ghost use Rattle.std.specs.Prelude.{◌≡◌, ℕ, ◌+◌, ◌^◌, ◌<◌, ◌≤◌, List, [], length, IfOk, IfSome, None, Some, if◌then◌else◌};
 ghost use Rattle.tm_base.specs.Handed.{Handed};
+ghost use Rattle.tm_viterbi.specs.WindowSizes.{stream_bound};
 ghost use Rattle.tm_config.specs.Accepted.{IsAccepted};
 ghost use Rattle.tm_codeblock.specs.ReceivedCodeblock.{rules_of};
 ghost use Rattle.tm_channel.specs.Items.{ItemValue};
@@ -10,6 +11,7 @@ ghost use Rattle.tm_channel.specs.OctetReceiving.{AreSlipsSoFar};
 ghost use Rattle.tm_inner.specs.InnerDecoding.{HasWorkers};
 ghost use Rattle.tm_inner.specs.Phase.{IsChosenSoFar};
 ghost use Rattle.tm_buffers.specs.Receiving.{IsReceiving, Receives, ReceivesLast, items_room};
+ghost use Rattle.tm_buffers.specs.Buffer.{most_taken};
 
 use crate::items::{BufferItems, Report};
 use crate::room::MOST;
@@ -62,7 +64,8 @@ impl BufferReceiver {
     ) -> Option<usize>
         ensures config { self.new.config ≡ self.old.config }
         ensures within { IfSome result (λ count. count ≤ length reports.old) }
-        ensures received { (given : List ℕ) (done : List (Handed ItemValue)) → length given + length octets.now < 2 ^ 60
+        ensures received { (given : List ℕ) (done : List (Handed ItemValue))
+            → length given + length octets.now < stream_bound
             → IsReceiving self.old given done
             → Receives self.old self.new given octets.now done result frames.new reports.new }
     {
@@ -153,7 +156,7 @@ pub fn items_room(config: &Config, count: usize) -> Option<usize>
 
 // How many bits come of so many octets at most.
 fn most_bits(config: &Config, count: u64) -> u64
-    requires { count ≤ 2 ^ 40 }
+    requires { count ≤ most_taken }
     ensures value { result ≡ most_bits config.now count }
     ensures most { result ≤ 2 ^ 44 }
 {

@@ -1,9 +1,11 @@
 // Bits or octets in, the places of sync markers out, one at a time.
-ghost use Rattle.std.specs.Prelude.{◌≡◌, ◌==◌, ◌<◌, ◌≤◌, ◌+◌, ◌*◌, ◌^◌, ℕ, Bool, List, ◌++◌, length, take, drop, map, not, false, IfNone, IsSome, unwrap_or};
+ghost use Rattle.std.specs.Prelude.{◌≡◌, ◌==◌, ◌<◌, ◌≤◌, ◌+◌, ◌*◌, ℕ, Bool, List, ◌++◌, length, take, drop, map, not, false, IfNone, IsSome, unwrap_or};
 ghost use Rattle.tm_base.specs.Bits.{bits_of};
 ghost use Rattle.tm_sync.specs.declared.found.Found.{Found};
 ghost use Rattle.tm_sync.specs.Searching.{StandsFor, is_pending};
+ghost use Rattle.tm_sync.specs.Bits.{bits_bound};
 ghost use Rattle.tm_buffers.specs.Searching.{Finds, bits_in, span};
+ghost use Rattle.tm_buffers.specs.Buffer.{most_taken};
 
 use tm_sync::{Found, Search};
 
@@ -23,7 +25,7 @@ pub fn find_in_bits(
     ensures within { (from ≤ result.0) × (result.0 ≤ length bits.now) }
     ensures all { IfNone result.1 (result.0 ≡ length bits.now) }
     ensures free { IfNone result.1 (is_pending search.new ≡ false) }
-    ensures finds { (given : List Bool) (found : List Found) → length given + length bits.now ≤ 2 ^ 63
+    ensures finds { (given : List Bool) (found : List Found) → length given + length bits.now ≤ bits_bound
         → StandsFor search.old room.old given found
         → Finds search.new room.new (given ++ span from result.0 (bits_in bits.now)) found result.1 }
 {
@@ -46,13 +48,13 @@ pub fn find_in_octets(
     from: u64,
 ) -> (u64, Option<Found>)
     requires block { search.old.rules.block_bits ≡ block_bits }
-    requires few { length octets.now ≤ 2 ^ 40 }
+    requires few { length octets.now ≤ most_taken }
     requires from { from ≤ 8 * length octets.now }
     ensures rules { search.new.rules ≡ search.old.rules }
     ensures within { (from ≤ result.0) × (result.0 ≤ 8 * length octets.now) }
     ensures all { IfNone result.1 (result.0 ≡ 8 * length octets.now) }
     ensures free { IfNone result.1 (is_pending search.new ≡ false) }
-    ensures finds { (given : List Bool) (found : List Found) → length given + 8 * length octets.now ≤ 2 ^ 63
+    ensures finds { (given : List Bool) (found : List Found) → length given + 8 * length octets.now ≤ bits_bound
         → StandsFor search.old room.old given found
         → Finds search.new room.new (given ++ span from result.0 (bits_of octets.now)) found result.1 }
 {
@@ -70,13 +72,13 @@ pub fn find_in_octets(
 // and else one bit. Answers how many bits.
 fn take_some(search: &mut Search, room: &mut [u8], block_bits: u32, octets: &[u8], from: u64) -> u64
     requires block { search.old.rules.block_bits ≡ block_bits }
-    requires few { length octets.now ≤ 2 ^ 40 }
+    requires few { length octets.now ≤ most_taken }
     requires from { from < 8 * length octets.now }
     requires free { is_pending search.old ≡ false }
     ensures rules { search.new.rules ≡ search.old.rules }
     ensures some { 0 < result }
     ensures within { from + result ≤ 8 * length octets.now }
-    ensures takes { (given : List Bool) (found : List Found) → length given + result ≤ 2 ^ 63
+    ensures takes { (given : List Bool) (found : List Found) → length given + result ≤ bits_bound
         → StandsFor search.old room.old given found
         → StandsFor search.new room.new (given ++ span from (from + result) (bits_of octets.now)) found }
 {
