@@ -1,6 +1,8 @@
 -- A search for markers, as a program in C keeps it.
 use Rattle.std.specs.Int.{from_bool}
-use Rattle.std.specs.Prelude.{◌≡◌, ℕ, ◌+◌, ◌^◌, ◌≤◌, ◌==◌, ◌&&◌, nat_le, ℤ, pos, Bool, true, List, [], ◌++◌, length, Option, Some, None, if◌then◌else◌}
+use Rattle.std.specs.Prelude.{◌≡◌, ℕ, ◌+◌, ◌≤◌, ◌==◌, ◌&&◌, nat_le, ℤ, pos, Bool, true, List, [], ◌++◌, length, Option, Some, None, if◌then◌else◌}
+use Rattle.tm_base.specs.Marker.{most_tolerance}
+use Rattle.tm_config.specs.Bounds.{most_fly, most_verify}
 use Rattle.tm_config.specs.declared.error.ConfigError.TheVariants.{Tolerance, Fly, Polarity, Verify}
 use Rattle.tm_sync.specs.declared.found.Found.{Found}
 use Rattle.tm_sync.specs.declared.found.Before.{Before}
@@ -9,7 +11,9 @@ use Rattle.tm_sync.specs.declared.found.Paused.{Paused}
 use Rattle.tm_sync.specs.Paused.{is_resumable, resumed}
 use Rattle.tm_sync.specs.Places.{Rules, verify_bits}
 use Rattle.tm_sync.specs.Searching.{Searching, StandsFor}
+use Rattle.tm_sync.specs.Bits.{bits_bound}
 use Rattle.tm_buffers.specs.Searching.{Finds, span}
+use Rattle.tm_buffers.specs.Buffer.{most_taken}
 use Rattle.tmchan_c.specs.declared.refusal.Refusal.{Refusal}
 use Rattle.tmchan_c.specs.declared.refusal.Refusal.TheVariants.{Room, Closed, Value}
 use Rattle.tmchan_c.specs.declared.search.SearchState.{SearchState}
@@ -64,10 +68,10 @@ rules_with tolerance fly either block_bits verify = record {
 -- the first reason to refuse them, or none
 abbrev pub rules_refusal : ℕ → ℕ → ℕ → ℕ → Option Refusal
 rules_refusal tolerance fly either verify =
-    if nat_le tolerance 8 then
-    if nat_le fly 15 then
+    if nat_le tolerance most_tolerance then
+    if nat_le fly most_fly then
     if nat_le either 1 then
-    if nat_le verify 7 then None
+    if nat_le verify most_verify then None
     else Some (Value Verify)
     else Some (Value Polarity)
     else Some (Value Fly)
@@ -78,7 +82,8 @@ rules_refusal tolerance fly either verify =
 abbrev pub span_refusal : SearchState → ℕ → ℕ → ℕ → ℕ → Option Refusal
 span_refusal s room at count size =
     if (s.is_open == 1) && is_resumable (paused_of s) then
-    if (room == verify_bits (search_of s).rules) && nat_le count (2 ^ 40) && nat_le at size then None
+    if (room == verify_bits (search_of s).rules)
+        && nat_le count most_taken && nat_le at size then None
     else Some Room
     else Some Closed
 
@@ -119,6 +124,6 @@ pub record FindsInto (was now : SearchState) (room room_now : List ℕ) (at end 
   pub all : found ≡ None → end ≡ size
   pub is_open : now.is_open ≡ 1
   pub valid : is_resumable (paused_of now) ≡ true
-  pub finds : (given : List Bool) (before : List Found) → length given + size ≤ 2 ^ 63
+  pub finds : (given : List Bool) (before : List Found) → length given + size ≤ bits_bound
       → StandsFor (search_of was) room given before
       → Finds (search_of now) room_now (given ++ span at end bits) before found

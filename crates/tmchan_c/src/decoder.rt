@@ -1,10 +1,11 @@
 // The soft decoder: soft octets in, bits out.
-ghost use Rattle.std.specs.Prelude.{◌≡◌, ◌+◌, ◌^◌, ◌<◌, ℕ, List, [], None, length, pos, true};
+ghost use Rattle.std.specs.Prelude.{◌≡◌, ◌+◌, ◌<◌, ℕ, List, [], None, length, pos, true};
 ghost use Rattle.std.specs.Option.{is_some};
 ghost use Rattle.tm_base.specs.Handed.{Handed};
 ghost use Rattle.tm_config.specs.Configuration.{Configuration};
 ghost use Rattle.tm_inner.specs.Phase.{IsChosenSoFar};
 ghost use Rattle.tm_viterbi.specs.WindowBlock.{WindowBlock};
+ghost use Rattle.tm_viterbi.specs.WindowSizes.{stream_bound};
 ghost use Rattle.tm_buffers.specs.Buffer.{has_room};
 ghost use Rattle.tm_buffers.specs.Decoding.{bits_room};
 ghost use Rattle.tmchan_c.specs.Options.{configuration, raw_of};
@@ -61,7 +62,7 @@ pub extern "C" fn tmchan_decoder_push(
     ensures refused { Refuses (decoder_refusal handle.old.kept.value (length octets.now) (length bits.old)) result
         ((handle.new.kept.value ≡ handle.old.kept.value) × (bits.new ≡ bits.old)) }
     ensures pushed { (c : Configuration) (given : List ℕ) (done : List (Handed WindowBlock))
-        → IsDecoder handle.old.kept.value c given done → length given + length octets.now < 2 ^ 60
+        → IsDecoder handle.old.kept.value c given done → length given + length octets.now < stream_bound
         → has_room (bits_room c (length octets.now)) (length bits.old) ≡ true
         → DecodesInto c given octets.now done handle.new.kept.value result bits.new }
 {

@@ -1,7 +1,8 @@
 // The receiver: symbols in; frames and what is said of them out.
-ghost use Rattle.std.specs.Prelude.{◌≡◌, ◌+◌, ◌*◌, ◌^◌, ◌<◌, ◌<ℤ◌, ℕ, List, [], None, length, pos};
+ghost use Rattle.std.specs.Prelude.{◌≡◌, ◌+◌, ◌*◌, ◌<◌, ◌<ℤ◌, ℕ, List, [], None, length, pos};
 ghost use Rattle.std.specs.Option.{is_some};
 ghost use Rattle.tm_base.specs.Handed.{Handed};
+ghost use Rattle.tm_viterbi.specs.WindowSizes.{stream_bound};
 ghost use Rattle.tm_config.specs.Configuration.{Configuration};
 ghost use Rattle.tm_channel.specs.Items.{ItemValue};
 ghost use Rattle.tm_channel.specs.OctetReceiving.{AreSlipsSoFar};
@@ -79,7 +80,7 @@ pub extern "C" fn tmchan_receiver_push(
     ensures refused { Refuses (closed_refusal (receiver_in handle.old.kept.value)) result
         ((handle.new.kept.value ≡ handle.old.kept.value) × (frames.new ≡ frames.old) × (reports.new ≡ reports.old)) }
     ensures pushed { (c : Configuration) (given : List ℕ) (done : List (Handed ItemValue))
-        → IsReceiver handle.old.kept.value c given done → length given + length octets.now < 2 ^ 60
+        → IsReceiver handle.old.kept.value c given done → length given + length octets.now < stream_bound
         → ReceivesInto c given octets.now done handle.new.kept.value result frames.new reports.new }
 {
     let Some(mut stream) = take(alloc, handle) else {

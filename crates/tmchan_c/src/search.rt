@@ -1,7 +1,10 @@
 // The search for sync markers: bits or octets in, places out.
-ghost use Rattle.std.specs.Prelude.{◌≡◌, ◌*◌, ◌^◌, ◌≤◌, None, Some, IfOk, IfErr, OnOk, length, pos};
+ghost use Rattle.std.specs.Prelude.{◌≡◌, ◌*◌, ◌≤◌, None, Some, IfOk, IfErr, OnOk, length, pos};
 ghost use Rattle.tm_base.specs.Bits.{bits_of};
+ghost use Rattle.tm_base.specs.Marker.{most_tolerance};
+ghost use Rattle.tm_config.specs.Bounds.{most_fly, most_verify};
 ghost use Rattle.tm_buffers.specs.Searching.{bits_in};
+ghost use Rattle.tm_buffers.specs.Buffer.{most_taken};
 ghost use Rattle.tmchan_c.specs.Refusal.{Refuses};
 ghost use Rattle.tmchan_c.specs.Searches.{Begins, FindsInto, awaited_of, before_of, found_answer, paused_of, place_after, rules_refusal, rules_with, search_of, span_refusal};
 
@@ -12,6 +15,14 @@ use tm_sync::{Awaited, Before, Found, NO_PLACE, Paused, Search};
 
 // The most octets that are taken at a time.
 const MOST: usize = 1 << 40;
+
+// The bounds of a search's rules: how many bits of a marker may be wrong, how many markers in a row missing, and how
+// many further ones must match, at most.
+const MOST_TOLERANCE: u32 = 8;
+
+const MOST_FLY: u32 = 15;
+
+const MOST_VERIFY: u32 = 7;
 
 /// A search between two calls, as a program in C keeps it, which changes none of it.
 #[repr(C)]
@@ -141,18 +152,19 @@ pub extern "C" fn tmchan_search_octets(
 // The first reason to refuse the rules of a search, or none.
 fn rules_refusal(tolerance: u32, fly: u32, either: u32, verify: u32) -> Option<Refusal>
     ensures value { result ≡ rules_refusal tolerance fly either verify }
-    ensures fit { result ≡ None → (tolerance ≤ 8) × (fly ≤ 15) × (either ≤ 1) × (verify ≤ 7) }
+    ensures fit { result ≡ None → (tolerance ≤ most_tolerance) × (fly ≤ most_fly) × (either ≤ 1)
+        × (verify ≤ most_verify) }
 {
-    if tolerance > 8 {
+    if tolerance > MOST_TOLERANCE {
         return Some(Refusal::Value(ConfigError::Tolerance));
     }
-    if fly > 15 {
+    if fly > MOST_FLY {
         return Some(Refusal::Value(ConfigError::Fly));
     }
     if either > 1 {
         return Some(Refusal::Value(ConfigError::Polarity));
     }
-    if verify > 7 {
+    if verify > MOST_VERIFY {
         return Some(Refusal::Value(ConfigError::Verify));
     }
     None
@@ -169,7 +181,7 @@ fn resumed(
 ) -> Result<Search, Refusal>
     ensures ok { IfOk result (λ resumed. (span_refusal search.now room at count size ≡ None)
         × (resumed ≡ search_of search.now)) }
-    ensures few { OnOk result (count ≤ 2 ^ 40) }
+    ensures few { OnOk result (count ≤ most_taken) }
     ensures at { OnOk result (at ≤ size) }
     ensures err { IfErr result (λ refusal. span_refusal search.now room at count size ≡ Some refusal) }
 {

@@ -1,6 +1,6 @@
 // Channel access data units.
 ghost use Rattle.std.specs.Prelude.{◌≡◌, ◌≢◌, ◌≤◌, Some, length, pos};
-ghost use Rattle.tm_codeblock.specs.Cadu.{cadu as cadu_of};
+ghost use Rattle.tm_codeblock.specs.Cadu.{cadu as cadu_of, longest_cadu};
 ghost use Rattle.tmchan_c.specs.Refusal.{answered, number_answer, values_refusal};
 ghost use Rattle.tmchan_c.specs.Unit.{unit_configuration, unit_raw, unit_refusal, unit_size};
 
@@ -65,7 +65,7 @@ fn raw(code: u32, depth: u32, basis: u32, randomize: u32, frame_length: usize) -
 // The octets of a unit: four of the marker, and those of the codeblock.
 fn size(config: &Config) -> usize
     ensures value { result ≡ unit_size config.now }
-    ensures most { result ≤ 2044 }
+    ensures most { result ≤ longest_cadu }
 {
     (config.depth() * config.word_length()) as usize + 4
 }
