@@ -10,9 +10,13 @@ use Rattle.tm_gf256.specs.Poly.{value_at}
 abbrev pub IsStrength : ℕ → Type 0
 IsStrength e = (e ≡ 16) ⊎ (e ≡ 8)
 
+-- the most symbols of a word
+abbrev pub longest_word : ℕ
+longest_word = 255
+
 -- the lengths of a word with 2e check symbols
 abbrev pub IsLength : ℕ → ℕ → Type 0
-IsLength e n = (2 * e + 1 ≤ n) × (n ≤ 255)
+IsLength e n = (2 * e + 1 ≤ n) × (n ≤ longest_word)
 
 -- what code a word belongs to: how many symbols it corrects, and the length of its words
 pub record Code : Type 0 where

@@ -2,7 +2,7 @@
 use Rattle.std.specs.Prelude.{◌≡◌, ◌<◌, ◌≤◌, ◌*◌, ℕ, zero, suc, List, [], ◌∷◌, ◌==◌, if◌then◌else◌, length, bit_xor}
 use Rattle.tm_gf256.specs.Field.{times}
 use Rattle.tm_gf256.specs.Poly.{value_at}
-use Rattle.tm_rs_code.specs.Code.{AreElements, root, weight}
+use Rattle.tm_rs_code.specs.Code.{AreElements, root, weight, longest_word}
 use Rattle.tm_rs_code.specs.Pattern.{locator_of}
 
 -- the symbol at place p, the coefficient of the power p
@@ -29,7 +29,7 @@ Covers (u ∷ us) (w ∷ ws) = (u ≡ 0 → w ≡ 0) × Covers us ws
 pub record IsLocated (e : ℕ) (s : ℕ → ℕ) (locator u w : List ℕ) : Type 0 where
   pub locator_is : locator ≡ locator_of u
   pub size : length w ≡ length u
-  pub short : length u ≤ 255
+  pub short : length u ≤ longest_word
   pub elements : AreElements w
   pub covered : Covers u w
   pub few : weight u ≤ 2 * e

@@ -5,6 +5,9 @@ ghost use Rattle.tm_rs_code.specs.Code.{Code, IsStrength, IsLength};
 use std::marker::Model;
 use thiserror::Error;
 
+// The most symbols of a word.
+const LONGEST_WORD: u64 = 255;
+
 /// Why there is no such code.
 #[derive(Clone, Copy, Debug, PartialEq, Eq, Error)]
 pub enum BadParams {
@@ -49,7 +52,7 @@ impl Params {
         if e != 16 && e != 8 {
             return Err(BadParams::Correction);
         }
-        if n < 2 * e + 1 || n > 255 {
+        if n < 2 * e + 1 || n > LONGEST_WORD {
             return Err(BadParams::Length);
         }
         Ok(Params {

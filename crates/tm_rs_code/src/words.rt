@@ -1,7 +1,7 @@
 // The values of a word at the roots, and the distance of two words.
 ghost use Rattle.std.specs.Prelude.{◌≡◌, ◌<◌, ◌≤◌, ◌*◌, ◌↔◌, ℕ, length, IsTrue};
 ghost use Rattle.tm_gf256.specs.Poly.{entry, numbers, value_at};
-ghost use Rattle.tm_rs_code.specs.Code.{IsCodeword, distance as distance_of, root};
+ghost use Rattle.tm_rs_code.specs.Code.{IsCodeword, distance as distance_of, root, longest_word};
 ghost use Rattle.tm_rs_code.specs.Erasures.{count_erased as count_of_erased};
 
 use crate::Params;
@@ -70,7 +70,7 @@ pub fn is_codeword(params: &Params, word: &[Gf]) -> bool
 /// The number of places where two words of one length differ.
 pub fn distance(a: &[Gf], b: &[Gf]) -> u32
     requires same { length a.now ≡ length b.now }
-    requires short { length a.now ≤ 255 }
+    requires short { length a.now ≤ longest_word }
     ensures { result ≡ distance_of (numbers a.now) (numbers b.now) }
 {
     let mut count = 0;
@@ -84,7 +84,7 @@ pub fn distance(a: &[Gf], b: &[Gf]) -> u32
 
 /// The number of erased places of a word of at most 255 symbols.
 pub fn count_erased(erased: &[bool]) -> usize
-    requires { length erased.now ≤ 255 }
+    requires { length erased.now ≤ longest_word }
     ensures { result ≡ count_of_erased erased.now }
 {
     let mut count = 0;
