@@ -1,6 +1,6 @@
 -- The state of the recurrence while it takes in one term after another.
 use Rattle.std.specs.Prelude.{◌≡◌, ◌≢◌, ◌<◌, ◌≤◌, ◌+◌, ◌*◌, ◌⊎◌, ℕ, List}
-use Rattle.tm_rs_code.specs.Code.{weight}
+use Rattle.tm_rs_code.specs.Code.{weight, longest_word}
 use Rattle.tm_rs_code.specs.Pattern.{Explains}
 use Rattle.tm_rs_code.specs.Recurrence.{Failed, Generates}
 
@@ -28,12 +28,12 @@ pub record IsState (count : ℕ) (s c b : ℕ → ℕ) (l m d k : ℕ) : Type 0 
   pub scale : d ≢ 0
   pub few : 2 * l ≤ count
   pub known : l ≤ k
-  pub least : (e n : ℕ) → n ≤ 255 → (w : List ℕ) → Explains e count n s w → l ≤ weight w
+  pub least : (e n : ℕ) → n ≤ longest_word → (w : List ℕ) → Explains e count n s w → l ≤ weight w
   pub prior : Fresh b l m k ⊎ Before b l m d k s
 
 -- no word of at most 255 symbols explains the first `count` terms of s
 abbrev pub Unexplained : ℕ → (ℕ → ℕ) → Type 0
-Unexplained count s = (e n : ℕ) → n ≤ 255 → (w : List ℕ) → Explains e count n s w → ⊥
+Unexplained count s = (e n : ℕ) → n ≤ longest_word → (w : List ℕ) → Explains e count n s w → ⊥
 
 -- the recurrence is over: it holds for all terms, and no word that explains them has fewer symbols
 -- that are not 0 than its length
@@ -41,4 +41,4 @@ pub record IsShortest (count : ℕ) (s c : ℕ → ℕ) (l : ℕ) : Type 0 where
   pub generates : Generates c l s count
   pub elements : (i : ℕ) → c i < 256
   pub few : 2 * l ≤ count
-  pub least : (e n : ℕ) → n ≤ 255 → (w : List ℕ) → Explains e count n s w → l ≤ weight w
+  pub least : (e n : ℕ) → n ≤ longest_word → (w : List ℕ) → Explains e count n s w → l ≤ weight w

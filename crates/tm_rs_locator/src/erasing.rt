@@ -5,6 +5,7 @@ ghost use Rattle.tm_rs_code.specs.Erasures.{count_erased as count_of_erased, mar
 ghost use Rattle.tm_rs_code.specs.Pattern.{locator_of};
 ghost use Rattle.tm_rs_code.specs.PlaceValues.{AreValues};
 ghost use Rattle.tm_rs_code.specs.Recurrence.{discrepancy, listing};
+ghost use Rattle.tm_rs_code.specs.Code.{longest_word};
 ghost use Rattle.tm_rs_locator.specs.Counts.{TakesAtLeast, TakesAtMost, most_products};
 ghost use Rattle.tm_rs_locator.specs.Locator.{AvoidsErased, LocatesErased, NoErasedPattern};
 
@@ -19,7 +20,7 @@ use tm_rs_code::{Params, count_erased, values_at_places};
 
 // The locator of the erased places, of which there are `count`.
 fn erasure_locator<L: Ledger>(erased: &[bool], count: usize, steps: &mut Steps<L>) -> [Gf; 33]
-    requires short { length erased.now ≤ 255 }
+    requires short { length erased.now ≤ longest_word }
     requires counted { count ≡ count_of_erased erased.now }
     requires few { count ≤ 32 }
     ensures room { length result ≡ 33 }
@@ -63,7 +64,7 @@ fn modified<L: Ledger>(
 
 // Whether no erased place is a root of the polynomial that has these values.
 fn avoids_erased(values: &[u8; 256], erased: &[bool]) -> bool
-    requires { length erased.now ≤ 255 }
+    requires { length erased.now ≤ longest_word }
     ensures { (poly : List ℕ) → AreValues poly (length erased.now) values.now
         → (IsTrue result ↔ AvoidsErased poly erased.now) }
 {
