@@ -2,7 +2,7 @@
 use Rattle.std.specs.Prelude.{ℕ, ◌≡◌, ◌<◌, ◌≤◌, List, length}
 use Rattle.tm_gf256.specs.declared.element.Gf.{Gf}
 use Rattle.tm_gf256.specs.Poly.{numbers, value_at}
-use Rattle.tm_rs_code.specs.Code.{place_of}
+use Rattle.tm_rs_code.specs.Code.{place_of, longest_word}
 use Rattle.tm_rs_code.specs.ErrorValues.{IsLocated}
 
 -- the locator is that of an error pattern with these syndromes, and has this value at the element
@@ -11,6 +11,6 @@ pub record NamesSymbol (e : ℕ) (locator : List Gf) (syndromes : ℕ → ℕ) (
   pub most : e ≤ 16
   pub some : 1 ≤ length locator
   pub few : length locator ≤ 33
-  pub inside : p < 255
+  pub inside : p < longest_word
   pub value : found ≡ value_at (numbers locator) (place_of p)
   pub located : (u : List ℕ) × (w : List ℕ) × IsLocated e syndromes (numbers locator) u w

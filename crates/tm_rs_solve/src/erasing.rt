@@ -1,7 +1,7 @@
 // The nearest codeword of a word with erased places.
 ghost use Rattle.std.specs.Prelude.{◌≡◌, ◌<◌, ◌≤◌, ◌+◌, ◌*◌, ◌==◌, ◌&&◌, ℕ, suc, not, List, length, if◌then◌else◌, slice_index_or, false};
 ghost use Rattle.tm_gf256.specs.Poly.{entry, numbers, value_at};
-ghost use Rattle.tm_rs_code.specs.Code.{root, weight};
+ghost use Rattle.tm_rs_code.specs.Code.{root, weight, longest_word};
 ghost use Rattle.tm_rs_code.specs.Erasures.{IsNearestErased, count_erased as count_of_erased, inside, marks, places_named};
 ghost use Rattle.tm_rs_code.specs.ErrorValues.{IsLocated, symbol_at};
 ghost use Rattle.tm_rs_code.specs.Pattern.{locator_of};
@@ -45,7 +45,7 @@ fn all_places<L: Ledger>(
     requires erasures { listing (entry erasures.now) 0 (suc count) ≡ locator_of (marks erased.now) }
     requires beyond { (i : ℕ) → suc count ≤ i → entry erasures.now i ≡ 0 }
     requires degree { length poly.now ≤ 33 }
-    requires short { length erased.now ≤ 255 }
+    requires short { length erased.now ≤ longest_word }
     requires few { weight (places_named (numbers poly.now) erased.now) ≤ 32 }
     ensures room { length result.coefs ≡ 33 }
     ensures degree { result.degree ≡ weight (places_named (numbers poly.now) erased.now) }
@@ -99,7 +99,7 @@ fn count_inside(
     requires most { e ≤ 16 }
     requires some { 1 ≤ length locator.now }
     requires few { length locator.now ≤ 33 }
-    requires short { length erased.now ≤ 255 }
+    requires short { length erased.now ≤ longest_word }
     requires values { AreValues (numbers locator.now) (length erased.now) values.now }
     requires located { (u : List ℕ) × (w : List ℕ) × IsLocated e (entry syndromes.now) (numbers locator.now) u w }
     ensures count { (u w : List ℕ) → IsLocated e (entry syndromes.now) (numbers locator.now) u w

@@ -1,7 +1,7 @@
 // The values of the wrong symbols.
 ghost use Rattle.std.specs.Prelude.{◌≡◌, ◌<◌, ◌≤◌, ◌+◌, ◌-◌, ℕ, List, length};
 ghost use Rattle.tm_gf256.specs.Poly.{entry, numbers, value_at};
-ghost use Rattle.tm_rs_code.specs.Code.{place_of};
+ghost use Rattle.tm_rs_code.specs.Code.{place_of, longest_word};
 ghost use Rattle.tm_rs_code.specs.ErrorValues.{IsLocated, quotient_at, symbol_at};
 ghost use Rattle.tm_rs_code.specs.PlaceValues.{AreValues};
 ghost use Rattle.tm_rs_code.specs.Recurrence.{discrepancy, listing};
@@ -44,7 +44,7 @@ fn value_at_root(locator: &[Gf], syndromes: &[Gf; 32], e: usize, p: usize) -> Gf
     requires most { e ≤ 16 }
     requires some { 1 ≤ length locator.now }
     requires few { length locator.now ≤ 33 }
-    requires inside { p < 255 }
+    requires inside { p < longest_word }
     requires root { value_at (numbers locator.now) (place_of p) ≡ 0 }
     requires located { (u : List ℕ) × (w : List ℕ) × IsLocated e (entry syndromes.now) (numbers locator.now) u w }
     ensures { (u w : List ℕ) → IsLocated e (entry syndromes.now) (numbers locator.now) u w
@@ -79,7 +79,7 @@ pub fn correct(word: &mut [Gf], locator: &[Gf], values: &[u8; 256], syndromes: &
     requires most { e ≤ 16 }
     requires some { 1 ≤ length locator.now }
     requires few { length locator.now ≤ 33 }
-    requires short { length word.old ≤ 255 }
+    requires short { length word.old ≤ longest_word }
     requires values { AreValues (numbers locator.now) (length word.old) values.now }
     requires located { (u : List ℕ) × (w : List ℕ) × IsLocated e (entry syndromes.now) (numbers locator.now) u w }
     ensures { (u w : List ℕ) → IsLocated e (entry syndromes.now) (numbers locator.now) u w
