@@ -1,16 +1,13 @@
 -- The bounds of the options' values, but for those that crates below have: tm_base `Limits` and
--- `Marker`, tm_viterbi `WindowSizes`. The constants of the code are proved to be these numbers.
+-- `Marker`, tm_rs_code `Code`, tm_viterbi `WindowSizes`. The constants of the code are proved to
+-- be these numbers.
 use Rattle.std.specs.Prelude.{ℕ}
-
--- the most symbols of a codeword (CCSDS 131.0-B, Reed-Solomon Coding)
-abbrev pub longest_word : ℕ
-longest_word = 255
 
 -- the greatest interleaving depth (CCSDS 131.0-B, Reed-Solomon Coding)
 abbrev pub deepest : ℕ
 deepest = 8
 
--- the most octets of a codeblock: those of so many such words
+-- the most octets of a codeblock: those of so many of the longest words
 abbrev pub longest_codeblock : ℕ
 longest_codeblock = 2040
 

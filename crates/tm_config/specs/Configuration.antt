@@ -6,9 +6,10 @@ use Rattle.tm_conv.specs.declared.rates.Rate.TheVariants.{R12, R23, R34, R56, R7
 use Rattle.tm_dual.specs.Octet.{basis_of}
 use Rattle.tm_dual.specs.declared.basis.Basis.{Basis}
 use Rattle.tm_dual.specs.declared.basis.Basis.TheVariants.{Dual, Poly}
+use Rattle.tm_rs_code.specs.Code.{longest_word}
 use Rattle.tm_viterbi.specs.declared.block.Start.{Start}
 use Rattle.tm_viterbi.specs.declared.block.Start.TheVariants.{Zero, Any}
-use Rattle.tm_config.specs.Bounds.{longest_word, longest_codeblock}
+use Rattle.tm_config.specs.Bounds.{longest_codeblock}
 use Rattle.tm_config.specs.declared.values.Raw.{Raw}
 use Rattle.tm_config.specs.declared.values.Values.{Values}
 use Rattle.tm_config.specs.declared.values.OuterCode.{OuterCode}

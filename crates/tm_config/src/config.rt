@@ -1,8 +1,8 @@
 // A configuration whose values are all within their lists and ranges.
 ghost use Rattle.std.specs.Prelude.{◌≡◌, ◌≢◌, ◌⊎◌, ◌*◌, ◌<◌, ◌≤◌, None, Some, OnOk, IfOk, IfErr, option_map};
+ghost use Rattle.tm_rs_code.specs.Code.{longest_word};
 ghost use Rattle.tm_config.specs.Configuration.{HaveNumbers, configuration_of, word_length, correctable, number_of_rate, number_of_switch, number_of_basis, number_of_form, number_of_start, number_of_phase, number_of_sought, unfollowed};
 ghost use Rattle.tm_config.specs.Accepted.{IsAccepted, refusal_of};
-ghost use Rattle.tm_config.specs.Bounds.{longest_word};
 
 use crate::ranges::{frame_length, refusal};
 use crate::values::{

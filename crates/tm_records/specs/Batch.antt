@@ -1,8 +1,8 @@
 -- What contracts see of a batch of records, and what its room holds.
 use Rattle.std.specs.Prelude.{◌≡◌, ℕ, ◌*◌, ◌<◌, ◌≤◌, List, [], ◌∷◌, map, take, drop, unwrap_or}
-use Rattle.tm_config.specs.Bounds.{longest_word}
 use Rattle.tm_gf256.specs.Poly.{numbers}
 use Rattle.tm_rs_code.specs.Erasures.{NearestErased}
+use Rattle.tm_rs_code.specs.Code.{longest_word}
 use Rattle.tm_rs_solve.specs.Answers.{found_erased}
 use Rattle.tm_rs_solve.specs.declared.answers.ErasedAnswer.TheVariants.{Beyond}
 use Rattle.tm_workers.specs.declared.words.ErasedWord.{ErasedWord}

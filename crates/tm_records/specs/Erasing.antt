@@ -2,11 +2,11 @@
 use Rattle.std.specs.Prelude.{◌≡◌, ◌⊎◌, ℕ, ◌*◌, ◌<◌, ◌≤◌, Bool, true, List, ◌++◌, length, Option}
 use Rattle.std.specs.List.{list_any}
 use Rattle.tm_base.specs.Written.{Wrote, WrotePrefix}
-use Rattle.tm_config.specs.Bounds.{longest_word}
 use Rattle.tm_driver.specs.Lines.{left_over_text, outcome_by}
 use Rattle.tm_driver.specs.declared.ending.Outcome.{Outcome}
 use Rattle.tm_driver.specs.declared.ending.Outcome.TheVariants.{Done, Bad}
 use Rattle.tm_rs_code.specs.Erasures.{NearestErased}
+use Rattle.tm_rs_code.specs.Code.{longest_word}
 use Rattle.tm_records.specs.Batch.{Batch}
 use Rattle.tm_records.specs.declared.coding.Coding.{Coding}
 use Rattle.tm_records.specs.Records.{AreFirstNearest, AreNearest, left_over, record_size}

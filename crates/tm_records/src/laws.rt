@@ -1,7 +1,7 @@
 // The laws of records.
 ghost use Rattle.std.specs.Prelude.{◌≡◌, ◌≤◌, ℕ, List};
-ghost use Rattle.tm_config.specs.Bounds.{longest_word};
 ghost use Rattle.tm_rs_code.specs.Erasures.{NearestErased};
+ghost use Rattle.tm_rs_code.specs.Code.{longest_word};
 ghost use Rattle.tm_records.specs.declared.coding.Coding.{Coding};
 ghost use Rattle.tm_records.specs.Records.{AreNearest, AreNearestDue};
 
