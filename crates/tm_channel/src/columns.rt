@@ -3,6 +3,7 @@ ghost use Rattle.std.specs.Prelude.{◌≡◌, ◌≢◌, ◌<◌, ◌≤◌, �
 ghost use Rattle.tm_config.specs.Configuration.{codeblock_length, data_length, word_length};
 ghost use Rattle.tm_dual.specs.Octet.{element_of, sent_octet};
 ghost use Rattle.tm_gf256.specs.Poly.{numbers};
+ghost use Rattle.tm_rs_code.specs.Code.{longest_word};
 ghost use Rattle.tm_interleave.specs.Column.{column};
 ghost use Rattle.tm_codeblock.specs.ReceivedCodeblock.{frame_of, received_columns};
 ghost use Rattle.tm_channel.specs.ColumnWords.{all_symbols};
@@ -32,7 +33,7 @@ pub fn read_columns(config: &Config, codeblock: &[u8], words: &mut [Word])
 // Reads column `i` of a codeblock into the first symbols of a word.
 fn read_column(basis: Basis, depth: usize, i: usize, size: usize, codeblock: &[u8], word: &mut Word)
     requires column { i < depth }
-    requires most { size ≤ 255 }
+    requires most { size ≤ longest_word }
     requires size { length codeblock.now ≡ depth * size }
     ensures { numbers (take size word.new.symbols) ≡ map (element_of basis) (column depth i codeblock.now) }
 {
@@ -60,7 +61,7 @@ pub fn write_frame(config: &Config, words: &[Word], frame: &mut [u8])
 // Writes the first symbols of a word into column `i` of a frame.
 fn write_column(basis: Basis, depth: usize, i: usize, size: usize, word: &Word, frame: &mut [u8])
     requires column { i < depth }
-    requires most { size ≤ 255 }
+    requires most { size ≤ longest_word }
     requires size { length frame.old ≡ depth * size }
     ensures column { column depth i frame.new ≡ map (sent_octet basis) (numbers (take size word.now.symbols)) }
     ensures others { (j : ℕ) → j < depth → j ≢ i → column depth j frame.new ≡ column depth j frame.old }
