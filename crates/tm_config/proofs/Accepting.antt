@@ -13,7 +13,8 @@ use Rattle.tm_config.specs.declared.values.OuterCode.TheVariants.{Rs16, Rs8, Unc
 use Rattle.tm_config.specs.declared.error.ConfigError.{ConfigError}
 use Rattle.tm_config.specs.Configuration.{Configuration, configuration_of, unfollowed, most_data, correctable, all_codes, code_of, is_uncoded, number_of_rate, all_rates}
 use Rattle.tm_config.specs.Configuration.{number_of_basis, all_bases, number_of_form, all_forms, number_of_start, all_starts}
-use Rattle.tm_config.specs.Accepted.{IsAccepted, is_listed, is_number, is_within, switch_fits, sought_fits, phase_fits, fits_if_given, depth_fits, length_fits, repair_fits, tests, first_error, refusal_of}
+use Rattle.tm_config.specs.Configuration.{number_of_mode, all_modes}
+use Rattle.tm_config.specs.Accepted.{IsAccepted, is_listed, is_number, is_within, switch_fits, sought_fits, fits_if_given, depth_fits, length_fits, repair_fits, tests, first_error, refusal_of}
 use Rattle.tm_config.proofs.Choices.{uncoded_tells}
 
 -- where no test fails, each passes
@@ -48,7 +49,7 @@ pub record AllPass (raw : Raw) : Type 0 where
   pub fly : nat_le raw.fly most_fly ≡ true
   pub keep : is_within least_keep most_keep raw.keep ≡ true
   pub ahead : nat_le raw.ahead most_ahead ≡ true
-  pub phase : phase_fits raw.phase ≡ true
+  pub phase : is_number number_of_mode all_modes raw.phase ≡ true
   pub polarity : sought_fits raw.polarity ≡ true
   pub batch : is_within 1 most_batch raw.batch ≡ true
   pub pack : switch_fits raw.pack ≡ true

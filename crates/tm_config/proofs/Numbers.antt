@@ -1,5 +1,5 @@
 -- The choices of a configuration have the numbers that were given for them.
-use Rattle.std.proofs.Common.{◌≡◌, inl, inr, refl, sym, ap, ℕ, zero, suc, true, false, ◌==◌, List, [], ◌∷◌, Option, Some, None, arith}
+use Rattle.std.proofs.Common.{◌≡◌, ◌∙◌, inl, inr, refl, sym, ap, ℕ, zero, suc, true, false, ◌==◌, List, [], ◌∷◌, Option, Some, None, arith}
 use Rattle.std.proofs.lemmas.Bool.{cases_Bool, eqb-true}
 use Rattle.std.proofs.lemmas.Bool.Decides.{nat_tests}
 use Rattle.std.specs.Prelude.{option_map}
@@ -7,12 +7,15 @@ use Rattle.tm_dual.specs.Octet.{basis_of}
 use Rattle.tm_viterbi.specs.declared.block.Start.TheVariants.{Zero}
 use Rattle.tm_config.specs.declared.values.Raw.{Raw}
 use Rattle.tm_config.specs.declared.values.OuterCode.TheVariants.{Uncoded}
+use Rattle.tm_config.specs.declared.values.PhaseMode.{PhaseMode}
+use Rattle.tm_config.specs.declared.values.PhaseMode.TheVariants as mode
 use Rattle.tm_config.specs.declared.values.SoftForm.TheVariants.{Unsigned}
 use Rattle.tm_config.specs.declared.values.Sought.TheVariants.{Given}
 use Rattle.tm_config.specs.Configuration.{HaveNumbers, configuration_of, numbered, correctable, all_codes, number_of_rate, all_rates}
 use Rattle.tm_config.specs.Configuration.{number_of_switch, all_switches, is_on, number_of_basis, all_bases, number_of_form, all_forms}
-use Rattle.tm_config.specs.Configuration.{number_of_start, all_starts, phase_of, is_followed, number_of_phase, number_of_sought, all_sought}
-use Rattle.tm_config.specs.Accepted.{is_number, fits_if_given, switch_fits, phase_fits, refusal_of}
+use Rattle.tm_config.specs.Configuration.{number_of_start, all_starts, number_of_mode, all_modes, mode_of, phase_of, is_followed, mode_by}
+use Rattle.tm_config.specs.Configuration.{number_of_sought, all_sought}
+use Rattle.tm_config.specs.Accepted.{is_number, fits_if_given, switch_fits, refusal_of}
 use Rattle.tm_config.proofs.Accepting.{all_pass}
 
 -- the value found by a number that one of the list has
@@ -31,12 +34,17 @@ basis-has : (number : ℕ) → is_number number_of_basis all_bases number ≡ tr
 basis-has zero fits = refl
 basis-has (suc n) fits = grind (arith, nat_tests)
 
-phase-has : (number : ℕ) → phase_fits number ≡ true
-    → number_of_phase (phase_of number) (is_followed number) ≡ number
-phase-has zero fits = refl
-phase-has (suc zero) fits = refl
-phase-has (suc (suc zero)) fits = refl
-phase-has (suc (suc (suc n))) fits = grind (arith, nat_tests)
+-- what the two say of a mode tells which it is
+same-mode : (asked : PhaseMode) → mode_by (phase_of asked) (is_followed asked) ≡ asked
+same-mode mode.Given = refl
+same-mode mode.Find = refl
+same-mode mode.Follow = refl
+
+phase-has : (number : ℕ) → is_number number_of_mode all_modes number ≡ true
+    → number_of_mode (mode_by (phase_of (mode_of number)) (is_followed (mode_of number))) ≡ number
+phase-has number fits =
+    ap number_of_mode (same-mode (mode_of number))
+    ∙ numbered-has number_of_mode all_modes mode.Given number fits
 
 invert-has : (number : Option ℕ) → fits_if_given switch_fits number ≡ true
     → option_map number_of_switch (option_map is_on number) ≡ number

@@ -10,7 +10,8 @@ use Rattle.tm_config.specs.Configuration.{Configuration, data_length, most_data}
 use Rattle.tm_config.specs.Configuration.{correctable, is_uncoded, all_codes, code_of}
 use Rattle.tm_config.specs.Configuration.{number_of_rate, all_rates, number_of_switch, all_switches}
 use Rattle.tm_config.specs.Configuration.{number_of_basis, all_bases, number_of_form, all_forms}
-use Rattle.tm_config.specs.Configuration.{number_of_start, all_starts, number_of_sought, all_sought}
+use Rattle.tm_config.specs.Configuration.{number_of_start, all_starts, number_of_mode, all_modes}
+use Rattle.tm_config.specs.Configuration.{number_of_sought, all_sought}
 use Rattle.tm_config.specs.declared.values.Raw.{Raw}
 use Rattle.tm_config.specs.declared.values.OuterCode.TheVariants.{Uncoded}
 use Rattle.tm_config.specs.declared.error.ConfigError.{ConfigError}
@@ -82,10 +83,6 @@ switches_fit raw = fits_if_given switch_fits raw.invert && switch_fits raw.rando
 abbrev pub sought_fits : ℕ → Bool
 sought_fits = is_number number_of_sought all_sought
 
--- given, to be found, or to be found and followed
-abbrev pub phase_fits : ℕ → Bool
-phase_fits number = nat_le number 2
-
 -- no more symbols are repaired than the code corrects
 abbrev pub repair_fits : Raw → Bool
 repair_fits raw =
@@ -110,7 +107,7 @@ tests raw =
     ∷ (nat_le raw.fly most_fly, Fly)
     ∷ (is_within least_keep most_keep raw.keep, Keep)
     ∷ (nat_le raw.ahead most_ahead, Ahead)
-    ∷ (phase_fits raw.phase, Phase)
+    ∷ (is_number number_of_mode all_modes raw.phase, Phase)
     ∷ (sought_fits raw.polarity, Polarity)
     ∷ (is_within 1 most_batch raw.batch, Batch)
     ∷ (switch_fits raw.pack, Pack)

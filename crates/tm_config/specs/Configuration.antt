@@ -1,6 +1,6 @@
 -- What contracts see of a configuration, and what the numbers that are given for it come to.
 use Rattle.std.specs.Prelude.{◌≡◌, ℕ, ◌+◌, ◌-◌, ◌*◌, ◌/◌, ◌^◌, ◌==◌, Bool, true, false, List, [], ◌∷◌}
-use Rattle.std.specs.Prelude.{Option, Some, None, min, option_map, unwrap_or, if◌then◌else◌}
+use Rattle.std.specs.Prelude.{Option, Some, None, option_map, unwrap_or, if◌then◌else◌}
 use Rattle.tm_conv.specs.declared.rates.Rate.{Rate}
 use Rattle.tm_conv.specs.declared.rates.Rate.TheVariants.{R12, R23, R34, R56, R78}
 use Rattle.tm_dual.specs.Octet.{basis_of}
@@ -14,6 +14,8 @@ use Rattle.tm_config.specs.declared.values.Raw.{Raw}
 use Rattle.tm_config.specs.declared.values.Values.{Values}
 use Rattle.tm_config.specs.declared.values.OuterCode.{OuterCode}
 use Rattle.tm_config.specs.declared.values.OuterCode.TheVariants.{Rs16, Rs8, Uncoded}
+use Rattle.tm_config.specs.declared.values.PhaseMode.{PhaseMode}
+use Rattle.tm_config.specs.declared.values.PhaseMode.TheVariants as mode
 use Rattle.tm_config.specs.declared.values.SoftForm.{SoftForm}
 use Rattle.tm_config.specs.declared.values.SoftForm.TheVariants.{Unsigned, Signed}
 use Rattle.tm_config.specs.declared.values.Sought.{Sought}
@@ -134,7 +136,7 @@ all_starts = Zero ∷ Any ∷ []
 abbrev pub start_of : ℕ → Start
 start_of = numbered number_of_start all_starts Zero
 
--- the numbers of a phase or a polarity that is given, and of one that is to be found
+-- the numbers of a polarity that is given, and of one that is to be found
 abbrev pub number_of_sought : Sought → ℕ
 number_of_sought Given = 0
 number_of_sought Find = 1
@@ -146,16 +148,33 @@ abbrev pub sought_of : ℕ → Sought
 sought_of = numbered number_of_sought all_sought Given
 
 -- the numbers of a phase that is given, that is to be found, and that is to be found and followed
-abbrev pub phase_of : ℕ → Sought
-phase_of number = sought_of (min number 1)
+abbrev pub number_of_mode : PhaseMode → ℕ
+number_of_mode mode.Given = 0
+number_of_mode mode.Find = 1
+number_of_mode mode.Follow = 2
 
-abbrev pub is_followed : ℕ → Bool
-is_followed number = number == 2
+abbrev pub all_modes : List PhaseMode
+all_modes = mode.Given ∷ mode.Find ∷ mode.Follow ∷ []
 
-abbrev pub number_of_phase : Sought → Bool → ℕ
-number_of_phase Given follow = 0
-number_of_phase Find false = 1
-number_of_phase Find true = 2
+abbrev pub mode_of : ℕ → PhaseMode
+mode_of = numbered number_of_mode all_modes mode.Given
+
+-- whether the phase is given or to be found, and whether it is followed once it is found
+abbrev pub phase_of : PhaseMode → Sought
+phase_of mode.Given = Given
+phase_of mode.Find = Find
+phase_of mode.Follow = Find
+
+abbrev pub is_followed : PhaseMode → Bool
+is_followed mode.Given = false
+is_followed mode.Find = false
+is_followed mode.Follow = true
+
+-- the mode of which the two say this
+abbrev pub mode_by : Sought → Bool → PhaseMode
+mode_by Given follow = mode.Given
+mode_by Find false = mode.Find
+mode_by Find true = mode.Follow
 
 abbrev pub is_sought : Sought → Bool
 is_sought Given = false
@@ -188,8 +207,8 @@ configuration_of raw = record {
   fly = raw.fly;
   keep = raw.keep;
   ahead = raw.ahead;
-  phase = phase_of raw.phase;
-  follow = is_followed raw.phase;
+  phase = phase_of (mode_of raw.phase);
+  follow = is_followed (mode_of raw.phase);
   polarity = sought_of raw.polarity;
   batch = raw.batch;
   pack = is_on raw.pack;
@@ -205,7 +224,7 @@ pub record HaveNumbers (raw : Raw) (c : Configuration) : Type 0 where
   pub basis : number_of_basis c.basis ≡ raw.basis
   pub soft : number_of_form c.soft ≡ raw.soft
   pub start : number_of_start c.start ≡ raw.start
-  pub phase : number_of_phase c.phase c.follow ≡ raw.phase
+  pub phase : number_of_mode (mode_by c.phase c.follow) ≡ raw.phase
   pub polarity : number_of_sought c.polarity ≡ raw.polarity
   pub pack : number_of_switch c.pack ≡ raw.pack
 

@@ -1,13 +1,13 @@
 // A configuration whose values are all within their lists and ranges.
 ghost use Rattle.std.specs.Prelude.{◌≡◌, ◌≢◌, ◌⊎◌, ◌*◌, ◌<◌, ◌≤◌, None, Some, OnOk, IfOk, IfErr, option_map};
 ghost use Rattle.tm_rs_code.specs.Code.{longest_word};
-ghost use Rattle.tm_config.specs.Configuration.{HaveNumbers, configuration_of, word_length, correctable, number_of_rate, number_of_switch, number_of_basis, number_of_form, number_of_start, number_of_phase, number_of_sought, unfollowed};
+ghost use Rattle.tm_config.specs.Configuration.{HaveNumbers, configuration_of, word_length, correctable, number_of_rate, number_of_switch, number_of_basis, number_of_form, number_of_start, number_of_mode, mode_by, number_of_sought, unfollowed};
 ghost use Rattle.tm_config.specs.Accepted.{IsAccepted, refusal_of};
 
 use crate::ranges::{frame_length, refusal};
 use crate::values::{
-    are_on, code_of, form_of, is_followed, is_on, number_of_phase, number_of_sought,
-    number_of_switch, phase_of, rate_of, sought_of, start_of,
+    are_on, code_of, form_of, is_on, mode_of, number_of_phase, number_of_sought, number_of_switch,
+    rate_of, sought_of, start_of,
 };
 use crate::{ConfigError, OuterCode, Raw, SoftForm, Values};
 use std::marker::Model;
@@ -238,7 +238,7 @@ impl Config {
     /// The phase of the symbols: 0 where it is given, 1 where it is to be found, 2 where it is to be found and
     /// followed.
     pub fn phase(&self) -> u64
-        ensures value { result ≡ number_of_phase self.now.phase self.now.follow }
+        ensures value { result ≡ number_of_mode (mode_by self.now.phase self.now.follow) }
         ensures accepted { IsAccepted self.now }
     {
         number_of_phase(self.values.phase, self.values.follow)
@@ -295,6 +295,7 @@ fn resolved(raw: &Raw) -> Values
     ensures { result ≡ configuration_of raw.now }
 {
     let code = code_of(raw.code);
+    let mode = mode_of(raw.phase);
     Values {
         code,
         depth: raw.depth,
@@ -313,8 +314,8 @@ fn resolved(raw: &Raw) -> Values
         fly: raw.fly,
         keep: raw.keep,
         ahead: raw.ahead,
-        phase: phase_of(raw.phase),
-        follow: is_followed(raw.phase),
+        phase: mode.phase(),
+        follow: mode.is_followed(),
         polarity: sought_of(raw.polarity),
         batch: raw.batch,
         pack: is_on(raw.pack),

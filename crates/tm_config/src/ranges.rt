@@ -1,6 +1,6 @@
 // The test of each value, and the first that fails.
 ghost use Rattle.std.specs.Prelude.{◌≡◌, ◌*◌, None, unwrap_or};
-ghost use Rattle.tm_config.specs.Configuration.{most_data, code_of, correctable, all_codes, number_of_rate, all_rates};
+ghost use Rattle.tm_config.specs.Configuration.{most_data, code_of, correctable, all_codes, number_of_rate, all_rates, number_of_mode, all_modes};
 ghost use Rattle.tm_config.specs.Accepted.{is_number, is_within, switch_fits, depth_fits, length_fits, switches_fit, repair_fits, first_error, refusal_of};
 
 use crate::values::code_of;
@@ -92,6 +92,12 @@ fn is_choice(number: u64) -> bool
     matches!(number, 0 | 1)
 }
 
+fn phase_fits(phase: u64) -> bool
+    ensures { result ≡ is_number number_of_mode all_modes phase }
+{
+    matches!(phase, 0 | 1 | 2)
+}
+
 fn switches_fit(raw: &Raw) -> bool
     ensures { result ≡ switches_fit raw.now }
 {
@@ -149,7 +155,7 @@ pub fn refusal(raw: &Raw) -> Option<ConfigError>
             ConfigError::Keep,
         ),
         (raw.ahead <= MOST_AHEAD, ConfigError::Ahead),
-        (raw.phase <= 2, ConfigError::Phase),
+        (phase_fits(raw.phase), ConfigError::Phase),
         (is_choice(raw.polarity), ConfigError::Polarity),
         (is_within(1, MOST_BATCH, raw.batch), ConfigError::Batch),
         (is_choice(raw.pack), ConfigError::Pack),

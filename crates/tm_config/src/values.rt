@@ -1,6 +1,6 @@
 // The values of the options: the numbers that were given, and what they are in a configuration.
 ghost use Rattle.std.specs.Prelude.{◌≡◌, option_map};
-ghost use Rattle.tm_config.specs.Configuration.{default_raw, correctable, is_uncoded, code_of, rate_of, number_of_switch, is_on, form_of, start_of, phase_of, is_followed, number_of_phase, number_of_sought, sought_of};
+ghost use Rattle.tm_config.specs.Configuration.{default_raw, correctable, is_uncoded, code_of, rate_of, number_of_switch, is_on, form_of, start_of, number_of_mode, mode_of, phase_of, is_followed, mode_by, number_of_sought, sought_of};
 
 use tm_conv::Rate;
 use tm_dual::Basis;
@@ -117,6 +117,17 @@ pub enum Sought {
     Find,
 }
 
+/// What is asked for of the symbol phase.
+#[derive(Clone, Copy)]
+pub enum PhaseMode {
+    /// It is given.
+    Given,
+    /// It is to be found.
+    Find,
+    /// It is to be found, and followed.
+    Follow,
+}
+
 /// The values of a configuration, all resolved but `invert`.
 #[derive(Clone, Copy, Debug)]
 pub struct Values {
@@ -181,6 +192,30 @@ impl OuterCode {
             OuterCode::Rs16 => false,
             OuterCode::Rs8 => false,
             OuterCode::Uncoded => true,
+        }
+    }
+}
+
+impl PhaseMode {
+    /// Whether the phase is given or to be found.
+    pub fn phase(self) -> Sought
+        ensures { result ≡ phase_of self }
+    {
+        match self {
+            PhaseMode::Given => Sought::Given,
+            PhaseMode::Find => Sought::Find,
+            PhaseMode::Follow => Sought::Find,
+        }
+    }
+
+    /// Whether the phase is followed.
+    pub fn is_followed(self) -> bool
+        ensures { result ≡ is_followed self }
+    {
+        match self {
+            PhaseMode::Given => false,
+            PhaseMode::Find => false,
+            PhaseMode::Follow => true,
         }
     }
 }
@@ -256,20 +291,18 @@ pub fn sought_of(number: u64) -> Sought
     }
 }
 
-pub fn phase_of(number: u64) -> Sought
-    ensures { result ≡ phase_of number }
+pub fn mode_of(number: u64) -> PhaseMode
+    ensures { result ≡ mode_of number }
 {
-    sought_of(number.min(1))
-}
-
-pub fn is_followed(number: u64) -> bool
-    ensures { result ≡ is_followed number }
-{
-    number == 2
+    match number {
+        1 => PhaseMode::Find,
+        2 => PhaseMode::Follow,
+        _ => PhaseMode::Given,
+    }
 }
 
 pub fn number_of_phase(phase: Sought, follow: bool) -> u64
-    ensures { result ≡ number_of_phase phase follow }
+    ensures { result ≡ number_of_mode (mode_by phase follow) }
 {
     match phase {
         Sought::Given => 0,

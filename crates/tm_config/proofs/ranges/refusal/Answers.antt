@@ -17,6 +17,7 @@ returns c = c.first_error.ensures ∙ (rw (
   c.is_within.ensures,
   c.is_within-2.ensures,
   c.is_within-3.ensures,
+  c.phase_fits.ensures,
   c.is_choice-4.ensures,
   c.is_within-4.ensures,
   c.is_choice-5.ensures,
