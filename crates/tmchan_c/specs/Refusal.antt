@@ -1,8 +1,10 @@
 -- When a call is refused, what that promises, and the numbers that calls answer.
 use Rattle.std.specs.Prelude.{◌≡◌, ℕ, ◌+◌, ◌*◌, ◌==◌, ℤ, pos, negsuc, [], ◌∷◌, Option, Some, None, option_map, nat_lt, nat_le, if◌then◌else◌}
-use Rattle.tm_config.specs.Accepted.{is_listed, is_within, place_of, refusal_of}
+use Rattle.tm_config.specs.Accepted.{is_number, is_within, place_of, refusal_of}
+use Rattle.tm_config.specs.Configuration.{correctable, number_of_basis, all_bases}
 use Rattle.tm_config.specs.declared.error.ConfigError.{ConfigError}
 use Rattle.tm_config.specs.declared.error.ConfigError.TheVariants.{Code, Length, Basis, Repair}
+use Rattle.tm_config.specs.declared.values.OuterCode.TheVariants.{Rs16, Rs8}
 use Rattle.tm_config.specs.declared.values.Raw.{Raw}
 use Rattle.tmchan_c.specs.declared.refusal.Refusal.{Refusal}
 use Rattle.tmchan_c.specs.declared.refusal.Refusal.TheVariants.{Room, Flags, Column, Closed, Open, Memory, Value}
@@ -51,9 +53,9 @@ values_refusal raw = option_map (λ error. Value error) (refusal_of raw)
 -- one that comes after these, or none
 abbrev pub word_refusal : ℕ → ℕ → ℕ → ℕ → Option Refusal → Option Refusal
 word_refusal code n basis repair other =
-    if is_listed code (16 ∷ 8 ∷ []) then
+    if is_number correctable (Rs16 ∷ Rs8 ∷ []) code then
     if is_within (2 * code + 1) 255 n then
-    if nat_le basis 1 then
+    if is_number number_of_basis all_bases basis then
     if nat_le repair code then other
     else Some (Value Repair)
     else Some (Value Basis)

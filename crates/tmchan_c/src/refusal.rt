@@ -87,7 +87,7 @@ pub fn word_refusal(
     if n < 2 * u64::from(code) + 1 || n > 255 {
         return Some(Refusal::Value(ConfigError::Length));
     }
-    if basis > 1 {
+    if basis != 0 && basis != 1 {
         return Some(Refusal::Value(ConfigError::Basis));
     }
     if repair > code {
