@@ -20,9 +20,9 @@ use Rattle.tm_driver.specs.declared.ending.Ending.{Ending}
 use Rattle.tm_driver.specs.declared.ending.Ending.TheVariants.{Done, Bad, BadWindow, LeftOver, SourceFault, SinkFault, PastLimit}
 use Rattle.tm_driver.proofs.Answered.{answered-beside}
 use Rattle.tm_driver.proofs.TwoSinks.{alone}
+use Rattle.tm_words.specs.declared.commands.JobKind.{JobKind}
+use Rattle.tm_words.specs.declared.commands.JobKind.TheVariants as kind
 use Rattle.tm_words.specs.declared.job.Job.{Job}
-use Rattle.tm_words.specs.declared.job.JobKind.{JobKind}
-use Rattle.tm_words.specs.declared.job.JobKind.TheVariants as kind
 use Rattle.tm_cli.specs.Command.{Command, command_by, command_of, reads}
 use Rattle.tm_cli.specs.Command.Command.{Encode, Decode, Report, Trace, Word, Soak, Erased, Certify, Check, Bits}
 use Rattle.tm_cli.specs.Meanings.{meaning_of}

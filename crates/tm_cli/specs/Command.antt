@@ -1,8 +1,8 @@
 -- A command, with what its words give beside the configuration.
 use Rattle.std.specs.Prelude.{ℕ, Bool, true, false, List}
+use Rattle.tm_words.specs.declared.commands.JobKind.{JobKind}
+use Rattle.tm_words.specs.declared.commands.JobKind.TheVariants as kind
 use Rattle.tm_words.specs.declared.job.Job.{Job}
-use Rattle.tm_words.specs.declared.job.JobKind.{JobKind}
-use Rattle.tm_words.specs.declared.job.JobKind.TheVariants as kind
 
 pub data Command : Type 0 where
   Encode : Command

@@ -16,46 +16,22 @@ use tm_base::{NoMemory, Sink, Source};
 use tm_path_commands::certificate_law;
 
 /// Runs the program: reads its words, the first of which is its name and is not looked at, and then does what they ask
-/// for:
+/// for. `JobKind` (tm_words) lists the commands: what each writes to `out`, its output, and to the notes, what is bad,
+/// and when the input is partial.
 ///
-/// - `encode` sends the transfer frames of the source to `out`, as octets of marked codeblocks, or of their bits or
-///   symbols (CCSDS 131.0-B).
-/// - `decode` receives such octets, a soft one for each symbol: `out` gets the frame of each codeblock that is found
-///   and repaired, and the notes a report, which has a line for each codeblock and one for all, and before them one for
-///   the symbol phase where it is to be found; where it is followed, one before the last says how often octets were
-///   dropped.
-/// - `report` does so without the frames, and writes the report to `out`.
-/// - `trace` writes to `out` a line for each window of the soft decoder, and one for all, and before them one for the
-///   symbol phase where it is to be found; where octets were dropped before a window, a line before its own.
-/// - `bits` writes to `out` the received bits, eight an octet, and to the notes a line for the symbol phase where it is
-///   to be found, one that says how often octets were dropped where it is followed, and one for all.
-/// - `erased` repairs words with erased symbols, each an octet a symbol and a flag for each after them, and writes a
-///   line for each to `out`: `fixed A B HEX`, or `beyond`.
-/// - `certify` writes to `out` a certificate of the windows of the soft decoder, which shows that no path costs less
-///   than theirs.
-/// - `check` reads such a certificate, without the decoder: `out` gets the soft octets of the windows that pass, and
-///   the notes a line for each, and one for all.
-/// - `word` repairs one word, which stands in its words in hexadecimal, and writes it to `out`: `fixed D HEX`, or
-///   `beyond`.
-/// - `soak` sends frames that it generates, changes some symbols of each codeword on the way, receives them, and writes
-///   the end of the report to `out`.
-///
-/// The last two read nothing and write no notes. The others read in turns of at most 4,096 octets, never more than one
-/// octet past the limit, and nothing after the end of the input or a fault. Words are repaired by so many workers as
-/// they are asked for. Answers the exit status, of 3, 4 and 7 the one that occurs first:
+/// A command that reads does so in turns of at most 4,096 octets, never more than one octet past the limit, and nothing
+/// after the end of the input or a fault. Words are repaired by so many workers as are asked for. Answers the exit
+/// status, of 3, 4 and 7 the one that occurs first:
 ///
 /// - 0: the source was read to its end by a command that reads, and the whole output is written.
-/// - 1: the same, and a codeblock that `decode`, `report` or `soak` found has an uncorrectable column, or the word of
-///   `word` or of a record is. Or a window of the certificate of `check` fails: nothing more is read, and the notes get
-///   the line `bad ` with its number and the reason.
+/// - 1: the same, and something is bad. Or the command reads nothing more after what is bad, and all that is to be
+///   written up to there is.
 /// - 2: the words are refused. Nothing is read, and `out` stays as it was; the notes get the line `refused: ` with the
 ///   first reason, or a prefix of it where they fail.
 /// - 3: the source failed. What is due for the octets before is written, and nothing more.
 /// - 4: `out` or `notes` failed, and nothing more is read or written. What was written is a prefix of the output.
 /// - 5: there was not enough memory. Nothing is read or written.
-/// - 6: the input of `encode` is not whole frames, or that of `erased` not whole records. All is written for those that
-///   are, and the notes get the line `left over ` with the number of octets after them. Or the certificate of `check`
-///   ends inside of a window or where one is missing, and the notes get the line `cut at block ` with its number.
+/// - 6: the input is partial. All that is to be written for it is.
 /// - 7: the source gave an octet past the limit. What is due for the octets up to the limit is written.
 pub fn run<R: Threads + Sync, S: Source, O: Sink, N: Sink>(
     rt: &R,

@@ -5,8 +5,8 @@ use Rattle.clap.specs.Words.{App, Shape, Rule, Text, new_rule}
 use Rattle.clap.specs.Simple.{new_shape}
 use Rattle.clap.specs.Faults.{fault_of}
 use Rattle.tm_words.specs.Options.{options, soak_options}
-use Rattle.tm_words.specs.declared.job.JobKind.{JobKind}
-use Rattle.tm_words.specs.declared.job.JobKind.TheVariants.{Encode, Decode, Report, Trace, Word, Soak, Erased, Certify, Check, Bits}
+use Rattle.tm_words.specs.declared.commands.JobKind.{JobKind}
+use Rattle.tm_words.specs.declared.commands.JobKind.TheVariants.{Encode, Decode, Report, Trace, Word, Soak, Erased, Certify, Check, Bits}
 use Rattle.clap.specs.declared.builder.action.ArgAction.TheVariants.{Set}
 
 -- an option that is not required and has one value, `--name value`

@@ -3,9 +3,9 @@ use Rattle.std.specs.Prelude.{List, [], Option, unwrap_or, option_map, codes}
 use Rattle.clap.specs.Words.{Text, Row, first_of, subcommand_of}
 use Rattle.tm_words.specs.CommandLine.{command_line, kind_of_name}
 use Rattle.tm_words.specs.Options.{raw_of, number_given}
+use Rattle.tm_words.specs.declared.commands.JobKind.{JobKind}
+use Rattle.tm_words.specs.declared.commands.JobKind.TheVariants.{Word, Soak}
 use Rattle.tm_words.specs.declared.job.Job.{Job}
-use Rattle.tm_words.specs.declared.job.JobKind.{JobKind}
-use Rattle.tm_words.specs.declared.job.JobKind.TheVariants.{Word, Soak}
 
 -- a command with the values of the options that each command has
 abbrev pub plain_job : JobKind → List Row → Job

@@ -1,34 +1,10 @@
 // What the words ask for.
 ghost use Rattle.std.specs.Prelude.{◌≡◌, [], IfOk};
 
+use crate::commands::JobKind;
 use std::alloc::{AllocError, Global};
 use std::marker::Model;
 use tm_config::Raw;
-
-/// A command.
-#[derive(Clone, Copy, Debug, PartialEq, Eq)]
-pub enum JobKind {
-    /// Frames are sent as symbols.
-    Encode,
-    /// Frames are received, and reported.
-    Decode,
-    /// What is received is reported, without frames.
-    Report,
-    /// The windows of the soft decoder are reported.
-    Trace,
-    /// One word is repaired.
-    Word,
-    /// Generated frames are sent, disturbed and received.
-    Soak,
-    /// Words with erased symbols are repaired.
-    Erased,
-    /// The windows of the soft decoder are certified.
-    Certify,
-    /// A certificate is checked.
-    Check,
-    /// The received bits are written.
-    Bits,
-}
 
 /// The bytes of a word that is to be hexadecimal. They are not tested yet.
 #[derive(Debug, Drop)]

@@ -8,5 +8,6 @@ mod job;
 mod options;
 mod read;
 
-pub use job::{HexText, Job, JobKind};
+pub use commands::JobKind;
+pub use job::{HexText, Job};
 pub use read::{WordsError, read_words};

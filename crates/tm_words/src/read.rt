@@ -4,8 +4,8 @@ ghost use Rattle.clap.specs.Words.{subcommand_of, subcommand_rows_of, has_subcom
 ghost use Rattle.tm_words.specs.CommandLine.{AreTaken, command_line};
 ghost use Rattle.tm_words.specs.Job.{job_of, job_of_words};
 
-use crate::commands::{command_line, kind_of_name};
-use crate::job::{HexText, Job, JobKind};
+use crate::commands::{JobKind, command_line, kind_of_name};
+use crate::job::{HexText, Job};
 use crate::options::{number_or, raw, text_or_empty};
 use clap::ArgMatches;
 use clap::error::ErrorKind;

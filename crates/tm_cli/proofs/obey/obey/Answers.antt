@@ -1,7 +1,7 @@
 use Rattle.std.proofs.Common.{rules, ◌∙◌, Ok, refl, sym, ap}
 use Rattle.tm_base.specs.declared.outside.NoMemory.{NoMemory}
 use Rattle.tm_driver.specs.Courses.{sink_state, source_state}
-use Rattle.tm_words.specs.declared.job.JobKind.{JobKind}
+use Rattle.tm_words.specs.declared.commands.JobKind.{JobKind}
 use Rattle.tm_cli.specs.Command.{command_by}
 use Rattle.tm_cli.specs.Command.Command.{Encode, Decode, Report, Trace, Word, Soak, Erased, Certify, Check, Bits}
 use Rattle.tm_cli.proofs.Answering.{erased-coded, check-rate, as-command, without-notes, without-input}

@@ -2,7 +2,7 @@ use Rattle.std.proofs.Common.{◌∙◌, ap, ap₂, sym, map, take, List, ℕ, a
 use Rattle.std.proofs.lemmas.List.{map_more}
 use Rattle.clap.specs.Words.{with_subcommand}
 use Rattle.tm_words.specs.CommandLine.{with_commands, command_shape}
-use Rattle.tm_words.specs.declared.job.JobKind.{JobKind}
+use Rattle.tm_words.specs.declared.commands.JobKind.{JobKind}
 use Rattle.tm_words.proofs.Building.{command-more}
 use Rattle.tm_words.proofs.commands.with_commands.Goals as goal
 
