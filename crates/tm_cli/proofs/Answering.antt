@@ -23,9 +23,8 @@ use Rattle.tm_driver.proofs.TwoSinks.{alone}
 use Rattle.tm_words.specs.declared.commands.JobKind.{JobKind}
 use Rattle.tm_words.specs.declared.commands.JobKind.TheVariants as kind
 use Rattle.tm_words.specs.declared.job.Job.{Job}
-use Rattle.tm_cli.specs.Command.{Command, command_by, command_of, reads}
-use Rattle.tm_cli.specs.Command.Command.{Encode, Decode, Report, Trace, Word, Soak, Erased, Certify, Check, Bits}
-use Rattle.tm_cli.specs.Meanings.{meaning_of}
+use Rattle.tm_cli.specs.Commands.{Command, command_by, command_of, meaning_of, reads}
+use Rattle.tm_cli.specs.Commands.Command.{Encode, Decode, Report, Trace, Word, Soak, Erased, Certify, Check, Bits}
 use Rattle.tm_cli.specs.Refusal.{refusal_of_command}
 use Rattle.tm_cli.specs.declared.refusal.Refusal.{Refusal}
 use Rattle.tm_cli.specs.declared.refusal.Refusal.TheVariants.{Value}

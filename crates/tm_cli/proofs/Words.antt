@@ -5,7 +5,7 @@ use Rattle.tm_config.specs.Accepted.{refusal_of as refusal_of_raw}
 use Rattle.tm_config.specs.Configuration.{Configuration, configuration_of}
 use Rattle.tm_config.specs.declared.error.ConfigError.{ConfigError}
 use Rattle.tm_words.specs.declared.job.Job.{Job}
-use Rattle.tm_cli.specs.Command.{command_of}
+use Rattle.tm_cli.specs.Commands.{command_of}
 use Rattle.tm_cli.specs.declared.refusal.Refusal.{Refusal}
 use Rattle.tm_cli.specs.declared.refusal.Refusal.TheVariants as refusal
 use Rattle.tm_cli.specs.Refusal.{first_refusal, refusal_after, refusal_of_command, refusal_of_job}

@@ -1,4 +1,3 @@
-pub mod Command
 pub mod Lines
 pub mod Report
 pub mod Taken
@@ -8,7 +7,7 @@ pub mod Receiving
 pub mod Generated
 pub mod HeldSymbols
 pub mod Soak
-pub mod Meanings
+pub mod Commands
 pub mod Refusal
 pub mod Link
 pub mod Run

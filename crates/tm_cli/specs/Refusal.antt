@@ -10,8 +10,8 @@ use Rattle.tm_config.specs.declared.error.ConfigError.TheVariants.{Code, Inner}
 use Rattle.tm_words.specs.CommandLine.{command_line}
 use Rattle.tm_words.specs.Job.{job_of_words}
 use Rattle.tm_words.specs.declared.job.Job.{Job}
-use Rattle.tm_cli.specs.Command.{Command, command_of}
-use Rattle.tm_cli.specs.Command.Command.{Word, Soak, Erased, Check}
+use Rattle.tm_cli.specs.Commands.{Command, command_of}
+use Rattle.tm_cli.specs.Commands.Command.{Word, Soak, Erased, Check}
 use Rattle.tm_cli.specs.Soak.{soak_refusal, soak_reason}
 use Rattle.tm_records.specs.Word.{word_refusal, word_reason}
 use Rattle.tm_cli.specs.declared.refusal.Refusal.{Refusal}

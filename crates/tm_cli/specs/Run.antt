@@ -10,11 +10,10 @@ use Rattle.tm_driver.specs.Statuses.{is_sink_fault, status_of}
 use Rattle.tm_driver.specs.declared.ending.Ending.{Ending}
 use Rattle.tm_driver.specs.declared.ending.Ending.TheVariants.{Bad, SinkFault}
 use Rattle.tm_path_commands.specs.Shown.{ShowsLeast, PassesCertified}
-use Rattle.tm_cli.specs.Command.{Command, reads}
-use Rattle.tm_cli.specs.Command.Command.{Encode, Decode, Check}
+use Rattle.tm_cli.specs.Commands.{Command, meaning_of, reads}
+use Rattle.tm_cli.specs.Commands.Command.{Encode, Decode, Check}
 use Rattle.tm_cli.specs.Lines.{refusal_text}
 use Rattle.tm_cli.specs.Link.{KeepsCleanLink, KeepsDisturbedLink, KeepsComplementedInput, KeepsComplementedSymbols}
-use Rattle.tm_cli.specs.Meanings.{meaning_of}
 use Rattle.tm_cli.specs.Refusal.{reason_of, refusal_of}
 use Rattle.tm_cli.specs.declared.refusal.Refusal.{Refusal}
 

@@ -1,6 +1,6 @@
 //! The program: the commands that send and receive frames, the lines that they write, and the top call `run`, which
 //! carries every promise from the octets read to the octets written and the exit status. Commands of the layers below
-//! come from tm_path_commands and tm_records. What each command writes is its meaning (`specs/Meanings.antt`); all that
+//! come from tm_path_commands and tm_records. What each command writes is its meaning (`specs/Commands.antt`); all that
 //! read are driven by tm_driver.
 #![tactic(auto)]
 

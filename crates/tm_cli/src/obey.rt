@@ -1,7 +1,6 @@
 // Does what a command asks for.
 ghost use Rattle.std.specs.Prelude.{◌≡◌, ◌⊎◌, true, false, None, IfOk, OnErr};
-ghost use Rattle.tm_cli.specs.Command.{command_of, reads};
-ghost use Rattle.tm_cli.specs.Meanings.{meaning_of};
+ghost use Rattle.tm_cli.specs.Commands.{command_of, meaning_of, reads};
 ghost use Rattle.tm_cli.specs.Refusal.{refusal_of_command};
 ghost use Rattle.tm_driver.specs.Answered.{Answered};
 ghost use Rattle.tm_driver.specs.Courses.{SinkWent, sink_call, source_call};

@@ -6,7 +6,7 @@ ghost use Rattle.tm_cli.specs.Lines.{refusal_text};
 ghost use Rattle.tm_config.specs.Configuration.{configuration_of, Configuration};
 ghost use Rattle.tm_config.specs.Accepted.{IsAccepted};
 ghost use Rattle.tm_words.specs.declared.job.Job.{Job};
-ghost use Rattle.tm_cli.specs.Command.{command_of};
+ghost use Rattle.tm_cli.specs.Commands.{command_of};
 ghost use Rattle.tm_cli.specs.Refusal.{reason_of, refusal_of, refusal_of_command, IsAsked};
 
 use crate::soak_refusal::{SoakRefusal, test_soak};

@@ -2,7 +2,7 @@
 ghost use Rattle.std.specs.Prelude.{◌≡◌, ◌⊎◌, ◌≤◌, map, string_bytes, IsSome, false};
 ghost use Rattle.tm_config.specs.Configuration.{configuration_of};
 ghost use Rattle.tm_words.specs.declared.job.Job.{Job};
-ghost use Rattle.tm_cli.specs.Command.{command_of, reads};
+ghost use Rattle.tm_cli.specs.Commands.{command_of, reads};
 ghost use Rattle.tm_cli.specs.Refusal.{refusal_of, IsAsked};
 ghost use Rattle.tm_cli.specs.Run.{Answers, IsRefused, call_of};
 ghost use Rattle.tm_driver.specs.Courses.{sink_state, source_state};

@@ -2,8 +2,8 @@ use Rattle.std.proofs.Common.{rules, ◌∙◌, Ok, refl, sym, ap}
 use Rattle.tm_base.specs.declared.outside.NoMemory.{NoMemory}
 use Rattle.tm_driver.specs.Courses.{sink_state, source_state}
 use Rattle.tm_words.specs.declared.commands.JobKind.{JobKind}
-use Rattle.tm_cli.specs.Command.{command_by}
-use Rattle.tm_cli.specs.Command.Command.{Encode, Decode, Report, Trace, Word, Soak, Erased, Certify, Check, Bits}
+use Rattle.tm_cli.specs.Commands.{command_by}
+use Rattle.tm_cli.specs.Commands.Command.{Encode, Decode, Report, Trace, Word, Soak, Erased, Certify, Check, Bits}
 use Rattle.tm_cli.proofs.Answering.{erased-coded, check-rate, as-command, without-notes, without-input}
 use Rattle.tm_cli.proofs.obey.obey.Goals as goal
 

@@ -6,9 +6,8 @@ use Rattle.tm_driver.specs.Courses.{sink_state, source_state}
 use Rattle.tm_driver.specs.Meaning.{Ends, taken_by}
 use Rattle.tm_driver.specs.declared.ending.Ending.TheVariants.{LeftOver, SourceFault, SinkFault}
 use Rattle.tm_words.specs.declared.job.Job.{Job}
-use Rattle.tm_cli.specs.Command.{Command, command_of, reads}
-use Rattle.tm_cli.specs.Command.Command.{Decode, Check}
-use Rattle.tm_cli.specs.Meanings.{meaning_of}
+use Rattle.tm_cli.specs.Commands.{Command, command_of, meaning_of, reads}
+use Rattle.tm_cli.specs.Commands.Command.{Decode, Check}
 use Rattle.tm_cli.specs.Refusal.{IsAsked}
 use Rattle.tm_cli.specs.Run.{Answers, Call, HasNoFault, StopsEncoding, call_of}
 use Rattle.tm_cli.specs.declared.refusal.Refusal.{Refusal}
