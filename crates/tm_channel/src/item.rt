@@ -27,7 +27,7 @@ pub struct Item<'a> {
 
 impl<'a> Model for Item<'a> {
     ghost use Rattle.std.specs.Prelude.{◌≤◌, length};
-    ghost use Rattle.tm_config.specs.Bounds.{deepest};
+    ghost use Rattle.tm_config.specs.Configuration.{deepest};
     ghost use Rattle.tm_channel.specs.Items.{ItemValue};
 
     ghost Value = { ItemValue };

@@ -1,7 +1,6 @@
 // The repair of codeblocks, all columns at once.
 ghost use Rattle.std.specs.Prelude.{◌≢◌, ◌≡◌, ◌<◌, ◌≤◌, ◌*◌, length, map, take};
-ghost use Rattle.tm_config.specs.Configuration.{codeblock_length};
-ghost use Rattle.tm_config.specs.Bounds.{most_batch};
+ghost use Rattle.tm_config.specs.Configuration.{codeblock_length, most_batch};
 ghost use Rattle.tm_codeblock.specs.ReceivedCodeblock.{column_count};
 ghost use Rattle.tm_channel.specs.Receiving.{AreItemsFor};
 ghost use Rattle.tm_channel.specs.Storing.{AreDecoded, AreRead, item_in, kept_in};

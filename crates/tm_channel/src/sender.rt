@@ -26,7 +26,7 @@ pub struct Sender {
 
 impl Model for Sender {
     ghost use Rattle.std.specs.Prelude.{◌≡◌, ◌<◌, ◌≤◌, take};
-    ghost use Rattle.tm_config.specs.Bounds.{longest_codeblock};
+    ghost use Rattle.tm_config.specs.Configuration.{longest_codeblock};
     ghost use Rattle.tm_channel.specs.Sending.{Sending};
 
     ghost Value = { Sending };

@@ -1,8 +1,7 @@
 // A codeblock that is whole, and what came of it.
 ghost use Rattle.std.specs.Prelude.{◌≡◌, ◌<◌, ◌≤◌, length, take};
 ghost use Rattle.tm_base.specs.Bits.{bits_of};
-ghost use Rattle.tm_config.specs.Configuration.{codeblock_length};
-ghost use Rattle.tm_config.specs.Bounds.{longest_codeblock};
+ghost use Rattle.tm_config.specs.Configuration.{codeblock_length, longest_codeblock};
 ghost use Rattle.tm_codeblock.specs.ReceivedCodeblock.{column_count};
 ghost use Rattle.tm_channel.specs.Items.{IsItem};
 ghost use Rattle.tm_channel.specs.Receiving.{kept_of};

@@ -1,8 +1,7 @@
 // The codeblock under way, and those of a batch that are whole.
 ghost use Rattle.std.specs.Prelude.{◌≡◌, ◌<◌, ◌≤◌, ◌+◌, ◌-◌, ◌*◌, [], ◌∷◌, ◌++◌, IfOk, length};
 ghost use Rattle.tm_base.specs.Bits.{bits_of, low_bits};
-ghost use Rattle.tm_config.specs.Bounds.{longest_codeblock, most_batch};
-ghost use Rattle.tm_config.specs.Configuration.{codeblock_length};
+ghost use Rattle.tm_config.specs.Configuration.{longest_codeblock, most_batch, codeblock_length};
 ghost use Rattle.tm_codeblock.specs.RoomBits.{room_bits};
 ghost use Rattle.tm_channel.specs.Receiving.{AreItemsFor, IsItemAt, kept_of, waiting_bits};
 
@@ -36,8 +35,7 @@ pub struct Codeblocks {
 
 impl Model for Codeblocks {
     ghost use Rattle.std.specs.Prelude.{◌≡◌, ◌<◌, ◌≤◌, ◌*◌, take, map, length};
-    ghost use Rattle.tm_config.specs.Configuration.{codeblock_length};
-    ghost use Rattle.tm_config.specs.Bounds.{longest_codeblock, most_batch};
+    ghost use Rattle.tm_config.specs.Configuration.{codeblock_length, longest_codeblock, most_batch};
     ghost use Rattle.tm_channel.specs.Receiving.{Batching};
     ghost use Rattle.tm_codeblock.specs.ReceivedCodeblock.{column_count};
     ghost use Rattle.tm_channel.specs.Storing.{item_in, kept_in};

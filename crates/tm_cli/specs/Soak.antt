@@ -1,7 +1,6 @@
 -- The command `soak`: generated frames, and what is received of them.
 use Rattle.std.specs.Prelude.{◌≡◌, ℕ, ◌*◌, ◌^◌, ◌≤◌, if◌then◌else◌, nat_le, nat_lt, List, [], codes, Option, Some, None}
-use Rattle.tm_config.specs.Bounds.{longest_codeblock}
-use Rattle.tm_config.specs.Configuration.{Configuration, correctable}
+use Rattle.tm_config.specs.Configuration.{longest_codeblock, Configuration, correctable}
 use Rattle.tm_base.specs.Handed.{Handed, items_of, on_handed}
 use Rattle.tm_channel.specs.declared.totals.Totals.{Totals}
 use Rattle.tm_channel.specs.Items.{ItemValue}

@@ -1,6 +1,6 @@
 // What a report counts.
 ghost use Rattle.std.specs.Prelude.{◌≡◌, ◌≤◌, length};
-ghost use Rattle.tm_config.specs.Bounds.{longest_codeblock, deepest};
+ghost use Rattle.tm_config.specs.Configuration.{longest_codeblock, deepest};
 ghost use Rattle.tm_cli.specs.Report.{fixed_of};
 ghost use Rattle.tm_cli.specs.Taken.{no_counts, number_of, counts_after};
 

@@ -4,7 +4,7 @@ use Rattle.std.specs.Prelude.{ℕ, ◌+◌, if◌then◌else◌, List, ◌++◌,
 use Rattle.std.specs.List.{range_with_len}
 use Rattle.tm_base.specs.Marker.{marker}
 use Rattle.tm_config.specs.Configuration.{Configuration, correctable, is_uncoded, word_length}
-use Rattle.tm_config.specs.Bounds.{longest_codeblock}
+use Rattle.tm_config.specs.Configuration.{longest_codeblock}
 use Rattle.tm_dual.specs.Octet.{sent_octet, element_of}
 use Rattle.tm_dual.specs.declared.basis.Basis.{Basis}
 use Rattle.tm_interleave.specs.Column.{column}

@@ -1,8 +1,7 @@
 // Channel access data units: a frame's codeblock, randomized, after the attached sync marker.
 ghost use Rattle.std.specs.Prelude.{◌≡◌, ◌≢◌, ℕ, ◌+◌, ◌-◌, ◌*◌, ◌<◌, ◌≤◌, ◌++◌, length, true, false};
 ghost use Rattle.tm_config.specs.Accepted.{IsAccepted};
-ghost use Rattle.tm_config.specs.Configuration.{correctable, word_length, codeblock_length};
-ghost use Rattle.tm_config.specs.Bounds.{longest_codeblock, deepest};
+ghost use Rattle.tm_config.specs.Configuration.{correctable, word_length, codeblock_length, longest_codeblock, deepest};
 ghost use Rattle.tm_interleave.specs.Column.{column};
 ghost use Rattle.tm_codeblock.specs.ReceivedCodeblock.{column_count};
 ghost use Rattle.tm_codeblock.specs.Cadu.{coded_octets, coded_column, codeblock_of, cadu};

@@ -1,7 +1,7 @@
 // The bits of a codeblock, gathered into octets.
 ghost use Rattle.std.specs.Prelude.{◌≡◌, ◌+◌, ◌*◌, ◌%◌, ◌<◌, ◌≤◌, List, [], ◌∷◌, ◌++◌, length};
 ghost use Rattle.tm_base.specs.Bits.{bits_of, bits_of_octet, low_bits};
-ghost use Rattle.tm_config.specs.Bounds.{longest_codeblock};
+ghost use Rattle.tm_config.specs.Configuration.{longest_codeblock};
 ghost use Rattle.tm_codeblock.specs.RoomBits.{room_bits};
 
 use std::marker::Model;
@@ -20,7 +20,7 @@ pub struct Gathering {
 impl Model for Gathering {
     ghost use Rattle.std.specs.Prelude.{Bool, List, ◌++◌, take, ◌≤◌, ◌<◌};
     ghost use Rattle.tm_base.specs.Bits.{bits_of, low_bits};
-    ghost use Rattle.tm_config.specs.Bounds.{longest_codeblock};
+    ghost use Rattle.tm_config.specs.Configuration.{longest_codeblock};
 
     ghost Value = { List Bool };
 

@@ -6,7 +6,7 @@ use Rattle.std.proofs.Math.Nat.{mul-div_cancel_left}
 use Rattle.tm_base.specs.Limits.{most_workers, most_limit}
 use Rattle.tm_base.specs.Marker.{most_tolerance}
 use Rattle.tm_viterbi.specs.WindowSizes.{least_keep, most_keep, most_ahead}
-use Rattle.tm_config.specs.Bounds.{longest_codeblock, deepest, most_skip, most_fly, most_batch, most_verify}
+use Rattle.tm_config.specs.Configuration.{longest_codeblock, deepest, most_skip, most_fly, most_batch, most_verify}
 use Rattle.tm_config.specs.declared.values.Raw.{Raw}
 use Rattle.tm_config.specs.declared.values.OuterCode.{OuterCode}
 use Rattle.tm_config.specs.declared.values.OuterCode.TheVariants.{Rs16, Rs8, Uncoded}

@@ -2,7 +2,7 @@
 use Rattle.std.proofs.Common.{◌≡◌, ◌≢◌, ◌∙◌, inl, inr, ap, sym, ℕ, ◌+◌, ◌*◌, ◌≤◌, refl, arith}
 use Rattle.std.proofs.Math.Nat.{mul-le-mul, mul-add}
 use Rattle.tm_rs_code.specs.Code.{longest_word}
-use Rattle.tm_config.specs.Bounds.{longest_codeblock}
+use Rattle.tm_config.specs.Configuration.{longest_codeblock}
 use Rattle.tm_config.specs.declared.values.OuterCode.{OuterCode}
 use Rattle.tm_config.specs.declared.values.OuterCode.TheVariants.{Rs16, Rs8, Uncoded}
 use Rattle.tm_config.specs.Configuration.{Configuration, data_length, word_length, codeblock_length, most_data, correctable}

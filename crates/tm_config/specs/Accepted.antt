@@ -5,7 +5,7 @@ use Rattle.std.specs.List.{list_any}
 use Rattle.tm_base.specs.Limits.{most_workers, most_limit}
 use Rattle.tm_base.specs.Marker.{most_tolerance}
 use Rattle.tm_viterbi.specs.WindowSizes.{least_keep, most_keep, most_ahead}
-use Rattle.tm_config.specs.Bounds.{deepest, most_skip, most_fly, most_batch, most_verify}
+use Rattle.tm_config.specs.Configuration.{deepest, most_skip, most_fly, most_batch, most_verify}
 use Rattle.tm_config.specs.Configuration.{Configuration, data_length, most_data}
 use Rattle.tm_config.specs.Configuration.{correctable, is_uncoded, all_codes, code_of}
 use Rattle.tm_config.specs.Configuration.{number_of_rate, all_rates, number_of_switch, all_switches}

@@ -9,7 +9,6 @@ use Rattle.tm_dual.specs.declared.basis.Basis.TheVariants.{Dual, Poly}
 use Rattle.tm_rs_code.specs.Code.{longest_word}
 use Rattle.tm_viterbi.specs.declared.block.Start.{Start}
 use Rattle.tm_viterbi.specs.declared.block.Start.TheVariants.{Zero, Any}
-use Rattle.tm_config.specs.Bounds.{longest_codeblock}
 use Rattle.tm_config.specs.declared.values.Raw.{Raw}
 use Rattle.tm_config.specs.declared.values.Values.{Values}
 use Rattle.tm_config.specs.declared.values.OuterCode.{OuterCode}
@@ -20,6 +19,34 @@ use Rattle.tm_config.specs.declared.values.SoftForm.{SoftForm}
 use Rattle.tm_config.specs.declared.values.SoftForm.TheVariants.{Unsigned, Signed}
 use Rattle.tm_config.specs.declared.values.Sought.{Sought}
 use Rattle.tm_config.specs.declared.values.Sought.TheVariants.{Given, Find}
+
+-- The bounds of the options' values, but for those that crates below have: tm_base `Limits` and
+-- `Marker`, tm_rs_code `Code`, tm_viterbi `WindowSizes`. The constants of the code are proved to
+-- be these numbers.
+
+-- the greatest interleaving depth (CCSDS 131.0-B, Reed-Solomon Coding)
+abbrev pub deepest : ℕ
+deepest = 8
+
+-- the most octets of a codeblock: those of so many of the longest words
+abbrev pub longest_codeblock : ℕ
+longest_codeblock = 2040
+
+-- the most symbols that are dropped first
+abbrev pub most_skip : ℕ
+most_skip = 15
+
+-- the most markers in a row that may be missing
+abbrev pub most_fly : ℕ
+most_fly = 15
+
+-- the most codeblocks that are repaired at once
+abbrev pub most_batch : ℕ
+most_batch = 32
+
+-- the most further markers that must match before a place that is searched for is taken
+abbrev pub most_verify : ℕ
+most_verify = 7
 
 -- a configuration is its values, all resolved but `invert`
 abbrev pub Configuration : Type 0

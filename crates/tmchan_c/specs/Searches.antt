@@ -2,7 +2,7 @@
 use Rattle.std.specs.Int.{from_bool}
 use Rattle.std.specs.Prelude.{◌≡◌, ℕ, ◌+◌, ◌≤◌, ◌==◌, ◌&&◌, nat_le, ℤ, pos, Bool, true, List, [], ◌++◌, length, Option, Some, None, if◌then◌else◌}
 use Rattle.tm_base.specs.Marker.{most_tolerance}
-use Rattle.tm_config.specs.Bounds.{most_fly, most_verify}
+use Rattle.tm_config.specs.Configuration.{most_fly, most_verify}
 use Rattle.tm_config.specs.declared.error.ConfigError.TheVariants.{Tolerance, Fly, Polarity, Verify}
 use Rattle.tm_sync.specs.declared.found.Found.{Found}
 use Rattle.tm_sync.specs.declared.found.Before.{Before}

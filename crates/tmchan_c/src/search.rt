@@ -2,7 +2,7 @@
 ghost use Rattle.std.specs.Prelude.{◌≡◌, ◌*◌, ◌≤◌, None, Some, IfOk, IfErr, OnOk, length, pos};
 ghost use Rattle.tm_base.specs.Bits.{bits_of};
 ghost use Rattle.tm_base.specs.Marker.{most_tolerance};
-ghost use Rattle.tm_config.specs.Bounds.{most_fly, most_verify};
+ghost use Rattle.tm_config.specs.Configuration.{most_fly, most_verify};
 ghost use Rattle.tm_buffers.specs.Searching.{bits_in};
 ghost use Rattle.tm_buffers.specs.Buffer.{most_taken};
 ghost use Rattle.tmchan_c.specs.Refusal.{Refuses};

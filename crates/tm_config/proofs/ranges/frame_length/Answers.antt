@@ -1,7 +1,6 @@
 use Rattle.std.proofs.Common.{◌≤◌, arith}
 use Rattle.std.proofs.Math.Nat.{mul-le-mul}
-use Rattle.tm_config.specs.Configuration.{code_of}
-use Rattle.tm_config.specs.Bounds.{longest_codeblock}
+use Rattle.tm_config.specs.Configuration.{code_of, longest_codeblock}
 use Rattle.tm_config.proofs.Accepting.{all_pass, depth_within, most_data-le}
 use Rattle.tm_config.proofs.ranges.frame_length.Goals as goal
 
