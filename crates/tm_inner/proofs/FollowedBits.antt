@@ -1,9 +1,8 @@
 -- The bits that blocks keep in windows before which octets may be dropped.
-use Rattle.std.proofs.Common.{◌≡◌, inl, inr, ℕ, zero, suc, ◌+◌, ◌-◌, ◌*◌, ◌<◌, ◌≤◌, ◌∙◌, ◌++◌, refl, sym, ap, subst, arith, List, [], ◌∷◌, length, take, length-append, length-drop, length-take}
+use Rattle.std.proofs.Common.{◌≡◌, inl, inr, ℕ, zero, suc, ◌+◌, ◌-◌, ◌*◌, ◌<◌, ◌≤◌, ◌∙◌, ◌++◌, refl, sym, ap, subst, arith, List, [], ◌∷◌, length, take, length-append, length-take}
 use Rattle.std.proofs.lemmas.Bool.{cases_lt}
 use Rattle.tm_conv.specs.Path.{steps_size}
-use Rattle.tm_conv.proofs.Paths.{steps_size-zero}
-use Rattle.tm_conv.proofs.Sizes.{steps_size-add, steps_size-le, steps_size-least}
+use Rattle.tm_conv.proofs.Sizes.{steps_size-add, steps_size-least}
 use Rattle.tm_viterbi.specs.Settings.{Settings}
 use Rattle.tm_viterbi.specs.WindowBlock.{WindowBlock}
 use Rattle.tm_viterbi.specs.Blocks.{IsBlock}
@@ -14,7 +13,7 @@ use Rattle.tm_viterbi.proofs.WholeBlocks.{last_kept}
 use Rattle.tm_windows.specs.Followed.{Windows, Beginning, Spot, first_spot, BeginsLast, undropped, spot_after, Followed, AreFollowedFirst, IsOpenAt, AreFollowedDue, IsLast, AreFollowedOf, kept_of}
 use Rattle.tm_windows.proofs.Beginnings.{begins-one, begins-more, begins-within, longer_beginning, longer_spot}
 use Rattle.tm_windows.proofs.FollowedOnce.{closed-more, one-longer, open-stops, last-stops, both-stop}
-use Rattle.tm_windows.proofs.FollowedRuns.{kept-append}
+use Rattle.tm_windows.proofs.FollowedRuns.{kept-append, begun-taken, followed-taken}
 use Rattle.tm_inner.proofs.ReceivedBits.{block-bits, kept-le}
 
 -- ---- what blocks keep
@@ -41,47 +40,6 @@ followed-keep w from to (x ∷ xs) h =
       block-keeps s h.0 (s.keep + s.ahead + 1) x h.2.0.room h.2.0.is_block,
       followed-keep w (spot_after s h.0 x) to xs h.3,
     )
-
--- closed windows take no fewer octets than those of the steps that they keep
-pub record IsTaken (w : Windows) (from to : Spot) (kept : ℕ) : Type 0 where
-  pub step : to.place.t ≡ from.place.t + kept
-  pub octets : steps_size w.settings.rate from.place.t kept + length to.place.octets ≤ length from.place.octets
-
--- the same from where the first of them begins
-begun-taken : (w : Windows) (from to : Spot) (x : WindowBlock) (xs : List WindowBlock) (h : Followed w from (x ∷ xs) to)
-    → IsTaken w (spot_after w.settings h.0 x) to (kept_of xs)
-    → steps_size w.settings.rate h.0.place.t (kept_of (x ∷ xs)) + length to.place.octets ≤ length h.0.place.octets
-begun-taken w from to x xs h rest =
-    let s = w.settings in
-    let at = h.0.place in
-    let kept : x.kept ≡ s.keep = h.2.0.is_block.kept ∙ kept_is s.keep s.ahead in
-    omega (
-      arith,
-      rest.octets,
-      h.2.0.room,
-      steps_size-le s.rate at.t x.kept (s.keep + s.ahead + 1) (omega (arith, kept)),
-      length-drop (steps_size s.rate at.t x.kept) at.octets,
-      steps_size-add s.rate at.t x.kept (kept_of xs),
-    )
-
-pub followed-taken : (w : Windows) (from to : Spot) (blocks : List WindowBlock) → Followed w from blocks to → IsTaken w from to (kept_of blocks)
-followed-taken w from to [] h = subst (λ (v : Spot). IsTaken w from v 0) h (record {
-  step = omega arith;
-  octets = omega (arith, steps_size-zero w.settings.rate from.place.t);
-})
-followed-taken w from to (x ∷ xs) h =
-    let s = w.settings in
-    let within = begins-within w from h.0 h.1 in
-    let rest = followed-taken w (spot_after s h.0 x) to xs h.3 in
-    record {
-      step = omega (arith, rest.step, within.0);
-      octets = omega (
-        arith,
-        begun-taken w from to x xs h rest,
-        within.1,
-        ap (λ (t : ℕ). steps_size s.rate t (kept_of (x ∷ xs))) within.0,
-      );
-    }
 
 pub followed-few : (w : Windows) (octets : List ℕ) (blocks : List WindowBlock) → AreFollowedFirst w octets blocks → length (kept_bits blocks) ≤ length octets
 followed-few w octets blocks h =

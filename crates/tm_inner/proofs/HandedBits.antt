@@ -156,6 +156,40 @@ waiting-kept c given done (w ∷ waiting) (inr due) =
       omega (arith, first, length-kept (items_of done) (w ∷ waiting) h.items is),
     )
 
+-- blocks that keep as many bits each
+abbrev KeepAll : Configuration → List WindowBlock → Type 0
+KeepAll c blocks = length (kept_bits blocks) ≡ length blocks * c.keep
+
+-- as all do that are due
+pub handed-keep : (c : Configuration) (given : List ℕ) (handed : List (Handed WindowBlock))
+    → AreHandedDue c given handed
+    → length (kept_bits (items_of handed)) ≡ length (items_of handed) * c.keep
+handed-keep c given handed (inl none) =
+    subst (λ (l : List (Handed WindowBlock)). KeepAll c (items_of l)) (sym none.1) (omega arith)
+handed-keep c given handed (inr due) =
+    let h = due.1 in
+    let is : items_of handed ≡ h.items = ap items_of h.are ∙ items_of-with_phase h.chosen h.items in
+    subst (KeepAll c) (sym is) (due-kept c (skip_of h.chosen) given [] h.items h.are_items)
+
+-- and those of them that were handed over
+pub done-keep : (c : Configuration) (given : List ℕ) (done : List (Handed WindowBlock))
+    (waiting : List WindowBlock) → AreHandedDue c given (done ++ map Item waiting)
+    → length (kept_bits (items_of done)) ≡ length (items_of done) * c.keep
+done-keep c given done waiting due =
+    let first = items_of done in
+    let items : items_of (done ++ map Item waiting) ≡ first ++ waiting =
+    items_of-append done (map Item waiting)
+    ∙ ap (λ (l : List WindowBlock). first ++ l) (items_of-items waiting) in
+    let all : length (kept_bits (first ++ waiting)) ≡ length (first ++ waiting) * c.keep =
+    subst (KeepAll c) items (handed-keep c given (done ++ map Item waiting) due) in
+    omega (
+      arith,
+      all,
+      (waiting-kept c given done waiting due).0,
+      length-kept first waiting (first ++ waiting) refl,
+      ap (λ (n : ℕ). n * c.keep) (length-append first waiting),
+    )
+
 -- no octets have nothing that is due
 pub handed-due-none : (c : Configuration) → 1 ≤ c.keep → AreHandedDue c [] []
 handed-due-none c some = by_phase (given_or_find c.phase)

@@ -1,8 +1,8 @@
 -- What is handed over for received octets.
 use Rattle.std.proofs.Common.{None, ◌≡◌, ◌⊎◌, inl, inr, ℕ, ◌+◌, ◌-◌, ◌<◌, ◌≤◌, ◌^◌, min, length-append, length-drop, List, [], ◌++◌, length, map, drop, refl, sym, ap, ◌∙◌, subst, arith, Option, Some, None}
-use Rattle.std.proofs.lemmas.List.{append-nil, length-map}
+use Rattle.std.proofs.lemmas.List.{length-map}
 use Rattle.tm_base.specs.Handed.{Handed, Item, items_of}
-use Rattle.tm_config.specs.Configuration.{Configuration}
+use Rattle.tm_config.specs.Configuration.{Configuration, unfollowed}
 use Rattle.tm_config.specs.declared.values.Sought.TheVariants.{Given, Find}
 use Rattle.tm_config.proofs.Choices.{never_both}
 use Rattle.tm_conv.specs.declared.rates.Rate.{Rate}
@@ -17,6 +17,7 @@ use Rattle.tm_inner.specs.Receiving.{AreInnerFirst, HasClosedAll, HasCountedAll,
 use Rattle.tm_inner.specs.Handing.{AreHanded, AreHandedDue, AreHandedFirst, AreHandedPrefix}
 use Rattle.tm_inner.proofs.GivenPieces.{due-of, decodes-after, few-soft, phase_octets-more, soft-after}
 use Rattle.tm_inner.proofs.PhasePieces.{NoneWaits, further, items_of-with_phase, none-goes, so-far}
+use Rattle.tm_inner.proofs.WithPhase.{OnePhase, one-choice}
 
 -- the phase needs an octet or more
 pub needed-some : (rate : Option Rate) (c : Configuration) → 1 ≤ c.keep → 1 ≤ needed_at rate c
@@ -115,11 +116,39 @@ due-further p given done count of none counted (inr g) =
       ),
     )
 
--- while the phase is to be chosen nothing is due
-pub due-waiting : (p : Phasing) (given : List ℕ) (done : List (Handed WindowBlock)) → p.config.phase ≡ Find → p.chosen ≡ None
-    → PhasesFor p (phase_octets p.config given) done → (more : List WindowBlock) × IsCount p.config (length more) 0 × AreHandedDue p.config given (done ++ map Item more)
-due-waiting p given done find none (inl w) = ([], (omega arith, λ plain. refl), inl (w.1, append-nil done ∙ w.0.nothing))
-due-waiting p given done find none (inr g) = absurd (none-goes p (phase_octets p.config given) done find none g.0)
+-- and no more than if no octet were dropped
+pub most-further : OnePhase → (p : Phasing) (given : List ℕ) (done all : List (Handed WindowBlock))
+    (count : ℕ) → IsDecoderOf p.config p.decoder → NoneWaits p
+    → ((c : Configuration) (phase : ℕ) (given : List ℕ) (done all : List WindowBlock)
+    → IsDecoderOf c p.decoder → DecodesFor p.decoder (soft_octets c phase given) done
+    → AreInnerDue (unfollowed c) phase given all → length done + count ≤ length all)
+    → PhasesFor p (phase_octets p.config given) done → AreHandedDue (unfollowed p.config) given all
+    → length (items_of done) + count ≤ length (items_of all)
+most-further one p given done all count of none counted (inl w) due =
+    absurd (none (w.0.find, w.0.none))
+most-further one p given done all count of none counted (inr g) (inl unsettled) =
+    absurd (unsettled.0 g.1)
+most-further one p given done all count of none counted (inr g) (inr due) =
+    let c = p.config in
+    let h = due.1 in
+    let phase = skip_of p.chosen in
+    let blocks = g.0.blocks in
+    let same : p.chosen ≡ h.chosen = one-choice one c given p.chosen h.chosen g.0.choice h.choice in
+    let plain = subst (λ (o : Option Chosen). AreInnerDue (unfollowed c) (skip_of o) given h.items)
+    (sym same) h.are_items in
+    let decodes = decodes-after c p.decoder phase given blocks of g.0.decodes in
+    omega (
+      arith,
+      counted c phase given blocks h.items of decodes plain,
+      ap length (ap items_of g.0.are ∙ items_of-with_phase p.chosen blocks),
+      ap length (ap items_of h.are ∙ items_of-with_phase h.chosen h.items),
+    )
+
+-- while the phase is to be chosen nothing was handed over
+pub none-waiting : (p : Phasing) (soft : List ℕ) (done : List (Handed WindowBlock))
+    → p.config.phase ≡ Find → p.chosen ≡ None → PhasesFor p soft done → done ≡ []
+none-waiting p soft done find none (inl w) = w.0.nothing
+none-waiting p soft done find none (inr g) = absurd (none-goes p soft done find none g.0)
 
 -- the last blocks, by which all is handed over, and counted
 abbrev pub AreLast : (before now : Option InnerDecoder) → List WindowBlock → ℕ → Type 0

@@ -14,7 +14,7 @@ pub mod DueBlocks
 pub mod GivenPieces
 pub mod PhasePieces
 pub mod Counted
-pub mod HandedPieces
 pub mod WithPhase
+pub mod HandedPieces
 pub mod HandedBits
 pub mod WorkedBits

@@ -1,18 +1,20 @@
 -- Where the phase is not followed, windows stand one after another, and nothing is dropped before any.
-use Rattle.std.proofs.Common.{◌≡◌, ℕ, Bool, true, false, List, Option, Some, None, if◌then◌else◌, refl, sym, ap, ◌∙◌, subst}
-use Rattle.tm_config.specs.Configuration.{Configuration}
+use Rattle.std.proofs.Common.{◌≡◌, inl, inr, ℕ, Bool, true, false, List, length, drop, map, Option, Some, None, if◌then◌else◌, refl, sym, ap, ◌∙◌, subst, arith}
+use Rattle.tm_config.specs.Configuration.{Configuration, unfollowed}
 use Rattle.tm_conv.specs.declared.rates.Rate.{Rate}
 use Rattle.tm_viterbi.specs.Settings.{Settings}
 use Rattle.tm_viterbi.specs.WindowBlock.{WindowBlock}
 use Rattle.tm_viterbi.specs.Blocks.{AreBlocksOf}
 use Rattle.tm_viterbi.specs.Due.{AreDue, AreFirst}
+use Rattle.tm_windows.specs.declared.choosing.Chosen.{Chosen}
 use Rattle.tm_windows.specs.Slip.{steps_seen}
 use Rattle.tm_windows.specs.Followed.{Windows}
 use Rattle.tm_windows.specs.Windows.{AreBlocksIn, AreDueIn, AreFirstIn}
 use Rattle.tm_viterbi.specs.Decoding.{Decoding}
 use Rattle.tm_windows.specs.ParallelDecoding.{ParallelDecoding}
 use Rattle.tm_inner.specs.declared.inner_decoder.InnerDecoder.TheVariants.{One, Many}
-use Rattle.tm_inner.specs.Inner.{settings_of, windows_of}
+use Rattle.tm_inner.specs.Inner.{settings_of, soft_value, windows_of}
+use Rattle.tm_inner.specs.Phase.{IsChosen, IsSettled, PhaseAt, needed_at, phase_octets, skipped_at}
 use Rattle.tm_inner.specs.Receiving.{IsDecoderOf}
 
 -- windows before which no slip is looked for
@@ -56,3 +58,40 @@ one-decodes c rate decoder is plain same = (rate, is, ap unseen same ∙ sym (un
 pub many-decodes : (c : Configuration) (rate : Rate) (decoder : ParallelDecoding) → c.inner ≡ Some rate
     → decoder.windows ≡ windows_of c rate → IsDecoderOf c (Some (Many decoder))
 many-decodes c rate decoder is same = (rate, is, same)
+
+-- ---- the phase that is chosen is the same, whether it is followed or not
+
+skipped-same : (rate : Option Rate) (c : Configuration)
+    → skipped_at rate (unfollowed c) ≡ skipped_at rate c
+skipped-same None c = refl
+skipped-same (Some rate) c = refl
+
+needed-same : (rate : Option Rate) (c : Configuration)
+    → needed_at rate (unfollowed c) ≡ needed_at rate c
+needed-same None c = refl
+needed-same (Some rate) c = refl
+
+phase-same : (rate : Option Rate) (c : Configuration) (soft : List ℕ) (chosen : Chosen)
+    → PhaseAt rate (unfollowed c) soft chosen → PhaseAt rate c soft chosen
+phase-same None c soft chosen is = is
+phase-same (Some rate) c soft chosen is = is
+
+octets-same : (c : Configuration) (octets : List ℕ)
+    → phase_octets (unfollowed c) octets ≡ phase_octets c octets
+octets-same c octets =
+    ap (λ (n : ℕ). map (soft_value c) (drop n octets)) (skipped-same c.inner c)
+
+pub settled-same : (c : Configuration) (octets : List ℕ)
+    → IsSettled c octets → IsSettled (unfollowed c) octets
+settled-same c octets (inl given) = inl given
+settled-same c octets (inr many) =
+    inr (omega (arith, many, needed-same c.inner c, ap length (octets-same c octets)))
+
+pub choice-same : (c : Configuration) (octets : List ℕ) (chosen : Option Chosen)
+    → IsChosen (unfollowed c) octets chosen → IsChosen c octets chosen
+choice-same c octets None is = is
+choice-same c octets (Some chosen) is = (
+  is.0,
+  subst (λ (soft : List ℕ). PhaseAt c.inner c soft chosen) (octets-same c octets)
+      (phase-same c.inner c (phase_octets (unfollowed c) octets) chosen is.1),
+)

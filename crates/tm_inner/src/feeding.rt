@@ -1,9 +1,9 @@
 // The decoder of a configuration's inner code, and soft octets of either form given to it.
-ghost use Rattle.std.specs.Prelude.{◌≡◌, ◌≢◌, ◌<◌, ◌≤◌, ◌++◌, ◌⊎◌, ℕ, Bool, List, [], None, true, false, IfOk, IfSome, IsSome, OnOk, OnErr, length, take};
+ghost use Rattle.std.specs.Prelude.{◌≡◌, ◌≢◌, ◌<◌, ◌≤◌, ◌++◌, ◌⊎◌, ℕ, ◌+◌, Bool, List, [], None, true, false, IfOk, IfSome, IsSome, OnOk, OnErr, length, take};
 ghost use Rattle.tm_base.specs.Outside.{HasCause};
 ghost use Rattle.tm_base.specs.Takers.{HandedOver, HandedPart};
 ghost use Rattle.tm_base.specs.Limits.{most_workers};
-ghost use Rattle.tm_config.specs.Configuration.{Configuration};
+ghost use Rattle.tm_config.specs.Configuration.{Configuration, unfollowed};
 ghost use Rattle.tm_viterbi.specs.WindowBlock.{WindowBlock};
 ghost use Rattle.tm_windows.specs.Followed.{slips_of, kept_of};
 ghost use Rattle.tm_inner.specs.Calls.{GivesSoft};
@@ -132,11 +132,15 @@ fn gather_signed(decoder: &mut InnerDecoder, octets: &[u8]) -> usize
     done
 }
 
-// How many blocks are due and were not handed over yet, or more where the phase is followed.
+// How many blocks are due and were not handed over yet, or more where the phase is followed: with those handed over no
+// more than if no octet were dropped.
 pub fn count_due(decoder: &Option<InnerDecoder>) -> usize
-    ensures { (c : Configuration) (phase : ℕ) (given : List ℕ) (done : List WindowBlock) → IsDecoderOf c decoder.now
+    ensures due { (c : Configuration) (phase : ℕ) (given : List ℕ) (done : List WindowBlock) → IsDecoderOf c decoder.now
         → DecodesFor decoder.now (soft_octets c phase given) done
         → (more : List WindowBlock) × IsCount c (length more) result × AreInnerDue c phase given (done ++ more) }
+    ensures most { (c : Configuration) (phase : ℕ) (given : List ℕ) (done all : List WindowBlock)
+        → IsDecoderOf c decoder.now → DecodesFor decoder.now (soft_octets c phase given) done
+        → AreInnerDue (unfollowed c) phase given all → length done + result ≤ length all }
 {
     match decoder {
         Some(decoder) => count_closed(decoder),

@@ -1,9 +1,10 @@
 // The decoder of the inner code after the choice of the symbol phase.
-ghost use Rattle.std.specs.Prelude.{◌≡◌, ◌≢◌, ◌↔◌, ◌++◌, ◌<◌, ◌≤◌, ◌⊎◌, ℕ, List, [], None, false, IfOk, IfSome, IsSome, IsTrue, OnOk, OnErr, length, map, take};
-ghost use Rattle.tm_base.specs.Handed.{Handed, Item, on_handed};
+ghost use Rattle.std.specs.Prelude.{◌≡◌, ◌≢◌, ◌↔◌, ◌++◌, ◌+◌, ◌<◌, ◌≤◌, ◌⊎◌, ℕ, List, [], None, false, IfOk, IfSome, IsSome, IsTrue, OnOk, OnErr, length, map, take};
+ghost use Rattle.tm_base.specs.Handed.{Handed, Item, items_of, on_handed};
 ghost use Rattle.tm_base.specs.Outside.{HasCause};
 ghost use Rattle.tm_base.specs.Takers.{HandedOver, HandedPart};
 ghost use Rattle.tm_base.specs.Limits.{most_workers};
+ghost use Rattle.tm_config.specs.Configuration.{unfollowed};
 ghost use Rattle.tm_viterbi.specs.WindowBlock.{WindowBlock};
 ghost use Rattle.tm_viterbi.specs.WindowSizes.{stream_bound};
 ghost use Rattle.tm_windows.specs.Followed.{slips_of, kept_of};
@@ -140,13 +141,19 @@ impl Phased {
         gather_octets(&mut self.decoder, signed, octets)
     }
 
-    // How many blocks are due and were not handed over yet, or more where the phase is followed.
+    // How many blocks are due and were not handed over yet, or more where the phase is followed: with those handed over
+    // no more than if no octet were dropped.
     pub fn count_due(&self) -> usize
-        ensures { (given : List ℕ) (done : List (Handed WindowBlock))
+        ensures due { (given : List ℕ) (done : List (Handed WindowBlock))
             → PhasesFor self.now (phase_octets self.now.config given) done
             → (more : List WindowBlock) × IsCount self.now.config (length more) result
             × AreHandedDue self.now.config given (done ++ map Item more) }
+        ensures most { (given : List ℕ) (done all : List (Handed WindowBlock))
+            → PhasesFor self.now (phase_octets self.now.config given) done
+            → AreHandedDue (unfollowed self.now.config) given all
+            → length (items_of done) + result ≤ length (items_of all) }
     {
+        phase_law();
         if self.waits() {
             return 0;
         }

@@ -5,6 +5,7 @@ ghost use Rattle.tm_base.specs.Calls.{taker_call};
 ghost use Rattle.tm_base.specs.Handed.{Handed, Item, items_of, on_handed};
 ghost use Rattle.tm_base.specs.Takers.{HandedOver, HandedPart};
 ghost use Rattle.tm_base.specs.Limits.{most_workers};
+ghost use Rattle.tm_config.specs.Configuration.{unfollowed};
 ghost use Rattle.tm_conv.specs.Path.{AreBits};
 ghost use Rattle.tm_viterbi.specs.WindowBlock.{WindowBlock};
 ghost use Rattle.tm_viterbi.specs.Clean.{kept_bits};
@@ -190,20 +191,28 @@ impl InnerReceiver {
     }
 
     /// How many blocks are due and were not handed over yet, as octets were gathered. Where the symbol phase is
-    /// followed there may be fewer, since octets may be dropped.
+    /// followed there may be fewer, since octets may be dropped; with the blocks that were handed over it counts no
+    /// more than would be due if none were.
     pub fn count_due(&self) -> usize
-        ensures { (given : List ℕ) (done : List (Handed WindowBlock)) → StandsFor self.now given done
+        ensures due { (given : List ℕ) (done : List (Handed WindowBlock)) → StandsFor self.now given done
             → (more : List WindowBlock) × IsCount self.now.config (length more) result
             × AreHandedDue self.now.config given (done ++ map Item more) }
+        ensures most { (given : List ℕ) (done all : List (Handed WindowBlock)) → StandsFor self.now given done
+            → AreHandedDue (unfollowed self.now.config) given all
+            → length (items_of done) + result ≤ length (items_of all) }
     {
         self.phased.count_due()
     }
 
-    /// How many bits these blocks keep, or more where the symbol phase is followed.
+    /// How many bits these blocks keep. Where the symbol phase is followed there may be fewer of them, too; with the
+    /// bits of the blocks that were handed over it counts no more than if no octet were dropped.
     pub fn bits_due(&self) -> u64
-        ensures { (given : List ℕ) (done : List (Handed WindowBlock)) → StandsFor self.now given done
+        ensures due { (given : List ℕ) (done : List (Handed WindowBlock)) → StandsFor self.now given done
             → (more : List WindowBlock) × IsCount self.now.config (length (kept_bits more)) result
             × AreHandedDue self.now.config given (done ++ map Item more) }
+        ensures most { (given : List ℕ) (done all : List (Handed WindowBlock)) → StandsFor self.now given done
+            → AreHandedDue (unfollowed self.now.config) given all
+            → length (kept_bits (items_of done)) + result ≤ length (kept_bits (items_of all)) }
     {
         (self.count_due() as u64).saturating_mul(self.config.keep())
     }

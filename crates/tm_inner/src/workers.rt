@@ -2,6 +2,7 @@
 ghost use Rattle.std.specs.Prelude.{◌≡◌, ◌≢◌, ◌↔◌, ◌++◌, ◌⊎◌, ℕ, ◌+◌, ◌<◌, ◌≤◌, IsTrue, List, None, true, false, IfOk, OnOk, IfSome, IsErrOf, Err, length};
 ghost use Rattle.tm_base.specs.Outside.{Rose};
 ghost use Rattle.tm_base.specs.Takers.{HandedOver, HandedPart};
+ghost use Rattle.tm_viterbi.specs.Due.{AreDue};
 ghost use Rattle.tm_viterbi.specs.WindowBlock.{WindowBlock};
 ghost use Rattle.tm_viterbi.specs.WindowSizes.{stream_bound};
 ghost use Rattle.tm_windows.specs.Followed.{slips_of, kept_of};
@@ -75,11 +76,14 @@ pub fn gather(decoder: &mut InnerDecoder, piece: &[u8]) -> bool
     }
 }
 
-/// How many blocks are due and were not handed over yet, or more where the phase is followed.
+/// How many blocks are due and were not handed over yet, or more where the phase is followed: with those handed over no
+/// more than if no octet were dropped.
 pub fn count_closed(decoder: &InnerDecoder) -> usize
-    ensures { (given : List ℕ) (done : List WindowBlock) → StandsIn decoder.now given done
+    ensures due { (given : List ℕ) (done : List WindowBlock) → StandsIn decoder.now given done
         → (more : List WindowBlock) × (length more ≤ result) × ((windows_in decoder.now).seen ≡ None → length more ≡ result)
         × AreDueIn (windows_in decoder.now) given (done ++ more) }
+    ensures most { (given : List ℕ) (done all : List WindowBlock) → StandsIn decoder.now given done
+        → AreDue (windows_in decoder.now).settings given all → length done + result ≤ length all }
 {
     match decoder {
         InnerDecoder::One(_) => 0,

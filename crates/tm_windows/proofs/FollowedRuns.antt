@@ -2,6 +2,7 @@
 use Rattle.std.proofs.Common.{◌≡◌, inl, inr, ℕ, zero, suc, ◌+◌, ◌*◌, ◌<◌, ◌≤◌, ◌∙◌, ◌++◌, refl, sym, ap, subst, arith, unwrap_or, List, [], ◌∷◌, Option, Some, None, length, length-drop, length-append, drop, drop-drop, mul-le-mul_right}
 use Rattle.std.proofs.lemmas.List.{append-nil, drop-append-le}
 use Rattle.tm_conv.specs.Path.{steps_size}
+use Rattle.tm_conv.proofs.Paths.{steps_size-zero}
 use Rattle.tm_conv.proofs.Sizes.{steps_size-le, steps_size-add}
 use Rattle.tm_viterbi.specs.Settings.{Settings}
 use Rattle.tm_viterbi.specs.WindowBlock.{WindowBlock}
@@ -287,3 +288,88 @@ at-within w spot None at h b begins = begins-within w (record { place = at; deci
 at-within w spot (Some k) at h b begins =
     subst (λ (v : Beginning). (v.place.t ≡ at.t) × (length v.place.octets ≤ length at.octets))
     (begins-one w spot (record { dropped = k; place = at }) b h begins) (refl, omega arith)
+
+-- where octets go on after a spot there are no more of them
+pub at-few : (w : Windows) (spot : Spot) (dropped : Option ℕ) (at : Place) → IsAt w spot dropped at
+    → length at.octets ≤ length spot.place.octets
+at-few w spot None at h = omega (arith, ap (λ (v : Spot). length v.place.octets) h)
+at-few w spot (Some k) at h = (begins-within w spot (record { dropped = k; place = at }) h).1
+
+-- ---- how many steps and octets closed windows take
+
+-- each of them keeps as many steps
+pub followed-steps : (w : Windows) (from to : Spot) (blocks : List WindowBlock)
+    → Followed w from blocks to → kept_of blocks ≡ length blocks * w.settings.keep
+followed-steps w from to [] h = omega arith
+followed-steps w from to (x ∷ xs) h =
+    let s = w.settings in
+    let kept : x.kept ≡ s.keep = h.2.0.is_block.kept ∙ kept_is s.keep s.ahead in
+    omega (arith, kept, followed-steps w (spot_after s h.0 x) to xs h.3)
+
+pub closed-steps : (s : Settings) (from to : Place) (blocks : List WindowBlock)
+    → Closed s.rate s.invert s.keep s.ahead from blocks to → kept_of blocks ≡ length blocks * s.keep
+closed-steps s from to [] h = omega arith
+closed-steps s from to (x ∷ xs) h =
+    let kept : x.kept ≡ s.keep = h.0.is_block.kept ∙ kept_is s.keep s.ahead in
+    omega (arith, kept, closed-steps s (after_block s.rate from x) to xs h.1)
+
+-- they take no fewer octets than those of the steps that they keep
+pub record IsTaken (w : Windows) (from to : Spot) (kept : ℕ) : Type 0 where
+  pub step : to.place.t ≡ from.place.t + kept
+  pub octets : steps_size w.settings.rate from.place.t kept + length to.place.octets
+      ≤ length from.place.octets
+
+-- the same from where the first of them begins
+pub begun-taken : (w : Windows) (from to : Spot) (x : WindowBlock) (xs : List WindowBlock)
+    (h : Followed w from (x ∷ xs) to) → IsTaken w (spot_after w.settings h.0 x) to (kept_of xs)
+    → steps_size w.settings.rate h.0.place.t (kept_of (x ∷ xs)) + length to.place.octets
+    ≤ length h.0.place.octets
+begun-taken w from to x xs h rest =
+    let s = w.settings in
+    let at = h.0.place in
+    let kept : x.kept ≡ s.keep = h.2.0.is_block.kept ∙ kept_is s.keep s.ahead in
+    omega (
+      arith,
+      rest.octets,
+      h.2.0.room,
+      steps_size-le s.rate at.t x.kept (s.keep + s.ahead + 1) (omega (arith, kept)),
+      length-drop (steps_size s.rate at.t x.kept) at.octets,
+      steps_size-add s.rate at.t x.kept (kept_of xs),
+    )
+
+pub followed-taken : (w : Windows) (from to : Spot) (blocks : List WindowBlock)
+    → Followed w from blocks to → IsTaken w from to (kept_of blocks)
+followed-taken w from to [] h = subst (λ (v : Spot). IsTaken w from v 0) h (record {
+  step = omega arith;
+  octets = omega (arith, steps_size-zero w.settings.rate from.place.t);
+})
+followed-taken w from to (x ∷ xs) h =
+    let s = w.settings in
+    let within = begins-within w from h.0 h.1 in
+    let rest = followed-taken w (spot_after s h.0 x) to xs h.3 in
+    record {
+      step = omega (arith, rest.step, within.0);
+      octets = omega (
+        arith,
+        begun-taken w from to x xs h rest,
+        within.1,
+        ap (λ (t : ℕ). steps_size s.rate t (kept_of (x ∷ xs))) within.0,
+      );
+    }
+
+-- where nothing is dropped, just these
+pub closed-octets : (s : Settings) (from to : Place) (blocks : List WindowBlock)
+    → Closed s.rate s.invert s.keep s.ahead from blocks to
+    → length from.octets ≡ steps_size s.rate from.t (kept_of blocks) + length to.octets
+closed-octets s from to [] h =
+    omega (arith, ap (λ (p : Place). length p.octets) h, steps_size-zero s.rate from.t)
+closed-octets s from to (x ∷ xs) h =
+    let kept : x.kept ≡ s.keep = h.0.is_block.kept ∙ kept_is s.keep s.ahead in
+    omega (
+      arith,
+      closed-octets s (after_block s.rate from x) to xs h.1,
+      h.0.room,
+      steps_size-le s.rate from.t x.kept (s.keep + s.ahead + 1) (omega (arith, kept)),
+      length-drop (steps_size s.rate from.t x.kept) from.octets,
+      steps_size-add s.rate from.t x.kept (kept_of xs),
+    )

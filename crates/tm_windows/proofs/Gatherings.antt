@@ -1,5 +1,5 @@
 -- Octets that are held, and windows that they close.
-use Rattle.std.proofs.Common.{◌≡◌, ℕ, zero, suc, ◌+◌, ◌-◌, ◌*◌, ◌/◌, ◌%◌, ◌<◌, ◌≤◌, ◌∙◌, ◌++◌, ◌∷◌, [], sym, ap, subst, arith, append_assoc, List, Option, Some, None, take, drop, length, mul-le-mul_right, inl, inr, refl, unwrap_or}
+use Rattle.std.proofs.Common.{◌≡◌, ℕ, zero, suc, ◌+◌, ◌-◌, ◌*◌, ◌/◌, ◌%◌, ◌<◌, ◌≤◌, ◌∙◌, ◌++◌, ◌∷◌, [], sym, ap, subst, arith, append_assoc, List, Option, Some, None, take, drop, length, add-mul, mul-le-mul_right, inl, inr, refl, unwrap_or}
 use Rattle.std.specs.Option.{ForSome}
 use Rattle.std.proofs.lemmas.Bool.{cases_lt}
 use Rattle.std.proofs.lemmas.List.{append-nil, take_rest, drop-drop, drop-append-le, length-take-le, take-append-drop}
@@ -10,13 +10,13 @@ use Rattle.tm_conv.proofs.Sizes.{step_size_pos, steps_size-le, steps_size-add, s
 use Rattle.tm_viterbi.specs.WindowBlock.{WindowBlock}
 use Rattle.tm_viterbi.specs.Blocks.{IsBlock}
 use Rattle.tm_viterbi.specs.Settings.{Settings}
-use Rattle.tm_viterbi.specs.Due.{Place, Closed}
+use Rattle.tm_viterbi.specs.Due.{Place, Closed, first_place, AreDue}
 use Rattle.tm_viterbi.specs.declared.window_decoder.WindowShape.{WindowShape}
 use Rattle.tm_viterbi.proofs.Closing.{Closed-append, more_octets}
 use Rattle.tm_viterbi.proofs.HasBlocks.{HasBest}
 use Rattle.tm_windows.specs.Slip.{octets_seen}
 use Rattle.tm_windows.specs.Candidates.{ClosedWith, after_windows}
-use Rattle.tm_windows.specs.Followed.{Windows, Beginning, Spot, first_spot, BeginsLast, dropped_at, Followed, AreFollowedFirst, closing_size, IsOpenAt, AreFollowedDue, IsLast, AreFollowedOf}
+use Rattle.tm_windows.specs.Followed.{Windows, Beginning, Spot, first_spot, BeginsLast, dropped_at, Followed, AreFollowedFirst, closing_size, IsOpenAt, AreFollowedDue, IsLast, AreFollowedOf, kept_of}
 use Rattle.tm_windows.specs.Windows.{AreBlocksBy, AreDueBy, AreFirstBy, IsSeen}
 use Rattle.tm_windows.specs.Gathered.{settings_of, windows_of, room_of, HasRoom, HoldsRun, IsOpen, IsDecided, IsAt, Reaches}
 use Rattle.tm_windows.specs.declared.gathering.Gathering.{Gathering}
@@ -24,7 +24,7 @@ use Rattle.tm_windows.proofs.Beginnings.{longer_spot}
 use Rattle.tm_windows.proofs.Existing.{has_windows}
 use Rattle.tm_windows.proofs.FollowedExists.{MayStart, Ends, ends, ends_from, unseen-open}
 use Rattle.tm_windows.proofs.FollowedOnce.{closed-more}
-use Rattle.tm_windows.proofs.FollowedRuns.{place_of, followed-both, unfollowed-all, runs-to, at-more, at-within, last-begins, is-last, followed-long}
+use Rattle.tm_windows.proofs.FollowedRuns.{place_of, followed-both, unfollowed-all, runs-to, at-more, at-within, at-few, last-begins, is-last, followed-long, followed-steps, followed-taken, closed-kept, closed-steps, closed-octets}
 use Rattle.tm_windows.proofs.Runs.{more_times}
 use Rattle.tm_windows.proofs.Undisturbed.{unseen-first, unseen-due, unseen-blocks}
 
@@ -342,6 +342,80 @@ due_after exists g all done count some looks room most r = go g.seen refl
             is_open = ends-open w looks r.to e;
           },
         )
+
+-- ---- no more than if no octet were dropped
+
+-- octets have no more windows that are closed than those whose blocks are due
+due_few : (s : Settings) (octets : List ℕ) (blocks : List WindowBlock) → AreDue s octets blocks
+    → length octets < steps_size s.rate 0 ((length blocks + 1) * s.keep + s.ahead + 1)
+due_few s octets blocks h =
+    let from = first_place s octets in
+    let kept : ℕ = kept_of blocks in
+    let size : ℕ = s.keep + s.ahead + 1 in
+    let sum : kept + size ≡ (length blocks + 1) * s.keep + s.ahead + 1 =
+    omega (arith, closed-steps s from h.to blocks h.closed, more_times (length blocks) s.keep) in
+    let less : length h.to.octets < steps_size s.rate (0 + kept) size =
+    subst (λ (t : ℕ). length h.to.octets < steps_size s.rate t size)
+    (closed-kept s from h.to blocks h.closed) h.few in
+    omega (
+      arith,
+      less,
+      closed-octets s from h.to blocks h.closed,
+      steps_size-add s.rate 0 kept size,
+      ap (steps_size s.rate 0) sum,
+    )
+
+-- all octets have the steps of the windows that are closed, with those that the octets held close,
+-- and one more
+reached_by : (g : Gathering) (all : List ℕ) (done : List WindowBlock) (count : ℕ)
+    → HoldsRun g count → Reaches g all [] done
+    → steps_size g.shape.rate 0 ((length done + count) * g.shape.keep + g.shape.ahead + 1)
+    ≤ length all
+reached_by g all done count room r =
+    let s = g.shape in
+    let w = windows_of g in
+    let from = first_spot w all in
+    let kept : ℕ = kept_of done in
+    let size : ℕ = count * s.keep + s.ahead + 1 in
+    let sum : kept + size ≡ (length done + count) * s.keep + s.ahead + 1 =
+    omega (arith, followed-steps w from r.to done r.closed, add-mul (length done) count s.keep) in
+    let here : 0 + kept ≡ g.t = omega (arith, r.kept) in
+    omega (
+      arith,
+      room,
+      (followed-taken w from r.to done r.closed).octets,
+      at-few w r.to g.dropped (place_of g.starts g.t (g.held.octets ++ [])) r.at,
+      ap length (append-nil g.held.octets),
+      ap (λ (t : ℕ). steps_size s.rate t size) here,
+      steps_size-add s.rate 0 kept size,
+      ap (steps_size s.rate 0) sum,
+    )
+
+-- with the windows that the octets held close there are no more than are due if no octet is dropped
+pub undropped_most : (g : Gathering) (all : List ℕ) (done plain : List WindowBlock) (count : ℕ)
+    → (0 < count → HoldsRun g count) → Reaches g all [] done → AreDue (settings_of g) all plain
+    → length done + count ≤ length plain
+undropped_most g all done plain zero room r due =
+    let w = windows_of g in
+    let from = first_spot w all in
+    let most = due_few w.settings all plain due in
+    omega (arith, ends-few w from r.to (Some 0) from.place done (length plain) refl most r.closed)
+undropped_most g all done plain (suc n) room r due =
+    let s = settings_of g in
+    let count : ℕ = length done + suc n in
+    elim (cases_lt (length plain) count) as (λ _. length done + suc n ≤ length plain) [
+      | inl less ↦ absurd
+          (let wide : (length plain + 1) * s.keep ≤ count * s.keep = mul-le-mul_right s.keep
+          (let le : length plain + 1 ≤ count = omega (arith, less) in le) in
+          omega (
+            arith,
+            reached_by g all done (suc n) (room (omega arith)) r,
+            due_few s all plain due,
+            steps_size-le s.rate 0 ((length plain + 1) * s.keep + s.ahead + 1)
+                (count * s.keep + s.ahead + 1) (omega (arith, wide)),
+          ))
+      | inr le ↦ le
+    ]
 
 -- ---- the last window
 

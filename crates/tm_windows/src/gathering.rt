@@ -6,6 +6,7 @@ ghost use Rattle.tm_base.specs.Outside.{HasCause};
 ghost use Rattle.tm_base.specs.Takers.{HandedOver, HandedPart};
 ghost use Rattle.tm_base.specs.Limits.{most_workers};
 ghost use Rattle.tm_conv.specs.Path.{steps_size};
+ghost use Rattle.tm_viterbi.specs.Due.{AreDue};
 ghost use Rattle.tm_viterbi.specs.Starts.{first_start};
 ghost use Rattle.tm_viterbi.specs.WindowBlock.{WindowBlock};
 ghost use Rattle.tm_viterbi.specs.WindowSizes.{least_keep, most_keep, most_ahead, stream_bound};
@@ -114,7 +115,7 @@ fn undecided(seen: Option<usize>) -> Option<u8>
 
 impl Gathering {
     ghost use Rattle.tm_windows.specs.Followed.{AreFollowedOf, AreFollowedDue, AreFollowedFirst, AreUndropped, IsUndropped, slips_of, kept_of};
-    ghost use Rattle.tm_windows.specs.Gathered.{windows_of, room_of, reached, ClosesHeld, ClosesNext, HasRoom, HoldsNext, HoldsRun, IsOpen, IsDecided, LeavesOpen, Reaches};
+    ghost use Rattle.tm_windows.specs.Gathered.{settings_of, windows_of, room_of, reached, ClosesHeld, ClosesNext, HasRoom, HoldsNext, HoldsRun, IsOpen, IsDecided, LeavesOpen, Reaches};
 
     /// A stream of which no octet was given yet, and so many workers with room for `most` windows at a time. All
     /// memory is taken here.
@@ -458,7 +459,8 @@ impl Gathering {
         true
     }
 
-    /// How many windows the octets held close, or more where the phase is followed, since octets may be dropped.
+    /// How many windows the octets held close, or more where the phase is followed, since octets may be dropped: with
+    /// those before them no more than if none were.
     pub(crate) fn count_closed(&self) -> usize
         requires room { HasRoom self.now }
         requires few { self.now.t < stream_bound }
@@ -466,6 +468,8 @@ impl Gathering {
         ensures due { (all : List ℕ) (done : List WindowBlock) → Reaches self.now all [] done
             → (more : List WindowBlock) × (length more ≤ result) × (self.now.seen ≡ None → length more ≡ result)
             × AreFollowedDue (windows_of self.now) all (done ++ more) }
+        ensures undropped { (all : List ℕ) (done plain : List WindowBlock) → Reaches self.now all [] done
+            → AreDue (settings_of self.now) all plain → length done + result ≤ length plain }
     {
         best_path_law();
         closed_windows(self.shape, self.t, self.held.as_slice().len(), self.most)

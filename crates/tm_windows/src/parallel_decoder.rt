@@ -4,6 +4,7 @@ ghost use Rattle.std.specs.Option.{ForSome};
 ghost use Rattle.tm_base.specs.Calls.{taker_call};
 ghost use Rattle.tm_base.specs.Takers.{HandedOver, HandedPart};
 ghost use Rattle.tm_base.specs.Limits.{most_workers};
+ghost use Rattle.tm_viterbi.specs.Due.{AreDue};
 ghost use Rattle.tm_viterbi.specs.WindowBlock.{WindowBlock};
 ghost use Rattle.tm_viterbi.specs.WindowSizes.{least_keep, most_keep, most_ahead, stream_bound};
 ghost use Rattle.tm_windows.specs.Slip.{steps_seen, most_seen};
@@ -251,11 +252,14 @@ impl ParallelDecoder {
     }
 
     /// How many blocks are due and were not handed over yet: those of the windows that the octets gathered close. Where
-    /// the phase is followed there may be fewer, since octets may be dropped.
+    /// the phase is followed there may be fewer, since octets may be dropped; with the blocks that were handed over it
+    /// counts no more than would be due if none were.
     pub fn count_closed(&self) -> usize
-        ensures { (given : List ℕ) (done : List WindowBlock) → StandsFor self.now given done
+        ensures due { (given : List ℕ) (done : List WindowBlock) → StandsFor self.now given done
             → (more : List WindowBlock) × (length more ≤ result) × (self.now.windows.seen ≡ None → length more ≡ result)
             × AreDueIn self.now.windows given (done ++ more) }
+        ensures most { (given : List ℕ) (done all : List WindowBlock) → StandsFor self.now given done
+            → AreDue self.now.windows.settings given all → length done + result ≤ length all }
     {
         self.gathering.count_closed()
     }

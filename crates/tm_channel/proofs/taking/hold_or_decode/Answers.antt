@@ -15,7 +15,7 @@ pub returns-then-bits_due-spare-clause-waits : goal.returns-then-bits_due-spare-
 returns-then-bits_due-spare-clause-waits g c = λ _.
     let t = c.gather-taken in (
       ap (λ (k : Configuration). is_some k.inner) (sym t.ensures.config) ∙ sym c.has_inner_code.ensures ∙ c.if-has_inner_code.true,
-      gathered-all c.args.inner.now t.new.inner c.args.octets.now t.result c.bits_due.result c.args.spare t.ensures.config c.if-taken-octets.true c.if-bits_due-spare.true t.ensures.gathered c.bits_due.ensures,
+      gathered-all c.args.inner.now t.new.inner c.args.octets.now t.result c.bits_due.result c.args.spare t.ensures.config c.if-taken-octets.true c.if-bits_due-spare.true t.ensures.gathered c.bits_due.ensures.due,
     )
 
 pub returns-clause-room : goal.returns-clause-room

@@ -1,4 +1,5 @@
 use Rattle.std.proofs.Common.{◌≡◌, ◌∙◌, ◌++◌, sym, ap, subst, refl}
+use Rattle.tm_viterbi.specs.Due.{AreDue}
 use Rattle.tm_windows.specs.Followed.{Windows}
 use Rattle.tm_windows.specs.Windows.{AreDueIn}
 use Rattle.tm_windows.specs.Gathered.{windows_of}
@@ -6,8 +7,8 @@ use Rattle.tm_windows.specs.ParallelDecoding.{ParallelDecoding, StandsFor}
 use Rattle.tm_windows.proofs.Gatherings.{due-in}
 use Rattle.tm_windows.proofs.parallel_decoder.ParallelDecoder.count_closed.Goals as goal
 
-pub returns : goal.returns
-returns c = λ given done stands.
+pub returns-clause-due : goal.returns-clause-due
+returns-clause-due c = λ given done stands.
     let s = c.self.inside.gathering in
     let stood = subst (λ (d : ParallelDecoding). StandsFor d given done) (sym c.self.view_is) stands in
     let set : windows_of s ≡ c.args.self.now.windows = ap (λ (d : ParallelDecoding). d.windows) c.self.view_is in
@@ -18,3 +19,11 @@ returns c = λ given done stands.
       subst (λ (w : Windows). AreDueIn w given (done ++ due.0)) set
           (due-in s.seen (windows_of s) given (done ++ due.0) refl due.3),
     )
+
+pub returns-clause-most : goal.returns-clause-most
+returns-clause-most c = λ given done all stands due.
+    let s = c.self.inside.gathering in
+    let stood = subst (λ (d : ParallelDecoding). StandsFor d given done) (sym c.self.view_is) stands in
+    let set : windows_of s ≡ c.args.self.now.windows = ap (λ (d : ParallelDecoding). d.windows) c.self.view_is in
+    c.count_closed.ensures.undropped given done all stood.reaches
+    (subst (λ (w : Windows). AreDue w.settings given all) (sym set) due)
