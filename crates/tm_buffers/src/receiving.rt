@@ -43,8 +43,7 @@ impl BufferReceiver {
     pub fn open(alloc: Global, config: Config) -> Result<BufferReceiver, NoMemory>
         ensures config { IfOk result (λ receiver. receiver.config ≡ config) }
         ensures fresh { IfOk result (λ receiver. IsReceiving receiver [] []) }
-        ensures workers { IfOk result (λ receiver. HasWorkers 1 config.keep config.ahead
-            receiver.stages.inner.phased.decoder) }
+        ensures workers { IfOk result (λ receiver. HasWorkers 1 config receiver.stages.inner.phased.decoder) }
     {
         let receiver = Receiver::open_for(alloc, config, 1)?;
         Ok(BufferReceiver { receiver })

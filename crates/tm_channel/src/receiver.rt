@@ -90,8 +90,7 @@ impl Receiver {
         ensures config { IfOk result (λ r. r.config ≡ config) }
         ensures fresh { IfOk result (λ r. r.has_stopped ≡ false) }
         ensures stands { IfOk result (λ r. StandsFor r [] []) }
-        ensures workers { IfOk result (λ r. HasWorkers config.workers config.keep config.ahead
-            r.stages.inner.phased.decoder) }
+        ensures workers { IfOk result (λ r. HasWorkers config.workers config r.stages.inner.phased.decoder) }
     {
         Receiver::open_for(alloc, config, config.workers() as u8)
     }
@@ -102,8 +101,7 @@ impl Receiver {
         ensures config { IfOk result (λ r. r.config ≡ config) }
         ensures fresh { IfOk result (λ r. r.has_stopped ≡ false) }
         ensures stands { IfOk result (λ r. StandsFor r [] []) }
-        ensures workers { IfOk result (λ r. HasWorkers workers config.keep config.ahead
-            r.stages.inner.phased.decoder) }
+        ensures workers { IfOk result (λ r. HasWorkers workers config r.stages.inner.phased.decoder) }
     {
         let Ok(inner) = InnerReceiver::open_for(alloc, &config, workers) else {
             return Err(NoMemory);

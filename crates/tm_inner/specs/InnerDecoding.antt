@@ -1,5 +1,6 @@
 -- What contracts see of the decoder of the inner code, with one worker or with several.
-use Rattle.std.specs.Prelude.{◌≡◌, ℕ, Bool, List, Option, Some, None}
+use Rattle.std.specs.Prelude.{◌≡◌, ℕ, Bool, List, Option, Some, None, IsTrue}
+use Rattle.tm_config.specs.Configuration.{Configuration}
 use Rattle.tm_viterbi.specs.WindowBlock.{WindowBlock}
 use Rattle.tm_viterbi.specs.Decoding.{StandsFor as StandsForOne}
 use Rattle.tm_windows.specs.Followed.{Windows, slips_of, kept_of}
@@ -19,13 +20,15 @@ abbrev pub has_stopped_in : InnerDecoder → Bool
 has_stopped_in (One decoder) = decoder.has_stopped
 has_stopped_in (Many decoder) = decoder.has_stopped
 
--- it has as many workers and windows at a time as so many workers are to have
-abbrev pub HasWorkers : ℕ → ℕ → ℕ → Option InnerDecoder → Type 0
-HasWorkers workers keep ahead None = Unit {0}
-HasWorkers workers keep ahead (Some (One decoder)) = workers ≡ 1
-HasWorkers workers keep ahead (Some (Many decoder)) =
-    (decoder.gathering.workers.workers ≡ workers_for workers keep ahead)
-    × (decoder.gathering.workers.most ≡ windows_for (workers_for workers keep ahead) keep)
+-- it has as many workers and windows at a time as so many workers are to have, and one worker has
+-- the decoder of one, unless the phase is followed
+abbrev pub HasWorkers : ℕ → Configuration → Option InnerDecoder → Type 0
+HasWorkers workers c None = Unit {0}
+HasWorkers workers c (Some (One decoder)) = workers ≡ 1
+HasWorkers workers c (Some (Many decoder)) =
+    (decoder.gathering.workers.workers ≡ workers_for workers c.keep c.ahead)
+    × (decoder.gathering.workers.most ≡ windows_for (workers_for workers c.keep c.ahead) c.keep)
+    × (workers ≡ 1 → IsTrue c.follow)
 
 -- the octets that it holds close no window
 abbrev pub HasClosed : InnerDecoder → Type 0

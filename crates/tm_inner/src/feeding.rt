@@ -33,7 +33,7 @@ pub fn decoder_of(
     ensures of { IfOk result (IsDecoderOf config.now) }
     ensures fresh { IfOk result (HasStopped false) }
     ensures stands { IfOk result (λ d. DecodesFor d [] []) }
-    ensures workers { IfOk result (HasWorkers workers config.now.keep config.now.ahead) }
+    ensures workers { IfOk result (HasWorkers workers config.now) }
 {
     let Some(rate) = rate_of(config) else {
         return Ok(None);

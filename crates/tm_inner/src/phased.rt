@@ -61,7 +61,7 @@ impl Phased {
         ensures config { IfOk result (λ p. p.config ≡ config.now) }
         ensures fresh { IfOk result (λ p. HasStopped false p.decoder) }
         ensures stands { IfOk result (λ p. PhasesFor p [] []) }
-        ensures workers { IfOk result (λ p. HasWorkers workers config.now.keep config.now.ahead p.decoder) }
+        ensures workers { IfOk result (λ p. HasWorkers workers config.now p.decoder) }
     {
         let Ok(decoder) = decoder_of(alloc, config, workers) else {
             return Err(NoMemory);

@@ -84,7 +84,7 @@ impl InnerReceiver {
         ensures config { IfOk result (λ r. r.config ≡ config.now) }
         ensures fresh { IfOk result (λ r. r.has_stopped ≡ false) }
         ensures stands { IfOk result (λ r. StandsFor r [] []) }
-        ensures workers { IfOk result (λ r. HasWorkers workers config.now.keep config.now.ahead r.phased.decoder) }
+        ensures workers { IfOk result (λ r. HasWorkers workers config.now r.phased.decoder) }
     {
         let phased = Phased::open(alloc, config, workers)?;
         Ok(InnerReceiver {
