@@ -13,7 +13,7 @@ use Rattle.tm_viterbi.proofs.WholeBlocks.{last_kept}
 use Rattle.tm_windows.specs.Followed.{Windows, Beginning, Spot, first_spot, BeginsLast, undropped, spot_after, Followed, AreFollowedFirst, IsOpenAt, AreFollowedDue, IsLast, AreFollowedOf, kept_of}
 use Rattle.tm_windows.proofs.Beginnings.{begins-one, begins-more, begins-within, longer_beginning, longer_spot}
 use Rattle.tm_windows.proofs.FollowedOnce.{closed-more, one-longer, open-stops, last-stops, both-stop}
-use Rattle.tm_windows.proofs.FollowedRuns.{kept-append, begun-taken, followed-taken}
+use Rattle.tm_windows.proofs.FollowedRuns.{kept-append, begun-taken, followed-steps, followed-taken}
 use Rattle.tm_inner.proofs.ReceivedBits.{block-bits, kept-le}
 
 -- ---- what blocks keep
@@ -180,17 +180,9 @@ followed-last_few one w given done all left due whole =
 
 pub followed-later : (w : Windows) (from to : Spot) (prefix blocks : List WindowBlock) → Followed w from (prefix ++ blocks) to
     → length (kept_bits blocks) ≡ length blocks * w.settings.keep
+followed-later w from to [] blocks h =
+    followed-keep w from to blocks h ∙ followed-steps w from to blocks h
 followed-later w from to (x ∷ prefix) blocks h = followed-later w (spot_after w.settings h.0 x) to prefix blocks h.3
-followed-later w from to [] [] h = omega arith
-followed-later w from to [] (x ∷ blocks) h =
-    let s = w.settings in
-    omega (
-      arith,
-      length-append (take x.kept x.bits) (kept_bits blocks),
-      block-keeps s h.0 (s.keep + s.ahead + 1) x h.2.0.room h.2.0.is_block,
-      h.2.0.is_block.kept ∙ kept_is s.keep s.ahead,
-      followed-later w (spot_after s h.0 x) to [] blocks h.3,
-    )
 
 -- ---- how many windows there are
 

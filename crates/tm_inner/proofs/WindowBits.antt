@@ -1,69 +1,63 @@
 -- The bits that blocks keep, whether the phase is followed or not.
-use Rattle.std.proofs.Common.{ℕ, ◌≡◌, ◌+◌, ◌-◌, ◌*◌, ◌≤◌, ◌<◌, ◌∙◌, Bool, List, [], ◌∷◌, ◌++◌, length, take, ap, subst, arith, inl, inr, Option, Some, None, length-append, length-drop, length-take}
+use Rattle.std.proofs.Common.{ℕ, ◌≡◌, ◌+◌, ◌-◌, ◌*◌, ◌≤◌, ◌<◌, ◌∙◌, List, [], ◌∷◌, ◌++◌, length, take, refl, sym, ap, subst, arith, inl, inr, Option, Some, None, length-append, length-take}
 use Rattle.std.proofs.lemmas.Bool.{cases_lt}
-use Rattle.std.proofs.lemmas.Bool.Decides.{nat_tests}
 use Rattle.tm_conv.specs.declared.rates.Rate.{Rate}
 use Rattle.tm_conv.specs.Path.{steps_size}
 use Rattle.tm_conv.proofs.Sizes.{steps_size_ge, steps_size-add}
 use Rattle.tm_conv.proofs.Unique.{IsBest-unique}
+use Rattle.tm_viterbi.specs.Settings.{Settings}
 use Rattle.tm_viterbi.specs.WindowBlock.{WindowBlock}
-use Rattle.tm_viterbi.specs.Blocks.{kept_steps}
 use Rattle.tm_viterbi.specs.Clean.{kept_bits}
 use Rattle.tm_viterbi.specs.Due.{Place, Closed, after_block, first_place}
 use Rattle.tm_viterbi.specs.Starts.{first_start}
-use Rattle.tm_viterbi.proofs.CleanBlocks.{steps-mono}
-use Rattle.tm_windows.specs.Followed.{Windows, first_spot}
+use Rattle.tm_windows.specs.Followed.{Windows, first_spot, kept_of}
 use Rattle.tm_windows.specs.Windows.{AreBlocksBy, AreDueBy, AreFirstBy}
+use Rattle.tm_windows.proofs.FollowedRuns.{closed-kept, closed-octets, closed-steps}
 use Rattle.tm_inner.proofs.FollowedBits.{followed-keep, followed-few, followed-whole, followed-more_few, followed-last_few, followed-later}
 use Rattle.tm_inner.proofs.ReceivedBits.{block-bits, kept-le, kept-count}
 
 -- ---- where it is not
 
-pub closed-few : (rate : Rate) (invert : Bool) (keep ahead : ℕ) (from to : Place) (blocks : List WindowBlock) → Closed rate invert keep ahead from blocks to
-    → length (kept_bits blocks) ≤ length from.octets
-closed-few rate invert keep ahead from to [] closed = omega arith
-closed-few rate invert keep ahead from to (b ∷ blocks) closed =
-    let n : ℕ = keep + ahead + 1 in
+-- closed windows keep as many bits as steps
+closed-bits : (s : Settings) (from to : Place) (blocks : List WindowBlock)
+    → Closed s.rate s.invert s.keep s.ahead from blocks to
+    → length (kept_bits blocks) ≡ kept_of blocks
+closed-bits s from to [] closed = refl
+closed-bits s from to (b ∷ blocks) closed =
+    let n : ℕ = s.keep + s.ahead + 1 in
     let is = closed.0.is_block in
-    let less : b.kept ≤ b.steps = omega (arith, is.kept, is.steps, kept-le keep ahead n) in
-    let most : b.steps ≤ n = omega (arith, is.steps) in
-    let prefix : length (take b.kept b.bits) ≡ b.kept =
-    omega (arith, length-take b.kept b.bits, block-bits rate invert keep ahead from.starts from.t n from.octets b closed.0.room is) in
-    let after = closed-few rate invert keep ahead (after_block rate from b) to blocks closed.1 in
-    let inside : steps_size rate from.t b.kept ≤ length from.octets = omega (arith, closed.0.room, steps-mono rate from.t b.kept n (omega arith)) in
-    omega (arith, length-append (take b.kept b.bits) (kept_bits blocks), prefix, after, inside, length-drop (steps_size rate from.t b.kept) from.octets, steps_size_ge rate from.t b.kept)
+    let less : b.kept ≤ b.steps = omega (arith, is.kept, is.steps, kept-le s.keep s.ahead n) in
+    omega (
+      arith,
+      less,
+      length-append (take b.kept b.bits) (kept_bits blocks),
+      length-take b.kept b.bits,
+      block-bits s.rate s.invert s.keep s.ahead from.starts from.t n from.octets b closed.0.room is,
+      closed-bits s (after_block s.rate from b) to blocks closed.1,
+    )
 
--- closed windows take the octets of the steps that they keep
-pub record Taken (rate : Rate) (from to : Place) (kept : ℕ) : Type 0 where
-  pub octets : length from.octets ≡ steps_size rate from.t kept + length to.octets
-  pub step : to.t ≡ from.t + kept
+-- they take the octets of the steps that they keep
+record Taken (s : Settings) (from to : Place) (kept : ℕ) : Type 0 where
+  octets : length from.octets ≡ steps_size s.rate from.t kept + length to.octets
+  step : to.t ≡ from.t + kept
 
-no-steps : (rate : Rate) (t n : ℕ) → n ≡ steps_size rate t 0 + n
-unfolding steps_size
-no-steps rate t n = omega arith
+closed-taken : (s : Settings) (from to : Place) (blocks : List WindowBlock)
+    → Closed s.rate s.invert s.keep s.ahead from blocks to
+    → Taken s from to (length (kept_bits blocks))
+closed-taken s from to blocks closed =
+    subst (Taken s from to) (sym (closed-bits s from to blocks closed)) (record {
+      octets = closed-octets s from to blocks closed;
+      step = closed-kept s from to blocks closed;
+    })
 
-pub closed-taken : (rate : Rate) (invert : Bool) (keep ahead : ℕ) (from to : Place) (blocks : List WindowBlock) → Closed rate invert keep ahead from blocks to
-    → Taken rate from to (length (kept_bits blocks))
-closed-taken rate invert keep ahead from to [] same = record {
-  octets = subst (λ (p : Place). length from.octets ≡ steps_size rate from.t 0 + length p.octets) same (no-steps rate from.t (length from.octets));
-  step = subst (λ (p : Place). p.t ≡ from.t + 0) same (omega arith);
-}
-closed-taken rate invert keep ahead from to (b ∷ blocks) closed =
-    let n : ℕ = keep + ahead + 1 in
-    let is = closed.0.is_block in
-    let less : b.kept ≤ b.steps = omega (arith, is.kept, is.steps, kept-le keep ahead n) in
-    let most : b.steps ≤ n = omega (arith, is.steps) in
-    let prefix : length (take b.kept b.bits) ≡ b.kept =
-    omega (arith, length-take b.kept b.bits, block-bits rate invert keep ahead from.starts from.t n from.octets b closed.0.room is) in
-    let inside : steps_size rate from.t b.kept ≤ length from.octets = omega (arith, closed.0.room, steps-mono rate from.t b.kept n (omega arith)) in
-    let rest = closed-taken rate invert keep ahead (after_block rate from b) to blocks closed.1 in
-    let m : ℕ = length (kept_bits blocks) in
-    let all : length (kept_bits (b ∷ blocks)) ≡ b.kept + m = length-append (take b.kept b.bits) (kept_bits blocks) ∙ ap (λ k. k + m) prefix in
-    let sum = steps_size-add rate from.t b.kept m in
-    record {
-      octets = omega (arith, rest.octets, inside, sum, length-drop (steps_size rate from.t b.kept) from.octets, ap (steps_size rate from.t) all);
-      step = omega (arith, rest.step, all);
-    }
+-- the last of them keep as many each
+closed-later : (s : Settings) (from to : Place) (prefix blocks : List WindowBlock)
+    → Closed s.rate s.invert s.keep s.ahead from (prefix ++ blocks) to
+    → length (kept_bits blocks) ≡ length blocks * s.keep
+closed-later s from to [] blocks closed =
+    closed-bits s from to blocks closed ∙ closed-steps s from to blocks closed
+closed-later s from to (b ∷ prefix) blocks closed =
+    closed-later s (after_block s.rate from b) to prefix blocks closed.1
 
 -- so many steps further are as many octets at least
 reach_with : (rate : Rate) (t n m k count : ℕ) → steps_size rate t (n + m) < steps_size rate t n + steps_size rate (t + n) (k + 1) + count → m ≤ k + count
@@ -84,24 +78,6 @@ past_with rate n all k count less = elim (cases_lt n all) as (λ _. all ≤ n + 
   | inr there ↦ omega (arith, there)
 ]
 
--- ---- how many bits closed windows keep
-
-keeps : (keep ahead : ℕ) → kept_steps keep ahead (keep + ahead + 1) ≡ keep
-keeps keep ahead = grind (arith, nat_tests)
-
-pub closed-kept : (rate : Rate) (invert : Bool) (keep ahead : ℕ) (from to : Place) (prefix blocks : List WindowBlock) → Closed rate invert keep ahead from (prefix ++ blocks) to
-    → length (kept_bits blocks) ≡ length blocks * keep
-closed-kept rate invert keep ahead from to (b ∷ prefix) blocks closed = closed-kept rate invert keep ahead (after_block rate from b) to prefix blocks closed.1
-closed-kept rate invert keep ahead from to [] [] closed = omega arith
-closed-kept rate invert keep ahead from to [] (b ∷ blocks) closed =
-    let n : ℕ = keep + ahead + 1 in
-    let is = closed.0.is_block in
-    let less : b.kept ≤ b.steps = omega (arith, is.kept, is.steps, kept-le keep ahead n) in
-    let prefix : length (take b.kept b.bits) ≡ b.kept =
-    omega (arith, length-take b.kept b.bits, block-bits rate invert keep ahead from.starts from.t n from.octets b closed.0.room is) in
-    let rest = closed-kept rate invert keep ahead (after_block rate from b) to [] blocks closed.1 in
-    omega (arith, length-append (take b.kept b.bits) (kept_bits blocks), prefix, is.kept ∙ keeps keep ahead, rest)
-
 -- ---- by whether it is
 
 -- the first blocks keep no more bits than the octets have, and neither do all
@@ -109,7 +85,8 @@ pub first-keeps : (seen : Option ℕ) (w : Windows) (octets : List ℕ) (blocks 
     → length (kept_bits blocks) ≤ length octets
 first-keeps None w octets blocks h =
     let s = w.settings in
-    closed-few s.rate s.invert s.keep s.ahead (first_place s octets) h.0 blocks h.1
+    let taken = closed-taken s (first_place s octets) h.0 blocks h.1 in
+    omega (arith, taken.octets, steps_size_ge s.rate 0 (length (kept_bits blocks)))
 first-keeps (Some steps) w octets blocks h = followed-few w octets blocks h
 
 pub whole-keeps : (seen : Option ℕ) (w : Windows) (octets : List ℕ) (blocks : List WindowBlock) (left : ℕ) → AreBlocksBy seen w octets blocks left
@@ -124,8 +101,8 @@ pub more-keeps : (seen : Option ℕ) (w : Windows) (given octets : List ℕ) (do
     → AreFirstBy seen w (given ++ octets) all → length (kept_bits all) ≤ length (kept_bits done) + w.settings.keep + w.settings.ahead + length octets
 more-keeps None w given octets done all due first =
     let s = w.settings in
-    let was = closed-taken s.rate s.invert s.keep s.ahead (first_place s given) due.to done due.closed in
-    let now = closed-taken s.rate s.invert s.keep s.ahead (first_place s (given ++ octets)) first.0 all first.1 in
+    let was = closed-taken s (first_place s given) due.to done due.closed in
+    let now = closed-taken s (first_place s (given ++ octets)) first.0 all first.1 in
     let few : length due.to.octets < steps_size s.rate (0 + length (kept_bits done)) (s.keep + s.ahead + 1) =
     subst (λ (t : ℕ). length due.to.octets < steps_size s.rate t (s.keep + s.ahead + 1)) was.step due.few in
     omega (
@@ -144,7 +121,7 @@ pub last-keeps : (seen : Option ℕ) (w : Windows) (given : List ℕ) (done all 
     → AreBlocksBy seen w given all left → length (kept_bits all) ≤ length (kept_bits done) + w.settings.keep + w.settings.ahead
 last-keeps None w given done all left due whole =
     let s = w.settings in
-    let was = closed-taken s.rate s.invert s.keep s.ahead (first_place s given) due.to done due.closed in
+    let was = closed-taken s (first_place s given) due.to done due.closed in
     let same : length (kept_bits all) ≡ whole.count = kept-count s.rate s.invert s.keep s.ahead (first_start s.start) 0 whole.count given all whole.steps.whole whole.are in
     let few : length due.to.octets < steps_size s.rate (0 + length (kept_bits done)) (s.keep + s.ahead + 1) =
     subst (λ (t : ℕ). length due.to.octets < steps_size s.rate t (s.keep + s.ahead + 1)) was.step due.few in
@@ -157,6 +134,5 @@ last-keeps (Some steps) w given done all left due whole =
 pub later-keeps : (seen : Option ℕ) (w : Windows) (given : List ℕ) (done more : List WindowBlock) → AreDueBy seen w given (done ++ more)
     → length (kept_bits more) ≡ length more * w.settings.keep
 later-keeps None w given done more due =
-    let s = w.settings in
-    closed-kept s.rate s.invert s.keep s.ahead (first_place s given) due.to done more due.closed
+    closed-later w.settings (first_place w.settings given) due.to done more due.closed
 later-keeps (Some steps) w given done more due = followed-later w (first_spot w given) due.to done more due.closed
