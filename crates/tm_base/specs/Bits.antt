@@ -27,7 +27,8 @@ number_of bits = fold (λ number bit. number * 2 + bit_number bit) 0 bits
 
 -- bits packed to octets, eight at a time; what is left of fewer than eight is dropped
 abbrev pub octets_of : List Bool → List ℕ
-octets_of (a ∷ b ∷ c ∷ d ∷ e ∷ f ∷ g ∷ h ∷ bits) = number_of (a ∷ b ∷ c ∷ d ∷ e ∷ f ∷ g ∷ h ∷ []) ∷ octets_of bits
+octets_of (a ∷ b ∷ c ∷ d ∷ e ∷ f ∷ g ∷ h ∷ bits) =
+    number_of (a ∷ b ∷ c ∷ d ∷ e ∷ f ∷ g ∷ h ∷ []) ∷ octets_of bits
 octets_of _ = []
 
 -- each number is that of an octet

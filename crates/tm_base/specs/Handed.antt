@@ -7,7 +7,8 @@ pub data Handed (I : Type 0) : Type 0 where
   Item : I → Handed I
 
 -- what it does to a taker, by what a phase does and what an item does
-abbrev pub on_handed : {T I : Type 0} → (T → ℕ → ℕ → T → Type 0) → (T → I → T → Type 0) → T → Handed I → T → Type 0
+abbrev pub on_handed : {T I : Type 0} → (T → ℕ → ℕ → T → Type 0) → (T → I → T → Type 0) → T
+    → Handed I → T → Type 0
 on_handed on_phase on_item before (Phase skip cost) now = on_phase before skip cost now
 on_handed on_phase on_item before (Item item) now = on_item before item now
 

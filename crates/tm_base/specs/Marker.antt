@@ -1,4 +1,5 @@
--- The attached sync marker (CCSDS 131.0-B, Frame Synchronization), which stands before each codeblock.
+-- The attached sync marker (CCSDS 131.0-B, Frame Synchronization), which stands before each
+-- codeblock.
 use Rattle.std.specs.Prelude.{ℕ, List, [], ◌∷◌}
 
 -- the four octets of the attached sync marker, in the order sent

@@ -1,4 +1,5 @@
--- What calls of a source and of a sink do to the lists that these give, and when a fault may be answered.
+-- What calls of a source and of a sink do to the lists that these give, and when a fault may be
+-- answered.
 use Rattle.std.specs.Prelude.{◌≡◌, ◌⊎◌, ◌==◌, ◌&&◌, ℕ, ◌<◌, ◌≤◌, Bool, false, nat_lt, List, [], length, take, Result, Ok, Err, OnErr, OnOk, IsTrue}
 
 -- a count of faults has risen in a call, or stands at the last value of its type
@@ -15,14 +16,17 @@ abbrev pub is_nothing : {E : Type 0} → Result ℕ E → List ℕ → Bool
 is_nothing (Ok count) octets = (count == 0) && nat_lt 0 (length octets)
 is_nothing (Err e) octets = false
 
--- a call fails only where the count of faults rose, and leaves the count as it was where it doesn't fail
-pub record HasCause {T E : Type 0} (before now : ℕ) (is_last : Type 0) (result : Result T E) : Type 0 where
+-- a call fails only where the count of faults rose, and leaves the count as it was where it doesn't
+-- fail
+pub record HasCause {T E : Type 0} (before now : ℕ) (is_last : Type 0)
+    (result : Result T E) : Type 0 where
   pub later : before ≤ now
   pub failed : OnErr result (Rose before now is_last)
   pub same : OnOk result (now ≡ before)
 
 -- a write fails, or takes nothing of a piece that isn't empty, only where the count of faults rose
-pub record HasWriteCause {E : Type 0} (before now : ℕ) (is_last : Type 0) (result : Result ℕ E) (piece : List ℕ) : Type 0 where
+pub record HasWriteCause {E : Type 0} (before now : ℕ) (is_last : Type 0) (result : Result ℕ E)
+    (piece : List ℕ) : Type 0 where
   pub later : before ≤ now
   pub failed : OnErr result (Rose before now is_last)
   pub stalled : IsTrue (is_nothing result piece) → Rose before now is_last

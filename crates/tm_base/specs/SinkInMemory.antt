@@ -3,7 +3,8 @@ use Rattle.std.specs.Prelude.{ℕ, ◌-◌, ◌==◌, ◌&&◌, if◌then◌else
 use Rattle.tm_base.specs.declared.outside.Failed.{Failed}
 use Rattle.tm_base.specs.Count.{raised_by, is_failing}
 
--- what a sink in memory has taken, its room in octets, the calls that are to fail, and what it has counted
+-- what a sink in memory has taken, its room in octets, the calls that are to fail, and what it has
+-- counted
 pub record SinkState : Type 0 where
   pub octets : List ℕ
   pub room : ℕ
@@ -21,7 +22,8 @@ fit_of sink piece = min (length piece) (sink.room - length sink.octets)
 
 -- what the next call answers
 abbrev pub taken_by : SinkState → List ℕ → Result ℕ Failed
-taken_by sink piece = if is_failing sink.fails sink.calls then Err record {} else Ok (fit_of sink piece)
+taken_by sink piece = if is_failing sink.fails sink.calls then Err record {}
+    else Ok (fit_of sink piece)
 
 -- the sink after its next call
 abbrev pub after_write : SinkState → List ℕ → SinkState
@@ -31,5 +33,6 @@ after_write sink piece =
     else record sink {
       octets = sink.octets ++ take (fit_of sink piece) piece;
       calls = raised_by 1 sink.calls;
-      faults = if (fit_of sink piece == 0) && nat_lt 0 (length piece) then raised_by 1 sink.faults else sink.faults;
+      faults = if (fit_of sink piece == 0) && nat_lt 0 (length piece) then raised_by 1 sink.faults
+          else sink.faults;
     }

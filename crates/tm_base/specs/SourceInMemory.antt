@@ -3,7 +3,8 @@ use Rattle.std.specs.Prelude.{ℕ, ◌==◌, ◌&&◌, ◌||◌, Bool, false, if
 use Rattle.tm_base.specs.declared.outside.Failed.{Failed}
 use Rattle.tm_base.specs.Count.{raised_by, is_failing}
 
--- what a source in memory has given and has left, how it is told to cut and to fail, and what it has counted
+-- what a source in memory has given and has left, how it is told to cut and to fail, and what it
+-- has counted
 pub record SourceState : Type 0 where
   pub given : List ℕ
   pub left : List ℕ
@@ -15,20 +16,31 @@ pub record SourceState : Type 0 where
 
 -- before its first call
 abbrev pub source_of : List ℕ → List ℕ → List ℕ → SourceState
-source_of content cuts fails = record { given = []; left = content; cuts = cuts; fails = fails; calls = 0; faults = 0; ended = false }
+source_of content cuts fails = record {
+  given = [];
+  left = content;
+  cuts = cuts;
+  fails = fails;
+  calls = 0;
+  faults = 0;
+  ended = false;
+}
 
--- the most octets that a call may give: its cut, where 0 is read as 1, or as many as there is room for
+-- the most octets that a call may give: its cut, where 0 is read as 1, or as many as there is room
+-- for
 abbrev pub most_of : Option ℕ → ℕ → ℕ
 most_of (Some cut) room = max cut 1
 most_of None room = room
 
 -- how many octets the next call gives, unless it fails
 abbrev pub share_of : SourceState → ℕ → ℕ
-share_of source room = min (min (length source.left) (most_of (slice_get source.cuts source.calls) room)) room
+share_of source room =
+    min (min (length source.left) (most_of (slice_get source.cuts source.calls) room)) room
 
 -- what the next call answers
 abbrev pub given_by : SourceState → ℕ → Result ℕ Failed
-given_by source room = if is_failing source.fails source.calls then Err record {} else Ok (share_of source room)
+given_by source room = if is_failing source.fails source.calls then Err record {}
+    else Ok (share_of source room)
 
 -- the source after its next call
 abbrev pub after_read : SourceState → ℕ → SourceState

@@ -1,6 +1,6 @@
 //! What stands outside the codec, and what every layer above shares: sources and sinks of octets, which count their
-//! faults, with fakes in memory and adapters to std; the bits of octets; the attached sync marker; the gate that workers
-//! pass. It stands on nothing. The words for what was written, given and handed over are in specs/.
+//! faults, with fakes in memory and adapters to std; the bits of octets; the attached sync marker; the gate that
+//! workers pass. It stands on nothing. The words for what was written, given and handed over are in specs/.
 #![tactic(auto)]
 
 mod attached;

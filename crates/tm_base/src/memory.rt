@@ -44,7 +44,8 @@ impl Model for MemSource {
 
 impl MemSource {
     /// A source that gives `content`. Its call number i, counted from 0, fails where i is in `fails`, and else gives at
-    /// most `cuts[i]` octets, where a cut of 0 is read as 1, and as many as there is room for where there is no `cuts[i]`.
+    /// most `cuts[i]` octets, where a cut of 0 is read as 1, and as many as there is room for where there is no
+    /// `cuts[i]`.
     pub fn new(content: Vec<u8>, cuts: Vec<usize>, fails: Vec<usize>) -> MemSource
         ensures state { result ≡ source_of content.items cuts.items fails.items }
         ensures given { ⟦<MemSource as Source>⟧.given result ≡ Some [] }
@@ -149,8 +150,8 @@ impl Model for MemSink {
 }
 
 impl MemSink {
-    /// A sink that takes up to `room` octets; it takes the memory for them here. Its call number i, counted from 0, fails
-    /// where i is in `fails`. `NoMemory` comes where there is no memory for the room.
+    /// A sink that takes up to `room` octets; it takes the memory for them here. Its call number i, counted from 0,
+    /// fails where i is in `fails`. `NoMemory` comes where there is no memory for the room.
     pub fn new(alloc: Global, room: usize, fails: Vec<usize>) -> Result<MemSink, NoMemory>
         ensures state { IfOk result (λ sink. sink ≡ sink_of room fails.items) }
         ensures taken { IfOk result (λ sink. ⟦<MemSink as Sink>⟧.taken sink ≡ Some []) }

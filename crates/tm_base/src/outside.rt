@@ -29,8 +29,8 @@ pub trait Source {
     /// The count of faults stands at its last value, so that it can't rise.
     ghost is_last: { Self → Type 0 };
 
-    /// Fills the start of `buf` with the octets that come next, and answers how many it gave. With room in `buf`, `Ok(0)`
-    /// is the end of the input. `Failed` comes only where the count of faults rose, and gives nothing.
+    /// Fills the start of `buf` with the octets that come next, and answers how many it gave. With room in `buf`,
+    /// `Ok(0)` is the end of the input. `Failed` comes only where the count of faults rose, and gives nothing.
     fn read(&mut self, buf: &mut [u8]) -> Result<usize, Failed>
         ensures bound { ReadsAtMost result buf.new }
         ensures given { given self.new ≡ append_known (given self.old) (moved result buf.new) }

@@ -22,7 +22,11 @@ impl Model for SureSource {
 
     ghost Value = { SureState };
 
-    ghost view = { λ s. record { given = take s.at s.content.items; left = drop s.at s.content.items; ended = s.ended } };
+    ghost view = { λ s. record {
+      given = take s.at s.content.items;
+      left = drop s.at s.content.items;
+      ended = s.ended;
+    } };
 
     ghost invariant = { λ s. s.at ≤ length s.content.items };
 }

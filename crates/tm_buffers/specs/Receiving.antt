@@ -29,13 +29,16 @@ IsEnough c octets count frames reports = (most : ℕ) → octets ≤ most
     → HasRoom c (items_room c most) frames reports → IsSome count
 
 -- a receiver that was given these octets and no others, and has handed over this
-pub record IsReceiving (receiver : OctetReceiving) (given : List ℕ) (done : List (Handed ItemValue)) : Type 0 where
+pub record IsReceiving (receiver : OctetReceiving) (given : List ℕ)
+    (done : List (Handed ItemValue)) : Type 0 where
   pub going : receiver.has_stopped ≡ false
   pub stands : StandsFor receiver given done
 
 -- given further octets, a receiver goes on, and what is due with them was written, all of it where
 -- there is the room that is said
-pub record Receives (receiver now : OctetReceiving) (given octets : List ℕ) (done : List (Handed ItemValue)) (count : Option ℕ) (frames : List ℕ) (reports : List Report) : Type 0 where
+pub record Receives (receiver now : OctetReceiving) (given octets : List ℕ)
+    (done : List (Handed ItemValue)) (count : Option ℕ) (frames : List ℕ)
+    (reports : List Report) : Type 0 where
   pub more : List (Handed ItemValue)
   pub receiving : IsReceiving now (given ++ octets) (done ++ more)
   pub due : AreReceivedDue receiver.config (given ++ octets) (done ++ more)
@@ -44,7 +47,9 @@ pub record Receives (receiver now : OctetReceiving) (given octets : List ℕ) (d
 
 -- at the end of its octets, which came to this, what is left was written in the same way, and the
 -- phase is chosen, where it is to be found
-pub record ReceivesLast (receiver now : OctetReceiving) (given : List ℕ) (done : List (Handed ItemValue)) (count : Option ℕ) (totals : Totals) (frames : List ℕ) (reports : List Report) : Type 0 where
+pub record ReceivesLast (receiver now : OctetReceiving) (given : List ℕ)
+    (done : List (Handed ItemValue)) (count : Option ℕ) (totals : Totals) (frames : List ℕ)
+    (reports : List Report) : Type 0 where
   pub last : List (Handed ItemValue)
   pub all : AreReceived receiver.config given (done ++ last) totals
   pub tells : Tells count frames reports (items_of last)

@@ -15,7 +15,9 @@ most_symbols c = if is_some c.inner then 16 else if c.pack then 1 else 8
 -- unit for each frame that may become whole, and one more. No more than 2^40 octets are taken at a
 -- time.
 abbrev pub symbols_room : Configuration → ℕ → Option ℕ
-symbols_room c count = if nat_le count most_taken then Some ((count / c.frame_length + 1) * (codeblock_length c + 4) * most_symbols c + 1) else None
+symbols_room c count = if nat_le count most_taken
+    then Some ((count / c.frame_length + 1) * (codeblock_length c + 4) * most_symbols c + 1)
+    else None
 
 -- a sender that was given these octets and no others, and whose symbols all found room
 pub record IsSending (sender : Sending) (given : List ℕ) : Type 0 where

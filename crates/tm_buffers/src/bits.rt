@@ -36,7 +36,8 @@ impl<'a> BlockTaker for BufferBits<'a> {
     ghost is_last = { λ b. ⊥ };
 
     ghost took = { λ a block b. (b.buffer.ghost_name ≡ a.buffer.ghost_name)
-        × KeepsBits (length a.buffer.now) (take a.count a.buffer.now) block (length b.buffer.now) (take b.count b.buffer.now) };
+        × KeepsBits (length a.buffer.now) (take a.count a.buffer.now) block (length b.buffer.now)
+        (take b.count b.buffer.now) };
 
     ghost broke = { λ a block b. ⊥ };
 

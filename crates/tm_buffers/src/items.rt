@@ -70,7 +70,8 @@ impl<'a, 'b> ItemTaker for BufferItems<'a, 'b> {
 
     ghost is_last = { λ b. ⊥ };
 
-    ghost took = { λ a item b. (b.frames.ghost_name ≡ a.frames.ghost_name) × (b.reports.ghost_name ≡ a.reports.ghost_name)
+    ghost took = { λ a item b. (b.frames.ghost_name ≡ a.frames.ghost_name)
+        × (b.reports.ghost_name ≡ a.reports.ghost_name)
         × Collects (collected a) item (collected b) };
 
     ghost broke = { λ a item b. ⊥ };

@@ -8,8 +8,8 @@ use Rattle.tm_cert_file.specs.declared.seen.Next.{Next}
 use Rattle.tm_cert_file.specs.declared.seen.Next.TheVariants.{May, Must, Never}
 use Rattle.tm_cert_file.specs.Window.{Window}
 
--- the rate, whether each second sum was sent inverted, where the first path may start, and how many steps of a window are kept and how many
--- follow them
+-- the rate, whether each second sum was sent inverted, where the first path may start, and how many
+-- steps of a window are kept and how many follow them
 pub record Rules : Type 0 where
   pub rate : Rate
   pub invert : Bool
@@ -17,7 +17,8 @@ pub record Rules : Type 0 where
   pub keep : ℕ
   pub ahead : ℕ
 
--- the first step of the next window, where its path may start, the soft octets with which it begins, and whether there is one
+-- the first step of the next window, where its path may start, the soft octets with which it
+-- begins, and whether there is one
 pub record Before : Type 0 where
   pub t : ℕ
   pub starts : Starts
@@ -28,8 +29,9 @@ pub record Before : Type 0 where
 abbrev pub at_first : Rules → Before
 at_first rules = record { t = 0; starts = rules.starts; octets = []; next = May }
 
--- whether a window comes after one of so many steps, of which so many are kept: where some are not kept; a window of fewer steps than
--- there may be, or with all of its steps kept, is the last; where no steps follow the kept ones nothing says so
+-- whether a window comes after one of so many steps, of which so many are kept: where some are not
+-- kept; a window of fewer steps than there may be, or with all of its steps kept, is the last;
+-- where no steps follow the kept ones nothing says so
 abbrev pub next_after : Rules → (steps kept : ℕ) → Next
 next_after rules steps kept =
     if nat_lt kept steps then Must

@@ -1,4 +1,5 @@
--- The certificate of a list of blocks: a window for each, with the columns of least costs, which show that no path costs less.
+-- The certificate of a list of blocks: a window for each, with the columns of least costs, which
+-- show that no path costs less.
 use Rattle.std.specs.Prelude.{◌≡◌, ℕ, ◌+◌, ◌≤◌, Bool, List, [], ◌∷◌, ◌++◌, Option, Some, length, take, drop, slice_index_or}
 use Rattle.tm_conv.specs.declared.rates.Rate.{Rate}
 use Rattle.tm_conv.specs.Path.{steps_size}
@@ -8,15 +9,18 @@ use Rattle.tm_viterbi.specs.Settings.{Settings}
 use Rattle.tm_viterbi.specs.WindowBlock.{WindowBlock}
 use Rattle.tm_cert_file.specs.Window.{window_octets}
 
--- the columns for the octets of so many steps from step t: of each register the least cost of a path to it, which costs 2^30 more where the
--- path may not start where it does
-pub record AreColumns (rate : Rate) (invert : Bool) (starts : Option ℕ) (t steps : ℕ) (octets : List ℕ) (columns : List (List ℕ)) : Type 0 where
+-- the columns for the octets of so many steps from step t: of each register the least cost of a
+-- path to it, which costs 2^30 more where the path may not start where it does
+pub record AreColumns (rate : Rate) (invert : Bool) (starts : Option ℕ) (t steps : ℕ)
+    (octets : List ℕ) (columns : List (List ℕ)) : Type 0 where
   pub count : length columns ≡ steps + 1
   pub each : (k : ℕ) → k ≤ steps
-      → IsColumn (starts_from starts) rate invert t (take (steps_size rate t k) octets) (slice_index_or columns k [])
+      → IsColumn (starts_from starts) rate invert t (take (steps_size rate t k) octets)
+      (slice_index_or columns k [])
 
 -- the octets that certify the block of a window with these soft octets
-pub record IsCertified (rate : Rate) (invert : Bool) (starts : Option ℕ) (t : ℕ) (octets : List ℕ) (block : WindowBlock) (text : List ℕ) : Type 0 where
+pub record IsCertified (rate : Rate) (invert : Bool) (starts : Option ℕ) (t : ℕ) (octets : List ℕ)
+    (block : WindowBlock) (text : List ℕ) : Type 0 where
   pub columns : List (List ℕ)
   pub are_columns : AreColumns rate invert starts t block.steps octets columns
   pub is_text : text ≡ window_octets (record {
@@ -29,12 +33,15 @@ pub record IsCertified (rate : Rate) (invert : Bool) (starts : Option ℕ) (t : 
     columns = columns;
   })
 
--- the same of blocks, one after the other: each next window begins after the kept steps, from the register after them alone
+-- the same of blocks, one after the other: each next window begins after the kept steps, from the
+-- register after them alone
 abbrev pub AreCertified : Rate → Bool → Option ℕ → ℕ → List ℕ → List WindowBlock → List ℕ → Type 0
 AreCertified rate invert starts t octets [] text = text ≡ []
 AreCertified rate invert starts t octets (block ∷ blocks) text =
-    (first : List ℕ) × (rest : List ℕ) × IsCertified rate invert starts t (take (steps_size rate t block.steps) octets) block first
-    × AreCertified rate invert (Some block.end_state) (t + block.kept) (drop (steps_size rate t block.kept) octets) blocks rest
+    (first : List ℕ) × (rest : List ℕ) × IsCertified rate invert starts t
+    (take (steps_size rate t block.steps) octets) block first
+    × AreCertified rate invert (Some block.end_state) (t + block.kept)
+    (drop (steps_size rate t block.kept) octets) blocks rest
     × (text ≡ first ++ rest)
 
 -- the certificate of the first blocks of soft octets, from step 0

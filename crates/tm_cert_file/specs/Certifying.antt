@@ -9,7 +9,8 @@ use Rattle.tm_viterbi.specs.Due.{Place, after_block}
 use Rattle.tm_viterbi.specs.WindowSizes.{most_window}
 use Rattle.tm_cert_file.specs.Certificate.{IsCertified, AreCertified}
 
--- where the next window begins, with the soft octets from there on, and how many octets there is room for
+-- where the next window begins, with the soft octets from there on, and how many octets there is
+-- room for
 pub record Certifying : Type 0 where
   pub rate : Rate
   pub invert : Bool
@@ -22,7 +23,8 @@ with_place c place = record { rate = c.rate; invert = c.invert; place = place; r
 
 -- with these soft octets from there on
 abbrev pub with_octets : Certifying → List ℕ → Certifying
-with_octets c octets = with_place c (record { starts = c.place.starts; t = c.place.t; octets = octets })
+with_octets c octets =
+    with_place c (record { starts = c.place.starts; t = c.place.t; octets = octets })
 
 -- after the kept steps of a block
 abbrev pub advanced : Certifying → WindowBlock → Certifying
@@ -41,31 +43,40 @@ pub record Fits (c : Certifying) (block : WindowBlock) : Type 0 where
 -- the window that certifies the block
 abbrev pub IsNext : Certifying → WindowBlock → List ℕ → Type 0
 IsNext c block text =
-    IsCertified c.rate c.invert c.place.starts c.place.t (take (steps_size c.rate c.place.t block.steps) c.place.octets) block text
+    IsCertified c.rate c.invert c.place.starts c.place.t
+    (take (steps_size c.rate c.place.t block.steps) c.place.octets) block text
 
--- a sink took the window that certifies a block whose window's octets are there, and the next window begins; of any other block it took
--- nothing, and the next window begins where it did
-abbrev pub WroteBlock : (before now : Certifying) → WindowBlock → (taken taken_now : Option (List ℕ)) → Type 0
+-- a sink took the window that certifies a block whose window's octets are there, and the next
+-- window begins; of any other block it took nothing, and the next window begins where it did
+abbrev pub WroteBlock : (before now : Certifying) → WindowBlock
+    → (taken taken_now : Option (List ℕ)) → Type 0
 WroteBlock before now block taken taken_now =
-    (Fits before block → (now ≡ advanced before block) × (text : List ℕ) × IsNext before block text × Wrote taken taken_now text)
+    (Fits before block → (now ≡ advanced before block) × (text : List ℕ) × IsNext before block text
+    × Wrote taken taken_now text)
     × ((Fits before block → ⊥) → (now ≡ before) × (taken_now ≡ taken))
 
 -- a sink took a prefix of it
-abbrev pub WroteBlockPrefix : Certifying → WindowBlock → (taken taken_now : Option (List ℕ)) → Type 0
-WroteBlockPrefix before block taken taken_now = Fits before block × (text : List ℕ) × IsNext before block text × WrotePrefix taken taken_now text
+abbrev pub WroteBlockPrefix : Certifying → WindowBlock → (taken taken_now : Option (List ℕ))
+    → Type 0
+WroteBlockPrefix before block taken taken_now = Fits before block × (text : List ℕ)
+    × IsNext before block text × WrotePrefix taken taken_now text
 
 -- the windows that certify blocks, one after the other
 abbrev pub AreNext : Certifying → List WindowBlock → List ℕ → Type 0
 AreNext c = AreCertified c.rate c.invert c.place.starts c.place.t c.place.octets
 
 -- a sink took the windows of blocks, one after another
-abbrev pub WroteBlocks : (before now : Certifying) → List WindowBlock → (taken taken_now : Option (List ℕ)) → Type 0
+abbrev pub WroteBlocks : (before now : Certifying) → List WindowBlock
+    → (taken taken_now : Option (List ℕ)) → Type 0
 WroteBlocks before now [] taken taken_now = (now ≡ before) × (taken_now ≡ taken)
 WroteBlocks before now (block ∷ blocks) taken taken_now =
-    (middle : Certifying) × (taken_then : Option (List ℕ)) × WroteBlock before middle block taken taken_then × WroteBlocks middle now blocks taken_then taken_now
+    (middle : Certifying) × (taken_then : Option (List ℕ))
+    × WroteBlock before middle block taken taken_then
+    × WroteBlocks middle now blocks taken_then taken_now
 
 -- a sink took the windows of some of the blocks, and a prefix of the next one
-pub record WroteBlocksPrefix (before : Certifying) (blocks : List WindowBlock) (taken taken_now : Option (List ℕ)) : Type 0 where
+pub record WroteBlocksPrefix (before : Certifying) (blocks : List WindowBlock)
+    (taken taken_now : Option (List ℕ)) : Type 0 where
   pub prefix : List WindowBlock
   pub next : WindowBlock
   pub rest : List WindowBlock

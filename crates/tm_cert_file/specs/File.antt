@@ -10,15 +10,19 @@ use Rattle.tm_cert_file.specs.Window.{Window, window_in, window_size}
 use Rattle.tm_cert_file.specs.Before.{Rules, Before, at_first, after_window}
 use Rattle.tm_cert_file.specs.Seen.{IsSeen, is_due}
 
--- the octets begin with windows that pass, one after the other, from one place to another; after them the octets of `rest` are left
+-- the octets begin with windows that pass, one after the other, from one place to another; after
+-- them the octets of `rest` are left
 abbrev pub ArePassed : Rules → Before → List ℕ → List Window → Before → List ℕ → Type 0
 ArePassed rules from octets [] to rest = (to ≡ from) × (rest ≡ octets)
 ArePassed rules from octets (w ∷ windows) to rest =
     IsSeen rules from octets Passed × (w ≡ window_in rules.rate from.t octets)
-    × ArePassed rules (after_window rules from w) (drop (window_size rules.rate from.t w.steps) octets) windows to rest
+    × ArePassed rules (after_window rules from w)
+    (drop (window_size rules.rate from.t w.steps) octets) windows to rest
 
--- the octets of a certificate: each window that passes, and what is seen of the one that is not whole or fails
-pub record IsRead (rules : Rules) (octets : List ℕ) (windows : List Window) (seen : Seen) : Type 0 where
+-- the octets of a certificate: each window that passes, and what is seen of the one that is not
+-- whole or fails
+pub record IsRead (rules : Rules) (octets : List ℕ) (windows : List Window)
+    (seen : Seen) : Type 0 where
   pub before : Before
   pub rest : List ℕ
   pub passed : ArePassed rules (at_first rules) octets windows before rest
@@ -34,9 +38,11 @@ abbrev pub is_cut : Next → List ℕ → Bool
 is_cut next [] = is_due next
 is_cut next (octet ∷ octets) = true
 
--- no window fails, and the certificate ends inside of a window or where one is missing, or after one that may be the last
+-- no window fails, and the certificate ends inside of a window or where one is missing, or after
+-- one that may be the last
 abbrev pub IsEnded : Bool → Rules → List ℕ → List Window → Type 0
-IsEnded cut rules octets windows = (read : IsRead rules octets windows More) × (is_cut read.before.next read.rest ≡ cut)
+IsEnded cut rules octets windows = (read : IsRead rules octets windows More)
+    × (is_cut read.before.next read.rest ≡ cut)
 
 abbrev pub IsCut : Rules → List ℕ → List Window → Type 0
 IsCut = IsEnded true

@@ -16,7 +16,13 @@ starts_by FromAny = Any
 
 -- the same rate, inversion, starts and steps
 abbrev pub rules_by : Settings → Rules
-rules_by s = record { rate = s.rate; invert = s.invert; starts = starts_by s.start; keep = s.keep; ahead = s.ahead }
+rules_by s = record {
+  rate = s.rate;
+  invert = s.invert;
+  starts = starts_by s.start;
+  keep = s.keep;
+  ahead = s.ahead;
+}
 
 -- the block of a window
 abbrev pub block_of : Window → WindowBlock

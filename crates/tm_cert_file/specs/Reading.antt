@@ -1,4 +1,5 @@
--- What contracts see of a certificate that is being read, and for which octets and windows, so far, it stands.
+-- What contracts see of a certificate that is being read, and for which octets and windows, so far,
+-- it stands.
 use Rattle.std.specs.Prelude.{◌≡◌, ℕ, List, length}
 use Rattle.tm_cert_file.specs.declared.seen.Seen.TheVariants.{More, Passed}
 use Rattle.tm_cert_file.specs.Window.{Window, window_size, steps_in}
@@ -21,6 +22,7 @@ pub record HasPassed (r : Reading) : Type 0 where
   pub passed : IsSeen r.rules r.before r.octets Passed
   pub just : length r.octets ≡ window_size r.rules.rate r.before.t (steps_in r.octets)
 
--- a certificate that was given these octets and no others, in which these windows passed and were left behind
+-- a certificate that was given these octets and no others, in which these windows passed and were
+-- left behind
 abbrev pub StandsFor : Reading → List ℕ → List Window → Type 0
 StandsFor r given windows = ArePassed r.rules (at_first r.rules) given windows r.before r.octets

@@ -24,8 +24,8 @@ is_over May = false
 is_over Must = false
 is_over Never = true
 
--- There are steps, at most those of a window, and either all are kept, or those that are kept of a whole window. The register is one. A window
--- after steps that are not kept has more than these.
+-- There are steps, at most those of a window, and either all are kept, or those that are kept of a
+-- whole window. The register is one. A window after steps that are not kept has more than these.
 abbrev pub has_shape : Rules → Next → (steps kept start : ℕ) → Bool
 has_shape rules next steps kept start =
     nat_lt 0 steps && nat_le steps (rules.keep + rules.ahead)
@@ -37,7 +37,8 @@ are_bits bits = list_all (λ bit. nat_lt bit 2) bits
 
 -- the path starts where it may, and the soft octets begin with those after the kept ones before
 abbrev pub is_joined : Before → (start : ℕ) → List ℕ → Bool
-is_joined before start octets = is_start before.starts start && starts_with nat_eq octets before.octets
+is_joined before start octets = is_start before.starts start
+    && starts_with nat_eq octets before.octets
 
 -- the first reason against the window but for its columns, as far as it shows in these octets
 unfoldable pub reason_in : Rules → Before → List ℕ → Option Reason
@@ -56,14 +57,23 @@ reason_in rules before (octet ∷ octets) =
 
 -- what a path certificate speaks of
 abbrev pub claim_of : Rules → Before → List ℕ → Claim
-claim_of rules before octets = record { rate = rules.rate; invert = rules.invert; first = before.t; starts = before.starts; soft = octets }
+claim_of rules before octets = record {
+  rate = rules.rate;
+  invert = rules.invert;
+  first = before.t;
+  starts = before.starts;
+  soft = octets;
+}
 
 -- what is to be answered of a window's path and metric by its columns
 abbrev pub IsVerdictOn : Rules → Before → Window → Verdict → Type 0
-IsVerdictOn rules before w = IsVerdict (claim_of rules before w.octets) w.columns w.start w.bits w.metric
+IsVerdictOn rules before w = IsVerdict (claim_of rules before w.octets) w.columns w.start w.bits
+    w.metric
 
--- there is no reason against the window but for its columns, all its octets are there, and this is to be answered of it
-pub record IsJudged (rules : Rules) (before : Before) (octets : List ℕ) (verdict : Verdict) : Type 0 where
+-- there is no reason against the window but for its columns, all its octets are there, and this is
+-- to be answered of it
+pub record IsJudged (rules : Rules) (before : Before) (octets : List ℕ)
+    (verdict : Verdict) : Type 0 where
   pub right : reason_in rules before octets ≡ None
   pub whole : window_size rules.rate before.t (steps_in octets) ≤ length octets
   pub is_verdict : IsVerdictOn rules before (window_in rules.rate before.t octets) verdict
@@ -76,9 +86,11 @@ seen_by (SumOf sum) = Failed (Sum sum)
 
 -- what is seen of a window; no two things are seen at once
 abbrev pub IsSeen : Rules → Before → List ℕ → Seen → Type 0
-IsSeen rules before octets More = (reason_in rules before octets ≡ None) × (length octets < window_size rules.rate before.t (steps_in octets))
+IsSeen rules before octets More = (reason_in rules before octets ≡ None)
+    × (length octets < window_size rules.rate before.t (steps_in octets))
 IsSeen rules before octets Passed = IsJudged rules before octets Yes
 IsSeen rules before octets (Failed Shape) = reason_in rules before octets ≡ Some Shape
 IsSeen rules before octets (Failed Joint) = reason_in rules before octets ≡ Some Joint
-IsSeen rules before octets (Failed (Edge column register)) = IsJudged rules before octets (No column register)
+IsSeen rules before octets (Failed (Edge column register)) =
+    IsJudged rules before octets (No column register)
 IsSeen rules before octets (Failed (Sum sum)) = IsJudged rules before octets (SumOf sum)

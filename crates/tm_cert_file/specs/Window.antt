@@ -4,8 +4,9 @@ use Rattle.std.specs.Int.{w32, w64, to_be_bytes, from_be_bytes}
 use Rattle.tm_conv.specs.declared.rates.Rate.{Rate}
 use Rattle.tm_conv.specs.Path.{steps_size}
 
--- its steps and how many of them are kept, the register its path starts from, what the path costs and its bits, the soft octets of the
--- window, and a column of 64 numbers before its first step and one after each
+-- its steps and how many of them are kept, the register its path starts from, what the path costs
+-- and its bits, the soft octets of the window, and a column of 64 numbers before its first step and
+-- one after each
 pub record Window : Type 0 where
   pub steps : ℕ
   pub kept : ℕ
@@ -17,13 +18,15 @@ pub record Window : Type 0 where
 
 -- what stands before the bits: 17 octets
 abbrev pub header_octets : (steps kept start metric : ℕ) → List ℕ
-header_octets steps kept start metric = to_be_bytes w32 steps ++ to_be_bytes w32 kept ++ start ∷ to_be_bytes w64 metric
+header_octets steps kept start metric = to_be_bytes w32 steps ++ to_be_bytes w32 kept
+    ++ start ∷ to_be_bytes w64 metric
 
 abbrev pub column_octets : List ℕ → List ℕ
 column_octets column = flat_map (to_be_bytes w32) column
 
 abbrev pub window_octets : Window → List ℕ
-window_octets w = header_octets w.steps w.kept w.start w.metric ++ w.bits ++ w.octets ++ flat_map column_octets w.columns
+window_octets w = header_octets w.steps w.kept w.start w.metric ++ w.bits ++ w.octets
+    ++ flat_map column_octets w.columns
 
 -- ---- the window that octets begin with
 
@@ -39,7 +42,8 @@ start_in octets = slice_index octets 8
 abbrev pub metric_in : List ℕ → ℕ
 metric_in octets = from_be_bytes w64 (drop 9 octets)
 
--- how many octets come before the soft octets, and before the columns, of a window of so many steps from step t
+-- how many octets come before the soft octets, and before the columns, of a window of so many steps
+-- from step t
 abbrev pub bits_end : ℕ → ℕ
 bits_end steps = 17 + steps
 
@@ -54,7 +58,8 @@ abbrev pub bits_in : List ℕ → List ℕ
 bits_in octets = take (steps_in octets) (drop 17 octets)
 
 abbrev pub soft_in : Rate → ℕ → List ℕ → List ℕ
-soft_in rate t octets = take (steps_size rate t (steps_in octets)) (drop (bits_end (steps_in octets)) octets)
+soft_in rate t octets = take (steps_size rate t (steps_in octets))
+    (drop (bits_end (steps_in octets)) octets)
 
 -- the first numbers of octets, four octets each
 unfoldable pub numbers_in : ℕ → List ℕ → List ℕ

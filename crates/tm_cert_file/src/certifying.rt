@@ -31,8 +31,8 @@ pub(crate) fn span(rate: Rate, t: u64, steps: u64) -> usize
     (symbols_of(rate, t + steps) - symbols_of(rate, t)) as usize
 }
 
-/// What is kept to write the certificate of the blocks of soft octets: the octets of the window that is being decoded, and where it
-/// begins. It takes its memory at `open`.
+/// What is kept to write the certificate of the blocks of soft octets: the octets of the window that is being decoded,
+/// and where it begins. It takes its memory at `open`.
 #[derive(Drop)]
 pub struct Certifying {
     rate: Rate,
@@ -50,7 +50,12 @@ impl Model for Certifying {
 
     ghost Value = { cert.Certifying };
 
-    ghost view = { λ c. record { rate = c.rate; invert = c.invert; place = record { starts = c.start; t = c.t; octets = c.octets.octets }; room = c.octets.room } };
+    ghost view = { λ c. record {
+      rate = c.rate;
+      invert = c.invert;
+      place = record { starts = c.start; t = c.t; octets = c.octets.octets };
+      room = c.octets.room;
+    } };
 
     ghost invariant = { λ c. (c.t ≤ last_certified) × ForSome c.start (λ register. register < 64) };
 }
@@ -84,7 +89,8 @@ impl Certifying {
 
     /// Takes the next soft octets, of which 0 is the surest 0 and 255 the surest 1, as far as there is room for them.
     pub fn give(&mut self, octets: &[u8])
-        ensures { self.new ≡ with_octets self.old (self.old.place.octets ++ take (self.old.room - length self.old.place.octets) octets.now) }
+        ensures { self.new ≡ with_octets self.old (self.old.place.octets
+            ++ take (self.old.room - length self.old.place.octets) octets.now) }
     {
         let _ = self.octets.fill(octets, octets.len());
     }
@@ -109,9 +115,9 @@ impl Certifying {
             && block.end_state < 64
     }
 
-    /// Writes the window of the next block, whose octets are there, and begins the next window after its kept steps. Of a block whose
-    /// octets are not there it writes nothing, and nothing changes. `Failed` comes only where the sink's count of
-    /// faults rose; a prefix of the window was then written.
+    /// Writes the window of the next block, whose octets are there, and begins the next window after its kept steps. Of
+    /// a block whose octets are not there it writes nothing, and nothing changes. `Failed` comes only where the sink's
+    /// count of faults rose; a prefix of the window was then written.
     pub fn write<O: Sink>(&mut self, block: &Block<'_>, out: &mut O) -> Result<(), Failed>
         ensures ok { OnOk result (WroteBlock self.old self.new block.now (O.taken out.old) (O.taken out.new)) }
         ensures err { OnErr result (WroteBlockPrefix self.old block.now (O.taken out.old) (O.taken out.new)) }
@@ -138,7 +144,8 @@ impl Certifying {
     }
 }
 
-/// Writes a window of a certificate for each block. The soft octets are given before the blocks that they close are taken.
+/// Writes a window of a certificate for each block. The soft octets are given before the blocks that they close are
+/// taken.
 #[derive(Drop)]
 pub struct Certifier<'a, 'b, O> {
     pub certifying: &'a mut Certifying,
@@ -153,13 +160,16 @@ impl<'a, 'b, O: Sink> BlockTaker for Certifier<'a, 'b, O> {
 
     ghost is_last = { λ c. O.is_last c.out.now };
 
-    ghost took = { λ a block b. (b.certifying.ghost_name ≡ a.certifying.ghost_name) × (b.out.ghost_name ≡ a.out.ghost_name)
+    ghost took = { λ a block b. (b.certifying.ghost_name ≡ a.certifying.ghost_name)
+        × (b.out.ghost_name ≡ a.out.ghost_name)
         × WroteBlock a.certifying.now b.certifying.now block (O.taken a.out.now) (O.taken b.out.now) };
 
-    ghost broke = { λ a block b. (b.certifying.ghost_name ≡ a.certifying.ghost_name) × (b.out.ghost_name ≡ a.out.ghost_name)
+    ghost broke = { λ a block b. (b.certifying.ghost_name ≡ a.certifying.ghost_name)
+        × (b.out.ghost_name ≡ a.out.ghost_name)
         × WroteBlockPrefix a.certifying.now block (O.taken a.out.now) (O.taken b.out.now) };
 
-    ghost took_phase = { λ a skip cost b. (b.certifying.ghost_name ≡ a.certifying.ghost_name) × (b.out.ghost_name ≡ a.out.ghost_name) × (b.out.now ≡ a.out.now)
+    ghost took_phase = { λ a skip cost b. (b.certifying.ghost_name ≡ a.certifying.ghost_name)
+        × (b.out.ghost_name ≡ a.out.ghost_name) × (b.out.now ≡ a.out.now)
         × (b.certifying.now ≡ with_octets a.certifying.now (drop skip a.certifying.now.place.octets)) };
 
     ghost broke_phase = { λ a skip cost b. ⊥ };

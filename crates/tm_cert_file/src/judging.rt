@@ -17,7 +17,8 @@ use tm_path_cert::{Check, Starts, Verdict, is_start};
 /// Whether the numbers before a window's bits are those of a window.
 pub(crate) fn has_shape(keep: u32, ahead: u32, next: Next, steps: u32, kept: u32, start: u8) -> bool
     requires { (keep ≤ most_keep) × (ahead ≤ most_ahead) }
-    ensures { (rules : before.Rules) → rules.keep ≡ keep → rules.ahead ≡ ahead → result ≡ seen.has_shape rules next steps kept start }
+    ensures { (rules : before.Rules) → rules.keep ≡ keep → rules.ahead ≡ ahead
+        → result ≡ seen.has_shape rules next steps kept start }
 {
     let most = keep + ahead;
     let is_after = match next {
@@ -45,7 +46,8 @@ pub(crate) fn are_bits(bits: &[u8]) -> bool
 
 /// Whether a path starts where it may, and the soft octets begin with those after the kept ones before.
 pub(crate) fn is_joined(starts: Starts, start: u8, octets: &[u8], tail: &[u8]) -> bool
-    ensures { (rest : before.Before) → rest.starts ≡ starts → rest.octets ≡ tail.now → result ≡ seen.is_joined rest start octets.now }
+    ensures { (rest : before.Before) → rest.starts ≡ starts → rest.octets ≡ tail.now
+        → result ≡ seen.is_joined rest start octets.now }
 {
     is_start(starts, start) && octets.starts_with(tail)
 }
@@ -53,7 +55,8 @@ pub(crate) fn is_joined(starts: Starts, start: u8, octets: &[u8], tail: &[u8]) -
 /// Whether a window comes after one of so many steps, of which so many are kept.
 pub(crate) fn next_after(keep: u32, ahead: u32, steps: u32, kept: u32) -> Next
     requires { (keep ≤ most_keep) × (ahead ≤ most_ahead) }
-    ensures { (rules : before.Rules) → rules.keep ≡ keep → rules.ahead ≡ ahead → result ≡ before.next_after rules steps kept }
+    ensures { (rules : before.Rules) → rules.keep ≡ keep → rules.ahead ≡ ahead
+        → result ≡ before.next_after rules steps kept }
 {
     if kept < steps {
         Next::Must

@@ -24,74 +24,103 @@ ghost use Rattle.tm_cert_file.specs.Certifying.{Certifying, AreNext, WroteBlocks
 use tm_conv::columns_law;
 use tm_path_cert::verdict_law;
 
-/// The blocks of soft octets have one certificate. That of the blocks of closed windows precedes that of blocks after them,
-/// and stays the same whatever octets come. Where a sink takes windows of keep, at most 65,536, and ahead, at most 4,096, steps one after
-/// another, it takes the certificate of their blocks. It does nothing.
+/// The blocks of soft octets have one certificate. That of the blocks of closed windows precedes that of blocks after
+/// them, and stays the same whatever octets come. Where a sink takes windows of keep, at most 65,536, and ahead, at
+/// most 4,096, steps one after another, it takes the certificate of their blocks. It does nothing.
 pub fn certified_law()
-    ensures exists { (s : Settings) (octets : List ℕ) (blocks : List WindowBlock) (left : ℕ) → AreBlocksOf s octets blocks left
+    ensures exists { (s : Settings) (octets : List ℕ) (blocks : List WindowBlock) (left : ℕ)
+        → AreBlocksOf s octets blocks left
         → (text : List ℕ) × IsCertificate s octets blocks text }
-    ensures first { (rate : Rate) (invert : Bool) (keep ahead : ℕ) (from to : Place) (blocks : List WindowBlock) → Closed rate invert keep ahead from blocks to
+    ensures first { (rate : Rate) (invert : Bool) (keep ahead : ℕ) (from to : Place) (blocks : List WindowBlock)
+        → Closed rate invert keep ahead from blocks to
         → (text : List ℕ) × AreCertified rate invert from.starts from.t from.octets blocks text }
-    ensures one { (rate : Rate) (invert : Bool) (starts : Option ℕ) (t : ℕ) (octets : List ℕ) (blocks : List WindowBlock) (text other : List ℕ)
-        → AreCertified rate invert starts t octets blocks text → AreCertified rate invert starts t octets blocks other → text ≡ other }
-    ensures append { (rate : Rate) (invert : Bool) (keep ahead : ℕ) (from to : Place) (first rest : List WindowBlock) (text more : List ℕ)
-        → Closed rate invert keep ahead from first to → AreCertified rate invert from.starts from.t from.octets first text
-        → AreCertified rate invert to.starts to.t to.octets rest more → AreCertified rate invert from.starts from.t from.octets (first ++ rest) (text ++ more) }
-    ensures split { (rate : Rate) (invert : Bool) (keep ahead : ℕ) (from to : Place) (first rest : List WindowBlock) (whole : List ℕ)
-        → Closed rate invert keep ahead from first to → AreCertified rate invert from.starts from.t from.octets (first ++ rest) whole
+    ensures one { (rate : Rate) (invert : Bool) (starts : Option ℕ) (t : ℕ) (octets : List ℕ)
+        (blocks : List WindowBlock) (text other : List ℕ)
+        → AreCertified rate invert starts t octets blocks text → AreCertified rate invert starts t octets blocks other
+        → text ≡ other }
+    ensures append { (rate : Rate) (invert : Bool) (keep ahead : ℕ) (from to : Place) (first rest : List WindowBlock)
+        (text more : List ℕ)
+        → Closed rate invert keep ahead from first to → AreCertified rate invert from.starts from.t from.octets first
+        text
+        → AreCertified rate invert to.starts to.t to.octets rest more
+        → AreCertified rate invert from.starts from.t from.octets (first ++ rest) (text ++ more) }
+    ensures split { (rate : Rate) (invert : Bool) (keep ahead : ℕ) (from to : Place) (first rest : List WindowBlock)
+        (whole : List ℕ)
+        → Closed rate invert keep ahead from first to → AreCertified rate invert from.starts from.t from.octets
+        (first ++ rest) whole
         → (text : List ℕ) × (more : List ℕ) × AreCertified rate invert from.starts from.t from.octets first text
         × AreCertified rate invert to.starts to.t to.octets rest more × (whole ≡ text ++ more) }
-    ensures longer { (rate : Rate) (invert : Bool) (keep ahead : ℕ) (from to : Place) (blocks : List WindowBlock) (more text : List ℕ)
-        → Closed rate invert keep ahead from blocks to → AreCertified rate invert from.starts from.t from.octets blocks text
+    ensures longer { (rate : Rate) (invert : Bool) (keep ahead : ℕ) (from to : Place) (blocks : List WindowBlock)
+        (more text : List ℕ)
+        → Closed rate invert keep ahead from blocks to
+        → AreCertified rate invert from.starts from.t from.octets blocks text
         → AreCertified rate invert from.starts from.t (from.octets ++ more) blocks text }
-    ensures closed { (c now : Certifying) (keep ahead : ℕ) (to : Place) (blocks : List WindowBlock) (taken taken_now : Option (List ℕ))
-        → keep ≤ most_keep → ahead ≤ most_ahead → c.place.t + length c.place.octets ≤ last_certified → Closed c.rate c.invert keep ahead c.place blocks to
-        → WroteBlocks c now blocks taken taken_now → (now ≡ with_place c to) × (text : List ℕ) × AreNext c blocks text × Wrote taken taken_now text }
-    ensures last { (c now : Certifying) (keep ahead steps : ℕ) (blocks : List WindowBlock) (taken taken_now : Option (List ℕ))
-        → keep ≤ most_keep → ahead ≤ most_ahead → c.place.t + length c.place.octets ≤ last_certified → steps_size c.rate c.place.t steps ≤ length c.place.octets
+    ensures closed { (c now : Certifying) (keep ahead : ℕ) (to : Place) (blocks : List WindowBlock)
+        (taken taken_now : Option (List ℕ))
+        → keep ≤ most_keep → ahead ≤ most_ahead → c.place.t + length c.place.octets ≤ last_certified
+        → Closed c.rate c.invert keep ahead c.place blocks to
+        → WroteBlocks c now blocks taken taken_now → (now ≡ with_place c to) × (text : List ℕ) × AreNext c blocks text
+        × Wrote taken taken_now text }
+    ensures last { (c now : Certifying) (keep ahead steps : ℕ) (blocks : List WindowBlock)
+        (taken taken_now : Option (List ℕ))
+        → keep ≤ most_keep → ahead ≤ most_ahead → c.place.t + length c.place.octets ≤ last_certified
+        → steps_size c.rate c.place.t steps ≤ length c.place.octets
         → AreBlocks c.rate c.invert keep ahead c.place.starts c.place.t steps c.place.octets blocks
-        → WroteBlocks c now blocks taken taken_now → (text : List ℕ) × AreNext c blocks text × Wrote taken taken_now text }
-    ensures closed_prefix { (c : Certifying) (keep ahead : ℕ) (to : Place) (blocks : List WindowBlock) (taken taken_now : Option (List ℕ))
-        → keep ≤ most_keep → ahead ≤ most_ahead → c.place.t + length c.place.octets ≤ last_certified → Closed c.rate c.invert keep ahead c.place blocks to
-        → WroteBlocksPrefix c blocks taken taken_now → (text : List ℕ) × AreNext c blocks text × WrotePrefix taken taken_now text }
-    ensures last_prefix { (c : Certifying) (keep ahead steps : ℕ) (blocks : List WindowBlock) (taken taken_now : Option (List ℕ))
-        → keep ≤ most_keep → ahead ≤ most_ahead → c.place.t + length c.place.octets ≤ last_certified → steps_size c.rate c.place.t steps ≤ length c.place.octets
+        → WroteBlocks c now blocks taken taken_now → (text : List ℕ) × AreNext c blocks text
+        × Wrote taken taken_now text }
+    ensures closed_prefix { (c : Certifying) (keep ahead : ℕ) (to : Place) (blocks : List WindowBlock)
+        (taken taken_now : Option (List ℕ))
+        → keep ≤ most_keep → ahead ≤ most_ahead → c.place.t + length c.place.octets ≤ last_certified
+        → Closed c.rate c.invert keep ahead c.place blocks to
+        → WroteBlocksPrefix c blocks taken taken_now → (text : List ℕ) × AreNext c blocks text
+        × WrotePrefix taken taken_now text }
+    ensures last_prefix { (c : Certifying) (keep ahead steps : ℕ) (blocks : List WindowBlock)
+        (taken taken_now : Option (List ℕ))
+        → keep ≤ most_keep → ahead ≤ most_ahead → c.place.t + length c.place.octets ≤ last_certified
+        → steps_size c.rate c.place.t steps ≤ length c.place.octets
         → AreBlocks c.rate c.invert keep ahead c.place.starts c.place.t steps c.place.octets blocks
-        → WroteBlocksPrefix c blocks taken taken_now → (text : List ℕ) × AreNext c blocks text × WrotePrefix taken taken_now text }
+        → WroteBlocksPrefix c blocks taken taken_now → (text : List ℕ) × AreNext c blocks text
+        × WrotePrefix taken taken_now text }
 {
     columns_law();
 }
 
-/// Any octets are read as windows that pass and one thing that is seen after them, in one way. Octets after others take none of
-/// these windows back, and no reason. It does nothing.
+/// Any octets are read as windows that pass and one thing that is seen after them, in one way. Octets after others take
+/// none of these windows back, and no reason. It does nothing.
 pub fn read_law()
-    ensures exists { (rules : Rules) (octets : List ℕ) → (windows : List Window) × (seen : Seen) × IsRead rules octets windows seen }
+    ensures exists { (rules : Rules) (octets : List ℕ) → (windows : List Window) × (seen : Seen)
+        × IsRead rules octets windows seen }
     ensures one { (rules : Rules) (octets : List ℕ) (windows others : List Window) (seen other : Seen)
         (read : IsRead rules octets windows seen) (again : IsRead rules octets others other)
         → (windows ≡ others) × (seen ≡ other) × (read.before ≡ again.before) × (read.rest ≡ again.rest) }
     ensures longer { (rules : Rules) (octets more : List ℕ) (windows all : List Window) (seen last : Seen)
-        → IsRead rules octets windows seen → IsRead rules (octets ++ more) all last → (rest : List Window) × (all ≡ windows ++ rest) }
+        → IsRead rules octets windows seen → IsRead rules (octets ++ more) all last → (rest : List Window)
+        × (all ≡ windows ++ rest) }
     ensures stays { (rules : Rules) (octets more : List ℕ) (windows : List Window) (reason : Reason)
         → IsRead rules octets windows (Failed reason) → IsRead rules (octets ++ more) windows (Failed reason) }
 {
     verdict_law();
 }
 
-/// The windows of a certificate that is read to its end, with nothing against it, are those of the soft octets of their kept steps: in each
-/// the path costs the metric, and no candidate costs less. The blocks of these octets have as many steps, of which as many are kept, and
-/// no octet is left over. It does nothing.
+/// The windows of a certificate that is read to its end, with nothing against it, are those of the soft octets of their
+/// kept steps: in each the path costs the metric, and no candidate costs less. The blocks of these octets have as many
+/// steps, of which as many are kept, and no octet is left over. It does nothing.
 pub fn shown_law()
-    ensures shown { (rules : Rules) (octets : List ℕ) (windows : List Window) → IsWhole rules octets windows → AreAllShown rules (all_kept rules.rate 0 windows) windows }
-    ensures steps { (s : Settings) (rules : Rules) (octets : List ℕ) (windows : List Window) (blocks : List WindowBlock) (left : ℕ)
-        → s.rate ≡ rules.rate → s.keep ≡ rules.keep → s.ahead ≡ rules.ahead → AreAllShown rules octets windows → AreBlocksOf s octets blocks left
+    ensures shown { (rules : Rules) (octets : List ℕ) (windows : List Window) → IsWhole rules octets windows
+        → AreAllShown rules (all_kept rules.rate 0 windows) windows }
+    ensures steps { (s : Settings) (rules : Rules) (octets : List ℕ) (windows : List Window)
+        (blocks : List WindowBlock) (left : ℕ)
+        → s.rate ≡ rules.rate → s.keep ≡ rules.keep → s.ahead ≡ rules.ahead → AreAllShown rules octets windows
+        → AreBlocksOf s octets blocks left
         → (map (λ (w : Window). w.steps) windows ≡ map (λ (block : WindowBlock). block.steps) blocks)
         × (map (λ (w : Window). w.kept) windows ≡ map (λ (block : WindowBlock). block.kept) blocks) × (left ≡ 0) }
 {
     verdict_law();
 }
 
-/// The certificate of all blocks of soft octets passes, read by the same settings: it is whole, its windows are of these blocks, and
-/// their kept octets are all but those left over. A window keeps a step or more, and has 69,632 steps at most. It does nothing.
+/// The certificate of all blocks of soft octets passes, read by the same settings: it is whole, its windows are of
+/// these blocks, and their kept octets are all but those left over. A window keeps a step or more, and has 69,632 steps
+/// at most. It does nothing.
 pub fn passes_law()
     ensures { (s : Settings) (octets : List ℕ) (blocks : List WindowBlock) (left : ℕ) (text : List ℕ)
         → 0 < s.keep → s.keep + s.ahead ≤ most_window → AreOctets octets

@@ -1,6 +1,6 @@
-//! Certificates of the soft decoder as a file (CCSDS 131.0-B, Convolutional Coding): a window for each block, with the path, its
-//! metric, the soft octets and the columns of least costs. The writer stands on the sums of tm_viterbi; the reader on the checker
-//! of tm_path_cert alone, and knows nothing of the decoder.
+//! Certificates of the soft decoder as a file (CCSDS 131.0-B, Convolutional Coding): a window for each block, with the
+//! path, its metric, the soft octets and the columns of least costs. The writer stands on the sums of tm_viterbi; the
+//! reader on the checker of tm_path_cert alone, and knows nothing of the decoder.
 #![tactic(auto)]
 
 mod certifying;

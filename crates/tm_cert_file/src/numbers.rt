@@ -9,7 +9,8 @@ pub(crate) const HEADER: usize = 17;
 /// How many octets a column has.
 pub(crate) const COLUMN: usize = 256;
 
-/// What stands before the bits of a window: its steps, how many of them are kept, the register its path starts from, and what the path costs.
+/// What stands before the bits of a window: its steps, how many of them are kept, the register its path starts from,
+/// and what the path costs.
 pub(crate) fn header(steps: u32, kept: u32, start: u8, metric: u64) -> [u8; 17]
     ensures { result ≡ header_octets steps kept start metric }
 {

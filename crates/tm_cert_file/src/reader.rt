@@ -24,9 +24,9 @@ use tm_path_cert::Starts;
 // The most steps that the windows before one keep together.
 const MOST_KEPT: u64 = 1 << 43;
 
-/// Reads a certificate in pieces, and checks each of its windows once it is whole. It keeps the octets of one window, and of the one before
-/// those after its kept steps. It takes its memory at `open`: 259 octets for each step of a window, two for each step after the kept
-/// ones, and 273.
+/// Reads a certificate in pieces, and checks each of its windows once it is whole. It keeps the octets of one window,
+/// and of the one before those after its kept steps. It takes its memory at `open`: 259 octets for each step of a
+/// window, two for each step after the kept ones, and 273.
 #[derive(Drop)]
 pub struct Reader {
     rate: Rate,
@@ -63,8 +63,8 @@ impl Model for Reader {
 }
 
 impl Reader {
-    /// A reader of the certificates of windows of `keep` steps, 64 to 65,536, and `ahead` more, at most 4,096. Where `invert` is set each second sum
-    /// was sent inverted. It fails only where there isn't enough memory.
+    /// A reader of the certificates of windows of `keep` steps, 64 to 65,536, and `ahead` more, at most 4,096. Where
+    /// `invert` is set each second sum was sent inverted. It fails only where there isn't enough memory.
     pub fn open(
         alloc: Global,
         rate: Rate,
@@ -76,7 +76,8 @@ impl Reader {
         requires keep { keep ≤ most_keep }
         requires ahead { ahead ≤ most_ahead }
         requires start { AreRegisters starts }
-        ensures rules { IfOk result (λ r. r.rules ≡ record { rate = rate; invert = invert; starts = starts; keep = keep; ahead = ahead }) }
+        ensures rules { IfOk result (λ r. r.rules ≡ record { rate = rate; invert = invert; starts = starts;
+            keep = keep; ahead = ahead }) }
         ensures fresh { IfOk result (λ r. (r.before ≡ at_first r.rules) × (r.octets ≡ []) × IsOpen r) }
         ensures stands { IfOk result (λ r. StandsFor r [] []) }
     {
@@ -101,8 +102,8 @@ impl Reader {
         })
     }
 
-    /// Takes octets from the start of `piece`, until something is seen of the window, and answers how many and what is seen by them. It may be called
-    /// while nothing is seen yet.
+    /// Takes octets from the start of `piece`, until something is seen of the window, and answers how many and what is
+    /// seen by them. It may be called while nothing is seen yet.
     pub fn push(&mut self, piece: &[u8]) -> (usize, Seen)
         requires open { IsOpen self.old }
         ensures taken { result.0 ≤ length piece.now }
@@ -111,10 +112,12 @@ impl Reader {
         ensures rules { self.new.rules ≡ self.old.rules }
         ensures before { self.new.before ≡ self.old.before }
         ensures seen { IsSeen self.old.rules self.old.before self.new.octets result.1 }
-        ensures first { (count : ℕ) → count < result.0 → IsSeen self.old.rules self.old.before (self.old.octets ++ take count piece.now) Seen.More }
+        ensures first { (count : ℕ) → count < result.0
+            → IsSeen self.old.rules self.old.before (self.old.octets ++ take count piece.now) Seen.More }
         ensures all { result.1 ≡ Seen.More → result.0 ≡ length piece.now }
         ensures just { result.1 ≡ Seen.Passed → HasPassed self.new }
-        ensures stands { (given : List ℕ) (windows : List Window) → StandsFor self.old given windows → StandsFor self.new (given ++ take result.0 piece.now) windows }
+        ensures stands { (given : List ℕ) (windows : List Window) → StandsFor self.old given windows
+            → StandsFor self.new (given ++ take result.0 piece.now) windows }
     {
         let mut taken = 0;
         while taken < piece.len() {
@@ -161,7 +164,8 @@ impl Reader {
     // What is seen of the window by its octets, at least one, where nothing was seen before the last of them.
     fn look(&self) -> Seen
         requires some { 0 < length self.now.octets }
-        requires open { IsSeen self.now.rules self.now.before (take (length self.now.octets - 1) self.now.octets) Seen.More }
+        requires open { IsSeen self.now.rules self.now.before
+            (take (length self.now.octets - 1) self.now.octets) Seen.More }
         ensures seen { IsSeen self.now.rules self.now.before self.now.octets result }
         ensures just { result ≡ Seen.Passed → HasPassed self.now }
     {
@@ -252,23 +256,28 @@ impl Reader {
     /// The soft octets of the kept steps of the window that passed.
     pub fn kept_octets(&self) -> &[u8]
         requires { HasPassed self.now }
-        ensures { result.now ≡ kept_octets self.now.rules.rate self.now.before.t (window_in self.now.rules.rate self.now.before.t self.now.octets) }
+        ensures { result.now ≡ kept_octets self.now.rules.rate self.now.before.t
+            (window_in self.now.rules.rate self.now.before.t self.now.octets) }
     {
         let first = HEADER + self.steps() as usize;
         let size = span(self.rate, self.t, u64::from(self.kept()));
         &self.octets.as_slice()[first..first + size]
     }
 
-    /// Begins the next window, after the kept steps of the one that passed. Of all windows fewer than 2^43 steps are to be kept.
+    /// Begins the next window, after the kept steps of the one that passed. Of all windows fewer than 2^43 steps are to
+    /// be kept.
     pub fn next_window(&mut self)
         requires { HasPassed self.old }
         ensures rules { self.new.rules ≡ self.old.rules }
         ensures octets { self.new.octets ≡ [] }
         ensures open { IsOpen self.new }
         ensures before { self.old.before.t + kept_in self.old.octets ≤ most_kept
-            → self.new.before ≡ after_window self.old.rules self.old.before (window_in self.old.rules.rate self.old.before.t self.old.octets) }
-        ensures stands { (given : List ℕ) (windows : List Window) → self.old.before.t + kept_in self.old.octets ≤ most_kept → StandsFor self.old given windows
-            → StandsFor self.new given (windows ++ window_in self.old.rules.rate self.old.before.t self.old.octets ∷ []) }
+            → self.new.before ≡ after_window self.old.rules self.old.before
+            (window_in self.old.rules.rate self.old.before.t self.old.octets) }
+        ensures stands { (given : List ℕ) (windows : List Window)
+            → self.old.before.t + kept_in self.old.octets ≤ most_kept → StandsFor self.old given windows
+            → StandsFor self.new given (windows ++ window_in self.old.rules.rate self.old.before.t self.old.octets
+            ∷ []) }
     {
         let steps = self.steps();
         let kept = self.kept();

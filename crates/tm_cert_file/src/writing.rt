@@ -48,9 +48,10 @@ fn write_columns<O: Sink>(
     Ok(())
 }
 
-/// Writes the window that certifies a block: its soft octets, of which 0 is the surest 0 and 255 the surest 1, are those of the block's
-/// steps, at most 69,632, from step `first` on, at most 2^44. Paths start from the register `start`, below 64, or from any at `None`.
-/// `Failed` comes only where the sink's count of faults rose; a prefix of the window was then written.
+/// Writes the window that certifies a block: its soft octets, of which 0 is the surest 0 and 255 the surest 1, are
+/// those of the block's steps, at most 69,632, from step `first` on, at most 2^44. Paths start from the register
+/// `start`, below 64, or from any at `None`. `Failed` comes only where the sink's count of faults rose; a prefix of the
+/// window was then written.
 pub fn write_window<O: Sink>(
     out: &mut O,
     rate: Rate,
@@ -65,8 +66,10 @@ pub fn write_window<O: Sink>(
     requires few { block.now.steps ≤ most_window }
     requires bits { length block.now.bits ≡ block.now.steps }
     requires steps { length octets.now ≡ steps_size rate first block.now.steps }
-    ensures ok { OnOk result ((text : List ℕ) × IsCertified rate invert start first octets.now block.now text × Wrote (O.taken out.old) (O.taken out.new) text) }
-    ensures err { OnErr result ((text : List ℕ) × IsCertified rate invert start first octets.now block.now text × WrotePrefix (O.taken out.old) (O.taken out.new) text) }
+    ensures ok { OnOk result ((text : List ℕ) × IsCertified rate invert start first octets.now block.now text
+        × Wrote (O.taken out.old) (O.taken out.new) text) }
+    ensures err { OnErr result ((text : List ℕ) × IsCertified rate invert start first octets.now block.now text
+        × WrotePrefix (O.taken out.old) (O.taken out.new) text) }
     ensures cause { HasCause (O.faults out.old) (O.faults out.new) (O.is_last out.new) result }
 {
     columns_law();

@@ -31,7 +31,8 @@ are_fixed (Fixed d ∷ answers) = are_fixed answers
 are_fixed (Beyond ∷ answers) = false
 
 -- what is said of the codeblock of a place; there is a frame where every column is repaired
-pub record IsItem (c : Configuration) (f : Found) (codeblock : List ℕ) (item : ItemValue) : Type 0 where
+pub record IsItem (c : Configuration) (f : Found) (codeblock : List ℕ)
+    (item : ItemValue) : Type 0 where
   pub place : item.found ≡ f
   pub words : List (List ℕ)
   pub nearest : AreNearest c (received_columns c codeblock) item.answers words

@@ -66,10 +66,12 @@ StagesOn s given done blocks = (stands : StagesFor s given done)
     × (more : List (Handed WindowBlock)) × (stands.handed ≡ blocks ++ more)
 
 -- given the octets, fewer than 2^60 with those before, both stages go on and hand over more
-pub record StagesHand {T : Type 0} (took : T → Handed ItemValue → T → Type 0) (before now : Stages) (taker taker_now : T) (octets : List ℕ) : Type 0 where
+pub record StagesHand {T : Type 0} (took : T → Handed ItemValue → T → Type 0) (before now : Stages)
+    (taker taker_now : T) (octets : List ℕ) : Type 0 where
   pub more : List (Handed ItemValue)
   pub handed : HandedOver took taker more taker_now
-  pub stands : (given : List ℕ) (done : List (Handed ItemValue)) → length given + length octets < stream_bound
+  pub stands : (given : List ℕ) (done : List (Handed ItemValue))
+      → length given + length octets < stream_bound
       → (stood : StagesFor before given done)
       → StagesOn now (given ++ octets) (done ++ more) stood.handed
 
@@ -175,7 +177,8 @@ SettlesPart before tried = (bits more : List Bool) → length (bits ++ more) < b
 -- ---- bits that are received
 
 -- these bits were received, and the items that are due with them were handed over
-pub record Received {T : Type 0} (took : T → ItemValue → T → Type 0) (before now : BitReceiving) (taker taker_now : T) (bits : List Bool) : Type 0 where
+pub record Received {T : Type 0} (took : T → ItemValue → T → Type 0) (before now : BitReceiving)
+    (taker taker_now : T) (bits : List Bool) : Type 0 where
   pub config : now.batch.config ≡ before.batch.config
   pub stands : GoesOn (StandsForBits before) (StandsForBits now) bits
   pub items : List ItemValue
@@ -184,20 +187,23 @@ pub record Received {T : Type 0} (took : T → ItemValue → T → Type 0) (befo
 
 -- first items of those that are due with these bits were handed over, until the taker failed at one
 -- of them
-pub record ReceivedPart {T : Type 0} (took broke : T → ItemValue → T → Type 0) (before now : BitReceiving) (taker taker_now : T) (bits : List Bool) : Type 0 where
+pub record ReceivedPart {T : Type 0} (took broke : T → ItemValue → T → Type 0)
+    (before now : BitReceiving) (taker taker_now : T) (bits : List Bool) : Type 0 where
   pub config : now.batch.config ≡ before.batch.config
   pub tried : List ItemValue
   pub handed : HandedPart took broke taker tried taker_now
   pub first : AreFirstDue before.batch.config (StandsForBits before) bits tried
 
 -- the items that were not due before the end of the bits was known were handed over
-pub record ReceivedLast {T : Type 0} (took : T → ItemValue → T → Type 0) (before : BitReceiving) (taker taker_now : T) : Type 0 where
+pub record ReceivedLast {T : Type 0} (took : T → ItemValue → T → Type 0) (before : BitReceiving)
+    (taker taker_now : T) : Type 0 where
   pub items : List ItemValue
   pub handed : HandedOver took taker items taker_now
   pub last : AreLast before.batch.config (StandsForBits before) items
 
 -- first ones of these were handed over, until the taker failed at one of them
-pub record ReceivedLastPart {T : Type 0} (took broke : T → ItemValue → T → Type 0) (before : BitReceiving) (taker taker_now : T) : Type 0 where
+pub record ReceivedLastPart {T : Type 0} (took broke : T → ItemValue → T → Type 0)
+    (before : BitReceiving) (taker taker_now : T) : Type 0 where
   pub tried : List ItemValue
   pub handed : HandedPart took broke taker tried taker_now
   pub first : AreFirstLast before.batch.config (StandsForBits before) tried
@@ -239,7 +245,8 @@ received_bits inner kept octets =
 
 -- the first stage goes on from these octets, and from what it has handed over, to further octets,
 -- this phase and these bits
-pub record Further (inner inner_now : InnerReceiving) (given octets : List ℕ) (done : List (Handed WindowBlock)) (phase : Option Chosen) (piece : List Bool) : Type 0 where
+pub record Further (inner inner_now : InnerReceiving) (given octets : List ℕ)
+    (done : List (Handed WindowBlock)) (phase : Option Chosen) (piece : List Bool) : Type 0 where
   pub more : List (Handed WindowBlock)
   pub stands : InnerStandsFor inner_now (given ++ octets) (done ++ more)
   pub due : AreHandedDue inner.config (given ++ octets) (done ++ more)
@@ -287,7 +294,8 @@ Grows inner inner_now room octets phase piece =
     → Further inner inner_now given octets done phase piece
 
 -- the end of the octets adds this phase and these bits, and the octets come to this
-pub record EndsWith (inner : InnerReceiving) (given : List ℕ) (done : List (Handed WindowBlock)) (phase : Option Chosen) (piece : List Bool) (totals : Totals) : Type 0 where
+pub record EndsWith (inner : InnerReceiving) (given : List ℕ) (done : List (Handed WindowBlock))
+    (phase : Option Chosen) (piece : List Bool) (totals : Totals) : Type 0 where
   pub last : List (Handed WindowBlock)
   pub left : ℕ
   pub are_handed : AreHanded inner.config given (done ++ last) left

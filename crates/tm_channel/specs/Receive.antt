@@ -10,14 +10,16 @@ use Rattle.tm_channel.specs.Items.{ItemValue, AreItemsOf, AreFirstItemsOf, AreIt
 use Rattle.tm_channel.specs.Due.{due}
 
 -- these are the items of received octets: those of the bits that they come to
-pub record Receive (c : Configuration) (phase : ℕ) (octets : List ℕ) (items : List ItemValue) : Type 0 where
+pub record Receive (c : Configuration) (phase : ℕ) (octets : List ℕ)
+    (items : List ItemValue) : Type 0 where
   pub bits : List Bool
   pub inner : Inner c phase octets bits
   pub are_items : AreItems c bits items
 
 -- These are the items that are due once octets were received: in whole batches, the first of those
 -- of the places in the bits of all blocks but the last, or with no inner code in the bits.
-pub record ReceiveDue (c : Configuration) (phase : ℕ) (octets : List ℕ) (items : List ItemValue) : Type 0 where
+pub record ReceiveDue (c : Configuration) (phase : ℕ) (octets : List ℕ)
+    (items : List ItemValue) : Type 0 where
   pub blocks : List WindowBlock
   pub are_due : AreInnerDue c phase octets blocks
   pub are_items : AreItemsOf c (inner_bits c octets blocks)
@@ -25,14 +27,16 @@ pub record ReceiveDue (c : Configuration) (phase : ℕ) (octets : List ℕ) (ite
 
 -- These are items of the first places in the bits of first blocks of received octets, or with no
 -- inner code in the bits.
-pub record ReceiveFirst (c : Configuration) (phase : ℕ) (octets : List ℕ) (items : List ItemValue) : Type 0 where
+pub record ReceiveFirst (c : Configuration) (phase : ℕ) (octets : List ℕ)
+    (items : List ItemValue) : Type 0 where
   pub blocks : List WindowBlock
   pub are_first : AreInnerFirst c phase octets blocks
   pub are_items : AreFirstItemsOf c (inner_bits c octets blocks)
       (places (rules_of c) (inner_bits c octets blocks)) items
 
 -- these are the first of the items of received octets
-pub record ReceivePrefix (c : Configuration) (phase : ℕ) (octets : List ℕ) (items : List ItemValue) : Type 0 where
+pub record ReceivePrefix (c : Configuration) (phase : ℕ) (octets : List ℕ)
+    (items : List ItemValue) : Type 0 where
   pub bits : List Bool
   pub inner : Inner c phase octets bits
   pub are_items : AreFirstItemsOf c bits (places (rules_of c) bits) items

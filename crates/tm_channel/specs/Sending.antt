@@ -19,7 +19,8 @@ pub record StandsFor (sender : Sending) (octets : List ℕ) : Type 0 where
   pub inner : InnerStandsFor sender.inner (cadus sender.config octets)
 
 -- given these octets, a sender went on and wrote what is due for them
-pub record Sends (before now : Sending) (taken taken_now : Option (List ℕ)) (octets : List ℕ) : Type 0 where
+pub record Sends (before now : Sending) (taken taken_now : Option (List ℕ))
+    (octets : List ℕ) : Type 0 where
   pub config : now.config ≡ before.config
   pub fed : Fed StandsFor (sent before.config) before now taken taken_now octets
 

@@ -29,7 +29,8 @@ abbrev pub entries_of : List SentUnit → List Entry
 entries_of units = map (λ (u : SentUnit). u.received) units
 
 -- the bits are these units, and after them a last gap
-pub record IsSent (c : Configuration) (bits : List Bool) (units : List SentUnit) (last : List Bool) : Type 0 where
+pub record IsSent (c : Configuration) (bits : List Bool) (units : List SentUnit)
+    (last : List Bool) : Type 0 where
   pub marked : IsMarked (rules_of c) bits (entries_of units) last
   pub frames : AllByRecursion (λ u. IsFrame c u.frame) units
 

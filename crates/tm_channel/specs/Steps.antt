@@ -7,7 +7,8 @@ use Rattle.tm_channel.specs.Sending.{Sending}
 
 -- what is held and the octets are whole frames, whose units went to the last stage, and what is
 -- held now
-pub record SendsFrames (before now : Sending) (taken taken_now : Option (List ℕ)) (octets : List ℕ) : Type 0 where
+pub record SendsFrames (before now : Sending) (taken taken_now : Option (List ℕ))
+    (octets : List ℕ) : Type 0 where
   pub frames : List (List ℕ)
   pub config : now.config ≡ before.config
   pub split : Splits before.config.frame_length (before.held ++ octets) frames now.held
@@ -15,7 +16,8 @@ pub record SendsFrames (before now : Sending) (taken taken_now : Option (List �
       (flat_map (cadu before.config) frames)
 
 -- the same, but of the frames' units the last stage wrote a prefix
-pub record SendsFramesPrefix (before : Sending) (taken taken_now : Option (List ℕ)) (octets : List ℕ) : Type 0 where
+pub record SendsFramesPrefix (before : Sending) (taken taken_now : Option (List ℕ))
+    (octets : List ℕ) : Type 0 where
   pub frames : List (List ℕ)
   pub rest : List ℕ
   pub split : Splits before.config.frame_length (before.held ++ octets) frames rest

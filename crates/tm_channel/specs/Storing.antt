@@ -19,7 +19,8 @@ abbrev pub item_in : Configuration → Slot → ItemValue
 item_in c slot = record {
   found = slot.found;
   answers = take (column_count c) slot.answers;
-  frame = if are_fixed (take (column_count c) slot.answers) then take c.frame_length slot.frame else [];
+  frame = if are_fixed (take (column_count c) slot.answers) then take c.frame_length slot.frame
+      else [];
 }
 
 -- the answers that stand in words

@@ -80,8 +80,10 @@ impl Model for Receiver {
       stages = record { inner = r.inner; bits = r.stream };
     } };
 
-    ghost invariant = { λ r. (r.inner.config ≡ r.config) × (r.stream.batch.config ≡ r.config) × (r.has_stopped ≡ false → r.inner.has_stopped ≡ false)
-        × (waiting_bits r.inner.config r.inner.config.batch + 3 * (r.inner.config.keep + r.inner.config.ahead) + 7 + piece_size ≤ r.kept.size) × IsAccepted r.config };
+    ghost invariant = { λ r. (r.inner.config ≡ r.config) × (r.stream.batch.config ≡ r.config)
+        × (r.has_stopped ≡ false → r.inner.has_stopped ≡ false)
+        × (waiting_bits r.inner.config r.inner.config.batch + 3 * (r.inner.config.keep + r.inner.config.ahead) + 7
+        + piece_size ≤ r.kept.size) × IsAccepted r.config };
 }
 
 impl Receiver {
@@ -323,7 +325,8 @@ pub fn receive_all<R: Threads + Sync, T: ItemTaker>(
     ensures prefix { IsErrOf result AllError.Taker
         → (tried : List (Handed ItemValue)) × HandedPart (on_handed T.took_phase T.took)
         (on_handed T.broke_phase T.broke) taker.old tried taker.new
-        × (length octets.now < stream_bound → AreReceivedFirst config octets.now tried ⊎ AreReceivedPrefix config octets.now tried) }
+        × (length octets.now < stream_bound → AreReceivedFirst config octets.now tried
+        ⊎ AreReceivedPrefix config octets.now tried) }
     ensures unchanged { IsErrOf result AllError.Memory → taker.new ≡ taker.old }
     ensures later { T.faults taker.old ≤ T.faults taker.new }
     ensures rose { IsErrOf result AllError.Taker

@@ -33,7 +33,8 @@ impl Model for Sender {
 
     ghost view = { λ s. record { config = s.config; held = take s.count s.frame; inner = s.inner } };
 
-    ghost invariant = { λ s. (s.count < s.config.frame_length) × (s.config.frame_length ≤ longest_codeblock) × (s.inner.config ≡ s.config) };
+    ghost invariant = { λ s. (s.count < s.config.frame_length) × (s.config.frame_length ≤ longest_codeblock)
+        × (s.inner.config ≡ s.config) };
 }
 
 impl Sender {

@@ -49,7 +49,8 @@ impl Model for Codeblocks {
       items = map (item_in s.config) (take s.count s.slots.items);
     } };
 
-    ghost invariant = { λ s. (s.size ≡ codeblock_length s.config) × (s.size ≤ longest_codeblock) × (length s.slots.items ≡ s.config.batch)
+    ghost invariant = { λ s. (s.size ≡ codeblock_length s.config) × (s.size ≤ longest_codeblock)
+        × (length s.slots.items ≡ s.config.batch)
         × (length s.words.items ≡ s.config.batch * column_count s.config) × (s.count ≤ s.config.batch)
         × (0 < s.config.batch) × (s.config.batch ≤ most_batch) };
 }

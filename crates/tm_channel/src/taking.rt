@@ -39,7 +39,8 @@ pub fn take<P: Workers, T: ItemTaker>(
     requires workers { P.is_ready by.now }
     requires fresh { inner.old.has_stopped ≡ false }
     requires of { stream.old.batch.config ≡ inner.old.config }
-    requires room { waiting_bits inner.old.config inner.old.config.batch + 3 * (inner.old.config.keep + inner.old.config.ahead)
+    requires room { waiting_bits inner.old.config inner.old.config.batch + 3
+        * (inner.old.config.keep + inner.old.config.ahead)
         + 7 + piece_size ≤ kept.old.size }
     ensures { TakesOctets (on_handed T.took_phase T.took) (on_handed T.broke_phase T.broke) T.faults T.is_last
         (record { inner = inner.old; bits = stream.old }) (record { inner = inner.new; bits = stream.new })
@@ -72,7 +73,8 @@ fn take_piece<P: Workers, T: ItemTaker>(
     requires fresh { inner.old.has_stopped ≡ false }
     requires of { stream.old.batch.config ≡ inner.old.config }
     requires most { length octets.now ≤ piece_size }
-    requires room { waiting_bits inner.old.config inner.old.config.batch + 3 * (inner.old.config.keep + inner.old.config.ahead)
+    requires room { waiting_bits inner.old.config inner.old.config.batch + 3
+        * (inner.old.config.keep + inner.old.config.ahead)
         + 7 + length octets.now ≤ kept.old.size }
     ensures inner { inner.new.config ≡ inner.old.config }
     ensures fresh { inner.new.has_stopped ≡ false }
@@ -81,7 +83,8 @@ fn take_piece<P: Workers, T: ItemTaker>(
     ensures handed { OnOk result (StagesHand (on_handed T.took_phase T.took)
         (record { inner = inner.old; bits = stream.old })
         (record { inner = inner.new; bits = stream.new }) taker.old taker.new octets.now) }
-    ensures prefix { OnErr result (HandsPrefix (on_handed T.took_phase T.took) (on_handed T.broke_phase T.broke) StagesFor
+    ensures prefix { OnErr result (HandsPrefix (on_handed T.took_phase T.took)
+        (on_handed T.broke_phase T.broke) StagesFor
         (FirstWith inner.old.config inner.new.phased.chosen)
         (record { inner = inner.old; bits = stream.old }) taker.old taker.new octets.now) }
     ensures cause { HasCause (T.faults taker.old) (T.faults taker.new) (T.is_last taker.new) result }

@@ -269,7 +269,8 @@ fn inside_counts_after_each_kind_of_marker(rt: HostRuntime) -> Result<(), Fail> 
     Ok(())
 }
 
-// The next bit, after which so many are given: the last of each 40 ends a codeblock, and the marker of the second is missing.
+// The next bit, after which so many are given: the last of each 40 ends a codeblock, and the marker of the second is
+// missing.
 fn check_bit(rt: &impl Abort, search: &mut Search, bit: bool, given: u64) {
     assert!(rt; !search.pending());
     search.push_bit(&mut [], bit);

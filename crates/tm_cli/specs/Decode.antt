@@ -46,7 +46,8 @@ next_line prefix (next ∷ rest) totals = handed_item_text (length (items_of pre
 -- The output took the frames of the first of what was handed over, and the notes their lines, and
 -- no more but a part of what comes next: of the next frame or, once the output has taken that, of
 -- its line. After the last this is the end of the report.
-pub record AreInOrder (handed : List (Handed ItemValue)) (totals : Totals) (taken : Taken) : Type 0 where
+pub record AreInOrder (handed : List (Handed ItemValue)) (totals : Totals)
+    (taken : Taken) : Type 0 where
   pub prefix : List (Handed ItemValue)
   pub rest : List (Handed ItemValue)
   pub split : handed ≡ prefix ++ rest

@@ -30,7 +30,8 @@ KeepsCleanLink status c octets taken taken_now noted noted_now =
     → (status ≡ 0)
     × Wrote taken taken_now (concat (found_frames c (whole_frames c.frame_length input)))
     × Wrote noted noted_now (report_text
-    (with_phase (sent_phase c) (clean_items c 0 (found_frames c (whole_frames c.frame_length input))))
+    (with_phase (sent_phase c) (clean_items c 0
+    (found_frames c (whole_frames c.frame_length input))))
     (clean_totals c (8 * length (cadus c input))))
 
 -- Where the octets after the phase come to the bits of units, however disturbed and with gaps
@@ -50,13 +51,15 @@ KeepsDisturbedLink status c octets taken taken_now noted noted_now =
     × Wrote taken taken_now (unit_frames units))
 
 -- With no inner code and inverted markers, the octets complemented, each 255 less what it was, have
--- the same frames, and the report says of each codeblock that it was received in the other polarity.
+-- the same frames, and the report says of each codeblock that it was received in the other
+-- polarity.
 abbrev pub KeepsComplementedInput : Configuration → List ℕ
     → (taken taken_now noted noted_now : Option (List ℕ)) → Type 0
 KeepsComplementedInput c octets taken taken_now noted noted_now =
     (other : List ℕ) (bits : List Bool) (items : List ItemValue) (chosen : Option Chosen)
     → c.inner ≡ None → c.polarity ≡ Find → AreOctets other → octets ≡ complemented_octets other
-    → IsChosen c other chosen → (inner : Inner c (skip_of chosen) other bits) → AreItems c bits items
+    → IsChosen c other chosen → (inner : Inner c (skip_of chosen) other bits)
+    → AreItems c bits items
     → Wrote taken taken_now (frames_of items)
     × Wrote noted noted_now (report_text (with_phase chosen (map complemented_item items))
     (totals_of c bits inner.blocks))

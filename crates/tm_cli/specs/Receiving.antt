@@ -70,7 +70,8 @@ pub record HandedLastPart {T : Type 0} (took broke : T → Handed ItemValue → 
 -- all of the octets of an input within the limit was taken, and then something holds of what they
 -- come to
 pub record ReceivedAll {T : Type 0} (took : T → Handed ItemValue → T
-    → Type 0) (c : Configuration) (octets : List ℕ) (before : T) (end : T → Totals → Type 0) : Type 0 where
+    → Type 0) (c : Configuration) (octets : List ℕ) (before : T) (end : T → Totals
+    → Type 0) : Type 0 where
   pub handed : List (Handed ItemValue)
   pub totals : Totals
   pub middle : T

@@ -63,7 +63,8 @@ StopsEncoding call =
 -- octets, at most one past the limit; some commands read none.
 pub record Answers (status : ℕ) (command : Command) (c : Configuration) (call : Call) : Type 0 where
   pub octets : List ℕ
-  pub gave : Gave call.source.given call.source_now.given call.source.left call.source_now.left octets
+  pub gave : Gave call.source.given call.source_now.given call.source.left call.source_now.left
+      octets
   pub at_most : length octets ≤ c.limit + 1
   -- how it ended, what was written then, and what the source and the sinks went through
   pub ending : Ending
@@ -73,7 +74,8 @@ pub record Answers (status : ℕ) (command : Command) (c : Configuration) (call 
   pub source : reads command ≡ true
       → SourceCourse ending call.source call.source_now call.source_last
   pub sinks : SinksCourse
-      (is_sink_fault ending) call.out call.out_now call.out_last call.notes call.notes_now call.notes_last
+      (is_sink_fault ending) call.out call.out_now call.out_last call.notes call.notes_now
+      call.notes_last
   pub stops : command ≡ Encode → ending ≡ SinkFault → StopsEncoding call
   -- status 1 of `check` says of a window alone that it fails, and so how little was read after it
   pub by_window : command ≡ Check → ending ≡ Bad → ⊥
@@ -85,14 +87,18 @@ pub record Answers (status : ℕ) (command : Command) (c : Configuration) (call 
       → HasNoFault call → (status ≡ 0) ⊎ (status ≡ 1)
   -- where `decode` read its whole input, sent frames come back
   pub clean : command ≡ Decode → (status ≡ 0) ⊎ (status ≡ 1)
-      → KeepsCleanLink status c octets call.out.taken call.out_now.taken call.notes.taken call.notes_now.taken
+      → KeepsCleanLink status c octets call.out.taken call.out_now.taken call.notes.taken
+      call.notes_now.taken
   pub disturbed : command ≡ Decode → (status ≡ 0) ⊎ (status ≡ 1)
-      → KeepsDisturbedLink status c octets call.out.taken call.out_now.taken call.notes.taken call.notes_now.taken
+      → KeepsDisturbedLink status c octets call.out.taken call.out_now.taken call.notes.taken
+      call.notes_now.taken
   -- in the other polarity too
   pub complemented_input : command ≡ Decode → (status ≡ 0) ⊎ (status ≡ 1)
-      → KeepsComplementedInput c octets call.out.taken call.out_now.taken call.notes.taken call.notes_now.taken
+      → KeepsComplementedInput c octets call.out.taken call.out_now.taken call.notes.taken
+      call.notes_now.taken
   pub complemented_symbols : command ≡ Decode → (status ≡ 0) ⊎ (status ≡ 1)
-      → KeepsComplementedSymbols status c octets call.out.taken call.out_now.taken call.notes.taken call.notes_now.taken
+      → KeepsComplementedSymbols status c octets call.out.taken call.out_now.taken call.notes.taken
+      call.notes_now.taken
   -- where `check` answers 0, the paths of the certificate cost the least; what `certify` writes
   -- passes
   pub shown : command ≡ Check → status ≡ 0 → ShowsLeast c octets call.out.taken call.out_now.taken

@@ -29,25 +29,30 @@ impl<'a, 'b, 'c, O: Sink, N: Sink> Feed for Encoding<'a, 'b, 'c, O, N> {
     ghost use Rattle.tm_driver.specs.declared.ending.Stop.TheVariants.{SinkFault};
     ghost use Rattle.tm_driver.proofs.TwoSinks.{fault-after};
 
-    ghost fed = { λ a b octets. (0 < a.sender.now.config.frame_length) × (b.notes.now ≡ a.notes.now) × (O.faults b.out.now ≡ O.faults a.out.now)
+    ghost fed = { λ a b octets. (0 < a.sender.now.config.frame_length) × (b.notes.now ≡ a.notes.now)
+        × (O.faults b.out.now ≡ O.faults a.out.now)
         × Sends a.sender.now b.sender.now (O.taken a.out.now) (O.taken b.out.now) octets };
 
-    ghost stopped = { λ a b octets stop. (stop ≡ SinkFault) × (0 < a.sender.now.config.frame_length) × (b.notes.now ≡ a.notes.now)
+    ghost stopped = { λ a b octets stop. (stop ≡ SinkFault) × (0 < a.sender.now.config.frame_length)
+        × (b.notes.now ≡ a.notes.now)
         × SinkWent true (sink_call O.taken O.faults O.is_last a.out.now b.out.now)
         × SendsPrefix a.sender.now (O.taken a.out.now) (O.taken b.out.now) octets };
 
-    ghost finished = { λ a b outcome. (rest : ℕ) × ((given : List ℕ) → StandsFor a.sender.now given → rest ≡ length (after_frames a.sender.now.config.frame_length given))
+    ghost finished = { λ a b outcome. (rest : ℕ) × ((given : List ℕ) → StandsFor a.sender.now given
+        → rest ≡ length (after_frames a.sender.now.config.frame_length given))
         × (outcome ≡ outcome_by rest) × (b.out.now ≡ a.out.now)
         × Wrote (N.taken a.notes.now) (N.taken b.notes.now) (left_over_text rest) };
 
-    ghost failed = { λ a b. (rest : ℕ) × ((given : List ℕ) → StandsFor a.sender.now given → rest ≡ length (after_frames a.sender.now.config.frame_length given))
+    ghost failed = { λ a b. (rest : ℕ) × ((given : List ℕ) → StandsFor a.sender.now given
+        → rest ≡ length (after_frames a.sender.now.config.frame_length given))
         × (b.out.now ≡ a.out.now) × SinkWent true (sink_call N.taken N.faults N.is_last a.notes.now b.notes.now)
         × WrotePrefix (N.taken a.notes.now) (N.taken b.notes.now) (left_over_text rest) };
 
     ghost sinks = { λ a b failed. SinksWent failed (sink_call O.taken O.faults O.is_last a.out.now b.out.now)
         (sink_call N.taken N.faults N.is_last a.notes.now b.notes.now) };
 
-    ghost same = { λ a b. (b.sender.ghost_name ≡ a.sender.ghost_name) × (b.out.ghost_name ≡ a.out.ghost_name) × (b.notes.ghost_name ≡ a.notes.ghost_name) };
+    ghost same = { λ a b. (b.sender.ghost_name ≡ a.sender.ghost_name) × (b.out.ghost_name ≡ a.out.ghost_name)
+        × (b.notes.ghost_name ≡ a.notes.ghost_name) };
 
     ghost is_ready = { λ e. (e.sender.now.inner.has_failed ≡ false) × (0 < e.sender.now.config.frame_length) };
 
@@ -57,14 +62,17 @@ impl<'a, 'b, 'c, O: Sink, N: Sink> Feed for Encoding<'a, 'b, 'c, O, N> {
 
     ghost fed_none = { λ a ready. (ready.1, refl, refl, sends-none a.sender.now (O.taken a.out.now)) };
 
-    ghost fed_more = { λ a b c first second p q. (p.0, q.1 ∙ p.1, q.2 ∙ p.2, sends-more a.sender.now b.sender.now c.sender.now (O.taken a.out.now) (O.taken b.out.now) (O.taken c.out.now) first second p.0 p.3 q.3) };
+    ghost fed_more =
+        { λ a b c first second p q. (p.0, q.1 ∙ p.1, q.2 ∙ p.2, sends-more a.sender.now b.sender.now c.sender.now
+        (O.taken a.out.now) (O.taken b.out.now) (O.taken c.out.now) first second p.0 p.3 q.3) };
 
     ghost stopped_more = { λ a b c first second stop p q. (
       q.0,
       p.0,
       q.2 ∙ p.1,
       subst (λ (n : ℕ). Rose n (O.faults c.out.now) (O.is_last c.out.now) × (n ≤ O.faults c.out.now)) p.2 q.3,
-      sends-prefix a.sender.now b.sender.now (O.taken a.out.now) (O.taken b.out.now) (O.taken c.out.now) first second p.0 p.3 q.4,
+      sends-prefix a.sender.now b.sender.now (O.taken a.out.now) (O.taken b.out.now)
+      (O.taken c.out.now) first second p.0 p.3 q.4,
     ) };
 
     ghost sinks_none = { λ a. (refl, refl) };

@@ -47,16 +47,21 @@ impl<'a, 'b, 'c, R: Threads + Sync, T: ItemTaker + ReportEnd> Feed for Receiving
     ghost use Rattle.tm_driver.specs.declared.ending.Outcome.TheVariants.{Done, Bad};
     ghost use Rattle.tm_driver.specs.declared.ending.Stop.TheVariants.{SinkFault};
 
-    ghost fed = { λ a b octets. Receives (on_handed T.took_phase T.took) a.receiver.now b.receiver.now a.taker.now b.taker.now octets };
+    ghost fed = { λ a b octets. Receives (on_handed T.took_phase T.took) a.receiver.now b.receiver.now a.taker.now
+        b.taker.now octets };
 
     ghost stopped = { λ a b octets stop. (stop ≡ SinkFault)
-        × ReceivesPart (on_handed T.took_phase T.took) (on_handed T.broke_phase T.broke) a.receiver.now a.taker.now b.taker.now octets };
+        × ReceivesPart (on_handed T.took_phase T.took)
+        (on_handed T.broke_phase T.broke) a.receiver.now a.taker.now b.taker.now octets };
 
     ghost finished = { λ a b outcome. (is_good : Bool) × (outcome ≡ (if is_good then Done else Bad))
-        × HandedLast (on_handed T.took_phase T.took) a.receiver.now a.taker.now (λ middle totals. T.told middle totals is_good b.taker.now) };
+        × HandedLast (on_handed T.took_phase T.took) a.receiver.now a.taker.now
+        (λ middle totals. T.told middle totals is_good b.taker.now) };
 
-    ghost failed = { λ a b. HandedLastPart (on_handed T.took_phase T.took) (on_handed T.broke_phase T.broke) a.receiver.now a.taker.now b.taker.now
-        ⊎ HandedLast (on_handed T.took_phase T.took) a.receiver.now a.taker.now (λ middle totals. T.broke_end middle totals b.taker.now) };
+    ghost failed = { λ a b. HandedLastPart (on_handed T.took_phase T.took)
+        (on_handed T.broke_phase T.broke) a.receiver.now a.taker.now b.taker.now
+        ⊎ HandedLast (on_handed T.took_phase T.took) a.receiver.now a.taker.now
+        (λ middle totals. T.broke_end middle totals b.taker.now) };
 
     ghost sinks = { λ a b has_failed. ⊤ };
 
@@ -68,15 +73,20 @@ impl<'a, 'b, 'c, R: Threads + Sync, T: ItemTaker + ReportEnd> Feed for Receiving
 
     ghost same_more = { λ a b c p q. (q.0 ∙ p.0, q.1 ∙ p.1) };
 
-    ghost fed_none = { λ a ready c start given. subst (HandedDue c a.receiver.now (λ handed. HandedOver (on_handed T.took_phase T.took) start handed a.taker.now)) (sym (append-nil given)) };
+    ghost fed_none =
+        { λ a ready c start given. subst (HandedDue c a.receiver.now
+        (λ handed. HandedOver (on_handed T.took_phase T.took) start handed a.taker.now)) (sym (append-nil given)) };
 
-    ghost fed_more = { λ a b last first second p q c start given was. subst (HandedDue c last.receiver.now (λ handed. HandedOver (on_handed T.took_phase T.took) start handed last.taker.now))
+    ghost fed_more = { λ a b last first second p q c start given was. subst
+        (HandedDue c last.receiver.now (λ handed. HandedOver
+        (on_handed T.took_phase T.took) start handed last.taker.now))
         (append_assoc given first second) (q c start (given ++ first) (p c start given was)) };
 
     ghost stopped_more = { λ a b last first second stop p q. (
       q.0,
       λ c start given was.
-          subst (HandedFirst c (λ handed. HandedPart (on_handed T.took_phase T.took) (on_handed T.broke_phase T.broke) start handed last.taker.now))
+          subst (HandedFirst c (λ handed. HandedPart (on_handed T.took_phase T.took)
+          (on_handed T.broke_phase T.broke) start handed last.taker.now))
           (append_assoc given first second) (q.1 c start (given ++ first) (p c start given was)),
     ) };
 

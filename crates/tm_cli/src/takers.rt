@@ -77,13 +77,15 @@ impl<'a, 'b, O: Sink, N: Sink> ItemTaker for Decoding<'a, 'b, O, N> {
 
     ghost is_last = { λ d. O.is_last d.out.now ⊎ N.is_last d.report.lines.now };
 
-    ghost took = { λ a item b. (b.out.ghost_name ≡ a.out.ghost_name) × (b.report.lines.ghost_name ≡ a.report.lines.ghost_name)
+    ghost took = { λ a item b. (b.out.ghost_name ≡ a.out.ghost_name)
+        × (b.report.lines.ghost_name ≡ a.report.lines.ghost_name)
         × TookText (sink_state (O.taken a.out.now) (O.faults a.out.now))
         (sink_state (O.taken b.out.now) (O.faults b.out.now)) item.frame
         × Reported (sink_state (N.taken a.report.lines.now) (N.faults a.report.lines.now))
         (sink_state (N.taken b.report.lines.now) (N.faults b.report.lines.now)) a.report.counts b.report.counts item };
 
-    ghost broke = { λ a item b. (b.out.ghost_name ≡ a.out.ghost_name) × (b.report.lines.ghost_name ≡ a.report.lines.ghost_name)
+    ghost broke = { λ a item b. (b.out.ghost_name ≡ a.out.ghost_name)
+        × (b.report.lines.ghost_name ≡ a.report.lines.ghost_name)
         × ((BrokeText (sink_state (O.taken a.out.now) (O.faults a.out.now))
         (sink_state (O.taken b.out.now) (O.faults b.out.now)) (O.is_last b.out.now) [] item.frame
         × (b.report.lines.now ≡ a.report.lines.now))
@@ -93,12 +95,14 @@ impl<'a, 'b, O: Sink, N: Sink> ItemTaker for Decoding<'a, 'b, O, N> {
         (sink_state (N.taken b.report.lines.now) (N.faults b.report.lines.now))
         (N.is_last b.report.lines.now) [] (item_text (number_of a.report.counts) item))) };
 
-    ghost took_phase = { λ a skip cost b. (b.out.ghost_name ≡ a.out.ghost_name) × (b.report.lines.ghost_name ≡ a.report.lines.ghost_name)
+    ghost took_phase = { λ a skip cost b. (b.out.ghost_name ≡ a.out.ghost_name)
+        × (b.report.lines.ghost_name ≡ a.report.lines.ghost_name)
         × (b.out.now ≡ a.out.now) × (b.report.counts ≡ a.report.counts)
         × TookText (sink_state (N.taken a.report.lines.now) (N.faults a.report.lines.now))
         (sink_state (N.taken b.report.lines.now) (N.faults b.report.lines.now)) (phase_text skip cost) };
 
-    ghost broke_phase = { λ a skip cost b. (b.out.ghost_name ≡ a.out.ghost_name) × (b.report.lines.ghost_name ≡ a.report.lines.ghost_name)
+    ghost broke_phase = { λ a skip cost b. (b.out.ghost_name ≡ a.out.ghost_name)
+        × (b.report.lines.ghost_name ≡ a.report.lines.ghost_name)
         × (b.out.now ≡ a.out.now)
         × BrokeText (sink_state (N.taken a.report.lines.now) (N.faults a.report.lines.now))
         (sink_state (N.taken b.report.lines.now) (N.faults b.report.lines.now))
@@ -125,14 +129,19 @@ impl<'a, 'b, O: Sink, N: Sink> ReportEnd for Decoding<'a, 'b, O, N> {
     ghost use Rattle.tm_driver.specs.Courses.{SinkState, sink_state};
     ghost use Rattle.tm_driver.specs.Texts.{TookText, BrokeText};
 
-    ghost told = { λ a totals is_good b. (b.out.ghost_name ≡ a.out.ghost_name) × (b.report.lines.ghost_name ≡ a.report.lines.ghost_name) × (b.out.now ≡ a.out.now)
+    ghost told = { λ a totals is_good b. (b.out.ghost_name ≡ a.out.ghost_name)
+        × (b.report.lines.ghost_name ≡ a.report.lines.ghost_name) × (b.out.now ≡ a.out.now)
         × ((start : SinkState) (handed : List (Handed ItemValue))
-        → ReportedAll start (sink_state (N.taken a.report.lines.now) (N.faults a.report.lines.now)) no_counts a.report.counts handed
-        → TookText start (sink_state (N.taken b.report.lines.now) (N.faults b.report.lines.now)) (report_text handed totals) × ((is_good ≡ true) ↔ (bad (items_of handed) ≡ 0))) };
+        → ReportedAll start (sink_state (N.taken a.report.lines.now) (N.faults a.report.lines.now)) no_counts
+        a.report.counts handed
+        → TookText start (sink_state (N.taken b.report.lines.now) (N.faults b.report.lines.now))
+        (report_text handed totals) × ((is_good ≡ true) ↔ (bad (items_of handed) ≡ 0))) };
 
-    ghost broke_end = { λ a totals b. (b.out.ghost_name ≡ a.out.ghost_name) × (b.report.lines.ghost_name ≡ a.report.lines.ghost_name) × (b.out.now ≡ a.out.now)
+    ghost broke_end = { λ a totals b. (b.out.ghost_name ≡ a.out.ghost_name)
+        × (b.report.lines.ghost_name ≡ a.report.lines.ghost_name) × (b.out.now ≡ a.out.now)
         × ((start : SinkState) (handed : List (Handed ItemValue))
-        → ReportedAll start (sink_state (N.taken a.report.lines.now) (N.faults a.report.lines.now)) no_counts a.report.counts handed
+        → ReportedAll start (sink_state (N.taken a.report.lines.now) (N.faults a.report.lines.now)) no_counts
+        a.report.counts handed
         → BrokeText start (sink_state (N.taken b.report.lines.now) (N.faults b.report.lines.now))
         (N.is_last b.report.lines.now) (items_text 0 handed) (items_end_text (items_of handed) totals)) };
 

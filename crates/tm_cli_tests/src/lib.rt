@@ -1,5 +1,5 @@
-//! Tests of the program's lines, of what takes items and windows, and of the units that are drawn, through public calls. Beside
-//! its tests it has no code of its own.
+//! Tests of the program's lines, of what takes items and windows, and of the units that are drawn, through public
+//! calls. Beside its tests it has no code of its own.
 #![tactic(auto)]
 
 #[cfg(test)]

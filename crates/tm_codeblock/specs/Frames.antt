@@ -20,7 +20,8 @@ abbrev pub HaveSize : ℕ → List (List ℕ) → Type 0
 HaveSize size = AllByRecursion (λ frame. length frame ≡ size)
 
 -- the octets are these frames, and then less than a whole one
-pub record Splits (size : ℕ) (octets : List ℕ) (frames : List (List ℕ)) (held : List ℕ) : Type 0 where
+pub record Splits (size : ℕ) (octets : List ℕ) (frames : List (List ℕ))
+    (held : List ℕ) : Type 0 where
   pub whole : octets ≡ concat frames ++ held
   pub sized : HaveSize size frames
   pub partial : length held < size

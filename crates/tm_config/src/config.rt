@@ -164,8 +164,8 @@ impl Config {
         self.values.repair
     }
 
-    /// The form of a soft symbol: 0 for unsigned, 1 for signed octets. It has no effect where there is no inner code and
-    /// bits are packed.
+    /// The form of a soft symbol: 0 for unsigned, 1 for signed octets. It has no effect where there is no inner code
+    /// and bits are packed.
     pub fn soft(&self) -> u64
         ensures value { result ≡ number_of_form self.now.soft }
         ensures accepted { IsAccepted self.now }

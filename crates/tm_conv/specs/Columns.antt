@@ -4,12 +4,15 @@ use Rattle.tm_conv.specs.declared.rates.Rate.{Rate}
 use Rattle.tm_conv.specs.Path.{AreBits, path, register_after}
 use Rattle.tm_conv.specs.Cost.{cost}
 
--- what a register costs before any step: nothing where a path may start from it, and else 2^30, more than a window's path costs
+-- what a register costs before any step: nothing where a path may start from it, and else 2^30,
+-- more than a window's path costs
 abbrev pub first_cost : (ℕ → Bool) → ℕ → ℕ
 first_cost starts register = if starts register then 0 else 2 ^ 30
 
--- a path from step t on, from any of the 64 registers, that has as many symbols as there are octets and ends in register `last`
-pub record EndsIn (rate : Rate) (invert : Bool) (t : ℕ) (octets : List ℕ) (last initial : ℕ) (bits : List ℕ) : Type 0 where
+-- a path from step t on, from any of the 64 registers, that has as many symbols as there are octets
+-- and ends in register `last`
+pub record EndsIn (rate : Rate) (invert : Bool) (t : ℕ) (octets : List ℕ) (last initial : ℕ)
+    (bits : List ℕ) : Type 0 where
   pub register : initial < 64
   pub each : AreBits bits
   pub covers : length (path rate invert t initial bits) ≡ length octets
@@ -17,10 +20,12 @@ pub record EndsIn (rate : Rate) (invert : Bool) (t : ℕ) (octets : List ℕ) (l
 
 -- what a path costs for the octets, with what its first register costs
 abbrev pub total : (ℕ → Bool) → Rate → Bool → ℕ → List ℕ → ℕ → List ℕ → ℕ
-total starts rate invert t octets initial bits = first_cost starts initial + cost (path rate invert t initial bits) octets
+total starts rate invert t octets initial bits =
+    first_cost starts initial + cost (path rate invert t initial bits) octets
 
 -- a path to register `last` has this total, and none to it has less
-pub record IsLeastTo (starts : ℕ → Bool) (rate : Rate) (invert : Bool) (t : ℕ) (octets : List ℕ) (last entry : ℕ) : Type 0 where
+pub record IsLeastTo (starts : ℕ → Bool) (rate : Rate) (invert : Bool) (t : ℕ) (octets : List ℕ)
+    (last entry : ℕ) : Type 0 where
   pub initial : ℕ
   pub bits : List ℕ
   pub path : EndsIn rate invert t octets last initial bits
@@ -29,9 +34,11 @@ pub record IsLeastTo (starts : ℕ → Bool) (rate : Rate) (invert : Bool) (t : 
       → entry ≤ total starts rate invert t octets other others
 
 -- the column after the octets: the least total of a path to each of the 64 registers
-pub record IsColumn (starts : ℕ → Bool) (rate : Rate) (invert : Bool) (t : ℕ) (octets column : List ℕ) : Type 0 where
+pub record IsColumn (starts : ℕ → Bool) (rate : Rate) (invert : Bool) (t : ℕ)
+    (octets column : List ℕ) : Type 0 where
   pub long : length column ≡ 64
-  pub each : (last : ℕ) → last < 64 → IsLeastTo starts rate invert t octets last (slice_index column last)
+  pub each : (last : ℕ) → last < 64 → IsLeastTo starts rate invert t octets last
+      (slice_index column last)
 
 -- the last step that certificates have, and from which columns are computed; a stream of fewer
 -- octets has no step after it

@@ -1,4 +1,5 @@
--- The path metric: how far symbols are from soft octets, of which 0 is the surest 0 and 255 the surest 1.
+-- The path metric: how far symbols are from soft octets, of which 0 is the surest 0 and 255 the
+-- surest 1.
 use Rattle.std.specs.Prelude.{ℕ, ◌+◌, ◌-◌, ◌==◌, if◌then◌else◌, List, [], ◌∷◌}
 
 -- how far a soft octet is from a symbol

@@ -27,7 +27,8 @@ level low symbol = if symbol == 0 then low else 255 - low
 abbrev pub levels : ℕ → List ℕ → List ℕ
 levels low symbols = map (level low) symbols
 
--- what contracts see of an encoder: its register, and the place of its next step in the puncture pattern
+-- what contracts see of an encoder: its register, and the place of its next step in the puncture
+-- pattern
 pub record Encoding : Type 0 where
   pub rate : Rate
   pub invert : Bool

@@ -8,11 +8,13 @@ use Rattle.tm_conv.specs.Path.{path}
 abbrev pub elements_at : List ℕ → List ℕ → List ℕ
 elements_at places elements = map (λ place. slice_index elements place) places
 
--- of the sixteen symbols that eight bits have at rate 1/2, those at the first `count` of these places are sent where the first bit is step t
+-- of the sixteen symbols that eight bits have at rate 1/2, those at the first `count` of these
+-- places are sent where the first bit is step t
 pub record AreKept (rate : Rate) (t : ℕ) (places : List ℕ) (count : ℕ) : Type 0 where
   pub long : length places ≡ 16
   pub small : All (λ place. place < 16) places
   pub at_most : count ≤ 16
   pub kept : (f : ℕ → ℕ) (invert : Bool) (register a b c d e g h i : ℕ)
-      → take count (elements_at places (map f (path R12 invert 0 register (a ∷ b ∷ c ∷ d ∷ e ∷ g ∷ h ∷ i ∷ []))))
+      → take count (elements_at places (map f
+      (path R12 invert 0 register (a ∷ b ∷ c ∷ d ∷ e ∷ g ∷ h ∷ i ∷ []))))
       ≡ map f (path rate invert t register (a ∷ b ∷ c ∷ d ∷ e ∷ g ∷ h ∷ i ∷ []))

@@ -1,5 +1,6 @@
--- Code paths and their symbols (CCSDS 131.0-B, Convolutional Coding). Bits and symbols are the numbers 0 and 1. A register is
--- the number whose binary digits are the six bits before a step, from u[t-1] of weight 32 to u[t-6] of weight 1.
+-- Code paths and their symbols (CCSDS 131.0-B, Convolutional Coding). Bits and symbols are the
+-- numbers 0 and 1. A register is the number whose binary digits are the six bits before a step,
+-- from u[t-1] of weight 32 to u[t-6] of weight 1.
 use Rattle.std.specs.Prelude.{ℕ, zero, suc, ◌+◌, ◌*◌, ◌/◌, ◌%◌, ◌^◌, ◌-◌, ◌<◌, ◌==◌, Bool, if◌then◌else◌, List, [], ◌∷◌, ◌++◌, length, slice_index, map, All}
 use Rattle.tm_conv.specs.declared.rates.Rate.{Rate}
 use Rattle.tm_conv.specs.declared.rates.Rate.TheVariants.{R12, R23, R34, R56, R78}
@@ -61,7 +62,8 @@ sent_c2 invert sum = if invert then 1 - sum else sum
 -- what step t sends of two sums, the first before the second
 abbrev pub sent : Rate → Bool → ℕ → ℕ → ℕ → List ℕ
 sent rate invert t first second =
-    (if keeps_c1 rate t then first ∷ [] else []) ++ (if keeps_c2 rate t then sent_c2 invert second ∷ [] else [])
+    (if keeps_c1 rate t then first ∷ [] else [])
+    ++ (if keeps_c2 rate t then sent_c2 invert second ∷ [] else [])
 
 -- the symbols of step t, from a register by a bit
 abbrev pub step_symbols : Rate → Bool → ℕ → ℕ → ℕ → List ℕ
@@ -84,7 +86,8 @@ farthest_step = 2 ^ 62
 abbrev pub path : Rate → Bool → ℕ → ℕ → List ℕ → List ℕ
 path rate invert t register [] = []
 path rate invert t register (bit ∷ bits) =
-    step_symbols rate invert t register bit ++ path rate invert (t + 1) (next_register register bit) bits
+    step_symbols rate invert t register bit ++ path rate invert (t + 1)
+    (next_register register bit) bits
 
 -- the register after these bits
 abbrev pub register_after : ℕ → List ℕ → ℕ

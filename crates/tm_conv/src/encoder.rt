@@ -15,7 +15,8 @@ pub enum Symbols {
     Two(bool, bool),
 }
 
-/// Turns bits into symbols, one step after another. The register and the place in the puncture pattern run on over all bits.
+/// Turns bits into symbols, one step after another. The register and the place in the puncture pattern run on over all
+/// bits.
 #[derive(Drop)]
 pub struct Encoder {
     rate: Rate,
@@ -37,7 +38,8 @@ impl Model for Encoder {
 }
 
 impl Encoder {
-    /// An encoder that was given nothing yet: register 0 at step 0. Where `invert` is set each second sum is sent inverted.
+    /// An encoder that was given nothing yet: register 0 at step 0. Where `invert` is set each second sum is sent
+    /// inverted.
     pub fn new(rate: Rate, invert: bool) -> Encoder
         ensures rate { result.rate ≡ rate }
         ensures invert { result.invert ≡ invert }
@@ -57,7 +59,8 @@ impl Encoder {
         ensures invert { self.new.invert ≡ self.old.invert }
         ensures stands { (given : List Bool) → StandsFor self.old given → StandsFor self.new (given ++ bit ∷ []) }
         ensures sent { (given : List Bool) → StandsFor self.old given
-            → sent_for self.old.rate self.old.invert (given ++ bit ∷ []) ≡ sent_for self.old.rate self.old.invert given ++ symbol_list result }
+            → sent_for self.old.rate self.old.invert (given ++ bit ∷ [])
+            ≡ sent_for self.old.rate self.old.invert given ++ symbol_list result }
     {
         let (first, second) = sums(self.register, bit);
         let symbols = symbols_kept(self.rate, self.invert, self.phase, first, second);
@@ -66,15 +69,16 @@ impl Encoder {
         symbols
     }
 
-    /// Takes the bits of octets, the most significant bit of each first, and writes their symbols to the start of `out`, each
-    /// as an octet: a 0 as the octet `low`, and a 1 as its complement. Answers how many symbols these are, at most 16 for each
-    /// octet. `out` has at least 16 octets for each octet; what follows the symbols there means nothing
-    /// (CCSDS 131.0-B, Convolutional Coding).
+    /// Takes the bits of octets, the most significant bit of each first, and writes their symbols to the start of
+    /// `out`, each as an octet: a 0 as the octet `low`, and a 1 as its complement. Answers how many symbols these are,
+    /// at most 16 for each octet. `out` has at least 16 octets for each octet; what follows the symbols there means
+    /// nothing (CCSDS 131.0-B, Convolutional Coding).
     pub fn encode(&mut self, octets: &[u8], low: u8, out: &mut [u8]) -> usize
         requires room { 16 * length octets.now ≤ length out.old }
         ensures rate { self.new.rate ≡ self.old.rate }
         ensures invert { self.new.invert ≡ self.old.invert }
-        ensures stands { (given : List Bool) → StandsFor self.old given → StandsFor self.new (given ++ bits_of octets.now) }
+        ensures stands { (given : List Bool) → StandsFor self.old given
+            → StandsFor self.new (given ++ bits_of octets.now) }
         ensures sent { (given : List Bool) → StandsFor self.old given
             → levels low (sent_for self.old.rate self.old.invert (given ++ bits_of octets.now))
             ≡ levels low (sent_for self.old.rate self.old.invert given) ++ take result out.new }

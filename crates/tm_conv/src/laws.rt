@@ -13,7 +13,8 @@ pub fn clean_symbols_law()
         → path rate invert t register bits ≡ path rate invert t register others → bits ≡ others }
 {}
 
-/// Complementing the bits and the register complements every symbol, at every rate and either inversion. It does nothing.
+/// Complementing the bits and the register complements every symbol, at every rate and either inversion. It does
+/// nothing.
 pub fn complement_law()
     ensures { (rate : Rate) (invert : Bool) (t register : ℕ) (bits : List ℕ) → register < 64 → AreBits bits
         → path rate invert t (63 - register) (complement bits) ≡ complement (path rate invert t register bits) }
@@ -21,8 +22,10 @@ pub fn complement_law()
 
 /// At rate 1/2 the undisturbed pairs of six steps, or more, fix the register before them and the bits. It does nothing.
 pub fn six_pairs_law()
-    ensures { (invert : Bool) (t register other : ℕ) (bits others : List ℕ) → register < 64 → other < 64 → AreBits bits → AreBits others
-        → 6 ≤ length bits → path R12 invert t register bits ≡ path R12 invert t other others → (register ≡ other) × (bits ≡ others) }
+    ensures { (invert : Bool) (t register other : ℕ) (bits others : List ℕ) → register < 64 → other < 64
+        → AreBits bits → AreBits others
+        → 6 ≤ length bits → path R12 invert t register bits ≡ path R12 invert t other others → (register ≡ other)
+        × (bits ≡ others) }
 {}
 
 /// Octets of whole steps have one best path, where a path may start from some register. It does nothing.
@@ -30,25 +33,32 @@ pub fn best_path_law()
     ensures exists { (starts : ℕ → Bool) (rate : Rate) (invert : Bool) (t steps start : ℕ) (octets : List ℕ)
         → IsTrue (starts start) → start < 64 → length octets ≡ steps_size rate t steps
         → (register : ℕ) × (bits : List ℕ) × IsBest starts rate invert t octets register bits }
-    ensures one { (starts : ℕ → Bool) (rate : Rate) (invert : Bool) (t : ℕ) (octets : List ℕ) (register other : ℕ) (bits others : List ℕ)
-        → IsBest starts rate invert t octets register bits → IsBest starts rate invert t octets other others → (register ≡ other) × (bits ≡ others) }
+    ensures one { (starts : ℕ → Bool) (rate : Rate) (invert : Bool) (t : ℕ) (octets : List ℕ) (register other : ℕ)
+        (bits others : List ℕ)
+        → IsBest starts rate invert t octets register bits → IsBest starts rate invert t octets other others
+        → (register ≡ other) × (bits ≡ others) }
 {}
 
-/// Octets of whole steps have one column of least costs. It is that of the first costs where there are no octets, a step adds its cost at
-/// most, and none of its entries is less than what the best path costs, if that is 2^30 at most. An entry is 2^30 and 255 an octet at most.
-/// It does nothing.
+/// Octets of whole steps have one column of least costs. It is that of the first costs where there are no octets, a
+/// step adds its cost at most, and none of its entries is less than what the best path costs, if that is 2^30 at most.
+/// An entry is 2^30 and 255 an octet at most. It does nothing.
 pub fn columns_law()
-    ensures exists { (starts : ℕ → Bool) (rate : Rate) (invert : Bool) (t steps : ℕ) (octets : List ℕ) → length octets ≡ steps_size rate t steps
+    ensures exists { (starts : ℕ → Bool) (rate : Rate) (invert : Bool) (t steps : ℕ) (octets : List ℕ)
+        → length octets ≡ steps_size rate t steps
         → (column : List ℕ) × IsColumn starts rate invert t octets column }
     ensures one { (starts : ℕ → Bool) (rate : Rate) (invert : Bool) (t : ℕ) (octets column other : List ℕ)
         → IsColumn starts rate invert t octets column → IsColumn starts rate invert t octets other → column ≡ other }
     ensures first { (starts : ℕ → Bool) (rate : Rate) (invert : Bool) (t register : ℕ) (column : List ℕ)
-        → IsColumn starts rate invert t [] column → register < 64 → slice_index column register ≡ first_cost starts register }
-    ensures edge { (starts : ℕ → Bool) (rate : Rate) (invert : Bool) (t steps from bit : ℕ) (octets here before after : List ℕ)
+        → IsColumn starts rate invert t [] column → register < 64
+        → slice_index column register ≡ first_cost starts register }
+    ensures edge { (starts : ℕ → Bool) (rate : Rate) (invert : Bool) (t steps from bit : ℕ)
+        (octets here before after : List ℕ)
         → IsColumn starts rate invert t octets before → IsColumn starts rate invert t (octets ++ here) after
         → length octets ≡ steps_size rate t steps → length here ≡ step_size rate (t + steps) → from < 64 → bit < 2
-        → slice_index after (next_register from bit) ≤ slice_index before from + cost (step_symbols rate invert (t + steps) from bit) here }
-    ensures least { (starts : ℕ → Bool) (rate : Rate) (invert : Bool) (t initial register : ℕ) (octets column bits : List ℕ)
+        → slice_index after (next_register from bit) ≤ slice_index before from + cost
+        (step_symbols rate invert (t + steps) from bit) here }
+    ensures least { (starts : ℕ → Bool) (rate : Rate) (invert : Bool) (t initial register : ℕ)
+        (octets column bits : List ℕ)
         → IsColumn starts rate invert t octets column → IsBest starts rate invert t octets initial bits
         → cost (path rate invert t initial bits) octets ≤ 2 ^ 30 → register < 64
         → cost (path rate invert t initial bits) octets ≤ slice_index column register }

@@ -1,6 +1,6 @@
-//! The convolutional code of rate 1/2 and its punctured rates (CCSDS 131.0-B, Convolutional Coding): the encoder, and in
-//! specs/ the code's paths, their costs, the best path and the columns of least costs, on which decoder and checker stand.
-//! It stands on the bits of tm_base.
+//! The convolutional code of rate 1/2 and its punctured rates (CCSDS 131.0-B, Convolutional Coding): the encoder, and
+//! in specs/ the code's paths, their costs, the best path and the columns of least costs, on which decoder and checker
+//! stand. It stands on the bits of tm_base.
 #![tactic(auto)]
 
 mod encoder;

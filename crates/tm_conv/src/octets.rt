@@ -49,7 +49,8 @@ static NEXT: [u8; 18] = [0, 0, 1, 2, 0, 1, 3, 4, 0, 1, 2, 1, 2, 3, 4, 5, 6, 0];
 fn first_row(rate: Rate) -> usize
     ensures fits { result + period rate ≤ 18 }
     ensures next { (phase : ℕ) → phase < period rate → get_or NEXT (result + phase) 0 ≡ (phase + 8) % period rate }
-    ensures rows { (phase : ℕ) → phase < period rate → AreKept rate phase (get_or KEPT (result + phase) []) (get_or COUNTS (result + phase) 0) }
+    ensures rows { (phase : ℕ) → phase < period rate → AreKept rate phase (get_or KEPT (result + phase) [])
+        (get_or COUNTS (result + phase) 0) }
 {
     match rate {
         Rate::R12 => 0,
@@ -91,7 +92,8 @@ fn octet_symbols(
     requires register { register < 64 }
     ensures long { length result.0 ≡ 16 }
     ensures at_most { result.1 ≤ 16 }
-    ensures kept { take result.1 result.0 ≡ levels low (path rate invert phase register (bit_numbers (bits_of_octet octet))) }
+    ensures kept { take result.1 result.0 ≡ levels low
+        (path rate invert phase register (bit_numbers (bits_of_octet octet))) }
 {
     let row = first_row(rate) + usize::from(phase);
     let symbols = symbols_at_half(invert, low, register, octet);
@@ -104,7 +106,8 @@ fn octet_symbols(
 // The register after an octet, whatever it was before.
 #[inline(always)]
 fn register_of(octet: u8) -> u8
-    ensures after { (register : ℕ) → register < 64 → result ≡ register_after register (bit_numbers (bits_of_octet octet)) }
+    ensures after { (register : ℕ) → register < 64 → result
+        ≡ register_after register (bit_numbers (bits_of_octet octet)) }
     ensures small { result < 64 }
 {
     REGISTER_AFTER[usize::from(octet)]

@@ -10,7 +10,8 @@ pub fn plain_encode(encoder: &mut Encoder, octets: &[u8], low: u8, out: &mut [u8
     requires room { 16 * length octets.now ≤ length out.old }
     ensures rate { encoder.new.rate ≡ encoder.old.rate }
     ensures invert { encoder.new.invert ≡ encoder.old.invert }
-    ensures stands { (given : List Bool) → StandsFor encoder.old given → StandsFor encoder.new (given ++ bits_of octets.now) }
+    ensures stands { (given : List Bool) → StandsFor encoder.old given
+        → StandsFor encoder.new (given ++ bits_of octets.now) }
     ensures sent { (given : List Bool) → StandsFor encoder.old given
         → levels low (sent_for encoder.old.rate encoder.old.invert (given ++ bits_of octets.now))
         ≡ levels low (sent_for encoder.old.rate encoder.old.invert given) ++ take result out.new }

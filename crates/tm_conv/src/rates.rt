@@ -2,7 +2,8 @@
 ghost use Rattle.std.specs.Prelude.{◌≡◌, ◌+◌, ◌/◌, ◌<◌, ◌≤◌, length};
 ghost use Rattle.tm_conv.specs.Path.{c1_pattern, c2_pattern, keeps_c1, keeps_c2, period, step_size, steps_size, farthest_step};
 
-/// The rate of the code: that of the code itself, or of one of its puncture patterns (CCSDS 131.0-B, Convolutional Coding).
+/// The rate of the code: that of the code itself, or of one of its puncture patterns (CCSDS 131.0-B, Convolutional
+/// Coding).
 #[derive(Clone, Copy, Debug, PartialEq, Eq)]
 pub enum Rate {
     /// 1/2
@@ -41,8 +42,8 @@ fn c2_pattern(rate: Rate) -> &'static [u8]
     }
 }
 
-/// Whether step `t`, counted from the stream's first bit, keeps the first and the second sum (CCSDS 131.0-B, Convolutional
-/// Coding). Each step keeps at least one.
+/// Whether step `t`, counted from the stream's first bit, keeps the first and the second sum (CCSDS 131.0-B,
+/// Convolutional Coding). Each step keeps at least one.
 pub fn kept(rate: Rate, t: u64) -> (bool, bool)
     ensures c1 { result.0 ≡ keeps_c1 rate t }
     ensures c2 { result.1 ≡ keeps_c2 rate t }
@@ -87,7 +88,8 @@ pub fn symbols_of(rate: Rate, bits: u64) -> u64
     bits + bits.div_ceil(u64::from(period(rate)))
 }
 
-/// How many symbols `count` steps send from step `t` on, counted from the stream's first bit; `t + count` is at most 2^62.
+/// How many symbols `count` steps send from step `t` on, counted from the stream's first bit; `t + count` is at most
+/// 2^62.
 pub fn steps_len(rate: Rate, t: u64, count: usize) -> usize
     requires { t + count ≤ farthest_step }
     ensures { result ≡ steps_size rate t count }

@@ -14,7 +14,12 @@ pub record SourceState : Type 0 where
   pub faults : ℕ
 
 abbrev pub source_state : (given left : Option (List ℕ)) → Bool → ℕ → SourceState
-source_state given left ended faults = record { given = given; left = left; ended = ended; faults = faults }
+source_state given left ended faults = record {
+  given = given;
+  left = left;
+  ended = ended;
+  faults = faults;
+}
 
 -- a sink: the octets that it has taken, where it says which, and its count of faults
 pub record SinkState : Type 0 where
@@ -50,7 +55,8 @@ abbrev pub SinksCourse : (failed : Bool) → (out out_now : SinkState) → Type 
 SinksCourse true out out_now out_last notes notes_now notes_last =
     (SinkCourse true out out_now out_last × SinkCourse false notes notes_now notes_last)
     ⊎ (SinkCourse true notes notes_now notes_last × SinkCourse false out out_now out_last)
-SinksCourse false out out_now out_last notes notes_now notes_last = SinkCourse false out out_now out_last × SinkCourse false notes notes_now notes_last
+SinksCourse false out out_now out_last notes notes_now notes_last =
+    SinkCourse false out out_now out_last × SinkCourse false notes notes_now notes_last
 
 -- ---- the same of a source and of sinks by what they say of themselves
 

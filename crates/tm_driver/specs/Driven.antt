@@ -30,12 +30,15 @@ DrivenTo fed stopped finished failed limit before now ended unended Bad octets =
     (λ a b. finished a b outcome.Bad) limit before now octets
 DrivenTo fed stopped finished failed limit before now ended unended LeftOver octets = Finished fed
     (λ a b. finished a b outcome.LeftOver) limit before now octets
-DrivenTo fed stopped finished failed limit before now ended unended BadWindow octets = stopped before now (take limit octets) stop.BadWindow
-DrivenTo fed stopped finished failed limit before now ended unended SourceFault octets = fed before now octets × (length octets ≤ limit)
+DrivenTo fed stopped finished failed limit before now ended unended BadWindow octets =
+    stopped before now (take limit octets) stop.BadWindow
+DrivenTo fed stopped finished failed limit before now ended unended SourceFault octets =
+    fed before now octets × (length octets ≤ limit)
 DrivenTo fed stopped finished failed limit before now ended unended SinkFault octets =
     (stopped before now (take limit octets) stop.SinkFault × unended)
     ⊎ (Finished fed failed limit before now octets × ended)
-DrivenTo fed stopped finished failed limit before now ended unended PastLimit octets = fed before now (take limit octets) × (length octets ≡ limit + 1)
+DrivenTo fed stopped finished failed limit before now ended unended PastLimit octets =
+    fed before now (take limit octets) × (length octets ≡ limit + 1)
 
 -- the most octets that a turn reads
 abbrev pub turn_size : ℕ

@@ -18,7 +18,12 @@ pub record Taken : Type 0 where
   pub notes_now : Option (List ℕ)
 
 abbrev pub taken_by : (out out_now notes notes_now : Option (List ℕ)) → Taken
-taken_by out out_now notes notes_now = record { out = out; out_now = out_now; notes = notes; notes_now = notes_now }
+taken_by out out_now notes notes_now = record {
+  out = out;
+  out_now = out_now;
+  notes = notes;
+  notes_now = notes_now;
+}
 
 -- each sink took the whole of its part
 pub record WroteBoth (output : Output) (taken : Taken) : Type 0 where

@@ -13,12 +13,13 @@ use tm_base::{Failed, Source};
 /// The most octets that a turn reads.
 pub const TURN: usize = 4096;
 
-/// Feeds what the source gives, up to `limit` octets, and its end. It reads at most one octet past the limit, in turns of at most
-/// 4,096, and nothing after the end, after a fault, or once what is fed has stopped. Answers how that ended.
+/// Feeds what the source gives, up to `limit` octets, and its end. It reads at most one octet past the limit, in turns
+/// of at most 4,096, and nothing after the end, after a fault, or once what is fed has stopped. Answers how that ended.
 pub fn drive<S: Source, F: Feed>(limit: u64, source: &mut S, feed: &mut F) -> Ending
     requires ready { F.is_ready feed.old }
     requires limit { limit ≤ most_limit }
-    ensures driven { (octets : List ℕ) × Gave (S.given source.old) (S.given source.new) (S.left source.old) (S.left source.new) octets
+    ensures driven { (octets : List ℕ) × Gave (S.given source.old) (S.given source.new) (S.left source.old)
+        (S.left source.new) octets
         × (length octets ≤ limit + 1) × DrivenTo F.fed F.stopped F.finished F.failed limit feed.old feed.new
         (S.ended source.new ≡ true) (S.ended source.new ≡ S.ended source.old) result octets }
     ensures source { SourceWent result (source_call S.given S.left S.ended S.faults S.is_last source.old source.new) }

@@ -55,11 +55,14 @@ pub trait Feed {
 
     ghost fed_none: { (a : Self) → is_ready a → fed a a [] };
 
-    ghost fed_more: { (a b c : Self) (first second : List ℕ) → fed a b first → fed b c second → fed a c (first ++ second) };
+    ghost fed_more: { (a b c : Self) (first second : List ℕ) → fed a b first → fed b c second
+        → fed a c (first ++ second) };
 
-    ghost stopped_more: { (a b c : Self) (first second : List ℕ) (stop : Stop) → fed a b first → stopped b c second stop → stopped a c (first ++ second) stop };
+    ghost stopped_more: { (a b c : Self) (first second : List ℕ) (stop : Stop) → fed a b first
+        → stopped b c second stop → stopped a c (first ++ second) stop };
 
     ghost sinks_none: { (a : Self) → sinks a a false };
 
-    ghost sinks_more: { (a b c : Self) (has_failed : Bool) → sinks a b false → sinks b c has_failed → sinks a c has_failed };
+    ghost sinks_more: { (a b c : Self) (has_failed : Bool) → sinks a b false → sinks b c has_failed
+        → sinks a c has_failed };
 }

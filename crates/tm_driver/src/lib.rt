@@ -1,6 +1,6 @@
-//! The driver of every command that reads: octets from a source, up to a limit and in turns, into what a command feeds, and
-//! how that ended. It knows no command. What a command writes is said by its `Meaning`, what a source and the sinks went through by
-//! their courses, and what each ending shows by `Ends`, for all commands once.
+//! The driver of every command that reads: octets from a source, up to a limit and in turns, into what a command feeds,
+//! and how that ended. It knows no command. What a command writes is said by its `Meaning`, what a source and the sinks
+//! went through by their courses, and what each ending shows by `Ends`, for all commands once.
 #![tactic(auto)]
 
 mod driver;

@@ -23,9 +23,11 @@ fn left_over_line<N: Sink>(notes: &mut N, rest: u32) -> Result<(), Failed>
     line.put(notes)
 }
 
-/// Writes how many octets follow the last whole frame or record, where there are some, and answers what came of the input by that.
+/// Writes how many octets follow the last whole frame or record, where there are some, and answers what came of the
+/// input by that.
 pub fn tell_rest<N: Sink>(notes: &mut N, rest: u32) -> Result<Outcome, Failed>
-    ensures ok { IfOk result (λ outcome. (outcome ≡ outcome_by rest) × Wrote (N.taken notes.old) (N.taken notes.new) (left_over_text rest)) }
+    ensures ok { IfOk result (λ outcome. (outcome ≡ outcome_by rest)
+        × Wrote (N.taken notes.old) (N.taken notes.new) (left_over_text rest)) }
     ensures err { OnErr result (WrotePrefix (N.taken notes.old) (N.taken notes.new) (left_over_text rest)) }
     ensures cause { HasCause (N.faults notes.old) (N.faults notes.new) (N.is_last notes.new) result }
 {
@@ -36,8 +38,8 @@ pub fn tell_rest<N: Sink>(notes: &mut N, rest: u32) -> Result<Outcome, Failed>
     }
 }
 
-/// Writes the symbol phase that was chosen: `phase S cost C`, with the octets skipped and the cost of the best path after them.
-/// `Failed` comes only where the sink's count of faults rose.
+/// Writes the symbol phase that was chosen: `phase S cost C`, with the octets skipped and the cost of the best path
+/// after them. `Failed` comes only where the sink's count of faults rose.
 pub fn phase_line<O: Sink>(out: &mut O, skip: u8, cost: u64) -> Result<(), Failed>
     ensures ok { OnOk result (Wrote (O.taken out.old) (O.taken out.new) (phase_text skip cost)) }
     ensures err { OnErr result (WrotePrefix (O.taken out.old) (O.taken out.new) (phase_text skip cost)) }

@@ -1,4 +1,5 @@
--- The octet that is sent for an element, in either basis, and the element for which an octet is sent.
+-- The octet that is sent for an element, in either basis, and the element for which an octet is
+-- sent.
 use Rattle.std.specs.Prelude.{ℕ, zero, suc}
 use Rattle.tm_dual.specs.Dual.{dual_octet, dual_element}
 use Rattle.tm_dual.specs.declared.basis.Basis.{Basis}

@@ -1,6 +1,6 @@
--- The field of 256 elements of CCSDS 131.0-B, Reed-Solomon Coding. An element is a number below 256,
--- read as a polynomial over bits: bit k is the coefficient of alpha^k, where alpha is the element 2.
--- Of a larger number a product reads the low eight bits.
+-- The field of 256 elements of CCSDS 131.0-B, Reed-Solomon Coding. An element is a number below
+-- 256, read as a polynomial over bits: bit k is the coefficient of alpha^k, where alpha is the
+-- element 2. Of a larger number a product reads the low eight bits.
 use Rattle.std.specs.Prelude.{ℕ, zero, suc, ◌+◌, ◌*◌, ◌%◌, ◌^◌, bit_xor}
 use Rattle.std.specs.Int.{bit_at}
 
@@ -9,7 +9,8 @@ unfoldable pub bit_product : ℕ → ℕ → ℕ → ℕ
 bit_product zero a b = 0
 bit_product (suc k) a b = bit_xor (bit_product k a b) (bit_at b k * (a * 2 ^ k))
 
--- the remainder by F(x) = x^8 + x^7 + x^2 + x + 1, the number 0x187, of a polynomial of degree below 8 + k
+-- the remainder by F(x) = x^8 + x^7 + x^2 + x + 1, the number 0x187, of a polynomial of degree
+-- below 8 + k
 unfoldable pub remainder : ℕ → ℕ → ℕ
 remainder zero p = p
 remainder (suc k) p = remainder k (bit_xor p (bit_at p (8 + k) * (0x187 * 2 ^ k)))

@@ -10,7 +10,8 @@ use Rattle.tm_inner.specs.Receiving.{AreInnerFirst}
 
 -- all that is handed over, and how many octets are left over
 abbrev pub AreHanded : Configuration → List ℕ → List (Handed WindowBlock) → ℕ → Type 0
-AreHanded c octets handed left = WithPhase (λ phase blocks. AreInnerBlocks c phase octets blocks left) c octets handed
+AreHanded c octets handed left =
+    WithPhase (λ phase blocks. AreInnerBlocks c phase octets blocks left) c octets handed
 
 -- what is due, whatever octets come: the phase, once it is settled, and all blocks but the last
 abbrev pub AreHandedDue : Configuration → List ℕ → List (Handed WindowBlock) → Type 0

@@ -66,7 +66,8 @@ with_phase (Some chosen) items = Phase chosen.skip chosen.cost ∷ map Item item
 
 -- what is handed over for received octets: their phase, where it is to be found, and then items,
 -- which hang on the phase
-pub record WithPhase {I : Type 0} (AreItems : ℕ → List I → Type 0) (c : Configuration) (octets : List ℕ) (handed : List (Handed I)) : Type 0 where
+pub record WithPhase {I : Type 0} (AreItems : ℕ → List I → Type 0) (c : Configuration)
+    (octets : List ℕ) (handed : List (Handed I)) : Type 0 where
   pub chosen : Option Chosen
   pub choice : IsChosen c octets chosen
   pub items : List I

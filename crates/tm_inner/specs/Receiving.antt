@@ -91,7 +91,8 @@ FirstFor None c soft blocks = blocks ≡ []
 FirstFor (Some rate) c soft blocks = AreFirstIn (windows_of c rate) soft blocks
 
 -- the phase of soft octets, and the blocks of first windows after it
-pub record IsPrefixBy (c : Configuration) (soft : List ℕ) (handed : List (Handed WindowBlock)) : Type 0 where
+pub record IsPrefixBy (c : Configuration) (soft : List ℕ)
+    (handed : List (Handed WindowBlock)) : Type 0 where
   pub chosen : Option Chosen
   pub choice : IsChosenBy c soft chosen
   pub blocks : List WindowBlock
@@ -113,7 +114,8 @@ pub record InnerReceiving : Type 0 where
 
 -- an inner receiver that was given these octets and no others, fewer than 2^60, and has handed over
 -- this
-pub record StandsFor (r : InnerReceiving) (given : List ℕ) (done : List (Handed WindowBlock)) : Type 0 where
+pub record StandsFor (r : InnerReceiving) (given : List ℕ)
+    (done : List (Handed WindowBlock)) : Type 0 where
   pub count : length given ≡ r.count
   pub few : length given < stream_bound
   pub same : r.phased.config ≡ r.config
@@ -148,7 +150,8 @@ pub record Hands {T I S : Type 0} (took : T → I → T → Type 0)
 -- given the octets, a value hands over a part of the first of it, at which the taker fails
 pub record HandsPrefix {T I S : Type 0} (took broke : T → I → T → Type 0)
     (Stands : S → List ℕ → List I → Type 0)
-    (First : List ℕ → List I → Type 0) (before : S) (taker taker_now : T) (octets : List ℕ) : Type 0 where
+    (First : List ℕ → List I → Type 0) (before : S) (taker taker_now : T)
+    (octets : List ℕ) : Type 0 where
   pub tried : List I
   pub handed : HandedPart took broke taker tried taker_now
   pub first : (given : List ℕ) (done : List I) → length given + length octets < stream_bound

@@ -43,7 +43,8 @@ abbrev pub StandsFor : InnerSending → List ℕ → Type 0
 StandsFor sender octets = KeepsFor sender.encoder octets
 
 -- given these octets, a sender went on and wrote what is due for them
-pub record Sends (before now : InnerSending) (taken taken_now : Option (List ℕ)) (octets : List ℕ) : Type 0 where
+pub record Sends (before now : InnerSending) (taken taken_now : Option (List ℕ))
+    (octets : List ℕ) : Type 0 where
   pub config : now.config ≡ before.config
   pub fed : Fed StandsFor (symbols_of_octets before.config) before now taken taken_now octets
 

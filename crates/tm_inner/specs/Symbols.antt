@@ -29,8 +29,8 @@ abbrev pub plain_symbols : Bool → Configuration → List Bool → List ℕ
 plain_symbols true c bits = octets_of bits
 plain_symbols false c bits = levels (low_level c.soft) (bit_numbers bits)
 
--- the octets that are sent for bits: with no inner code those of the bits themselves, packed or not;
--- else an octet for each symbol
+-- the octets that are sent for bits: with no inner code those of the bits themselves, packed or
+-- not; else an octet for each symbol
 abbrev pub symbols_by : Option Rate → Configuration → List Bool → List ℕ
 symbols_by None c bits = plain_symbols c.pack c bits
 symbols_by (Some rate) c bits = levels (low_level c.soft)

@@ -17,7 +17,8 @@ pub fn inner_law()
         → (bits : List Bool) × Inner c phase octets bits }
     ensures one { (c : Configuration) (phase : ℕ) (octets : List ℕ) (bits others : List Bool)
         → Inner c phase octets bits → Inner c phase octets others → bits ≡ others }
-    ensures blocks { (c : Configuration) (phase : ℕ) (octets : List ℕ) (blocks others : List WindowBlock) (left rest : ℕ)
+    ensures blocks { (c : Configuration) (phase : ℕ) (octets : List ℕ) (blocks others : List WindowBlock)
+        (left rest : ℕ)
         → AreInnerBlocks c phase octets blocks left → AreInnerBlocks c phase octets others rest → blocks ≡ others }
 {
     one_windows_law();

@@ -51,7 +51,8 @@ impl Model for Phased {
       chosen = p.chosen;
     } };
 
-    ghost invariant = { λ p. IsDecoderOf p.config p.decoder × (p.config.phase ≡ Find → p.held.room ≡ needed_at p.config.inner p.config) };
+    ghost invariant = { λ p. IsDecoderOf p.config p.decoder
+        × (p.config.phase ≡ Find → p.held.room ≡ needed_at p.config.inner p.config) };
 }
 
 impl Phased {
@@ -98,7 +99,8 @@ impl Phased {
             → IsSoFarBy self.old.config (soft ++ soft_form self.old.config octets.now) self.new.chosen }
         ensures closed { OnOk result ((soft : List ℕ) (done : List (Handed WindowBlock)) → Goes self.new soft done
             → HasClosedAll self.new.decoder) }
-        ensures handed { OnOk result (Hands (on_handed B.took_phase B.took) PhasesFor self.old self.new blocks.old blocks.new (soft_form self.old.config octets.now)) }
+        ensures handed { OnOk result (Hands (on_handed B.took_phase B.took) PhasesFor self.old self.new blocks.old
+            blocks.new (soft_form self.old.config octets.now)) }
         ensures prefix { OnErr result (HandsPrefix (on_handed B.took_phase B.took)
             (on_handed B.broke_phase B.broke) PhasesFor (IsFirstBy self.old.config)
             self.old blocks.old blocks.new (soft_form self.old.config octets.now)) }

@@ -64,7 +64,8 @@ impl Model for InnerReceiver {
 
     ghost view = { λ r. record { config = r.config; phased = r.phased; count = r.count; has_stopped = r.has_stopped } };
 
-    ghost invariant = { λ r. (r.phased.config ≡ r.config) × (r.has_stopped ≡ false → HasStopped false r.phased.decoder) };
+    ghost invariant = { λ r. (r.phased.config ≡ r.config)
+        × (r.has_stopped ≡ false → HasStopped false r.phased.decoder) };
 }
 
 impl InnerReceiver {
@@ -328,8 +329,8 @@ impl InnerReceiver {
         is_packed(&self.config)
     }
 
-    /// Puts the bits that octets are nearest to in `bits`, each 0 or 1: 1 for an octet from 80 (hex) on, or in the signed
-    /// form from 00 to 7F.
+    /// Puts the bits that octets are nearest to in `bits`, each 0 or 1: 1 for an octet from 80 (hex) on, or in the
+    /// signed form from 00 to 7F.
     pub fn nearest_bits(&self, octets: &[u8], bits: &mut [u8])
         requires { length bits.old ≡ length octets.now }
         ensures size { length bits.new ≡ length bits.old }
@@ -400,7 +401,8 @@ fn bits_received(config: &Config, phased: &Phased, count: u64) -> u64
 
 // Before how many windows octets were dropped, where the symbol phase is followed.
 fn slips_told(config: &Config, phased: &Phased) -> Option<u64>
-    ensures { (blocks : List WindowBlock) → HasCountedAll phased.now.decoder blocks → result ≡ slips_told config.now blocks }
+    ensures { (blocks : List WindowBlock) → HasCountedAll phased.now.decoder blocks
+        → result ≡ slips_told config.now blocks }
 {
     if config.values().follow {
         Some(phased.slips())

@@ -119,7 +119,8 @@ fn send<O: Sink>(
     out: &mut O,
 ) -> Result<(), Failed>
     ensures of { (c : Configuration) → IsEncoderOf c encoder.old → IsEncoderOf c encoder.new }
-    ensures sent { OnOk result ((c : Configuration) → IsEncoderOf c encoder.old → is_packed ≡ c.pack → low ≡ low_level c.soft
+    ensures sent { OnOk result ((c : Configuration) → IsEncoderOf c encoder.old → is_packed ≡ c.pack
+        → low ≡ low_level c.soft
         → Fed KeepsFor (symbols_of_octets c) encoder.old encoder.new (O.taken out.old) (O.taken out.new) octets.now) }
     ensures prefix { OnErr result ((c : Configuration) → IsEncoderOf c encoder.old → is_packed ≡ c.pack
         → low ≡ low_level c.soft

@@ -80,7 +80,8 @@ pub fn gather(decoder: &mut InnerDecoder, piece: &[u8]) -> bool
 /// more than if no octet were dropped.
 pub fn count_closed(decoder: &InnerDecoder) -> usize
     ensures due { (given : List ℕ) (done : List WindowBlock) → StandsIn decoder.now given done
-        → (more : List WindowBlock) × (length more ≤ result) × ((windows_in decoder.now).seen ≡ None → length more ≡ result)
+        → (more : List WindowBlock) × (length more ≤ result)
+        × ((windows_in decoder.now).seen ≡ None → length more ≡ result)
         × AreDueIn (windows_in decoder.now) given (done ++ more) }
     ensures most { (given : List ℕ) (done all : List WindowBlock) → StandsIn decoder.now given done
         → AreDue (windows_in decoder.now).settings given all → length done + result ≤ length all }
@@ -103,7 +104,8 @@ pub fn slip_count(decoder: &InnerDecoder) -> u64
 
 /// How many steps the blocks keep that were handed over. None where this is not counted; no octet is dropped then.
 pub fn step_count(decoder: &InnerDecoder) -> Option<u64>
-    ensures some { IfSome result (λ steps. (blocks : List WindowBlock) → HasCounted decoder.now blocks → steps ≡ kept_of blocks) }
+    ensures some { IfSome result (λ steps. (blocks : List WindowBlock) → HasCounted decoder.now blocks
+        → steps ≡ kept_of blocks) }
     ensures none { result ≡ None → (windows_in decoder.now).seen ≡ None }
 {
     match decoder {

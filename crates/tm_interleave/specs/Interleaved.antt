@@ -3,9 +3,11 @@ use Rattle.std.specs.Prelude.{ℕ, ◌*◌, ◌/◌, ◌%◌, List, [], map, sli
 use Rattle.std.specs.List.{range_with_len}
 use Rattle.tm_interleave.specs.Column.{column}
 
--- `depth` columns of this length, interleaved: symbol m of the block is symbol m / depth of column m % depth
+-- `depth` columns of this length, interleaved: symbol m of the block is symbol m / depth of column
+-- m % depth
 abbrev pub interleaved : ℕ → ℕ → List (List ℕ) → List ℕ
-interleaved depth size columns = map (λ m. slice_index (slice_index_or columns (m % depth) []) (m / depth)) (range_with_len 0 (depth * size))
+interleaved depth size columns = map (λ m. slice_index (slice_index_or columns (m % depth) [])
+    (m / depth)) (range_with_len 0 (depth * size))
 
 -- all columns of a block, in their order
 abbrev pub columns_of : ℕ → List ℕ → List (List ℕ)

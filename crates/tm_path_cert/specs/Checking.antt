@@ -5,7 +5,8 @@ use Rattle.tm_path_cert.specs.declared.verdicts.Verdict.TheVariants.{Yes, No, Su
 use Rattle.tm_path_cert.specs.Claim.{Claim, path_cost}
 use Rattle.tm_path_cert.specs.Tests.{AllHold, IsFirstWrong, Pass, IsFirstLess, last_of}
 
--- what contracts see of a check: how many columns it was given, the last of them, and the first place that was wrong
+-- what contracts see of a check: how many columns it was given, the last of them, and the first
+-- place that was wrong
 pub record Checking : Type 0 where
   pub claim : Claim
   pub count : ℕ
@@ -25,6 +26,9 @@ pub record StandsFor (check : Checking) (columns : List (List ℕ)) : Type 0 whe
 
 -- what is to be answered of a path and its metric; no two answers are right at once
 abbrev pub IsVerdict : Claim → List (List ℕ) → ℕ → List ℕ → ℕ → Verdict → Type 0
-IsVerdict claim columns register bits metric Yes = Pass claim columns metric × (path_cost claim register bits ≡ metric)
-IsVerdict claim columns register bits metric (No t state) = IsFirstWrong claim columns t state ⊎ IsFirstLess claim columns metric t state
-IsVerdict claim columns register bits metric (Sum sum) = Pass claim columns metric × (path_cost claim register bits ≡ sum) × (sum ≢ metric)
+IsVerdict claim columns register bits metric Yes = Pass claim columns metric
+    × (path_cost claim register bits ≡ metric)
+IsVerdict claim columns register bits metric (No t state) = IsFirstWrong claim columns t state
+    ⊎ IsFirstLess claim columns metric t state
+IsVerdict claim columns register bits metric (Sum sum) = Pass claim columns metric
+    × (path_cost claim register bits ≡ sum) × (sum ≢ metric)

@@ -1,4 +1,5 @@
--- What a certificate speaks of: soft octets, the step at which they begin, and the registers that a path may start from.
+-- What a certificate speaks of: soft octets, the step at which they begin, and the registers that a
+-- path may start from.
 use Rattle.std.specs.Prelude.{ℕ, ◌+◌, ◌<◌, ◌==◌, Bool, true, List, take, drop}
 use Rattle.tm_conv.specs.declared.rates.Rate.{Rate}
 use Rattle.tm_conv.specs.Path.{step_size, steps_size, step_symbols, path}
@@ -25,12 +26,15 @@ AreRegisters (One start) = start < 64
 
 -- the soft octets of step k, counted from the first
 abbrev pub step_octets : Claim → ℕ → List ℕ
-step_octets claim k = take (step_size claim.rate (claim.first + k)) (drop (steps_size claim.rate claim.first k) claim.soft)
+step_octets claim k = take (step_size claim.rate (claim.first + k))
+    (drop (steps_size claim.rate claim.first k) claim.soft)
 
 -- what step k costs from a register by a bit
 abbrev pub edge_cost : Claim → ℕ → ℕ → ℕ → ℕ
-edge_cost claim k register bit = cost (step_symbols claim.rate claim.invert (claim.first + k) register bit) (step_octets claim k)
+edge_cost claim k register bit = cost (step_symbols claim.rate claim.invert
+    (claim.first + k) register bit) (step_octets claim k)
 
 -- what a path costs over all of the octets
 abbrev pub path_cost : Claim → ℕ → List ℕ → ℕ
-path_cost claim register bits = cost (path claim.rate claim.invert claim.first register bits) claim.soft
+path_cost claim register bits = cost (path claim.rate claim.invert claim.first register bits)
+    claim.soft

@@ -3,7 +3,8 @@ use Rattle.std.specs.Prelude.{◌≡◌, ℕ, zero, suc, ◌+◌, ◌-◌, ◌<�
 use Rattle.tm_conv.specs.Path.{next_register}
 use Rattle.tm_path_cert.specs.Claim.{Claim, is_start, edge_cost}
 
--- a register of a column costs no more than it does by any edge from the column before, where `edge` is what an edge costs
+-- a register of a column costs no more than it does by any edge from the column before, where
+-- `edge` is what an edge costs
 abbrev pub KeepsAt : (ℕ → ℕ → ℕ) → List ℕ → List ℕ → ℕ → Type 0
 KeepsAt edge before column register =
     (from bit : ℕ) → from < 64 → bit < 2 → next_register from bit ≡ register
@@ -13,7 +14,8 @@ KeepsAt edge before column register =
 abbrev pub StartsAt : (ℕ → Bool) → List ℕ → ℕ → Type 0
 StartsAt starts column register = IsTrue (starts register) → slice_index column register ≡ 0
 
--- column t is right at a register: in the first column each start has 0, and in a later one no edge undercuts it
+-- column t is right at a register: in the first column each start has 0, and in a later one no edge
+-- undercuts it
 abbrev pub HoldsAt : Claim → ℕ → List ℕ → List ℕ → ℕ → Type 0
 HoldsAt claim zero before column register = StartsAt (is_start claim.starts) column register
 HoldsAt claim (suc k) before column register = KeepsAt (edge_cost claim k) before column register
@@ -21,18 +23,21 @@ HoldsAt claim (suc k) before column register = KeepsAt (edge_cost claim k) befor
 -- the least of the 64 registers at which a test fails, or none
 abbrev pub IsFirstFailing : (ℕ → Type 0) → Option ℕ → Type 0
 IsFirstFailing Test None = (register : ℕ) → register < 64 → Test register
-IsFirstFailing Test (Some register) = (register < 64) × (Test register → ⊥) × ((other : ℕ) → other < register → Test other)
+IsFirstFailing Test (Some register) = (register < 64) × (Test register → ⊥)
+    × ((other : ℕ) → other < register → Test other)
 
 abbrev pub column_at : List (List ℕ) → ℕ → List ℕ
 column_at columns t = slice_index_or columns t []
 
 -- the same of a list of columns
 abbrev pub Holds : Claim → List (List ℕ) → ℕ → ℕ → Type 0
-Holds claim columns t register = HoldsAt claim t (column_at columns (t - 1)) (column_at columns t) register
+Holds claim columns t register = HoldsAt claim t (column_at columns (t - 1))
+    (column_at columns t) register
 
 -- each column is right at each register
 abbrev pub AllHold : Claim → List (List ℕ) → Type 0
-AllHold claim columns = (t register : ℕ) → t < length columns → register < 64 → Holds claim columns t register
+AllHold claim columns = (t register : ℕ) → t < length columns → register < 64
+    → Holds claim columns t register
 
 -- the first column that is not right, and its least register
 pub record IsFirstWrong (claim : Claim) (columns : List (List ℕ)) (t register : ℕ) : Type 0 where
@@ -51,12 +56,14 @@ pub record Pass (claim : Claim) (columns : List (List ℕ)) (metric : ℕ) : Typ
   pub at_least : (register : ℕ) → register < 64 → metric ≤ slice_index (last_of columns) register
 
 -- each column is right, and this is the least register at which the last is less than the metric
-pub record IsFirstLess (claim : Claim) (columns : List (List ℕ)) (metric t register : ℕ) : Type 0 where
+pub record IsFirstLess (claim : Claim) (columns : List (List ℕ))
+    (metric t register : ℕ) : Type 0 where
   pub columns_hold : AllHold claim columns
   pub last : t ≡ length columns - 1
   pub below : register < 64
   pub less : slice_index (last_of columns) register < metric
-  pub registers_before : (other : ℕ) → other < register → metric ≤ slice_index (last_of columns) other
+  pub registers_before : (other : ℕ) → other < register
+      → metric ≤ slice_index (last_of columns) other
 
 -- the first place that is wrong, after a column in which a register was found
 abbrev pub first_place : Option (ℕ × ℕ) → ℕ → Option ℕ → Option (ℕ × ℕ)

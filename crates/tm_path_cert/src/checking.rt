@@ -36,9 +36,15 @@ impl<'a> Model for Check<'a> {
 
     ghost Value = { Checking };
 
-    ghost view = { λ c. record { claim = record { rate = c.rate; invert = c.invert; first = c.first; starts = c.starts; soft = c.soft.now }; count = c.count; last = c.last; wrong = c.wrong } };
+    ghost view = { λ c. record {
+      claim = record { rate = c.rate; invert = c.invert; first = c.first; starts = c.starts; soft = c.soft.now };
+      count = c.count;
+      last = c.last;
+      wrong = c.wrong;
+    } };
 
-    ghost invariant = { λ c. (c.place ≡ steps_size c.rate c.first (c.count - 1)) × (length c.soft.now ≤ 2 ^ 25) × (c.first ≤ last_certified) };
+    ghost invariant = { λ c. (c.place ≡ steps_size c.rate c.first (c.count - 1)) × (length c.soft.now ≤ 2 ^ 25)
+        × (c.first ≤ last_certified) };
 }
 
 impl<'a> Check<'a> {
@@ -50,7 +56,8 @@ impl<'a> Check<'a> {
         requires steps { (steps : ℕ) × (steps ≤ 2 ^ 24) × (length soft.now ≡ steps_size rate first steps) }
         requires first { first ≤ last_certified }
         requires start { AreRegisters start }
-        ensures claim { result.claim ≡ record { rate = rate; invert = invert; first = first; starts = start; soft = soft.now } }
+        ensures claim { result.claim ≡ record { rate = rate; invert = invert; first = first; starts = start;
+            soft = soft.now } }
         ensures count { result.count ≡ 0 }
         ensures stands { StandsFor result [] }
     {
@@ -69,10 +76,12 @@ impl<'a> Check<'a> {
 
     /// Takes the next column. Columns are given once more than there are steps.
     pub fn column(&mut self, sums: &[u32; 64])
-        requires more { steps_size self.old.claim.rate self.old.claim.first self.old.count ≤ length self.old.claim.soft }
+        requires more { steps_size self.old.claim.rate self.old.claim.first self.old.count
+            ≤ length self.old.claim.soft }
         ensures claim { self.new.claim ≡ self.old.claim }
         ensures count { self.new.count ≡ self.old.count + 1 }
-        ensures stands { (given : List (List ℕ)) → StandsFor self.old given → StandsFor self.new (given ++ sums.now ∷ []) }
+        ensures stands { (given : List (List ℕ)) → StandsFor self.old given
+            → StandsFor self.new (given ++ sums.now ∷ []) }
     {
         let size = self.step_size();
         let found = self.first_wrong(sums);
@@ -84,7 +93,8 @@ impl<'a> Check<'a> {
 
     // How many octets the step to the next column has; none before the first.
     fn step_size(&self) -> usize
-        ensures { steps_size self.now.claim.rate self.now.claim.first (self.now.count - 1) + result ≡ steps_size self.now.claim.rate self.now.claim.first self.now.count }
+        ensures { steps_size self.now.claim.rate self.now.claim.first (self.now.count - 1) + result
+            ≡ steps_size self.now.claim.rate self.now.claim.first self.now.count }
     {
         if self.count == 0 {
             return 0;
@@ -94,8 +104,10 @@ impl<'a> Check<'a> {
 
     // The least register at which the next column is wrong.
     fn first_wrong(&self, sums: &[u32; 64]) -> Option<u8>
-        requires more { steps_size self.now.claim.rate self.now.claim.first self.now.count ≤ length self.now.claim.soft }
-        ensures { IsFirstFailing (λ register. HoldsAt self.now.claim self.now.count self.now.last sums.now register) result }
+        requires more { steps_size self.now.claim.rate self.now.claim.first self.now.count
+            ≤ length self.now.claim.soft }
+        ensures { IsFirstFailing (λ register. HoldsAt self.now.claim self.now.count self.now.last sums.now register)
+            result }
     {
         if self.count == 0 {
             return first_start_wrong(self.starts, sums);
@@ -110,17 +122,20 @@ impl<'a> Check<'a> {
         first_undercut(&step, &self.last, sums)
     }
 
-    /// Answers for a path of `bits`, one to each step and each 0 or 1, from a start `register`, and its `metric`, once each
-    /// column was given.
+    /// Answers for a path of `bits`, one to each step and each 0 or 1, from a start `register`, and its `metric`, once
+    /// each column was given.
     pub fn finish(self, bits: &[u8], register: u8, metric: u64) -> Verdict
         requires steps { length self.claim.soft ≡ steps_size self.claim.rate self.claim.first (length bits.now) }
         requires bits { AreBits bits.now }
         requires columns { self.count ≡ length bits.now + 1 }
         requires register { register < 64 }
         requires start { IsTrue (is_start self.claim.starts register) }
-        ensures verdict { (given : List (List ℕ)) → StandsFor self.entry given → IsVerdict self.entry.claim given register bits.now metric result }
-        ensures least { (given : List (List ℕ)) → StandsFor self.entry given → result ≡ Verdict.Yes → (initial : ℕ) (others : List ℕ)
-            → IsCandidate (is_start self.entry.claim.starts) self.entry.claim.rate self.entry.claim.invert self.entry.claim.first self.entry.claim.soft initial others
+        ensures verdict { (given : List (List ℕ)) → StandsFor self.entry given
+            → IsVerdict self.entry.claim given register bits.now metric result }
+        ensures least { (given : List (List ℕ)) → StandsFor self.entry given → result ≡ Verdict.Yes
+            → (initial : ℕ) (others : List ℕ)
+            → IsCandidate (is_start self.entry.claim.starts) self.entry.claim.rate self.entry.claim.invert
+            self.entry.claim.first self.entry.claim.soft initial others
             → metric ≤ path_cost self.entry.claim initial others }
         ensures reached { result ≡ Verdict.Yes → path_cost self.entry.claim register bits.now ≡ metric }
     {

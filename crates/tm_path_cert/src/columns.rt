@@ -33,7 +33,9 @@ pub(crate) fn first_start_wrong(starts: Starts, sums: &[u32; 64]) -> Option<u8>
 // Whether no edge of a step undercuts the sum of a register.
 fn is_kept(step: &Step<'_>, before: &[u32; 64], sums: &[u32; 64], register: u8) -> bool
     requires { register < 64 }
-    ensures { IsTrue result ↔ KeepsAt (λ from bit. cost (step_symbols step.now.rate step.now.invert step.now.t from bit) step.now.octets.now) before.now sums.now register }
+    ensures { IsTrue result
+        ↔ KeepsAt (λ from bit. cost (step_symbols step.now.rate step.now.invert step.now.t from bit)
+        step.now.octets.now) before.now sums.now register }
 {
     let even = register % 32 * 2;
     let odd = even + 1;
@@ -44,16 +46,18 @@ fn is_kept(step: &Step<'_>, before: &[u32; 64], sums: &[u32; 64], register: u8) 
     sum <= by_even && sum <= by_odd
 }
 
-// The two sums of a step from register 2 * j by bit 0, as 2 * first + second: at 2 * (j / 4) + j % 2. They are the same from
-// register 2 * j + 1 by bit 1, and both are complemented on the other two edges from these registers.
+// The two sums of a step from register 2 * j by bit 0, as 2 * first + second: at 2 * (j / 4) + j % 2. They are the same
+// from register 2 * j + 1 by bit 1, and both are complemented on the other two edges from these registers.
 static PAIRS: [usize; 16] = [0, 1, 3, 2, 3, 2, 0, 1, 2, 3, 1, 0, 1, 0, 2, 3];
 
-// How far the four edges from registers 2 * j and 2 * j + 1 are above the sums that they lead to, all in the bits of one
-// number: an edge that undercuts its sum sets the top bit.
+// How far the four edges from registers 2 * j and 2 * j + 1 are above the sums that they lead to, all in the bits of
+// one number: an edge that undercuts its sum sets the top bit.
 fn margins(near: u32, far: u32, before: &[u32; 64], sums: &[u32; 64], j: usize) -> u64
     requires { j < 32 }
-    ensures low { result < 2 ^ 63 → (slice_index sums.now j ≤ slice_index before.now (2 * j) + near) × (slice_index sums.now j ≤ slice_index before.now (2 * j + 1) + far) }
-    ensures high { result < 2 ^ 63 → (slice_index sums.now (j + 32) ≤ slice_index before.now (2 * j) + far) × (slice_index sums.now (j + 32) ≤ slice_index before.now (2 * j + 1) + near) }
+    ensures low { result < 2 ^ 63 → (slice_index sums.now j ≤ slice_index before.now (2 * j) + near)
+        × (slice_index sums.now j ≤ slice_index before.now (2 * j + 1) + far) }
+    ensures high { result < 2 ^ 63 → (slice_index sums.now (j + 32) ≤ slice_index before.now (2 * j) + far)
+        × (slice_index sums.now (j + 32) ≤ slice_index before.now (2 * j + 1) + near) }
 {
     let near = u64::from(near);
     let far = u64::from(far);
@@ -69,7 +73,8 @@ fn margins(near: u32, far: u32, before: &[u32; 64], sums: &[u32; 64], j: usize) 
 
 // Yes only where no edge undercuts any sum. What an edge costs is at the pair of its two sums.
 fn are_kept(costs: &[u32; 4], before: &[u32; 64], sums: &[u32; 64]) -> bool
-    ensures { IsTrue result → (register : ℕ) → register < 64 → KeepsAt (λ from bit. slice_index costs.now (2 * c1 from bit + c2 from bit)) before.now sums.now register }
+    ensures { IsTrue result → (register : ℕ) → register < 64
+        → KeepsAt (λ from bit. slice_index costs.now (2 * c1 from bit + c2 from bit)) before.now sums.now register }
 {
     let mut all = 0;
     for k in 0..8usize {
@@ -84,7 +89,9 @@ fn are_kept(costs: &[u32; 4], before: &[u32; 64], sums: &[u32; 64]) -> bool
 
 // The least register whose sum an edge of a step undercuts.
 pub(crate) fn first_undercut(step: &Step<'_>, before: &[u32; 64], sums: &[u32; 64]) -> Option<u8>
-    ensures { IsFirstFailing (λ register. KeepsAt (λ from bit. cost (step_symbols step.now.rate step.now.invert step.now.t from bit) step.now.octets.now) before.now sums.now register) result }
+    ensures { IsFirstFailing (λ register. KeepsAt (λ from bit. cost
+        (step_symbols step.now.rate step.now.invert step.now.t from bit) step.now.octets.now) before.now sums.now
+        register) result }
 {
     // Mostly no edge does, and that is seen at less cost than where.
     if are_kept(&step.costs(), before, sums) {

@@ -9,10 +9,15 @@ ghost use Rattle.tm_path_cert.specs.Checking.{IsVerdict};
 
 /// There is one answer on each path, metric and columns, and where it is yes no candidate costs less. It does nothing.
 pub fn verdict_law()
-    ensures exists { (claim : Claim) (columns : List (List ℕ)) (register : ℕ) (bits : List ℕ) (metric : ℕ) → (verdict : Verdict) × IsVerdict claim columns register bits metric verdict }
-    ensures one { (claim : Claim) (columns : List (List ℕ)) (register : ℕ) (bits : List ℕ) (metric : ℕ) (verdict other : Verdict)
-        → IsVerdict claim columns register bits metric verdict → IsVerdict claim columns register bits metric other → verdict ≡ other }
-    ensures least { (claim : Claim) (columns : List (List ℕ)) (metric : ℕ) (steps initial : ℕ) (others : List ℕ) → Pass claim columns metric
+    ensures exists { (claim : Claim) (columns : List (List ℕ)) (register : ℕ) (bits : List ℕ) (metric : ℕ)
+        → (verdict : Verdict) × IsVerdict claim columns register bits metric verdict }
+    ensures one { (claim : Claim) (columns : List (List ℕ)) (register : ℕ) (bits : List ℕ) (metric : ℕ)
+        (verdict other : Verdict)
+        → IsVerdict claim columns register bits metric verdict → IsVerdict claim columns register bits metric other
+        → verdict ≡ other }
+    ensures least { (claim : Claim) (columns : List (List ℕ)) (metric : ℕ) (steps initial : ℕ) (others : List ℕ)
+        → Pass claim columns metric
         → length claim.soft ≡ steps_size claim.rate claim.first steps → length columns ≡ steps + 1
-        → IsCandidate (is_start claim.starts) claim.rate claim.invert claim.first claim.soft initial others → metric ≤ path_cost claim initial others }
+        → IsCandidate (is_start claim.starts) claim.rate claim.invert claim.first claim.soft initial others
+        → metric ≤ path_cost claim initial others }
 {}

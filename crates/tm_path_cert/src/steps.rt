@@ -46,7 +46,8 @@ impl<'a> Step<'a> {
     fn cost_of(&self, first: u8, second: u8) -> u32
         requires first { first < 2 }
         requires second { second < 2 }
-        ensures cost { result ≡ metric.cost (sent self.now.rate self.now.invert self.now.t first second) self.now.octets.now }
+        ensures cost { result ≡ metric.cost (sent self.now.rate self.now.invert self.now.t first second)
+            self.now.octets.now }
         ensures small { result ≤ 510 }
     {
         let second = if self.invert { 1 - second } else { second };
@@ -62,7 +63,8 @@ impl<'a> Step<'a> {
     pub(crate) fn cost(&self, register: u8, bit: u8) -> u32
         requires register { register < 64 }
         requires bit { bit < 2 }
-        ensures cost { result ≡ metric.cost (step_symbols self.now.rate self.now.invert self.now.t register bit) self.now.octets.now }
+        ensures cost { result ≡ metric.cost (step_symbols self.now.rate self.now.invert self.now.t register bit)
+            self.now.octets.now }
         ensures small { result ≤ 510 }
     {
         self.cost_of(first_sum(register, bit), second_sum(register, bit))
@@ -71,7 +73,8 @@ impl<'a> Step<'a> {
     // What it costs with each pair of sums, at 2 * first + second.
     pub(crate) fn costs(&self) -> [u32; 4]
         ensures { (register bit : ℕ) → register < 64 → bit < 2
-            → slice_index result (2 * c1 register bit + c2 register bit) ≡ metric.cost (step_symbols self.now.rate self.now.invert self.now.t register bit) self.now.octets.now }
+            → slice_index result (2 * c1 register bit + c2 register bit)
+            ≡ metric.cost (step_symbols self.now.rate self.now.invert self.now.t register bit) self.now.octets.now }
     {
         [
             self.cost_of(0, 0),

@@ -17,7 +17,8 @@ pub record Traced (before now : SinkState) (was tally : Tally) (block : WindowBl
   pub bits : tally.bits ≡ raised_by block.kept was.bits
 
 -- the same of a window, or the line of the phase was taken, and nothing counted
-abbrev pub TracedHanded : (before now : SinkState) → (was tally : Tally) → Handed WindowBlock → Type 0
+abbrev pub TracedHanded : (before now : SinkState) → (was tally : Tally) → Handed WindowBlock
+    → Type 0
 TracedHanded before now was tally (Phase skip cost) = (tally ≡ was)
     × TookText before now (phase_text skip cost)
 TracedHanded before now was tally (Item block) = Traced before now was tally block

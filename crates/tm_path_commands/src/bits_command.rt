@@ -359,7 +359,8 @@ impl<'a, 'b, 'c, 'd, O: Sink, N: Sink> Feed for BitWriting<'a, 'b, 'c, 'd, O, N>
     ghost fed = { λ a b octets. WritesMore a.receiver.now a.packer.now (O.taken a.out.now) (N.taken a.notes.now)
         b.receiver.now b.packer.now (O.taken b.out.now) (N.taken b.notes.now) octets };
 
-    ghost stopped = { λ a b octets stop. (stop ≡ SinkFault) × FailsWriting a.receiver.now a.packer.now (O.taken a.out.now)
+    ghost stopped = { λ a b octets stop. (stop ≡ SinkFault)
+        × FailsWriting a.receiver.now a.packer.now (O.taken a.out.now)
         (N.taken a.notes.now) (O.taken b.out.now) (N.taken b.notes.now) octets };
 
     ghost finished = { λ a b outcome. (outcome ≡ Done) × EndsWriting a.receiver.now a.packer.now (O.taken a.out.now)
@@ -388,7 +389,8 @@ impl<'a, 'b, 'c, 'd, O: Sink, N: Sink> Feed for BitWriting<'a, 'b, 'c, 'd, O, N>
         subst (λ o. length o < last_certified
         → Writes c last.receiver.now last.packer.now start (O.taken last.out.now) noted
         (N.taken last.notes.now) o)
-        (append_assoc given first second) (q c start noted (given ++ first) accepted (p c start noted given accepted was)) };
+        (append_assoc given first second) (q c start noted (given ++ first) accepted
+        (p c start noted given accepted was)) };
 
     ghost stopped_more = { λ a b last first second stop p q. (
       q.0,
@@ -422,7 +424,8 @@ impl<'a, 'b, 'c, 'd, O: Sink, N: Sink> Feed for BitWriting<'a, 'b, 'c, 'd, O, N>
 /// Writes the received bits of the soft octets of the source, up to the limit in octets, eight an octet, the first one
 /// most significant, to `out`, with zeros after them to a whole octet at the end of the input. The notes get a line for
 /// the symbol phase before them, where it is to be found, and the end of the trace after them. With no inner code the
-/// octets hold the bits, packed or one each. After a fault nothing more is read or written. It takes all its memory before it reads.
+/// octets hold the bits, packed or one each. After a fault nothing more is read or written. It takes all its memory
+/// before it reads.
 pub fn bits<S: Source, O: Sink, N: Sink>(
     alloc: Global,
     config: &Config,

@@ -92,7 +92,8 @@ fn end_window<O: Sink, N: Sink>(
 // Writes which window fails, and why. Answers what checking stops by then.
 fn write_failed<N: Sink>(number: u64, reason: Reason, notes: &mut N) -> Stop
     ensures line { WroteBy result (N.taken notes.old) (N.taken notes.new) (bad_text number reason) }
-    ensures course { SinkWent (is_sink_fault (ending_of_stop result)) (sink_call N.taken N.faults N.is_last notes.old notes.new) }
+    ensures course { SinkWent (is_sink_fault (ending_of_stop result))
+        (sink_call N.taken N.faults N.is_last notes.old notes.new) }
 {
     match bad_line(notes, number, reason) {
         Ok(()) => Stop::BadWindow,

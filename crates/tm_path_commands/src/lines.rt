@@ -20,7 +20,8 @@ pub fn window_line<O: Sink>(
     metric: u64,
 ) -> Result<(), Failed>
     ensures ok { OnOk result (Wrote (O.taken out.old) (O.taken out.new) (window_text number steps kept metric)) }
-    ensures err { OnErr result (WrotePrefix (O.taken out.old) (O.taken out.new) (window_text number steps kept metric)) }
+    ensures err { OnErr result (WrotePrefix (O.taken out.old) (O.taken out.new)
+        (window_text number steps kept metric)) }
     ensures cause { HasCause (O.faults out.old) (O.faults out.new) (O.is_last out.new) result }
 {
     let mut line = Line::new();
@@ -98,8 +99,8 @@ fn add_end(line: &mut Line, blocks: u64, bits: u64, leftover: u8)
     line.text(b"\n");
 }
 
-/// Writes what is said after the bits: `slips N`, before how many windows octets were dropped, where the symbol phase is
-/// followed, and the end of a trace. `Failed` comes only where the sink's count of faults rose.
+/// Writes what is said after the bits: `slips N`, before how many windows octets were dropped, where the symbol phase
+/// is followed, and the end of a trace. `Failed` comes only where the sink's count of faults rose.
 pub fn bits_end_line<N: Sink>(
     notes: &mut N,
     slips: Option<u64>,
@@ -107,7 +108,8 @@ pub fn bits_end_line<N: Sink>(
     bits: u64,
     leftover: u8,
 ) -> Result<(), Failed>
-    ensures ok { OnOk result (Wrote (N.taken notes.old) (N.taken notes.new) (bits_end_text slips blocks bits leftover)) }
+    ensures ok { OnOk result (Wrote (N.taken notes.old) (N.taken notes.new)
+        (bits_end_text slips blocks bits leftover)) }
     ensures err { OnErr result (WrotePrefix (N.taken notes.old) (N.taken notes.new)
         (bits_end_text slips blocks bits leftover)) }
     ensures cause { HasCause (N.faults notes.old) (N.faults notes.new) (N.is_last notes.new) result }

@@ -1,6 +1,6 @@
 -- The Reed-Solomon codes (CCSDS 131.0-B, Reed-Solomon Coding). A word is a list of elements as
--- numbers, the coefficient of the highest power first and the check symbols last. Virtual fill is in
--- no list.
+-- numbers, the coefficient of the highest power first and the check symbols last. Virtual fill is
+-- in no list.
 use Rattle.std.specs.Prelude.{◌≡◌, ◌⊎◌, ◌<◌, ◌≤◌, ◌+◌, ◌-◌, ◌*◌, ℕ, zero, suc, Bool, List, [], ◌∷◌, ◌++◌, ◌==◌, if◌then◌else◌, length, take, map, find, unwrap_or}
 use Rattle.std.specs.List.{range_with_len, list_all, flat_map}
 use Rattle.tm_gf256.specs.Field.{power}
@@ -65,9 +65,11 @@ is_codeword e w = list_all (λ k. value_at w (root e k) == 0) (range_with_len 0 
 -- all words of a length, in the order of a dictionary; no proof and no code computes them
 unfoldable pub all_words : ℕ → List (List ℕ)
 all_words zero = [] ∷ []
-all_words (suc n) = flat_map (λ first. map (λ rest. first ∷ rest) (all_words n)) (range_with_len 0 256)
+all_words (suc n) = flat_map (λ first. map (λ rest. first ∷ rest) (all_words n))
+    (range_with_len 0 256)
 
--- the systematic codeword: the information symbols, then the first 2e symbols that make it a codeword
+-- the systematic codeword: the information symbols, then the first 2e symbols that make it a
+-- codeword
 unfoldable pub encode_word : ℕ → List ℕ → List ℕ
 encode_word e info = info ++ unwrap_or (find makes_codeword (all_words (2 * e))) []
   where

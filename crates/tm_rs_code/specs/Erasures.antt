@@ -27,7 +27,8 @@ inside (f ∷ fs) [] = []
 inside (f ∷ fs) (x ∷ xs) = (if f then x else 0) ∷ inside fs xs
 
 -- w is an error pattern of a word with erased places: any symbols there, elsewhere so few that are
--- not 0 that twice their number and the number of erased places is at most 2e, and its syndromes are s
+-- not 0 that twice their number and the number of erased places is at most 2e, and its syndromes
+-- are s
 pub record IsErasedPattern (e : ℕ) (erased : List Bool) (s : ℕ → ℕ) (w : List ℕ) : Type 0 where
   pub size : length w ≡ length erased
   pub elements : AreElements w
@@ -46,15 +47,18 @@ pub record IsWithin (e bound : ℕ) (erased : List Bool) (w c : List ℕ) : Type
   pub bounded : distance (outside erased c) (outside erased w) ≤ bound
   pub few : 2 * distance (outside erased c) (outside erased w) + count_erased erased ≤ 2 * e
 
--- c is a codeword within the bounds that differs from w in a places that are not erased and in b that
--- are; or there is no codeword within the bounds
+-- c is a codeword within the bounds that differs from w in a places that are not erased and in b
+-- that are; or there is no codeword within the bounds
 abbrev pub IsNearestErased : ℕ → ℕ → List Bool → List ℕ → NearestErased → Type 0
 IsNearestErased e bound erased w (Fixed c a b) =
     IsCodewordOf e (length w) c × IsWithin e bound erased w c
-    × (distance (outside erased c) (outside erased w) ≡ a) × (distance (inside erased c) (inside erased w) ≡ b)
-IsNearestErased e bound erased w Beyond = (c : List ℕ) → IsCodewordOf e (length w) c → IsWithin e bound erased w c → ⊥
+    × (distance (outside erased c) (outside erased w) ≡ a)
+    × (distance (inside erased c) (inside erased w) ≡ b)
+IsNearestErased e bound erased w Beyond = (c : List ℕ) → IsCodewordOf e (length w) c
+    → IsWithin e bound erased w c → ⊥
 
 -- the word with 1 at each place that is erased or at which the polynomial g is 0, and 0 elsewhere
 abbrev pub places_named : List ℕ → List Bool → List ℕ
 places_named g [] = []
-places_named g (f ∷ fs) = (if f || (value_at g (place_of (length fs)) == 0) then 1 else 0) ∷ places_named g fs
+places_named g (f ∷ fs) = (if f || (value_at g (place_of (length fs)) == 0) then 1 else 0)
+    ∷ places_named g fs

@@ -25,7 +25,8 @@ Covers [] ws = Unit {0}
 Covers (u ∷ us) [] = Unit {0}
 Covers (u ∷ us) (w ∷ ws) = (u ≡ 0 → w ≡ 0) × Covers us ws
 
--- w is a word with the syndromes s whose symbols are 0 but at the places of the locator, which is that of u
+-- w is a word with the syndromes s whose symbols are 0 but at the places of the locator, which is
+-- that of u
 pub record IsLocated (e : ℕ) (s : ℕ → ℕ) (locator u w : List ℕ) : Type 0 where
   pub locator_is : locator ≡ locator_of u
   pub size : length w ≡ length u

@@ -4,14 +4,16 @@ use Rattle.tm_gf256.specs.Field.{times}
 use Rattle.tm_gf256.specs.Poly.{value_at}
 use Rattle.tm_rs_code.specs.Code.{AreElements, place_of, root, weight}
 
--- w is an error pattern of a word of length n: at most e of its symbols are not 0, and its syndromes are s
+-- w is an error pattern of a word of length n: at most e of its symbols are not 0, and its
+-- syndromes are s
 pub record IsPattern (e n : ℕ) (s : ℕ → ℕ) (w : List ℕ) : Type 0 where
   pub size : length w ≡ n
   pub elements : AreElements w
   pub few : weight w ≤ e
   pub meets : (k : ℕ) → k < 2 * e → value_at w (root e k) ≡ s k
 
--- the same of the first `count` syndromes alone, of which there are two for each symbol that is not 0
+-- the same of the first `count` syndromes alone, of which there are two for each symbol that is not
+-- 0
 pub record Explains (e count n : ℕ) (s : ℕ → ℕ) (w : List ℕ) : Type 0 where
   pub size : length w ≡ n
   pub elements : AreElements w
@@ -31,7 +33,8 @@ times_linear x (q ∷ qs) = q ∷ carry x q qs
 -- the locator of a word: the product of 1 + X z over the elements X of the places that are not 0
 abbrev pub locator_of : List ℕ → List ℕ
 locator_of [] = 1 ∷ []
-locator_of (c ∷ cs) = (if c == 0 then locator_of cs else times_linear (place_of (length cs)) (locator_of cs))
+locator_of (c ∷ cs) = (if c == 0 then locator_of cs
+    else times_linear (place_of (length cs)) (locator_of cs))
 
 abbrev pub add_place : Bool → ℕ → List ℕ → List ℕ
 add_place true x xs = x ∷ xs

@@ -7,4 +7,5 @@ pub record ArePowers (base : ℕ → ℕ) (lows highs : List (List ℕ)) : Type 
   pub low : (k m : ℕ) → k < 33 → m < 16 → slice_index_or (slice_index_or lows k []) m 0 < 16
   pub high : (k m : ℕ) → k < 33 → m < 16 → slice_index_or (slice_index_or highs k []) m 0 < 16
   pub each : (k m : ℕ) → k < 33 → m < 16
-      → slice_index_or (slice_index_or lows k []) m 0 + 16 * slice_index_or (slice_index_or highs k []) m 0 ≡ power (base m) k
+      → slice_index_or (slice_index_or lows k []) m 0 + 16 * slice_index_or
+      (slice_index_or highs k []) m 0 ≡ power (base m) k

@@ -39,7 +39,8 @@ fn product(low: u8x16, high: u8x16, lows: u8x16, highs: u8x16) -> u8x16
     requires lows { (m : ℕ) → m < 16 → slice_index_or lows m 0 < 16 }
     requires highs { (m : ℕ) → m < 16 → slice_index_or highs m 0 < 16 }
     ensures long { length result ≡ 16 }
-    ensures value { (factor : ℕ) → low ≡ multiple factor LOW_PLACES → high ≡ multiple factor HIGH_PLACES → (m : ℕ) → m < 16
+    ensures value { (factor : ℕ) → low ≡ multiple factor LOW_PLACES → high ≡ multiple factor HIGH_PLACES → (m : ℕ)
+        → m < 16
         → slice_index_or result m 0 ≡ times factor (slice_index_or lows m 0 + 16 * slice_index_or highs m 0) }
 {
     low.swizzle_dyn(lows) ^ high.swizzle_dyn(highs)

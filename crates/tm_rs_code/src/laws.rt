@@ -29,7 +29,8 @@ pub fn nearest_law()
 
 /// A word with erased places has just one nearest codeword within the bounds, or none.
 pub fn nearest_erased_law()
-    ensures exists { (e bound : ℕ) (erased : List Bool) (w : List ℕ) → (a : NearestErased) × IsNearestErased e bound erased w a }
+    ensures exists { (e bound : ℕ) (erased : List Bool) (w : List ℕ) → (a : NearestErased)
+        × IsNearestErased e bound erased w a }
     ensures one { (e bound : ℕ) (erased : List Bool) (w : List ℕ) (a b : NearestErased)
         → length erased ≡ length w → length w ≤ longest_word
         → IsNearestErased e bound erased w a → IsNearestErased e bound erased w b → a ≡ b }

@@ -81,8 +81,8 @@ fn avoids_erased(values: &[u8; 256], erased: &[bool]) -> bool
 /// 2e syndromes are given: of the word that has these syndromes, any symbols at the erased places, and
 /// so few others that are not 0 that twice their number and the number of erased places is at most 2e.
 /// None where there is no such word. The first flag of `erased` is that of the first symbol.
-/// At least the products of the locator of the erased places and of the modified syndromes are counted. That locator is left in
-/// `places`, where there is such a word.
+/// At least the products of the locator of the erased places and of the modified syndromes are counted. That locator is
+/// left in `places`, where there is such a word.
 pub fn locate_erased<L: Ledger>(
     params: &Params,
     syndromes: &[Gf; 32],
@@ -94,7 +94,8 @@ pub fn locate_erased<L: Ledger>(
     ensures none { IfNone result (NoErasedPattern params.now.e erased.now (entry syndromes.now)) }
     ensures some { IfSome result (λ l. LocatesErased params.now.e erased.now (entry syndromes.now) l.coefs l.degree) }
     ensures room { length places.new ≡ 33 }
-    ensures places { IfSome result (λ l. listing (entry places.new) 0 (suc (count_of_erased erased.now)) ≡ locator_of (marks erased.now)) }
+    ensures places { IfSome result (λ l. listing (entry places.new) 0 (suc (count_of_erased erased.now))
+        ≡ locator_of (marks erased.now)) }
     ensures beyond { IfSome result (λ l. (i : ℕ) → suc (count_of_erased erased.now) ≤ i → entry places.new i ≡ 0) }
     ensures cost { steps.new ≤ steps.old + most_products params.now.e }
     ensures most { TakesAtMost params.now.e (count_of_erased erased.now) steps.old steps.new }

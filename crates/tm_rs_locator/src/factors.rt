@@ -7,7 +7,8 @@ use crate::counter::Steps;
 use std::sync::ledger::Ledger;
 use tm_gf256::Gf;
 
-/// Multiplies a polynomial of this degree by 1 + x z. Each of its coefficients is multiplied once, which is a step each.
+/// Multiplies a polynomial of this degree by 1 + x z. Each of its coefficients is multiplied once, which is a step
+/// each.
 pub fn times_factor<L: Ledger>(coefs: &mut [Gf; 33], degree: usize, x: Gf, steps: &mut Steps<L>)
     requires { degree + 2 ≤ 33 }
     ensures room { length coefs.new ≡ 33 }

@@ -32,8 +32,8 @@ struct Places {
     degree: usize,
 }
 
-// The locator of the places that are erased or roots of a polynomial, from that of the erased places, of which there are `count`. Each
-// product is counted.
+// The locator of the places that are erased or roots of a polynomial, from that of the erased places, of which there
+// are `count`. Each product is counted.
 fn all_places<L: Ledger>(
     erasures: &[Gf; 33],
     count: usize,

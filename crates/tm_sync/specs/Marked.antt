@@ -59,10 +59,12 @@ place_of rules at before e = place_by_marker (at + length e.gap) before e (match
 abbrev pub places_of : Rules → ℕ → Option Before → List Entry → List Found
 places_of rules at before [] = []
 places_of rules at before (e ∷ entries) =
-    let f = place_of rules at before e in f ∷ places_of rules (f.place + 32 + rules.block_bits) (Some (before_next before f)) entries
+    let f = place_of rules at before e in f ∷ places_of rules (f.place + 32 + rules.block_bits)
+    (Some (before_next before f)) entries
 
 -- an entry at the start of these bits
-pub record IsEntry (rules : Rules) (before : Option Before) (e : Entry) (bits : List Bool) : Type 0 where
+pub record IsEntry (rules : Rules) (before : Option Before) (e : Entry)
+    (bits : List Bool) : Type 0 where
   pub marker : length e.marker ≡ 32
   pub block : length e.block ≡ rules.block_bits
   pub gap : HasNoMarker rules before e.gap bits
@@ -74,7 +76,8 @@ pub record IsEntry (rules : Rules) (before : Option Before) (e : Entry) (bits : 
 
 -- entries after `at` bits, and a last gap
 abbrev pub AreEntries : Rules → ℕ → Option Before → List Entry → List Bool → Type 0
-AreEntries rules at before [] last = HasNoMarker rules before last last × MayGap rules before last last
+AreEntries rules at before [] last = HasNoMarker rules before last last
+    × MayGap rules before last last
 AreEntries rules at before (e ∷ entries) last =
     let f = place_of rules at before e in
     IsEntry rules before e (joined (e ∷ entries) last)
@@ -82,7 +85,8 @@ AreEntries rules at before (e ∷ entries) last =
     (Some (before_next before f)) entries last
 
 -- the bits are a marked stream of these entries
-pub record IsMarked (rules : Rules) (bits : List Bool) (entries : List Entry) (last : List Bool) : Type 0 where
+pub record IsMarked (rules : Rules) (bits : List Bool) (entries : List Entry)
+    (last : List Bool) : Type 0 where
   pub parts : bits ≡ joined entries last
   pub are_entries : AreEntries rules 0 None entries last
 

@@ -42,12 +42,14 @@ unfoldable pub are_verified : Rules → Bool → ℕ → List Bool → Bool
 are_verified rules inverted zero bits = true
 are_verified rules inverted (suc count) bits =
     let next = drop (32 + rules.block_bits) bits in
-    nat_le 32 (length next) && (is_way (match_of rules next) inverted && are_verified rules inverted count next)
+    nat_le 32 (length next) && (is_way (match_of rules next) inverted
+    && are_verified rules inverted count next)
 
 -- a match, where the markers after it verify it
 abbrev pub verified : Rules → List Bool → Option Bool → Option Bool
 verified rules bits None = None
-verified rules bits (Some inverted) = if are_verified rules inverted rules.verify bits then Some inverted else None
+verified rules bits (Some inverted) = if are_verified rules inverted rules.verify bits
+    then Some inverted else None
 
 -- The polarity in which a place stands at the start of the bits: that in which the first 32 match.
 -- Where no codeblock ends right before them, further markers must verify it.
@@ -78,18 +80,23 @@ found_at at bridged inverted bits = record {
 -- it is taken all the same, in the polarity of the place before.
 abbrev pub place_by : Rules → ℕ → Option Before → List Bool → Option Bool → Option Found
 place_by rules at before bits (Some inverted) = Some (found_at at false inverted bits)
-place_by rules at (Some before) bits None = if nat_lt before.bridged rules.fly then Some (found_at at true before.inverted bits) else None
+place_by rules at (Some before) bits None = if nat_lt before.bridged rules.fly
+    then Some (found_at at true before.inverted bits) else None
 place_by rules at None bits None = None
 
 -- the place at the start of the bits, which follow `at` others, where they have room for its
 -- codeblock
 unfoldable pub place_at : Rules → ℕ → Option Before → List Bool → Option Found
-place_at rules at before bits = if nat_le (32 + rules.block_bits) (length bits) then place_by rules at before bits (way_of rules before bits) else None
+place_at rules at before bits = if nat_le (32 + rules.block_bits) (length bits)
+    then place_by rules at before bits (way_of rules before bits) else None
 
 -- what stands before the first bit after a place's codeblock
 abbrev pub before_next : Option Before → Found → Before
 before_next None f = record { inverted = f.inverted; bridged = if f.bridged then 1 else 0 }
-before_next (Some before) f = record { inverted = f.inverted; bridged = if f.bridged then before.bridged + 1 else 0 }
+before_next (Some before) f = record {
+  inverted = f.inverted;
+  bridged = if f.bridged then before.bridged + 1 else 0;
+}
 
 -- The places in the bits after `at` others. The first `skip` bits belong to a codeblock, and
 -- `before` ends right after them. Where a place stands, the search goes on after its codeblock,

@@ -78,7 +78,9 @@ telling_bits rules (Some before) = 32
 unfoldable pub first_place : Rules → ℕ → Option Before → List Bool → Option Found
 first_place rules at before [] = None
 first_place rules at before (b ∷ bits) =
-    if nat_le (telling_bits rules before) (length (b ∷ bits)) then option_or (place_by rules at before (b ∷ bits) (way_of rules before (b ∷ bits))) (first_place rules (at + 1) None bits)
+    if nat_le (telling_bits rules before) (length (b ∷ bits))
+    then option_or (place_by rules at before (b ∷ bits) (way_of rules before (b ∷ bits)))
+    (first_place rules (at + 1) None bits)
     else None
 
 -- the first place after the codeblocks of the places found
@@ -142,7 +144,8 @@ pub record Recalls (s : Searching) (room : List ℕ) (bits : List Bool) (from : 
 
 -- It was given these bits, of which the room holds those that it may look at again, and has found
 -- these places: they are the first in the bits.
-pub record StandsFor (s : Searching) (room : List ℕ) (bits : List Bool) (found : List Found) : Type 0 where
+pub record StandsFor (s : Searching) (room : List ℕ) (bits : List Bool)
+    (found : List Found) : Type 0 where
   pub search : s ≡ search_of s.rules bits found
   pub found_first : take (length found) (places s.rules bits) ≡ found
   pub run : IsRun s bits s.awaited

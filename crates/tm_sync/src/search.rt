@@ -64,7 +64,8 @@ impl Model for Search {
       after = s.after;
     } };
 
-    ghost invariant = { λ s. (s.after ≤ inside_by s.verify s.block_bits) × (s.tolerance ≤ most_tolerance) × (s.too_many ≡ s.tolerance + 1)
+    ghost invariant = { λ s. (s.after ≤ inside_by s.verify s.block_bits) × (s.tolerance ≤ most_tolerance)
+        × (s.too_many ≡ s.tolerance + 1)
         × (0 < s.far → (s.far ≡ far_count s.tolerance s.either) × (s.awaited ≡ None) × (s.start + 32 ≤ s.pushed)) };
 }
 

@@ -21,8 +21,9 @@ CostNothing (block ∷ blocks) = (block.metric ≡ 0) × CostNothing blocks
 abbrev pub sure_symbols : Settings → ℕ → List ℕ → List ℕ
 sure_symbols s register bits = sure (path s.rate s.invert 0 register bits)
 
--- The symbols of these bits from this register fix both: paths start from register 0 alone, and so do these symbols; or paths start
--- from any register, at rate 1/2, and there are no steps or at least six.
+-- The symbols of these bits from this register fix both: paths start from register 0 alone, and so
+-- do these symbols; or paths start from any register, at rate 1/2, and there are no steps or at
+-- least six.
 abbrev pub IsFixed : Settings → ℕ → List ℕ → Type 0
 IsFixed s register bits =
     ((s.start ≡ Zero) × (register ≡ 0))

@@ -15,12 +15,15 @@ second_way sums costs s = sum_via sums costs (2 * (s % 32) + 1) (s / 32)
 
 -- the lesser of the two at each register
 abbrev pub IsNextSums : List ℕ → List ℕ → List ℕ → Type 0
-IsNextSums sums costs next = (s : ℕ) → s < 64 → slice_index next s ≡ min (first_way sums costs s) (second_way sums costs s)
+IsNextSums sums costs next = (s : ℕ) → s < 64
+    → slice_index next s ≡ min (first_way sums costs s) (second_way sums costs s)
 
 -- bit s is 1 exactly where the second is strictly less
 abbrev pub AreSurvivors : List ℕ → List ℕ → ℕ → Type 0
 AreSurvivors sums costs bits =
-    (s : ℕ) → s < 64 → bits / 2 ^ s % 2 ≡ (if nat_lt (second_way sums costs s) (first_way sums costs s) then 1 else 0)
+    (s : ℕ) → s < 64
+    → bits / 2 ^ s % 2 ≡ (if nat_lt (second_way sums costs s) (first_way sums costs s) then 1
+    else 0)
 
 -- 32 lanes, and what each is
 pub record IsEach (lanes : List ℕ) (value : ℕ → ℕ) : Type 0 where

@@ -1,4 +1,5 @@
--- What contracts see of a decoder, and for which octets, given so far, and which blocks, handed over so far, it stands.
+-- What contracts see of a decoder, and for which octets, given so far, and which blocks, handed
+-- over so far, it stands.
 use Rattle.std.specs.Prelude.{ℕ, ◌≡◌, Bool, List, [], length, Result}
 use Rattle.tm_base.specs.Calls.{CallAnswers, TakerCall}
 use Rattle.tm_viterbi.specs.Settings.{Settings}

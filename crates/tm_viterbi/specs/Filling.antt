@@ -13,4 +13,5 @@ pub record Holds (w : Window) (octets : List ℕ) : Type 0 where
   pub bytes : AreOctets octets
   pub firsts : List ℕ
   pub are_firsts : AreFirsts (starts_from w.starts) firsts
-  pub best : AreBest (total_of w.rate w.invert w.t firsts octets) w.filled w.sums (reverse (take w.filled w.survivors.items))
+  pub best : AreBest (total_of w.rate w.invert w.t firsts octets) w.filled w.sums
+      (reverse (take w.filled w.survivors.items))

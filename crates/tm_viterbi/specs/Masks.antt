@@ -1,8 +1,8 @@
 -- What octets are xored with to be distances.
 use Rattle.std.specs.Prelude.{ℕ, List, [], ◌∷◌, Bool, if◌then◌else◌}
 
--- for the four pairs of c1 and c2 of two steps at rate 1/2: of each step's first octet, and then of its second, whose
--- symbol may be sent inverted
+-- for the four pairs of c1 and c2 of two steps at rate 1/2: of each step's first octet, and then of
+-- its second, whose symbol may be sent inverted
 abbrev pub two_step_masks : Bool → List ℕ
 two_step_masks invert =
     let near = (if invert then 255 else 0) in

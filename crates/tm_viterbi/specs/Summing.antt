@@ -15,10 +15,12 @@ pub record Summing : Type 0 where
   pub steps : ℕ
   pub column : List ℕ
 
--- sums that were given the octets of these steps: of each register the column has the best path's total
+-- sums that were given the octets of these steps: of each register the column has the best path's
+-- total
 pub record SumsFor (sums : Summing) (octets : List ℕ) : Type 0 where
   pub size : length octets ≡ steps_size sums.rate sums.first sums.steps
   pub firsts : List ℕ
   pub are_firsts : AreFirsts (starts_from sums.start) firsts
   pub survivors : List ℕ
-  pub best : AreBest (total_of sums.rate sums.invert sums.first firsts octets) sums.steps sums.column survivors
+  pub best : AreBest (total_of sums.rate sums.invert sums.first firsts octets) sums.steps
+      sums.column survivors

@@ -6,17 +6,21 @@ use Rattle.tm_conv.specs.Cost.{cost}
 use Rattle.tm_conv.specs.Columns.{first_cost}
 use Rattle.tm_viterbi.specs.Column.{IsNextSums, AreSurvivors}
 
--- what a path, its newest bit first, costs for these octets, with the first sum of its starting register
+-- what a path, its newest bit first, costs for these octets, with the first sum of its starting
+-- register
 abbrev pub total_of : Rate → Bool → ℕ → List ℕ → List ℕ → ℕ → List ℕ → ℕ
-total_of rate invert t firsts octets q past = slice_index firsts q + cost (path rate invert t q (reverse past)) octets
+total_of rate invert t firsts octets q past =
+    slice_index firsts q + cost (path rate invert t q (reverse past)) octets
 
 -- the branch metrics of step t, by its four pairs of c1 and c2, before inversion
 abbrev pub AreCosts : Rate → Bool → ℕ → List ℕ → List ℕ → Type 0
-AreCosts rate invert t octets costs = (c d : ℕ) → c < 2 → d < 2 → slice_index costs (2 * c + d) ≡ cost (sent rate invert t c d) octets
+AreCosts rate invert t octets costs = (c d : ℕ) → c < 2 → d < 2
+    → slice_index costs (2 * c + d) ≡ cost (sent rate invert t c d) octets
 
 -- the column before any step
 abbrev pub AreFirsts : (ℕ → Bool) → List ℕ → Type 0
-AreFirsts starts firsts = (register : ℕ) → register < 64 → slice_index firsts register ≡ first_cost starts register
+AreFirsts starts firsts = (register : ℕ) → register < 64
+    → slice_index firsts register ≡ first_cost starts register
 
 -- the least register of least path metric
 pub record IsFirstLeast (sums : List ℕ) (s : ℕ) : Type 0 where
@@ -25,7 +29,8 @@ pub record IsFirstLeast (sums : List ℕ) (s : ℕ) : Type 0 where
   pub first : (k : ℕ) → k < s → slice_index sums s < slice_index sums k
 
 -- one step from path metrics to the next ones, which leaves these survivors
-pub record StepsTo (rate : Rate) (invert : Bool) (t : ℕ) (octets sums next : List ℕ) (column : ℕ) : Type 0 where
+pub record StepsTo (rate : Rate) (invert : Bool) (t : ℕ) (octets sums next : List ℕ)
+    (column : ℕ) : Type 0 where
   pub costs : List ℕ
   pub are_costs : AreCosts rate invert t octets costs
   pub are_sums : IsNextSums sums costs next

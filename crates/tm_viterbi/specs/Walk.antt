@@ -29,7 +29,8 @@ pub record IsNoWorse (sum k other l : ℕ) : Type 0 where
 pub record IsBestTo (total : ℕ → List ℕ → ℕ) (n s sum r : ℕ) (past : List ℕ) : Type 0 where
   pub is_path : IsPathTo n s r past
   pub is_sum : total r past ≡ sum
-  pub best : (q : ℕ) (other : List ℕ) → IsPathTo n s q other → IsNoWorse sum (rank r past) (total q other) (rank q other)
+  pub best : (q : ℕ) (other : List ℕ) → IsPathTo n s q other
+      → IsNoWorse sum (rank r past) (total q other) (rank q other)
 
 -- the register before s, by a column of survivor bits
 abbrev pub before : ℕ → ℕ → ℕ
@@ -44,8 +45,8 @@ abbrev pub start_of : List ℕ → ℕ → ℕ
 start_of [] s = s
 start_of (c ∷ survivors) s = start_of survivors (before c s)
 
--- the number whose low six bits are a register, after steps back through columns, the newest first: each puts the
--- survivor bit after it
+-- the number whose low six bits are a register, after steps back through columns, the newest first:
+-- each puts the survivor bit after it
 abbrev pub history : List ℕ → ℕ → ℕ
 history [] h = h
 history (c ∷ survivors) h = history survivors (2 * h + c / 2 ^ (h % 64) % 2)
@@ -63,4 +64,5 @@ pub record IsTraced (survivors : List ℕ) (last : ℕ) (traced : List ℕ) (fir
 
 -- the path metrics and the survivors have the best path to each register
 abbrev pub AreBest : (ℕ → List ℕ → ℕ) → ℕ → List ℕ → List ℕ → Type 0
-AreBest total n sums survivors = (s : ℕ) → s < 64 → IsBestTo total n s (slice_index sums s) (start_of survivors s) (past_of survivors s)
+AreBest total n sums survivors = (s : ℕ) → s < 64
+    → IsBestTo total n s (slice_index sums s) (start_of survivors s) (past_of survivors s)

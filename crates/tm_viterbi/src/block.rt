@@ -50,10 +50,19 @@ pub struct Block<'a> {
 impl<'a> Model for Block<'a> {
     ghost Value = { WindowBlock };
 
-    ghost view = { λ b. record { start = b.start; steps = b.steps; kept = b.kept; metric = b.metric; bits = b.bits.now; end_state = b.end_state; dropped = b.dropped } };
+    ghost view = { λ b. record {
+      start = b.start;
+      steps = b.steps;
+      kept = b.kept;
+      metric = b.metric;
+      bits = b.bits.now;
+      end_state = b.end_state;
+      dropped = b.dropped;
+    } };
 }
 
-/// What takes the symbol phase, where it is to be found, and then blocks, one after another. It counts its faults, and the count never falls.
+/// What takes the symbol phase, where it is to be found, and then blocks, one after another. It counts its faults, and
+/// the count never falls.
 pub trait BlockTaker {
     /// How often a call has failed.
     ghost faults: { Self → ℕ };
@@ -79,7 +88,8 @@ pub trait BlockTaker {
         ensures err { OnErr result (broke self.old b.now self.new) }
         ensures cause { HasCause (faults self.old) (faults self.new) (is_last self.new) result };
 
-    /// Takes the symbol phase that was chosen: `skip` octets are skipped, and the best path after them costs `cost`. `Failed` comes only where the count of faults rose.
+    /// Takes the symbol phase that was chosen: `skip` octets are skipped, and the best path after them costs `cost`.
+    /// `Failed` comes only where the count of faults rose.
     fn phase(&mut self, skip: u8, cost: u64) -> Result<(), Failed>
         ensures ok { OnOk result (took_phase self.old skip cost self.new) }
         ensures err { OnErr result (broke_phase self.old skip cost self.new) }

@@ -12,12 +12,15 @@ ghost use Rattle.tm_viterbi.specs.WindowSizes.{least_keep};
 
 use tm_conv::{complement_law, six_pairs_law};
 
-/// The blocks of symbols that were not disturbed keep exactly the bits that were sent, at no cost, and no octet is left over: at every
-/// rate, inversion and window size where paths start from register 0; and at rate 1/2 also where they start from any
-/// register and the symbols are those of six steps or more. With fewer steps and any start the bits are not fixed. It does nothing.
+/// The blocks of symbols that were not disturbed keep exactly the bits that were sent, at no cost, and no octet is left
+/// over: at every rate, inversion and window size where paths start from register 0; and at rate 1/2 also where they
+/// start from any register and the symbols are those of six steps or more. With fewer steps and any start the bits are
+/// not fixed. It does nothing.
 pub fn clean_blocks_law()
-    ensures { (s : Settings) (register : ℕ) (bits : List ℕ) (blocks : List WindowBlock) (left : ℕ) → least_keep ≤ s.keep → AreBits bits
-        → IsFixed s register bits → AreBlocksOf s (sure_symbols s register bits) blocks left → AreClean bits blocks left }
+    ensures { (s : Settings) (register : ℕ) (bits : List ℕ) (blocks : List WindowBlock) (left : ℕ) → least_keep ≤ s.keep
+        → AreBits bits
+        → IsFixed s register bits → AreBlocksOf s (sure_symbols s register bits) blocks left
+        → AreClean bits blocks left }
 {
     six_pairs_law();
 }
@@ -25,9 +28,11 @@ pub fn clean_blocks_law()
 /// At rate 1/2, where paths start from any register, the blocks of the symbols of no step or of six or more, each
 /// complemented and not else disturbed, keep exactly the bits that were sent, each complemented. It does nothing.
 pub fn complemented_blocks_law()
-    ensures { (s : Settings) (register : ℕ) (bits : List ℕ) (blocks : List WindowBlock) (left : ℕ) → least_keep ≤ s.keep → AreBits bits
+    ensures { (s : Settings) (register : ℕ) (bits : List ℕ) (blocks : List WindowBlock) (left : ℕ) → least_keep ≤ s.keep
+        → AreBits bits
         → s.start ≡ Any → s.rate ≡ R12 → register < 64 → (bits ≡ []) ⊎ (6 ≤ length bits)
-        → AreBlocksOf s (complemented_octets (sure_symbols s register bits)) blocks left → AreClean (complement bits) blocks left }
+        → AreBlocksOf s (complemented_octets (sure_symbols s register bits)) blocks left
+        → AreClean (complement bits) blocks left }
 {
     six_pairs_law();
     complement_law();
@@ -35,5 +40,6 @@ pub fn complemented_blocks_law()
 
 /// The blocks of windows that are closed stand first in those of octets that go on. It does nothing.
 pub fn closed_windows_law()
-    ensures { (s : Settings) (octets more : List ℕ) (first : List WindowBlock) → AreFirst s octets first → AreFirst s (octets ++ more) first }
+    ensures { (s : Settings) (octets more : List ℕ) (first : List WindowBlock) → AreFirst s octets first
+        → AreFirst s (octets ++ more) first }
 {}

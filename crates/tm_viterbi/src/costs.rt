@@ -25,8 +25,10 @@ fn c1_costs(is_sent: bool, octets: &[u8]) -> (u16, u16)
 // The same of the last octet and c2 as it is sent.
 fn c2_costs(is_sent: bool, invert: bool, octets: &[u8]) -> (u16, u16)
     requires { IsTrue is_sent → 0 < length octets.now }
-    ensures zero { result.0 ≡ (if is_sent then distance (sent_c2 invert 0) (slice_index octets.now (length octets.now - 1)) else 0) }
-    ensures one { result.1 ≡ (if is_sent then distance (sent_c2 invert 1) (slice_index octets.now (length octets.now - 1)) else 0) }
+    ensures zero { result.0 ≡ (if is_sent then distance (sent_c2 invert 0)
+        (slice_index octets.now (length octets.now - 1)) else 0) }
+    ensures one { result.1 ≡ (if is_sent then distance (sent_c2 invert 1)
+        (slice_index octets.now (length octets.now - 1)) else 0) }
     ensures small { (result.0 ≤ 255) × (result.1 ≤ 255) }
 {
     if is_sent {

@@ -32,8 +32,8 @@ pub enum FeedError {
     Stopped,
 }
 
-/// The soft decoder (CCSDS 131.0-B, Convolutional Coding), fed in pieces of soft octets, of which 0 is the surest 0 and 255
-/// the surest 1. It takes all its memory at `open`.
+/// The soft decoder (CCSDS 131.0-B, Convolutional Coding), fed in pieces of soft octets, of which 0 is the surest 0 and
+/// 255 the surest 1. It takes all its memory at `open`.
 #[derive(Drop)]
 pub struct Decoder {
     stream: Stream,
@@ -50,15 +50,20 @@ impl Model for Decoder {
 
     ghost Value = { Decoding };
 
-    ghost view = { λ d. record { settings = settings_of d.stream; has_stopped = d.has_stopped; count = d.count; stream = d.stream } };
+    ghost view = { λ d. record {
+      settings = settings_of d.stream;
+      has_stopped = d.has_stopped;
+      count = d.count;
+      stream = d.stream;
+    } };
 
     ghost invariant = { λ d. (reached d.stream ≤ d.count) × (d.count < stream_bound) × IsOpenStep d.stream };
 }
 
 impl Decoder {
-    /// A decoder that was given nothing yet, for windows of `keep` steps, 64 to 65,536, and `ahead` more, at most 4,096. Where
-    /// `invert` is set each second sum was sent inverted. Of each window but the last `keep` steps are kept. It fails
-    /// only where there isn't enough memory.
+    /// A decoder that was given nothing yet, for windows of `keep` steps, 64 to 65,536, and `ahead` more, at most
+    /// 4,096. Where `invert` is set each second sum was sent inverted. Of each window but the last `keep` steps are
+    /// kept. It fails only where there isn't enough memory.
     pub fn open(
         alloc: Global,
         rate: Rate,
@@ -69,7 +74,8 @@ impl Decoder {
     ) -> Result<Decoder, NoMemory>
         requires keep { (least_keep ≤ keep) × (keep ≤ most_keep) }
         requires ahead { ahead ≤ most_ahead }
-        ensures settings { IfOk result (λ d. d.settings ≡ record { rate = rate; invert = invert; start = start; keep = keep; ahead = ahead }) }
+        ensures settings { IfOk result (λ d. d.settings
+            ≡ record { rate = rate; invert = invert; start = start; keep = keep; ahead = ahead }) }
         ensures fresh { IfOk result (λ d. d.has_stopped ≡ false) }
         ensures stands { IfOk result (λ d. StandsFor d [] []) }
     {
@@ -89,8 +95,8 @@ impl Decoder {
         }
     }
 
-    /// Takes the next soft octets, and hands over the blocks of the windows that are closed by them: a window is closed once
-    /// the step after it is whole.
+    /// Takes the next soft octets, and hands over the blocks of the windows that are closed by them: a window is closed
+    /// once the step after it is whole.
     ///
     /// `Taker` comes where `blocks` fails; a prefix of the blocks was then handed over. `Stopped` comes where an
     /// earlier call answered `Taker` or `finish` was called; nothing is handed over then.
@@ -102,10 +108,14 @@ impl Decoder {
         ensures stops { IsTrue self.new.has_stopped ↔ OnOk result ⊥ }
         ensures settings { self.new.settings ≡ self.old.settings }
         ensures handed { OnOk result ((more : List WindowBlock) × HandedOver B.took blocks.old more blocks.new
-            × ((given : List ℕ) (done : List WindowBlock) → length given + length piece.now < stream_bound → StandsFor self.old given done
-            → StandsFor self.new (given ++ piece.now) (done ++ more) × AreDue self.old.settings (given ++ piece.now) (done ++ more))) }
-        ensures prefix { IsErrOf result FeedError.Taker → (tried : List WindowBlock) × HandedPart B.took B.broke blocks.old tried blocks.new
-            × ((given : List ℕ) (done : List WindowBlock) → StandsFor self.old given done → AreFirst self.old.settings (given ++ piece.now) (done ++ tried)) }
+            × ((given : List ℕ) (done : List WindowBlock) → length given + length piece.now < stream_bound
+            → StandsFor self.old given done
+            → StandsFor self.new (given ++ piece.now) (done ++ more)
+            × AreDue self.old.settings (given ++ piece.now) (done ++ more))) }
+        ensures prefix { IsErrOf result FeedError.Taker → (tried : List WindowBlock)
+            × HandedPart B.took B.broke blocks.old tried blocks.new
+            × ((given : List ℕ) (done : List WindowBlock) → StandsFor self.old given done
+            → AreFirst self.old.settings (given ++ piece.now) (done ++ tried)) }
     {
         if self.has_stopped {
             return Err(FeedError::Stopped);
@@ -123,20 +133,22 @@ impl Decoder {
         }
     }
 
-    /// Hands over the block of the last window, where a step is left for it, and answers how many octets are left over after
-    /// the last whole step: none or one. It is called once, at the end of the stream.
+    /// Hands over the block of the last window, where a step is left for it, and answers how many octets are left over
+    /// after the last whole step: none or one. It is called once, at the end of the stream.
     ///
-    /// `Taker` comes where `blocks` fails. `Stopped` comes where an earlier call answered `Taker` or `finish` was called;
-    /// nothing is handed over then.
+    /// `Taker` comes where `blocks` fails. `Stopped` comes where an earlier call answered `Taker` or `finish` was
+    /// called; nothing is handed over then.
     pub fn finish<B: BlockTaker>(&mut self, blocks: &mut B) -> Result<u8, FeedError>
         ensures call { Calls self.old self.new
             (taker_call B.took B.broke B.faults B.is_last blocks.old blocks.new) result }
         ensures stops { self.new.has_stopped ≡ true }
         ensures settings { self.new.settings ≡ self.old.settings }
         ensures handed { IfOk result (λ left. (last : List WindowBlock) × HandedOver B.took blocks.old last blocks.new
-            × ((given : List ℕ) (done : List WindowBlock) → StandsFor self.old given done → AreBlocksOf self.old.settings given (done ++ last) left)) }
+            × ((given : List ℕ) (done : List WindowBlock) → StandsFor self.old given done
+            → AreBlocksOf self.old.settings given (done ++ last) left)) }
         ensures prefix { IsErrOf result FeedError.Taker → (last : WindowBlock) × B.broke blocks.old last blocks.new
-            × ((given : List ℕ) (done : List WindowBlock) → StandsFor self.old given done → (left : ℕ) × AreBlocksOf self.old.settings given (done ++ last ∷ []) left) }
+            × ((given : List ℕ) (done : List WindowBlock) → StandsFor self.old given done → (left : ℕ)
+            × AreBlocksOf self.old.settings given (done ++ last ∷ []) left) }
         ensures left { IfOk result (λ left. left ≤ 1) }
     {
         if self.has_stopped {

@@ -12,7 +12,8 @@ use crate::window_decoder::WindowShape;
 use std::alloc::{AllocError, Global};
 use tm_conv::Rate;
 
-/// The best path of a window, but for its bits: the register that it starts from, what it costs, and the register after the kept steps.
+/// The best path of a window, but for its bits: the register that it starts from, what it costs, and the register after
+/// the kept steps.
 #[derive(Drop)]
 pub struct BestPath {
     /// The register that the path starts from, below 64.
@@ -85,7 +86,8 @@ impl Window {
     pub(crate) fn begin(&mut self, starts: Option<u8>, t: u64)
         ensures holds { Holds self.new [] }
         ensures place { (self.new.t ≡ t) × (self.new.filled ≡ 0) × (self.new.starts ≡ starts) }
-        ensures same { (self.new.rate ≡ self.old.rate) × (self.new.invert ≡ self.old.invert) × (self.new.keep ≡ self.old.keep) × (self.new.ahead ≡ self.old.ahead) }
+        ensures same { (self.new.rate ≡ self.old.rate) × (self.new.invert ≡ self.old.invert)
+            × (self.new.keep ≡ self.old.keep) × (self.new.ahead ≡ self.old.ahead) }
     {
         self.sums = first_sums(starts);
         self.starts = starts;
@@ -100,7 +102,8 @@ impl Window {
         requires few { self.old.t < window_bound }
         ensures holds { (given : List ℕ) → Holds self.old given → Holds self.new (given ++ octets.now) }
         ensures steps { self.new.filled ≡ self.old.filled + count }
-        ensures same { (self.new.rate ≡ self.old.rate) × (self.new.invert ≡ self.old.invert) × (self.new.keep ≡ self.old.keep) × (self.new.ahead ≡ self.old.ahead)
+        ensures same { (self.new.rate ≡ self.old.rate) × (self.new.invert ≡ self.old.invert)
+            × (self.new.keep ≡ self.old.keep) × (self.new.ahead ≡ self.old.ahead)
             × (self.new.starts ≡ self.old.starts) × (self.new.t ≡ self.old.t) }
     {
         let most = (1 << 30) + 510 * self.filled as u32;
@@ -124,10 +127,13 @@ impl Window {
         requires bits { length bits.old ≡ self.now.filled }
         requires kept { kept ≤ self.now.filled }
         requires start { (register : ℕ) × (register < 64) × IsTrue (starts_from self.now.starts register) }
-        ensures block { (given after : List ℕ) (remaining : ℕ) → Holds self.now given → self.now.filled ≡ window_steps self.now.keep self.now.ahead remaining
+        ensures block { (given after : List ℕ) (remaining : ℕ) → Holds self.now given
+            → self.now.filled ≡ window_steps self.now.keep self.now.ahead remaining
             → kept ≡ kept_steps self.now.keep self.now.ahead remaining
-            → IsBlock self.now.rate self.now.invert self.now.keep self.now.ahead self.now.starts self.now.t remaining (given ++ after)
-            (record { start = result.start; steps = self.now.filled; kept = kept; metric = result.metric; bits = bits.new; end_state = result.end_state; dropped = 0 }) }
+            → IsBlock self.now.rate self.now.invert self.now.keep self.now.ahead self.now.starts self.now.t remaining
+            (given ++ after)
+            (record { start = result.start; steps = self.now.filled; kept = kept; metric = result.metric;
+            bits = bits.new; end_state = result.end_state; dropped = 0 }) }
         ensures register { result.end_state < 64 }
     {
         let last = least_register(&self.sums);

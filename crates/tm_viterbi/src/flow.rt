@@ -15,7 +15,8 @@ use tm_conv::steps_len;
 pub(crate) struct Flow {
     pub(crate) window: Window,
     tail: Held,
-    ghost tail_len: { length tail.octets ≡ steps_size window.rate (window.t + window.keep) (window.filled - window.keep) },
+    ghost tail_len: { length tail.octets ≡ steps_size window.rate (window.t + window.keep)
+        (window.filled - window.keep) },
     ghost tail_room: { 2 * window.ahead ≤ tail.room },
 }
 
@@ -45,13 +46,17 @@ impl Flow {
     /// Takes the octets of some more steps, all before the window's first `keep` are full or all after them.
     pub(crate) fn take_steps(&mut self, count: usize, octets: &[u8])
         requires room { self.old.window.filled + count ≤ self.old.window.keep + self.old.window.ahead }
-        requires side { self.old.window.filled < self.old.window.keep → self.old.window.filled + count ≤ self.old.window.keep }
-        requires size { length octets.now ≡ steps_size self.old.window.rate (self.old.window.t + self.old.window.filled) count }
+        requires side { self.old.window.filled < self.old.window.keep
+            → self.old.window.filled + count ≤ self.old.window.keep }
+        requires size { length octets.now ≡ steps_size self.old.window.rate
+            (self.old.window.t + self.old.window.filled) count }
         requires few { self.old.window.t < window_bound }
         ensures keeps { (given : List ℕ) → Keeps self.old given → Keeps self.new (given ++ octets.now) }
         ensures steps { self.new.window.filled ≡ self.old.window.filled + count }
-        ensures same { (self.new.window.rate ≡ self.old.window.rate) × (self.new.window.invert ≡ self.old.window.invert) × (self.new.window.keep ≡ self.old.window.keep)
-            × (self.new.window.ahead ≡ self.old.window.ahead) × (self.new.window.starts ≡ self.old.window.starts) × (self.new.window.t ≡ self.old.window.t) }
+        ensures same { (self.new.window.rate ≡ self.old.window.rate)
+            × (self.new.window.invert ≡ self.old.window.invert) × (self.new.window.keep ≡ self.old.window.keep)
+            × (self.new.window.ahead ≡ self.old.window.ahead) × (self.new.window.starts ≡ self.old.window.starts)
+            × (self.new.window.t ≡ self.old.window.t) }
     {
         let is_after = self.window.filled >= self.window.keep;
         self.window.take_steps(count, octets);
@@ -64,9 +69,13 @@ impl Flow {
     pub(crate) fn next_window(&mut self, end_state: u8)
         requires full { self.old.window.filled ≡ self.old.window.keep + self.old.window.ahead }
         requires few { self.old.window.t < stream_bound }
-        ensures keeps { (given : List ℕ) → Keeps self.old given → Keeps self.new (drop (steps_size self.old.window.rate self.old.window.t self.old.window.keep) given) }
-        ensures place { (self.new.window.t ≡ self.old.window.t + self.old.window.keep) × (self.new.window.filled ≡ self.old.window.ahead) × (self.new.window.starts ≡ Option.Some end_state) }
-        ensures same { (self.new.window.rate ≡ self.old.window.rate) × (self.new.window.invert ≡ self.old.window.invert) × (self.new.window.keep ≡ self.old.window.keep) × (self.new.window.ahead ≡ self.old.window.ahead) }
+        ensures keeps { (given : List ℕ) → Keeps self.old given
+            → Keeps self.new (drop (steps_size self.old.window.rate self.old.window.t self.old.window.keep) given) }
+        ensures place { (self.new.window.t ≡ self.old.window.t + self.old.window.keep)
+            × (self.new.window.filled ≡ self.old.window.ahead) × (self.new.window.starts ≡ Option.Some end_state) }
+        ensures same { (self.new.window.rate ≡ self.old.window.rate)
+            × (self.new.window.invert ≡ self.old.window.invert) × (self.new.window.keep ≡ self.old.window.keep)
+            × (self.new.window.ahead ≡ self.old.window.ahead) }
     {
         let next = self.window.t + self.window.keep as u64;
         self.window.begin(Some(end_state), next);
@@ -77,21 +86,29 @@ impl Flow {
         self.tail.drop_front(size);
     }
 
-    /// Closes a full window: answers its block, whose bits are written, and begins the next one. A window may be closed once
-    /// the step after it is there too.
+    /// Closes a full window: answers its block, whose bits are written, and begins the next one. A window may be closed
+    /// once the step after it is there too.
     pub(crate) fn close(&mut self, bits: &mut [u8]) -> BestPath
         requires full { self.old.window.filled ≡ self.old.window.keep + self.old.window.ahead }
         requires bits { length bits.old ≡ self.old.window.keep + self.old.window.ahead }
         requires start { (register : ℕ) × (register < 64) × IsTrue (starts_from self.old.window.starts register) }
         requires few { self.old.window.t < stream_bound }
         ensures closes { (given after : List ℕ) → Keeps self.old given
-            → steps_size self.old.window.rate self.old.window.t (self.old.window.keep + self.old.window.ahead + 1) ≤ length (given ++ after)
+            → steps_size self.old.window.rate self.old.window.t (self.old.window.keep + self.old.window.ahead + 1)
+            ≤ length (given ++ after)
             → Closes self.old.window.rate self.old.window.invert self.old.window.keep self.old.window.ahead
             (record { starts = self.old.window.starts; t = self.old.window.t; octets = given ++ after })
-            (record { start = result.start; steps = self.old.window.keep + self.old.window.ahead; kept = self.old.window.keep; metric = result.metric; bits = bits.new; end_state = result.end_state; dropped = 0 }) }
-        ensures keeps { (given : List ℕ) → Keeps self.old given → Keeps self.new (drop (steps_size self.old.window.rate self.old.window.t self.old.window.keep) given) }
-        ensures place { (self.new.window.t ≡ self.old.window.t + self.old.window.keep) × (self.new.window.filled ≡ self.old.window.ahead) × (self.new.window.starts ≡ Option.Some result.end_state) }
-        ensures same { (self.new.window.rate ≡ self.old.window.rate) × (self.new.window.invert ≡ self.old.window.invert) × (self.new.window.keep ≡ self.old.window.keep) × (self.new.window.ahead ≡ self.old.window.ahead) }
+            (record { start = result.start; steps = self.old.window.keep + self.old.window.ahead;
+            kept = self.old.window.keep; metric = result.metric; bits = bits.new; end_state = result.end_state;
+            dropped = 0 }) }
+        ensures keeps { (given : List ℕ) → Keeps self.old given
+            → Keeps self.new (drop (steps_size self.old.window.rate self.old.window.t self.old.window.keep) given) }
+        ensures place { (self.new.window.t ≡ self.old.window.t + self.old.window.keep)
+            × (self.new.window.filled ≡ self.old.window.ahead)
+            × (self.new.window.starts ≡ Option.Some result.end_state) }
+        ensures same { (self.new.window.rate ≡ self.old.window.rate)
+            × (self.new.window.invert ≡ self.old.window.invert) × (self.new.window.keep ≡ self.old.window.keep)
+            × (self.new.window.ahead ≡ self.old.window.ahead) }
         ensures register { result.end_state < 64 }
     {
         let found = self.window.find(self.window.keep, bits);
@@ -104,8 +121,11 @@ impl Flow {
         requires bits { self.now.window.filled ≤ length bits.old }
         requires start { (register : ℕ) × (register < 64) × IsTrue (starts_from self.now.window.starts register) }
         ensures block { (given after : List ℕ) → Keeps self.now given
-            → IsBlock self.now.window.rate self.now.window.invert self.now.window.keep self.now.window.ahead self.now.window.starts self.now.window.t self.now.window.filled (given ++ after)
-            (record { start = result.start; steps = self.now.window.filled; kept = self.now.window.filled; metric = result.metric; bits = take self.now.window.filled bits.new; end_state = result.end_state; dropped = 0 }) }
+            → IsBlock self.now.window.rate self.now.window.invert self.now.window.keep self.now.window.ahead
+            self.now.window.starts self.now.window.t self.now.window.filled (given ++ after)
+            (record { start = result.start; steps = self.now.window.filled; kept = self.now.window.filled;
+            metric = result.metric; bits = take self.now.window.filled bits.new; end_state = result.end_state;
+            dropped = 0 }) }
         ensures long { length bits.new ≡ length bits.old }
     {
         let filled = self.window.filled;

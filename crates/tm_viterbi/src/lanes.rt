@@ -46,9 +46,11 @@ fn lesser(
     requires lanes { (length first ≡ 32) × (length near ≡ 32) × (length second ≡ 32) × (length far ≡ 32) }
     requires first_fits { (i : ℕ) → i < 32 → slice_index first i + slice_index near i < 2 ^ 32 }
     requires second_fits { (i : ℕ) → i < 32 → slice_index second i + slice_index far i < 2 ^ 32 }
-    ensures sums { IsEach result.0 (λ i. min (slice_index first i + slice_index near i) (slice_index second i + slice_index far i)) }
+    ensures sums { IsEach result.0 (λ i. min (slice_index first i + slice_index near i)
+        (slice_index second i + slice_index far i)) }
     ensures bits { (i : ℕ) → i < 32 → result.1 / 2 ^ i % 2
-        ≡ (if nat_lt (slice_index second i + slice_index far i) (slice_index first i + slice_index near i) then 1 else 0) }
+        ≡ (if nat_lt (slice_index second i + slice_index far i) (slice_index first i + slice_index near i) then 1
+        else 0) }
     ensures small { result.1 < 2 ^ 32 }
 {
     let one = first.strict_add(near);

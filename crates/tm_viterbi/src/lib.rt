@@ -1,6 +1,6 @@
-//! The soft decoder of the convolutional code (CCSDS 131.0-B, Convolutional Coding): the Viterbi algorithm in windows, whose
-//! path none betters, with its columns step by step and by lanes, and its sums alone. It stands on the code of tm_conv and
-//! the takers of tm_base, and knows nothing of markers or frames.
+//! The soft decoder of the convolutional code (CCSDS 131.0-B, Convolutional Coding): the Viterbi algorithm in windows,
+//! whose path none betters, with its columns step by step and by lanes, and its sums alone. It stands on the code of
+//! tm_conv and the takers of tm_base, and knows nothing of markers or frames.
 #![tactic(auto)]
 
 mod block;

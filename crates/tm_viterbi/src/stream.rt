@@ -82,8 +82,12 @@ fn hand_over<B: BlockTaker>(
 ) -> Result<(), Failed>
     requires bits { steps ≤ length bits.now }
     requires few { (steps < 2 ^ 32) × (kept < 2 ^ 32) }
-    ensures ok { OnOk result (B.took blocks.old (record { start = found.now.start; steps = steps; kept = kept; metric = found.now.metric; bits = take steps bits.now; end_state = found.now.end_state; dropped = 0 }) blocks.new) }
-    ensures err { OnErr result (B.broke blocks.old (record { start = found.now.start; steps = steps; kept = kept; metric = found.now.metric; bits = take steps bits.now; end_state = found.now.end_state; dropped = 0 }) blocks.new) }
+    ensures ok { OnOk result (B.took blocks.old (record { start = found.now.start; steps = steps; kept = kept;
+        metric = found.now.metric; bits = take steps bits.now; end_state = found.now.end_state; dropped = 0 })
+        blocks.new) }
+    ensures err { OnErr result (B.broke blocks.old (record { start = found.now.start; steps = steps; kept = kept;
+        metric = found.now.metric; bits = take steps bits.now; end_state = found.now.end_state; dropped = 0 })
+        blocks.new) }
     ensures cause { HasCause (B.faults blocks.old) (B.faults blocks.new) (B.is_last blocks.new) result }
 {
     let block = Block {
@@ -126,22 +130,30 @@ impl Stream {
         })
     }
 
-    // Where the window is full, closes it and hands its block over. It is called where the next step is whole by `rest`.
+    // Where the window is full, closes it and hands its block over. It is called where the next step is whole by
+    // `rest`.
     fn make_room<B: BlockTaker>(&mut self, rest: &[u8], blocks: &mut B) -> Result<(), Failed>
-        requires step { step_size self.old.flow.window.rate (self.old.flow.window.t + self.old.flow.window.filled) ≤ length (waiting_octets self.old.waiting ++ rest.now) }
+        requires step { step_size self.old.flow.window.rate (self.old.flow.window.t + self.old.flow.window.filled)
+            ≤ length (waiting_octets self.old.waiting ++ rest.now) }
         requires few { self.old.flow.window.t < stream_bound }
         ensures ok { OnOk result ((more : List WindowBlock) × HandedOver B.took blocks.old more blocks.new
-            × ((all : List ℕ) (done : List WindowBlock) → Reaches self.old all rest.now done → Reaches self.new all rest.now (done ++ more))) }
+            × ((all : List ℕ) (done : List WindowBlock) → Reaches self.old all rest.now done
+            → Reaches self.new all rest.now (done ++ more))) }
         ensures err { OnErr result ((block : WindowBlock) × B.broke blocks.old block blocks.new
             × ((all : List ℕ) (done : List WindowBlock) → Reaches self.old all rest.now done
-            → (to : Place) × Closed self.old.flow.window.rate self.old.flow.window.invert self.old.flow.window.keep self.old.flow.window.ahead
+            → (to : Place) × Closed self.old.flow.window.rate self.old.flow.window.invert self.old.flow.window.keep
+            self.old.flow.window.ahead
             (record { starts = first_start self.old.start; t = 0; octets = all }) (done ++ block ∷ []) to)) }
         ensures cause { HasCause (B.faults blocks.old) (B.faults blocks.new) (B.is_last blocks.new) result }
-        ensures room { OnOk result (self.new.flow.window.filled < self.new.flow.window.keep + self.new.flow.window.ahead) }
-        ensures place { self.new.flow.window.t + self.new.flow.window.filled ≡ self.old.flow.window.t + self.old.flow.window.filled }
+        ensures room { OnOk result (self.new.flow.window.filled
+            < self.new.flow.window.keep + self.new.flow.window.ahead) }
+        ensures place { self.new.flow.window.t + self.new.flow.window.filled
+            ≡ self.old.flow.window.t + self.old.flow.window.filled }
         ensures same { (self.new.start ≡ self.old.start) × (self.new.waiting ≡ self.old.waiting)
-            × (self.new.flow.window.rate ≡ self.old.flow.window.rate) × (self.new.flow.window.invert ≡ self.old.flow.window.invert)
-            × (self.new.flow.window.keep ≡ self.old.flow.window.keep) × (self.new.flow.window.ahead ≡ self.old.flow.window.ahead) }
+            × (self.new.flow.window.rate ≡ self.old.flow.window.rate)
+            × (self.new.flow.window.invert ≡ self.old.flow.window.invert)
+            × (self.new.flow.window.keep ≡ self.old.flow.window.keep)
+            × (self.new.flow.window.ahead ≡ self.old.flow.window.ahead) }
     {
         let kept = self.flow.window.keep;
         let steps = kept + self.flow.window.ahead;
@@ -165,16 +177,22 @@ impl Stream {
     // Takes the octets of some more steps, which begin with the octet that waits.
     fn take_steps(&mut self, count: usize, octets: &[u8])
         requires room { self.old.flow.window.filled + count ≤ self.old.flow.window.keep + self.old.flow.window.ahead }
-        requires side { self.old.flow.window.filled < self.old.flow.window.keep → self.old.flow.window.filled + count ≤ self.old.flow.window.keep }
-        requires size { length octets.now ≡ steps_size self.old.flow.window.rate (self.old.flow.window.t + self.old.flow.window.filled) count }
+        requires side { self.old.flow.window.filled < self.old.flow.window.keep
+            → self.old.flow.window.filled + count ≤ self.old.flow.window.keep }
+        requires size { length octets.now ≡ steps_size self.old.flow.window.rate
+            (self.old.flow.window.t + self.old.flow.window.filled) count }
         requires few { self.old.flow.window.t < stream_bound }
-        ensures reaches { (all taken rest : List ℕ) (done : List WindowBlock) → octets.now ≡ waiting_octets self.old.waiting ++ taken
+        ensures reaches { (all taken rest : List ℕ) (done : List WindowBlock)
+            → octets.now ≡ waiting_octets self.old.waiting ++ taken
             → Reaches self.old all (taken ++ rest) done → Reaches self.new all rest done }
         ensures steps { self.new.flow.window.filled ≡ self.old.flow.window.filled + count }
         ensures waiting { waiting_octets self.new.waiting ≡ [] }
-        ensures same { (self.new.start ≡ self.old.start) × (self.new.flow.window.rate ≡ self.old.flow.window.rate)
-            × (self.new.flow.window.invert ≡ self.old.flow.window.invert) × (self.new.flow.window.keep ≡ self.old.flow.window.keep)
-            × (self.new.flow.window.ahead ≡ self.old.flow.window.ahead) × (self.new.flow.window.t ≡ self.old.flow.window.t) }
+        ensures same { (self.new.start ≡ self.old.start)
+            × (self.new.flow.window.rate ≡ self.old.flow.window.rate)
+            × (self.new.flow.window.invert ≡ self.old.flow.window.invert)
+            × (self.new.flow.window.keep ≡ self.old.flow.window.keep)
+            × (self.new.flow.window.ahead ≡ self.old.flow.window.ahead)
+            × (self.new.flow.window.t ≡ self.old.flow.window.t) }
     {
         self.flow.take_steps(count, octets);
         self.waiting = None;
@@ -183,27 +201,32 @@ impl Stream {
     // Takes an octet that is the first of a step of two.
     fn wait(&mut self, octet: u8)
         requires { waiting_octets self.old.waiting ≡ [] }
-        ensures reaches { (all rest : List ℕ) (done : List WindowBlock) → Reaches self.old all (octet ∷ rest) done → Reaches self.new all rest done }
+        ensures reaches { (all rest : List ℕ) (done : List WindowBlock) → Reaches self.old all (octet ∷ rest) done
+            → Reaches self.new all rest done }
         ensures waiting { waiting_octets self.new.waiting ≡ octet ∷ [] }
         ensures same { (self.new.start ≡ self.old.start) × (self.new.flow ≡ self.old.flow) }
     {
         self.waiting = Some(octet);
     }
 
-    // Takes the octets of the next steps that are whole by `rest`, and answers how many of `rest` these are. It is called where
-    // the window has room.
+    // Takes the octets of the next steps that are whole by `rest`, and answers how many of `rest` these are. It is
+    // called where the window has room.
     fn take_some(&mut self, rest: &[u8]) -> usize
         requires room { self.old.flow.window.filled < self.old.flow.window.keep + self.old.flow.window.ahead }
-        requires step { step_size self.old.flow.window.rate (self.old.flow.window.t + self.old.flow.window.filled) ≤ length (waiting_octets self.old.waiting ++ rest.now) }
+        requires step { step_size self.old.flow.window.rate (self.old.flow.window.t + self.old.flow.window.filled)
+            ≤ length (waiting_octets self.old.waiting ++ rest.now) }
         requires open_step { IsOpenStep self.old }
         requires few { self.old.flow.window.t < stream_bound }
         ensures some { (0 < result) × (result ≤ length rest.now) }
-        ensures reaches { (all : List ℕ) (done : List WindowBlock) → Reaches self.old all rest.now done → Reaches self.new all (drop result rest.now) done }
+        ensures reaches { (all : List ℕ) (done : List WindowBlock) → Reaches self.old all rest.now done
+            → Reaches self.new all (drop result rest.now) done }
         ensures counted { reached self.new ≤ reached self.old + result }
         ensures waiting { waiting_octets self.new.waiting ≡ [] }
         ensures same { (self.new.start ≡ self.old.start) × (self.new.flow.window.rate ≡ self.old.flow.window.rate)
-            × (self.new.flow.window.invert ≡ self.old.flow.window.invert) × (self.new.flow.window.keep ≡ self.old.flow.window.keep)
-            × (self.new.flow.window.ahead ≡ self.old.flow.window.ahead) × (self.new.flow.window.t ≡ self.old.flow.window.t) }
+            × (self.new.flow.window.invert ≡ self.old.flow.window.invert)
+            × (self.new.flow.window.keep ≡ self.old.flow.window.keep)
+            × (self.new.flow.window.ahead ≡ self.old.flow.window.ahead)
+            × (self.new.flow.window.t ≡ self.old.flow.window.t) }
     {
         if let Some(first) = self.waiting {
             self.take_steps(1, &[first, rest[0]]);
@@ -228,15 +251,20 @@ impl Stream {
         requires some { 0 < length rest.now }
         requires open_step { IsOpenStep self.old }
         requires few { self.old.flow.window.t + self.old.flow.window.filled < stream_bound }
-        ensures ok { IfOk result (λ n. (0 < n) × (n ≤ length rest.now) × (more : List WindowBlock) × HandedOver B.took blocks.old more blocks.new
-            × ((all : List ℕ) (done : List WindowBlock) → Reaches self.old all rest.now done → Reaches self.new all (drop n rest.now) (done ++ more))) }
+        ensures ok { IfOk result (λ n. (0 < n) × (n ≤ length rest.now) × (more : List WindowBlock)
+            × HandedOver B.took blocks.old more blocks.new
+            × ((all : List ℕ) (done : List WindowBlock) → Reaches self.old all rest.now done
+            → Reaches self.new all (drop n rest.now) (done ++ more))) }
         ensures err { OnErr result ((block : WindowBlock) × B.broke blocks.old block blocks.new
             × ((all : List ℕ) (done : List WindowBlock) → Reaches self.old all rest.now done
-            → (to : Place) × Closed self.old.flow.window.rate self.old.flow.window.invert self.old.flow.window.keep self.old.flow.window.ahead
+            → (to : Place) × Closed self.old.flow.window.rate self.old.flow.window.invert self.old.flow.window.keep
+            self.old.flow.window.ahead
             (record { starts = first_start self.old.start; t = 0; octets = all }) (done ++ block ∷ []) to)) }
         ensures same { (self.new.start ≡ self.old.start)
-            × (self.new.flow.window.rate ≡ self.old.flow.window.rate) × (self.new.flow.window.invert ≡ self.old.flow.window.invert)
-            × (self.new.flow.window.keep ≡ self.old.flow.window.keep) × (self.new.flow.window.ahead ≡ self.old.flow.window.ahead) }
+            × (self.new.flow.window.rate ≡ self.old.flow.window.rate)
+            × (self.new.flow.window.invert ≡ self.old.flow.window.invert)
+            × (self.new.flow.window.keep ≡ self.old.flow.window.keep)
+            × (self.new.flow.window.ahead ≡ self.old.flow.window.ahead) }
         ensures counted { IfOk result (λ n. reached self.new ≤ reached self.old + n) }
         ensures stays { OnErr result (reached self.new ≤ reached self.old) }
         ensures open_step { IsOpenStep self.new }
@@ -259,9 +287,12 @@ impl Stream {
         requires open_step { IsOpenStep self.old }
         requires few { reached self.old + length piece.now < stream_bound }
         ensures ok { OnOk result ((more : List WindowBlock) × HandedOver B.took blocks.old more blocks.new
-            × ((all : List ℕ) (done : List WindowBlock) → Reaches self.old all piece.now done → Reaches self.new all [] (done ++ more))) }
-        ensures err { OnErr result ((tried : List WindowBlock) × HandedPart B.took B.broke blocks.old tried blocks.new
-            × ((all : List ℕ) (done : List WindowBlock) → Reaches self.old all piece.now done → AreFirst (settings_of self.old) all (done ++ tried))) }
+            × ((all : List ℕ) (done : List WindowBlock) → Reaches self.old all piece.now done
+            → Reaches self.new all [] (done ++ more))) }
+        ensures err { OnErr result ((tried : List WindowBlock)
+            × HandedPart B.took B.broke blocks.old tried blocks.new
+            × ((all : List ℕ) (done : List WindowBlock) → Reaches self.old all piece.now done
+            → AreFirst (settings_of self.old) all (done ++ tried))) }
         ensures settings { settings_of self.new ≡ settings_of self.old }
         ensures counted { reached self.new ≤ reached self.old + length piece.now }
         ensures open_step { IsOpenStep self.new }
@@ -277,9 +308,11 @@ impl Stream {
     /// Hands over the block of the last window, where a step is left for it, and answers how many octets are left over.
     pub(crate) fn end<B: BlockTaker>(&mut self, blocks: &mut B) -> Result<u8, Failed>
         ensures ok { IfOk result (λ left. (last : List WindowBlock) × HandedOver B.took blocks.old last blocks.new
-            × ((all : List ℕ) (done : List WindowBlock) → IsOpenStep self.old → Reaches self.old all [] done → AreBlocksOf (settings_of self.old) all (done ++ last) left)) }
+            × ((all : List ℕ) (done : List WindowBlock) → IsOpenStep self.old → Reaches self.old all [] done
+            → AreBlocksOf (settings_of self.old) all (done ++ last) left)) }
         ensures err { OnErr result ((last : WindowBlock) × B.broke blocks.old last blocks.new
-            × ((all : List ℕ) (done : List WindowBlock) → IsOpenStep self.old → Reaches self.old all [] done → (left : ℕ) × AreBlocksOf (settings_of self.old) all (done ++ last ∷ []) left)) }
+            × ((all : List ℕ) (done : List WindowBlock) → IsOpenStep self.old → Reaches self.old all [] done
+            → (left : ℕ) × AreBlocksOf (settings_of self.old) all (done ++ last ∷ []) left)) }
         ensures left { IfOk result (λ left. left ≤ 1) }
         ensures settings { settings_of self.new ≡ settings_of self.old }
         ensures counted { reached self.new ≡ reached self.old }
@@ -305,7 +338,8 @@ impl Stream {
         ensures err { OnErr result ((last : WindowBlock) × B.broke blocks.old last blocks.new
             × ((all : List ℕ) (done : List WindowBlock) → IsOpenStep self.old → Reaches self.old all [] done
             → AreBlocksOf (settings_of self.old) all (done ++ last ∷ []) (length (waiting_octets self.old.waiting)))) }
-        ensures same { (self.new.start ≡ self.old.start) × (self.new.flow ≡ self.old.flow) × (self.new.waiting ≡ self.old.waiting) }
+        ensures same { (self.new.start ≡ self.old.start) × (self.new.flow ≡ self.old.flow)
+            × (self.new.waiting ≡ self.old.waiting) }
         ensures cause { HasCause (B.faults blocks.old) (B.faults blocks.new) (B.is_last blocks.new) result }
     {
         let steps = self.flow.window.filled;

@@ -34,20 +34,28 @@ impl Model for Sums {
 
     ghost Value = { Summing };
 
-    ghost view = { λ s. record { rate = s.rate; invert = s.invert; first = s.first; start = s.start; steps = s.steps; column = s.column } };
+    ghost view = { λ s. record {
+      rate = s.rate;
+      invert = s.invert;
+      first = s.first;
+      start = s.start;
+      steps = s.steps;
+      column = s.column;
+    } };
 
     ghost invariant = { λ s. (s.first ≤ last_certified) × (s.steps ≤ most_window)
         × AreAtMost (2 ^ 30 + 510 * s.steps) s.column };
 }
 
 impl Sums {
-    /// The sums before step `first`, at most 2^44: 0 for the register `start`, below 64, or for all 64 registers at `None`, and
-    /// else 2^30.
+    /// The sums before step `first`, at most 2^44: 0 for the register `start`, below 64, or for all 64 registers at
+    /// `None`, and else 2^30.
     #[tactic(auto, unfolding(tm_conv::specs::Path::steps_size))]
     pub fn new(rate: Rate, invert: bool, first: u64, start: Option<u8>) -> Sums
         requires first { first ≤ last_certified }
         requires start { IfSome start (λ register. register < 64) }
-        ensures began { (result.rate ≡ rate) × (result.invert ≡ invert) × (result.first ≡ first) × (result.start ≡ start) × (result.steps ≡ 0) }
+        ensures began { (result.rate ≡ rate) × (result.invert ≡ invert) × (result.first ≡ first)
+            × (result.start ≡ start) × (result.steps ≡ 0) }
         ensures stands { SumsFor result [] }
     {
         Sums {
@@ -64,7 +72,8 @@ impl Sums {
     pub fn step(&mut self, octets: &[u8])
         requires size { length octets.now ≡ step_size self.old.rate (self.old.first + self.old.steps) }
         requires few { self.old.steps < most_window }
-        ensures began { (self.new.rate ≡ self.old.rate) × (self.new.invert ≡ self.old.invert) × (self.new.first ≡ self.old.first) × (self.new.start ≡ self.old.start) }
+        ensures began { (self.new.rate ≡ self.old.rate) × (self.new.invert ≡ self.old.invert)
+            × (self.new.first ≡ self.old.first) × (self.new.start ≡ self.old.start) }
         ensures steps { self.new.steps ≡ self.old.steps + 1 }
         ensures stands { (given : List ℕ) → SumsFor self.old given → SumsFor self.new (given ++ octets.now) }
     {
@@ -74,10 +83,12 @@ impl Sums {
         self.steps += 1;
     }
 
-    /// The column after the steps so far: for each register the least cost of a path to it, with what its first register costs.
+    /// The column after the steps so far: for each register the least cost of a path to it, with what its first
+    /// register costs.
     pub fn column(&self) -> &[u32; 64]
         ensures column { result.now ≡ self.now.column }
-        ensures least { (given : List ℕ) → SumsFor self.now given → IsColumn (starts_from self.now.start) self.now.rate self.now.invert self.now.first given result.now }
+        ensures least { (given : List ℕ) → SumsFor self.now given
+            → IsColumn (starts_from self.now.start) self.now.rate self.now.invert self.now.first given result.now }
     {
         &self.column
     }

@@ -32,8 +32,8 @@ pub enum AllError {
     Taker,
 }
 
-/// Hands over the blocks of soft octets, fewer than 2^60, and answers how many octets are left over after the last whole
-/// step: none or one. The settings are those of `Decoder::open`.
+/// Hands over the blocks of soft octets, fewer than 2^60, and answers how many octets are left over after the last
+/// whole step: none or one. The settings are those of `Decoder::open`.
 ///
 /// `Memory` comes only where there isn't enough of it. `Taker` comes where `blocks` fails; a prefix of the blocks was
 /// then handed over.
@@ -50,14 +50,21 @@ pub fn decode_all<B: BlockTaker>(
     requires keep { (least_keep ≤ keep) × (keep ≤ most_keep) }
     requires ahead { ahead ≤ most_ahead }
     ensures handed { IfOk result (λ left. (all : List WindowBlock) × HandedOver B.took blocks.old all blocks.new
-        × (length soft.now < stream_bound → AreBlocksOf (record { rate = rate; invert = invert; start = start; keep = keep; ahead = ahead }) soft.now all left)) }
-    ensures prefix { IsErrOf result AllError.Taker → (tried : List WindowBlock) × HandedPart B.took B.broke blocks.old tried blocks.new
-        × (length soft.now < stream_bound → AreFirst (record { rate = rate; invert = invert; start = start; keep = keep; ahead = ahead }) soft.now tried
-        ⊎ ((left : ℕ) × AreBlocksOf (record { rate = rate; invert = invert; start = start; keep = keep; ahead = ahead }) soft.now tried left)) }
+        × (length soft.now < stream_bound
+        → AreBlocksOf (record { rate = rate; invert = invert; start = start; keep = keep; ahead = ahead }) soft.now
+        all left)) }
+    ensures prefix { IsErrOf result AllError.Taker → (tried : List WindowBlock)
+        × HandedPart B.took B.broke blocks.old tried blocks.new
+        × (length soft.now < stream_bound
+        → AreFirst (record { rate = rate; invert = invert; start = start; keep = keep; ahead = ahead }) soft.now tried
+        ⊎ ((left : ℕ)
+        × AreBlocksOf (record { rate = rate; invert = invert; start = start; keep = keep; ahead = ahead }) soft.now
+        tried left)) }
     ensures left { IfOk result (λ left. left ≤ 1) }
     ensures unchanged { IsErrOf result AllError.Memory → blocks.new ≡ blocks.old }
     ensures later { B.faults blocks.old ≤ B.faults blocks.new }
-    ensures rose { IsErrOf result AllError.Taker → Rose (B.faults blocks.old) (B.faults blocks.new) (B.is_last blocks.new) }
+    ensures rose { IsErrOf result AllError.Taker → Rose (B.faults blocks.old) (B.faults blocks.new)
+        (B.is_last blocks.new) }
     ensures same { result ≢ Err AllError.Taker → B.faults blocks.new ≡ B.faults blocks.old }
 {
     let Ok(mut decoder) = Decoder::open(alloc, rate, invert, start, keep, ahead) else {
@@ -72,10 +79,12 @@ pub fn decode_all<B: BlockTaker>(
     }
 }
 
-/// What the best path over soft octets from step 0 on costs. They are the symbols of at most 69,632 steps. It takes no memory.
+/// What the best path over soft octets from step 0 on costs. They are the symbols of at most 69,632 steps. It takes no
+/// memory.
 pub fn least_cost(rate: Rate, invert: bool, start: Start, soft: &[u8]) -> u64
     requires { (steps : ℕ) × (steps ≤ most_window) × (length soft.now ≡ steps_size rate 0 steps) }
-    ensures { (initial : ℕ) × (bits : List ℕ) × IsBest (starts_from (first_start start)) rate invert 0 soft.now initial bits
+    ensures { (initial : ℕ) × (bits : List ℕ) × IsBest
+        (starts_from (first_start start)) rate invert 0 soft.now initial bits
         × (result ≡ cost (path rate invert 0 initial bits) soft.now) }
 {
     least_cost_from(rate, invert, start, 0, soft)
@@ -85,7 +94,8 @@ pub fn least_cost(rate: Rate, invert: bool, start: Start, soft: &[u8]) -> u64
 pub fn least_cost_from(rate: Rate, invert: bool, start: Start, t: u64, soft: &[u8]) -> u64
     requires steps { (steps : ℕ) × (steps ≤ most_window) × (length soft.now ≡ steps_size rate t steps) }
     requires few { t < stream_bound }
-    ensures cost { (initial : ℕ) × (bits : List ℕ) × IsBest (starts_from (first_start start)) rate invert t soft.now initial bits
+    ensures cost { (initial : ℕ) × (bits : List ℕ) × IsBest
+        (starts_from (first_start start)) rate invert t soft.now initial bits
         × (result ≡ cost (path rate invert t initial bits) soft.now) }
     ensures small { result < 2 ^ 32 }
 {

@@ -24,8 +24,8 @@ pub struct WindowShape {
     pub ahead: usize,
 }
 
-/// The decoder of windows whose octets are all there, one at a time and in any order (CCSDS 131.0-B, Convolutional Coding). It
-/// takes its memory at `new`.
+/// The decoder of windows whose octets are all there, one at a time and in any order (CCSDS 131.0-B, Convolutional
+/// Coding). It takes its memory at `new`.
 #[derive(Drop)]
 pub struct WindowDecoder {
     shape: WindowShape,
@@ -40,11 +40,13 @@ impl Model for WindowDecoder {
 
     ghost view = { λ d. d.shape };
 
-    ghost invariant = { λ d. (d.window.rate ≡ d.shape.rate) × (d.window.invert ≡ d.shape.invert) × (d.window.keep ≡ d.shape.keep) × (d.window.ahead ≡ d.shape.ahead) };
+    ghost invariant = { λ d. (d.window.rate ≡ d.shape.rate) × (d.window.invert ≡ d.shape.invert)
+        × (d.window.keep ≡ d.shape.keep) × (d.window.ahead ≡ d.shape.ahead) };
 }
 
 impl WindowDecoder {
-    /// A decoder of windows of this shape, which have at most 69,632 steps. It fails only where there isn't enough memory.
+    /// A decoder of windows of this shape, which have at most 69,632 steps. It fails only where there isn't enough
+    /// memory.
     pub fn new(alloc: Global, shape: WindowShape) -> Result<WindowDecoder, NoMemory>
         requires { shape.keep + shape.ahead ≤ most_window }
         ensures { IfOk result (λ d. d ≡ shape) }
@@ -55,9 +57,9 @@ impl WindowDecoder {
         }
     }
 
-    /// Finds the best path of the window from step `t` on, at most 2^61, that starts from the register `starts`, below 64, or from
-    /// any of the 64 at `None`. The window has as many steps as `bits`, at most those of the shape, and `kept` of them are kept; `octets`
-    /// begins with its soft octets. The path's bits are written to `bits`.
+    /// Finds the best path of the window from step `t` on, at most 2^61, that starts from the register `starts`, below
+    /// 64, or from any of the 64 at `None`. The window has as many steps as `bits`, at most those of the shape, and
+    /// `kept` of them are kept; `octets` begins with its soft octets. The path's bits are written to `bits`.
     pub fn decode(
         &mut self,
         starts: Option<u8>,
@@ -71,9 +73,11 @@ impl WindowDecoder {
         requires octets { steps_size self.old.rate t (length bits.old) ≤ length octets.now }
         requires start { ForSome starts (λ register. register < 64) }
         requires few { t < window_bound }
-        ensures block { (remaining : ℕ) → length bits.old ≡ window_steps self.old.keep self.old.ahead remaining → kept ≡ kept_steps self.old.keep self.old.ahead remaining
+        ensures block { (remaining : ℕ) → length bits.old ≡ window_steps self.old.keep self.old.ahead remaining
+            → kept ≡ kept_steps self.old.keep self.old.ahead remaining
             → IsBlock self.old.rate self.old.invert self.old.keep self.old.ahead starts t remaining octets.now
-            (record { start = result.start; steps = length bits.old; kept = kept; metric = result.metric; bits = bits.new; end_state = result.end_state; dropped = 0 }) }
+            (record { start = result.start; steps = length bits.old; kept = kept; metric = result.metric;
+            bits = bits.new; end_state = result.end_state; dropped = 0 }) }
         ensures same { self.new ≡ self.old }
     {
         let steps = bits.len();

@@ -1,6 +1,6 @@
-//! Feeds a decoder the same symbols again and again, in pieces of 4,096, and prints what its blocks come to. The first word is
-//! how often, the second whether they are `clean` or `noisy`, the third the rate, 1/2 where it is missing. The symbols are made
-//! once, so that the difference of two runs is the decoder's work alone.
+//! Feeds a decoder the same symbols again and again, in pieces of 4,096, and prints what its blocks come to. The first
+//! word is how often, the second whether they are `clean` or `noisy`, the third the rate, 1/2 where it is missing. The
+//! symbols are made once, so that the difference of two runs is the decoder's work alone.
 #![tactic(auto)]
 
 use std::alloc::{AllocError, Global};
@@ -10,8 +10,8 @@ use tm_base::Failed;
 use tm_conv::{Encoder, Rate, Symbols};
 use tm_viterbi::{Block, BlockTaker, Decoder, FeedError, Start};
 
-// The steps whose symbols are fed each time: whole puncture patterns at each rate. The last six bits are 0, so that the register
-// is 0 again after them.
+// The steps whose symbols are fed each time: whole puncture patterns at each rate. The last six bits are 0, so that the
+// register is 0 again after them.
 const STEPS: u64 = 8190;
 
 // What was handed over: the blocks, their kept bits, what their paths cost, and the sum of their last registers.

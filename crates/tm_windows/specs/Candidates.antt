@@ -15,7 +15,8 @@ ClosesWith shape at block = Closes shape.rate shape.invert shape.keep shape.ahea
 
 -- from one place to another by closed windows with these blocks
 abbrev pub ClosedWith : WindowShape → Place → List WindowBlock → Place → Type 0
-ClosedWith shape from blocks to = Closed shape.rate shape.invert shape.keep shape.ahead from blocks to
+ClosedWith shape from blocks to = Closed shape.rate shape.invert shape.keep shape.ahead from blocks
+    to
 
 -- the block that a candidate is, all of whose steps but those ahead are kept
 abbrev pub block_of : WindowShape → Candidate → WindowBlock

@@ -49,7 +49,8 @@ HoldsRun g count = steps_size g.shape.rate g.t (count * g.shape.keep + g.shape.a
 -- to look for a slip
 abbrev pub IsDecided : Gathering → Type 0
 IsDecided g = g.dropped ≡ None
-    → (steps : ℕ) × (g.seen ≡ Some steps) × (length g.held.octets < octets_seen g.shape.rate g.t steps)
+    → (steps : ℕ) × (g.seen ≡ Some steps)
+    × (length g.held.octets < octets_seen g.shape.rate g.t steps)
 
 -- the steps that blocks which were handed over keep, and the octets after them: at most the octets
 -- given
@@ -99,7 +100,8 @@ pub record ClosesNext {R E : Type 0} (before now : Gathering) (taker : TakerCall
   pub windows : windows_of now ≡ windows_of before
   pub cause : HasCause taker.before taker.now taker.is_last result
 
--- the blocks of the windows that the octets held close went to the taker; or it failed at one of them
+-- the blocks of the windows that the octets held close went to the taker; or it failed at one of
+-- them
 pub record ClosesHeld {R E : Type 0} (before now : Gathering) (taker : TakerCall WindowBlock)
     (result : Result R E) : Type 0 where
   pub ok : OnOk result ((more : List WindowBlock) × taker.took more × Advances before now more)

@@ -65,7 +65,8 @@ pub record Finishes (before now : ParallelDecoding) (taker : TakerCall WindowBlo
   pub handed : IfOk result (λ left. (last : List WindowBlock) × taker.took last
       × ((given : List ℕ) (done : List WindowBlock) → StandsFor before given done
       → AreBlocksIn before.windows given (done ++ last) left
-      × (kept_of (done ++ last) ≡ now.gathering.t) × (slips_of (done ++ last) ≡ now.gathering.slips)))
+      × (kept_of (done ++ last) ≡ now.gathering.t)
+      × (slips_of (done ++ last) ≡ now.gathering.slips)))
   pub prefix : IsErrOf result Taker → (tried : List WindowBlock) × taker.broke tried
       × ((given : List ℕ) (done : List WindowBlock) → StandsFor before given done
       → AreFirstIn before.windows given (done ++ tried)

@@ -1,4 +1,5 @@
--- The symbol phase: how many soft octets stand before the first step's symbols (CCSDS 131.0-B, Convolutional Coding).
+-- The symbol phase: how many soft octets stand before the first step's symbols (CCSDS 131.0-B,
+-- Convolutional Coding).
 use Rattle.std.specs.Prelude.{◌≡◌, ℕ, ◌+◌, ◌-◌, ◌<◌, ◌≤◌, Bool, None, List, take, drop, min}
 use Rattle.tm_conv.specs.declared.rates.Rate.{Rate}
 use Rattle.tm_conv.specs.Path.{path, period, steps_size}
@@ -27,13 +28,16 @@ abbrev pub octets_at : Rate → ℕ → ℕ → List ℕ → ℕ → List ℕ
 octets_at rate t steps octets skip = take (steps_size rate t steps) (drop skip octets)
 
 -- the best path over them, from any of the 64 registers, costs this
-pub record IsCostAt (rate : Rate) (invert : Bool) (t steps : ℕ) (octets : List ℕ) (skip amount : ℕ) : Type 0 where
+pub record IsCostAt (rate : Rate) (invert : Bool) (t steps : ℕ) (octets : List ℕ)
+    (skip amount : ℕ) : Type 0 where
   pub initial : ℕ
   pub bits : List ℕ
-  pub best : IsBest (starts_from None) rate invert t (octets_at rate t steps octets skip) initial bits
+  pub best : IsBest (starts_from None) rate invert t
+      (octets_at rate t steps octets skip) initial bits
   pub is : amount ≡ cost (path rate invert t initial bits) (octets_at rate t steps octets skip)
 
--- the first of least cost of the numbers below `count`: none of them costs less, and none before it as little
+-- the first of least cost of the numbers below `count`: none of them costs less, and none before it
+-- as little
 pub record IsFirstLeast (IsCost : ℕ → ℕ → Type 0) (count number amount : ℕ) : Type 0 where
   pub below : number < count
   pub is : IsCost number amount
@@ -41,7 +45,9 @@ pub record IsFirstLeast (IsCost : ℕ → ℕ → Type 0) (count number amount :
   pub first : (other more : ℕ) → other < number → IsCost other more → amount < more
 
 -- the phase and its cost: the first candidate of least cost
-pub record IsPhase (rate : Rate) (invert : Bool) (window : ℕ) (octets : List ℕ) (chosen : Chosen) : Type 0 where
+pub record IsPhase (rate : Rate) (invert : Bool) (window : ℕ) (octets : List ℕ)
+    (chosen : Chosen) : Type 0 where
   pub steps : ℕ
   pub compared : AreCompared rate window octets steps
-  pub least : IsFirstLeast (IsCostAt rate invert 0 steps octets) (period_size rate) chosen.skip chosen.cost
+  pub least : IsFirstLeast (IsCostAt rate invert 0 steps octets)
+      (period_size rate) chosen.skip chosen.cost

@@ -33,7 +33,8 @@ decided number moved unmoved = if nat_lt (4 * moved) (3 * unmoved) then number e
 -- How many octets are dropped before a window from step t on that would begin with these octets: of
 -- as many candidates as a period sends symbols the first of least cost over so many steps, where
 -- its excess is so much less than that of 0.
-pub record IsSlip (rate : Rate) (invert : Bool) (t steps : ℕ) (octets : List ℕ) (slip : ℕ) : Type 0 where
+pub record IsSlip (rate : Rate) (invert : Bool) (t steps : ℕ) (octets : List ℕ)
+    (slip : ℕ) : Type 0 where
   pub number : ℕ
   pub amount : ℕ
   pub least : IsFirstLeast (IsCostAt rate invert t steps octets) (period_size rate) number amount

@@ -10,15 +10,16 @@ use tm_viterbi::{Start, least_cost_from};
 /// A symbol phase.
 #[derive(Clone, Copy, Debug, PartialEq, Eq)]
 pub struct Chosen {
-    /// How many octets stand before the first step's symbols: fewer than a period of the puncture pattern sends, so at most 7.
+    /// How many octets stand before the first step's symbols: fewer than a period of the puncture pattern sends, so at
+    /// most 7.
     pub skip: u8,
     /// What the best path after them costs over the steps that were compared.
     pub cost: u64,
 }
 
-/// The phase of soft octets: of as many candidates as a period sends symbols, the first whose best path costs least. A path
-/// starts from any register at step 0. Compared are the first steps after each candidate: `window` of them, 1 to 69,632, or
-/// as many as are whole at every candidate. It takes no memory (CCSDS 131.0-B, Convolutional Coding).
+/// The phase of soft octets: of as many candidates as a period sends symbols, the first whose best path costs least. A
+/// path starts from any register at step 0. Compared are the first steps after each candidate: `window` of them, 1 to
+/// 69,632, or as many as are whole at every candidate. It takes no memory (CCSDS 131.0-B, Convolutional Coding).
 pub fn choose(rate: Rate, invert: bool, window: u32, soft: &[u8]) -> Chosen
     requires { (1 ≤ window) × (window ≤ most_window) }
     ensures { IsPhase rate invert window soft.now result }

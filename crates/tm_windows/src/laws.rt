@@ -26,28 +26,33 @@ pub fn one_windows_law()
 pub fn due_windows_law()
     ensures none { (w : Windows) → AreDueIn w [] [] }
     ensures first { (w : Windows) (octets : List ℕ) (first blocks : List WindowBlock) (left : ℕ)
-        → AreFirstIn w octets first → AreBlocksIn w octets blocks left → (rest : List WindowBlock) × (blocks ≡ first ++ rest) }
+        → AreFirstIn w octets first → AreBlocksIn w octets blocks left → (rest : List WindowBlock)
+        × (blocks ≡ first ++ rest) }
     ensures due { (w : Windows) (octets : List ℕ) (due blocks : List WindowBlock) (left : ℕ) → IsSeen w
         → AreDueIn w octets due → AreBlocksIn w octets blocks left
         → ((blocks ≡ []) × (due ≡ [])) ⊎ ((last : WindowBlock) × (blocks ≡ due ++ last ∷ [])) }
     ensures longer { (w : Windows) (octets more : List ℕ) (due later : List WindowBlock)
-        → AreDueIn w octets due → AreDueIn w (octets ++ more) later → (rest : List WindowBlock) × (later ≡ due ++ rest) }
+        → AreDueIn w octets due → AreDueIn w (octets ++ more) later → (rest : List WindowBlock)
+        × (later ≡ due ++ rest) }
 {
     best_path_law();
 }
 
 /// The blocks of windows that are closed stand first in those of octets that go on. It does nothing.
 pub fn closed_prefix_law()
-    ensures { (w : Windows) (octets more : List ℕ) (first : List WindowBlock) → AreFirstIn w octets first → AreFirstIn w (octets ++ more) first }
+    ensures { (w : Windows) (octets more : List ℕ) (first : List WindowBlock) → AreFirstIn w octets first
+        → AreFirstIn w (octets ++ more) first }
 {}
 
 /// Of symbols that were not disturbed, or that were each complemented and not else disturbed, no octet is dropped:
 /// their blocks are those of a phase that is not followed, at every rate, start and window size. It does nothing.
 pub fn undisturbed_law()
-    ensures sent { (w : Windows) (register : ℕ) (bits : List ℕ) (blocks : List WindowBlock) (left : ℕ) → AreBits bits → register < 64
+    ensures sent { (w : Windows) (register : ℕ) (bits : List ℕ) (blocks : List WindowBlock) (left : ℕ) → AreBits bits
+        → register < 64
         → AreBlocksIn w (sure_symbols w.settings register bits) blocks left
         → AreBlocksOf w.settings (sure_symbols w.settings register bits) blocks left }
-    ensures complemented { (w : Windows) (register : ℕ) (bits : List ℕ) (blocks : List WindowBlock) (left : ℕ) → AreBits bits → register < 64
+    ensures complemented { (w : Windows) (register : ℕ) (bits : List ℕ) (blocks : List WindowBlock) (left : ℕ)
+        → AreBits bits → register < 64
         → AreBlocksIn w (complemented_octets (sure_symbols w.settings register bits)) blocks left
         → AreBlocksOf w.settings (complemented_octets (sure_symbols w.settings register bits)) blocks left }
 {}

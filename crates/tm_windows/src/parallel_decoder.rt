@@ -267,7 +267,8 @@ impl ParallelDecoder {
     /// How many steps the blocks that were handed over keep.
     pub fn steps(&self) -> u64
         ensures value { result ≡ self.now.gathering.t }
-        ensures kept { (given : List ℕ) (done : List WindowBlock) → StandsFor self.now given done → result ≡ kept_of done }
+        ensures kept { (given : List ℕ) (done : List WindowBlock) → StandsFor self.now given done
+            → result ≡ kept_of done }
     {
         self.gathering.t
     }
@@ -275,7 +276,8 @@ impl ParallelDecoder {
     /// Before how many windows octets were dropped whose blocks were handed over.
     pub fn slips(&self) -> u64
         ensures value { result ≡ self.now.gathering.slips }
-        ensures count { (given : List ℕ) (done : List WindowBlock) → StandsFor self.now given done → result ≡ slips_of done }
+        ensures count { (given : List ℕ) (done : List WindowBlock) → StandsFor self.now given done
+            → result ≡ slips_of done }
     {
         self.gathering.slips
     }

@@ -46,7 +46,8 @@ impl Model for WindowWorkers {
 
     ghost view = { λ w. record { shape = w.shape; most = vec_len w.candidates; workers = vec_len w.decoders } };
 
-    ghost invariant = { λ w. (w.shape.keep + w.shape.ahead ≤ most_window) × ((0 < vec_len w.decoders) × (vec_len w.decoders ≤ most_workers)) × (vec_len w.candidates ≤ 2 ^ 32)
+    ghost invariant = { λ w. (w.shape.keep + w.shape.ahead ≤ most_window)
+        × ((0 < vec_len w.decoders) × (vec_len w.decoders ≤ most_workers)) × (vec_len w.candidates ≤ 2 ^ 32)
         × All (λ d. d ≡ w.shape) w.decoders.items × HaveRoom (w.shape.keep + w.shape.ahead) w.candidates.items };
 }
 
@@ -249,9 +250,11 @@ impl WindowWorkers {
     ) -> Result<u8, Failed>
         requires some { 0 < self.old.most }
         requires start { ForSome starts (λ register. register < 64) }
-        requires room { steps_size self.old.shape.rate t (self.old.shape.keep + self.old.shape.ahead + 1) ≤ length octets.now }
+        requires room { steps_size self.old.shape.rate t (self.old.shape.keep + self.old.shape.ahead + 1)
+            ≤ length octets.now }
         requires few { t < window_bound }
-        ensures ok { IfOk result (λ next. (block : WindowBlock) × B.took blocks.old (dropped_at dropped block) blocks.new
+        ensures ok { IfOk result (λ next. (block : WindowBlock)
+            × B.took blocks.old (dropped_at dropped block) blocks.new
             × (block.end_state ≡ next) × (block.kept ≡ self.old.shape.keep)
             × ClosesWith self.old.shape (record { starts = starts; t = t; octets = octets.now }) block) }
         ensures small { IfOk result (λ next. next < 64) }
@@ -290,9 +293,11 @@ impl WindowWorkers {
         requires octets { steps_size self.old.shape.rate t steps ≤ length octets.now }
         requires few { t < window_bound }
         ensures ok { OnOk result ((last : WindowBlock) × B.took blocks.old (dropped_at dropped last) blocks.new
-            × IsBlock self.old.shape.rate self.old.shape.invert self.old.shape.keep self.old.shape.ahead starts t steps octets.now last) }
+            × IsBlock self.old.shape.rate self.old.shape.invert self.old.shape.keep self.old.shape.ahead starts t
+            steps octets.now last) }
         ensures err { OnErr result ((last : WindowBlock) × B.broke blocks.old (dropped_at dropped last) blocks.new
-            × IsBlock self.old.shape.rate self.old.shape.invert self.old.shape.keep self.old.shape.ahead starts t steps octets.now last) }
+            × IsBlock self.old.shape.rate self.old.shape.invert self.old.shape.keep self.old.shape.ahead starts t
+            steps octets.now last) }
         ensures cause { HasCause (B.faults blocks.old) (B.faults blocks.new) (B.is_last blocks.new) result }
         ensures same { self.new ≡ self.old }
     {

@@ -70,7 +70,8 @@ command_line = with_commands (map (λ command. command_shape command.0 command.1
 -- what the command of a name asks for; clap's rule takes no name but the commands'
 abbrev pub kind_among : List (Text × JobKind) → Text → JobKind
 kind_among [] name = Encode
-kind_among ((command, kind) ∷ rest) name = if bytes_eq name command then kind else kind_among rest name
+kind_among ((command, kind) ∷ rest) name = if bytes_eq name command then kind
+    else kind_among rest name
 
 abbrev pub kind_of_name : Text → JobKind
 kind_of_name = kind_among commands

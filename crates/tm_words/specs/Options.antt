@@ -24,7 +24,8 @@ number_of text = if is_numeral text then min (digits_value 10 text) no_number el
 -- the number that stands for a word of an option
 abbrev pub number_of_word : List (Text × ℕ) → Text → ℕ
 number_of_word [] text = no_number
-number_of_word ((word, number) ∷ words) text = if bytes_eq text word then number else number_of_word words text
+number_of_word ((word, number) ∷ words) text =
+    if bytes_eq text word then number else number_of_word words text
 
 -- an option by its name, with its words and the number that stands for each; one that has no words
 -- takes a number

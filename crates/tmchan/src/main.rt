@@ -1,4 +1,5 @@
-//! The program: it takes its words and the standard streams, and makes the top call. Every promise is a clause of that call.
+//! The program: it takes its words and the standard streams, and makes the top call. Every promise is a clause of that
+//! call.
 #![tactic(auto)]
 
 use std::env;
@@ -29,7 +30,8 @@ fn main(rt: HostRuntime) -> ExitCode {
     ))
 }
 
-// The status where the runtime refuses the words: 5 for want of memory, 8 for any other cause, as words that are no text.
+// The status where the runtime refuses the words: 5 for want of memory, 8 for any other cause, as words that are no
+// text.
 fn status_of(error: &io::Error) -> u8 {
     if error.kind() == ErrorKind::OutOfMemory {
         5

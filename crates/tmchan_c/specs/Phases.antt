@@ -5,4 +5,5 @@ use Rattle.tmchan_c.specs.declared.phase.PhaseState.{PhaseState}
 
 -- the phase that was chosen, or none
 abbrev pub chosen_of : PhaseState → Option Chosen
-chosen_of phase = if phase.is_chosen == 0 then None else Some (record { skip = phase.skip; cost = phase.cost })
+chosen_of phase = if phase.is_chosen == 0 then None
+    else Some (record { skip = phase.skip; cost = phase.cost })

@@ -15,7 +15,8 @@ Tells basis word (Fixed c d) answer left = (answer ≡ pos d) × (left ≡ map (
 Tells basis word Beyond answer left = (answer ≡ beyond) × (left ≡ word)
 
 -- the answer, and what is left, is that of what is nearest to the word within the repair bound
-pub record IsRepaired (e : ℕ) (basis : Basis) (repair : ℕ) (word : List ℕ) (answer : ℤ) (left : List ℕ) : Type 0 where
+pub record IsRepaired (e : ℕ) (basis : Basis) (repair : ℕ) (word : List ℕ) (answer : ℤ)
+    (left : List ℕ) : Type 0 where
   pub found : Nearest
   pub nearest : IsNearest e repair (map (element_of basis) word) found
   pub tells : Tells basis word found answer left
@@ -32,7 +33,8 @@ TellsErased basis word (FixedErased c a b) answer left =
 TellsErased basis word BeyondErased answer left = (answer ≡ beyond) × (left ≡ word)
 
 -- the answer, and what is left, is that of what is nearest to the word with these flags
-pub record IsRepairedErased (e : ℕ) (basis : Basis) (repair : ℕ) (flags word : List ℕ) (answer : ℤ) (left : List ℕ) : Type 0 where
+pub record IsRepairedErased (e : ℕ) (basis : Basis) (repair : ℕ) (flags word : List ℕ) (answer : ℤ)
+    (left : List ℕ) : Type 0 where
   pub found : NearestErased
   pub nearest : IsNearestErased e repair (erased_by flags) (map (element_of basis) word) found
   pub tells : TellsErased basis word found answer left

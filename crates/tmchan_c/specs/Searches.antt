@@ -20,7 +20,9 @@ use Rattle.tmchan_c.specs.declared.search.SearchState.{SearchState}
 use Rattle.tmchan_c.specs.declared.search.PlaceState.{PlaceState}
 
 abbrev pub before_of : SearchState → Option Before
-before_of s = if s.has_before == 1 then Some (record { inverted = s.before_inverted == 1; bridged = s.before_bridged }) else None
+before_of s =
+    if s.has_before == 1
+    then Some (record { inverted = s.before_inverted == 1; bridged = s.before_bridged }) else None
 
 abbrev pub awaited_of : SearchState → Option Awaited
 awaited_of s =
@@ -83,13 +85,15 @@ abbrev pub span_refusal : SearchState → ℕ → ℕ → ℕ → ℕ → Option
 span_refusal s room at count size =
     if (s.is_open == 1) && is_resumable (paused_of s) then
     if (room == verify_bits (search_of s).rules)
-        && nat_le count most_taken && nat_le at size then None
+        && nat_le count most_taken && nat_le at size
+    then None
     else Some Room
     else Some Closed
 
 -- a search that is open, was given these bits, of which its room holds the last, and has found
 -- these places
-pub record IsSearching (s : SearchState) (room : List ℕ) (bits : List Bool) (found : List Found) : Type 0 where
+pub record IsSearching (s : SearchState) (room : List ℕ) (bits : List Bool)
+    (found : List Found) : Type 0 where
   pub is_open : s.is_open ≡ 1
   pub valid : is_resumable (paused_of s) ≡ true
   pub stands : StandsFor (search_of s) room bits found
@@ -115,7 +119,8 @@ place_after (Some f) place = record {
 
 -- A search has taken bits of a list of `size` from one index on up to another: those with which it
 -- finds the next place, or all.
-pub record FindsInto (was now : SearchState) (room room_now : List ℕ) (at end size : ℕ) (bits : List Bool) (place place_now : PlaceState) (answer : ℤ) : Type 0 where
+pub record FindsInto (was now : SearchState) (room room_now : List ℕ) (at end size : ℕ)
+    (bits : List Bool) (place place_now : PlaceState) (answer : ℤ) : Type 0 where
   pub found : Option Found
   pub answers : answer ≡ found_answer found
   pub tells : place_now ≡ place_after found place

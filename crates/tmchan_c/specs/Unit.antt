@@ -31,4 +31,5 @@ unit_size c = codeblock_length c + 4
 abbrev pub unit_refusal : ℕ → ℕ → ℕ → ℕ → ℕ → ℕ → Option Refusal
 unit_refusal code depth basis randomize frame room =
     option_or (values_refusal (unit_raw code depth basis randomize frame))
-    (if room == unit_size (unit_configuration code depth basis randomize frame) then None else Some Room)
+    (if room == unit_size (unit_configuration code depth basis randomize frame) then None
+    else Some Room)

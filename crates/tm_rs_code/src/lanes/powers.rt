@@ -1,5 +1,5 @@
-// The powers 0 to 32 of the elements of sixteen places by their halves, one power a row and sixteen places a group: a byte
-// shuffle takes them as they stand. Statics, since reading a row of a constant copies the whole table.
+// The powers 0 to 32 of the elements of sixteen places by their halves, one power a row and sixteen places a group: a
+// byte shuffle takes them as they stand. Statics, since reading a row of a constant copies the whole table.
 
 // The low halves.
 pub static LOW_HALVES: [[[u8; 16]; 33]; 16] = [
