@@ -44,6 +44,7 @@ impl BufferDecoder {
         ensures config { IfOk result (λ decoder. decoder.config ≡ config) }
         ensures fresh { IfOk result (λ decoder. IsDecoding decoder [] []) }
     {
+        // So that the proof has the ranges of the configuration.
         let _keep = config.keep();
         let inner = InnerReceiver::open(alloc, &config)?;
         Ok(BufferDecoder { config, inner })

@@ -112,6 +112,7 @@ impl Sender {
         ensures prefix { OnErr result (SendsFramesPrefix self.old (O.taken out.old) (O.taken out.new) octets.now) }
         ensures cause { HasCause (O.faults out.old) (O.faults out.new) (O.is_last out.new) result }
     {
+        // So that the proof has the invariant of the sender.
         let _count = self.count;
         let mut done = 0;
         while done < octets.len() {

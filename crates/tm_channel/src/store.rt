@@ -100,6 +100,7 @@ impl Codeblocks {
         ensures part { self.new.part ≡ self.old.part ++ bit ∷ [] }
         ensures kept { self.new.kept ≡ self.old.kept }
     {
+        // So that the proof has the invariant of the store.
         let _size = self.size;
         self.gathering.push_bit(bit);
     }
@@ -111,6 +112,7 @@ impl Codeblocks {
         ensures part { self.new.part ≡ self.old.part ++ bits_of octets.now }
         ensures kept { self.new.kept ≡ self.old.kept }
     {
+        // So that the proof has the invariant of the store.
         let _size = self.size;
         self.gathering.push_octets(octets);
     }

@@ -18,6 +18,7 @@ pub enum Rate {
     R78,
 }
 
+// Which steps of a period send the first sum: 1 where it is sent.
 fn c1_pattern(rate: Rate) -> &'static [u8]
     ensures { result.now ≡ c1_pattern rate }
 {
@@ -30,6 +31,7 @@ fn c1_pattern(rate: Rate) -> &'static [u8]
     }
 }
 
+// The same of the second sum.
 fn c2_pattern(rate: Rate) -> &'static [u8]
     ensures { result.now ≡ c2_pattern rate }
 {

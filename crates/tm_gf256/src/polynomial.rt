@@ -13,6 +13,7 @@ pub fn eval(poly: &[Gf], x: Gf) -> Gf
 {
     let mut value = Gf(0);
     for c in poly {
+        // So that the proof has the range of the element.
         let _number = c.number();
         value = value.mul(x).add(*c);
     }

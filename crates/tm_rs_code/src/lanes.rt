@@ -21,12 +21,14 @@ const HIGH_PLACES: [u8; 16] = [
     0, 16, 32, 48, 64, 80, 96, 112, 128, 144, 160, 176, 192, 208, 224, 240,
 ];
 
+// The products of a factor with what the low half of an octet may stand for.
 fn low_products(factor: u8) -> u8x16
     ensures { result ≡ multiple factor LOW_PLACES }
 {
     u8x16::from_array(LOW[usize::from(factor)])
 }
 
+// The same with what the high half may stand for.
 fn high_products(factor: u8) -> u8x16
     ensures { result ≡ multiple factor HIGH_PLACES }
 {

@@ -36,6 +36,7 @@ fn divide(generator: &[u8], info: &[Gf], register: &mut [Gf])
 {
     register.fill(Gf(0));
     for symbol in info {
+        // So that the proof has the range of the symbol.
         let _range = symbol.number();
         shift_in(generator, *symbol, register);
     }

@@ -3,6 +3,7 @@ ghost use Rattle.std.specs.Prelude.{◌≡◌, ◌++◌, min, IsTrue, ℕ, ◌+�
 ghost use Rattle.tm_conv.specs.Path.{c1, c2};
 ghost use Rattle.tm_viterbi.specs.Column.{IsEach, sum_via, IsNextSums, AreSurvivors};
 
+// The two sums c1 and c2 of a step from register r by bit b, as 2 * c1 + c2: the index of its branch metric.
 fn pair(r: usize, b: usize) -> usize
     requires register { r < 64 }
     requires bit { b < 2 }
@@ -14,6 +15,7 @@ fn pair(r: usize, b: usize) -> usize
     2 * first + second
 }
 
+// The path metric of the path to a register through register p before it, by bit b: that of p, and the branch metric.
 fn way(sums: &[u32; 64], costs: &[u32; 4], p: usize, b: usize) -> u32
     requires fit { (s k : ℕ) → s < 64 → k < 4 → slice_index sums.now s + slice_index costs.now k < 2 ^ 32 }
     requires register { p < 64 }

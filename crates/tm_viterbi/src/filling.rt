@@ -43,6 +43,7 @@ pub(crate) struct Window {
     ghost bounded: { AreAtMost (2 ^ 30 + 510 * filled) sums },
 }
 
+// Room for so many survivors.
 fn zeros(alloc: Global, count: usize) -> Result<Vec<u64>, AllocError>
     ensures { IfOk result (λ v. vec_len v ≡ count) }
 {

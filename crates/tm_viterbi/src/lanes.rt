@@ -5,7 +5,8 @@ ghost use Rattle.tm_viterbi.specs.Column.{IsEach, sum_via, IsNextSums, AreSurviv
 
 use std::simd::prelude::*;
 
-// The pair of symbols from register 2 * s by bit 0, and from the register after it.
+// The index 2 * c1 + c2 of the branch metric from register 2 * i by bit 0 (near), and from register 2 * i + 1 (far). By
+// bit 1 the two change places.
 const NEAR: [usize; 32] = [
     0, 1, 0, 1, 3, 2, 3, 2, 3, 2, 3, 2, 0, 1, 0, 1, 2, 3, 2, 3, 1, 0, 1, 0, 1, 0, 1, 0, 2, 3, 2, 3,
 ];
@@ -24,12 +25,14 @@ fn halves(sums: &[u32; 64]) -> (Simd<u32, 32>, Simd<u32, 32>)
     low.deinterleave(high)
 }
 
+// The branch metrics by bit 0 from registers 2 * i.
 fn near_costs(costs: &[u32; 4]) -> Simd<u32, 32>
     ensures { IsEach result (λ i. slice_index costs.now (2 * c1 (2 * i) 0 + c2 (2 * i) 0)) }
 {
     u32x4::from_array(*costs).swizzle(NEAR)
 }
 
+// The branch metrics by bit 0 from registers 2 * i + 1.
 fn far_costs(costs: &[u32; 4]) -> Simd<u32, 32>
     ensures { IsEach result (λ i. slice_index costs.now (2 * c1 (2 * i + 1) 0 + c2 (2 * i + 1) 0)) }
 {
@@ -59,6 +62,7 @@ fn lesser(
     (less.select(other, one), less.to_bitmask())
 }
 
+// Stores the path metrics of registers 0 to 31, and those of 32 to 63.
 fn store_halves(low: Simd<u32, 32>, high: Simd<u32, 32>, next: &mut [u32; 64])
     requires { (length low ≡ 32) × (length high ≡ 32) }
     ensures { next.new ≡ low ++ high }

@@ -190,6 +190,7 @@ impl ParallelDecoder {
         self.feed_by(&OneByOne, piece, blocks)
     }
 
+    // Takes the next soft octets, whose windows are closed by `closing`.
     fn feed_by<C: Closing, B: BlockTaker>(
         &mut self,
         closing: &C,
@@ -307,6 +308,7 @@ impl ParallelDecoder {
         self.finish_by(&OneByOne, blocks)
     }
 
+    // Takes the end of the octets; what is left is closed by `closing`.
     fn finish_by<C: Closing, B: BlockTaker>(
         &mut self,
         closing: &C,

@@ -51,6 +51,7 @@ impl Model for WindowWorkers {
         × All (λ d. d ≡ w.shape) w.decoders.items × HaveRoom (w.shape.keep + w.shape.ahead) w.candidates.items };
 }
 
+// So many decoders of windows of one shape.
 fn new_decoders(
     alloc: Global,
     shape: WindowShape,
@@ -70,6 +71,7 @@ fn new_decoders(
     Ok(decoders)
 }
 
+// Room for so many candidates, each of a window of so many steps.
 pub(crate) fn new_candidates(
     alloc: Global,
     steps: usize,
