@@ -9,11 +9,11 @@ use Rattle.tm_base.specs.SourceInMemory.{SourceState, share_of, after_read}
 copied : (at count : ℕ) (content prefix rest : List ℕ) → at + count ≤ length content → prefix ≡ take count (drop at content) → take count (prefix ++ rest) ≡ take count (drop at content)
 copied at count content prefix rest within is = take_at prefix rest count (grind (arith, common_steps)) ∙ is
 
--- the octets given, with those in the front of the buffer
+-- the octets given, with those at the start of the buffer
 pub gave : (at count : ℕ) (content prefix rest : List ℕ) → at + count ≤ length content → prefix ≡ take count (drop at content) → take (at + count) content ≡ take at content ++ take count (prefix ++ rest)
 gave at count content prefix rest within is = rw (copied at count content prefix rest within is, take-add at count content) refl
 
--- the octets left before, from those in the front of the buffer
+-- the octets left before, from those at the start of the buffer
 pub leaves : (at count : ℕ) (content prefix rest : List ℕ) → at + count ≤ length content → prefix ≡ take count (drop at content) → drop at content ≡ take count (prefix ++ rest) ++ drop (at + count) content
 leaves at count content prefix rest within is = rw (copied at count content prefix rest within is, ← drop-drop count at content) (sym (take-append-drop count (drop at content)))
 

@@ -12,7 +12,7 @@ use Rattle.tm_codeblock.specs.ReceivedCodeblock.{rules_of}
 use Rattle.tm_channel.specs.Items.{ItemValue, frames_of}
 use Rattle.tm_channel.specs.Most.{AreFew, most_bits, most_bits_at, most_items}
 use Rattle.tm_buffers.specs.Reports.{AreReports}
-use Rattle.tm_buffers.specs.Items.{Collected, Collects, Tells, collected, none_yet}
+use Rattle.tm_buffers.specs.Items.{Collected, Collects, HasWritten, collected, none_yet}
 use Rattle.tm_buffers.specs.Receiving.{HasRoom, IsEnough}
 use Rattle.tm_buffers.specs.declared.items.BufferItems.{BufferItems}
 use Rattle.tm_buffers.specs.declared.items.Report.{Report}
@@ -88,12 +88,12 @@ module _ {T : Type 0} (frames reports : T → ℕ) (state : T → Collected) whe
       }
 
 -- what a taker over whole buffers has written
-pub tells : (frames : List ℕ) (reports : List Report) (b : BufferItems) (items : List ItemValue)
+pub has-written : (frames : List ℕ) (reports : List Report) (b : BufferItems) (items : List ItemValue)
     → All (none_yet (length frames) (length reports)) (collected b) items
-    → Tells (if b.is_short then None else Some (min b.count (length reports))) b.frames.now b.reports.now items
-tells frames reports b items all = by_short b.is_short refl
+    → HasWritten (if b.is_short then None else Some (min b.count (length reports))) b.frames.now b.reports.now items
+has-written frames reports b items all = by_short b.is_short refl
   where
-    by_short : (short : Bool) → short ≡ b.is_short → Tells (if short then None else Some (min b.count (length reports))) b.frames.now b.reports.now items
+    by_short : (short : Bool) → short ≡ b.is_short → HasWritten (if short then None else Some (min b.count (length reports))) b.frames.now b.reports.now items
     by_short false is =
         let k = all.kept (sym is) in
         let count : min b.count (length reports) ≡ b.count = omega (arith, b.within, all.report_room) in
@@ -132,11 +132,11 @@ items-more c m n more =
     omega (arith, whole)
 
 -- with the room that is told all items were written
-pub enough : (c : Configuration) (octets : ℕ) (count : Option ℕ) (frames : List ℕ) (reports : List Report) (items : List ItemValue) → AreFew c octets items → Tells count frames reports items
+pub enough : (c : Configuration) (octets : ℕ) (count : Option ℕ) (frames : List ℕ) (reports : List Report) (items : List ItemValue) → AreFew c octets items → HasWritten count frames reports items
     → IsEnough c octets count frames reports
-enough c octets (Some count) frames reports items few tells most more room = refl
-enough c octets None frames reports items few tells most more room =
+enough c octets (Some count) frames reports items few written most more room = refl
+enough c octets None frames reports items few written most more room =
     let is = has-room c (nat_le most (2 ^ 40)) (most_items c most) frames reports room in
     let items_few = items-more c octets most more in
     let frames_few = mul-le-mul_right c.frame_length items_few in
-    absurd (elim tells as (λ _. ⊥) [ inl many ↦ omega (arith, many, few.0, items_few, is.0) | inr many ↦ omega (arith, many, few.1, frames_few, is.1) ])
+    absurd (elim written as (λ _. ⊥) [ inl many ↦ omega (arith, many, few.0, items_few, is.0) | inr many ↦ omega (arith, many, few.1, frames_few, is.1) ])

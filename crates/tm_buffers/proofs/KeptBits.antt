@@ -46,7 +46,7 @@ module _ {T : Type 0} (name size : T → ℕ) (bits : T → List ℕ) where
             ∙ ap (λ l. l ++ back) one ∙ append_assoc (bits a) prefix back;
       }
 
--- what was kept fills the front of the buffer, where that had no bits before
+-- what was kept fills the start of the buffer, where that had no bits before
 pub kept-fills : (name name' : ℕ) (buffer before buffer' : List ℕ) (none count : ℕ) (more : List (Handed WindowBlock)) → before ≡ buffer → none ≡ 0
     → Kept name name' (length before) (length buffer') (take none before) (take count buffer') more → count ≤ length buffer' → length (kept_bits (items_of more)) ≤ length buffer
     → Fills (Some (min count (length buffer))) buffer' (kept_bits (items_of more))

@@ -7,7 +7,7 @@ use Rattle.tm_inner.specs.declared.sender.SendError.{SendError}
 use Rattle.tm_inner.specs.declared.sender.SendError.TheVariants.{Sink, Stopped}
 use Rattle.tm_buffers.specs.Buffer.{Fills, told}
 
--- the loan is the same, and the front of its buffer is what was written
+-- the loan is the same, and the start of its buffer is what was written
 pub record Held (name name' : ℕ) (buffer buffer' : List ℕ) (count : ℕ) (text : List ℕ) : Type 0 where
   pub loan : name' ≡ name
   pub size : length buffer' ≡ length buffer
@@ -33,7 +33,7 @@ pub sink_alone : {T : Type 0} (e : SendError) → (IsErrOf {T = T} (Err e) Stopp
 sink_alone Sink other = refl
 sink_alone Stopped other = absurd (other refl)
 
--- what a sink has written fills the front of its buffer
+-- what a sink has written fills the start of its buffer
 pub fills : (name name' : ℕ) (buffer buffer' : List ℕ) (count : ℕ) (text : List ℕ) → Held name name' buffer buffer' count text → count ≤ length buffer'
     → Fills (Some (min count (length buffer))) buffer' text
 fills name name' buffer buffer' count text h within =

@@ -44,9 +44,9 @@ pub record Collects (before : Collected) (item : ItemValue) (now : Collected) : 
 
 -- a call has written the frames and the reports of these items to the start of two buffers, and
 -- answers how many items they are; or there was no room for them all
-abbrev pub Tells : Option ℕ → List ℕ → List Report → List ItemValue → Type 0
-Tells None frames reports items = (length reports < length items) ⊎
+abbrev pub HasWritten : Option ℕ → List ℕ → List Report → List ItemValue → Type 0
+HasWritten None frames reports items = (length reports < length items) ⊎
     (length frames < length (frames_of items))
-Tells (Some count) frames reports items =
+HasWritten (Some count) frames reports items =
     (count ≡ length items) × AreReports items (take count reports)
     × (take (length (frames_of items)) frames ≡ frames_of items)

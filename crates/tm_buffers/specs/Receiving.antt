@@ -8,7 +8,7 @@ use Rattle.tm_channel.specs.Items.{ItemValue}
 use Rattle.tm_channel.specs.Most.{most_items}
 use Rattle.tm_channel.specs.OctetReceiving.{OctetReceiving, StandsFor}
 use Rattle.tm_inner.specs.Phase.{IsChosen}
-use Rattle.tm_buffers.specs.Items.{Tells}
+use Rattle.tm_buffers.specs.Items.{HasWritten}
 use Rattle.tm_buffers.specs.Buffer.{most_taken}
 use Rattle.tm_buffers.specs.declared.items.Report.{Report}
 
@@ -42,7 +42,7 @@ pub record Receives (receiver now : OctetReceiving) (given octets : List ℕ)
   pub more : List (Handed ItemValue)
   pub receiving : IsReceiving now (given ++ octets) (done ++ more)
   pub due : AreReceivedDue receiver.config (given ++ octets) (done ++ more)
-  pub tells : Tells count frames reports (items_of more)
+  pub written : HasWritten count frames reports (items_of more)
   pub enough : IsEnough receiver.config (length octets) count frames reports
 
 -- at the end of its octets, which came to this, what is left was written in the same way, and the
@@ -52,6 +52,6 @@ pub record ReceivesLast (receiver now : OctetReceiving) (given : List ℕ)
     (reports : List Report) : Type 0 where
   pub last : List (Handed ItemValue)
   pub all : AreReceived receiver.config given (done ++ last) totals
-  pub tells : Tells count frames reports (items_of last)
+  pub written : HasWritten count frames reports (items_of last)
   pub enough : IsEnough receiver.config 0 count frames reports
   pub chosen : IsChosen receiver.config given now.stages.inner.phased.chosen

@@ -82,7 +82,7 @@ impl BufferReceiver {
         }
     }
 
-    /// Writes what is left, as `feed` does, and tells what all octets came to. It is called once, at the end of the
+    /// Writes what is left, as `feed` does, and reports what all octets came to. It is called once, at the end of the
     /// octets.
     pub fn finish(
         &mut self,

@@ -56,7 +56,7 @@ within-take c n zero fs within = tt
 within-take c n (suc k) [] within = tt
 within-take c n (suc k) (f ∷ fs) within = (within.0, within-take c n k fs within.1)
 
--- the items of some of the first places of a front stand first among those of all bits
+-- the items of some of the first places of a prefix stand first among those of all bits
 pub first-items : (c : Configuration) (prefix rest : List Bool) (k : ℕ) (due items : List ItemValue) → IsAccepted c
     → AreItemsOf c prefix (take k (places (rules_of c) prefix)) due → AreItems c (prefix ++ rest) items → (others : List ItemValue) × (items ≡ due ++ others)
 first-items c prefix rest k due items ok first all =

@@ -6,7 +6,7 @@ use Rattle.tm_channel.specs.Due.{due}
 use Rattle.tm_channel.specs.Receiving.{beyond, AreDue, AreFirstDue, GoesOn}
 use Rattle.tm_channel.proofs.Streaming.{items-then, first-then, first-of-all}
 
--- fewer bits in all are fewer in the front
+-- fewer bits in all are fewer in the prefix
 prefix-few : (bits piece more : List Bool) → length (bits ++ (piece ++ more)) < 2 ^ 63 → length (bits ++ piece) < 2 ^ 63
 prefix-few bits piece more few = omega (arith, length-append bits (piece ++ more), length-append piece more, length-append bits piece)
 

@@ -26,7 +26,7 @@ received-none took s taker = record {
       (sym (ap (λ (l : List Bool). beyond (due s.batch.config bits) (due s.batch.config l)) (append-nil bits) ∙ drop-length (due s.batch.config bits))) tt;
 }
 
--- bits were given to a receiver, of which its search was told nothing
+-- bits were given to a receiver, of which its search reported nothing
 abbrev pub Pushes : BitReceiving → BitReceiving → List Bool → Type 0
 Pushes a b piece = (handed : ℕ) (bits : List Bool) → length (bits ++ piece) < 2 ^ 63 → Holds a.search a.room a.batch handed bits
     → HoldsMore b.search b.room b.batch handed bits piece

@@ -21,7 +21,7 @@ use Rattle.tm_codeblock.specs.ReceivedCodeblock.{column_count, received_columns,
 use Rattle.tm_channel.specs.ColumnWords.{symbols_of, all_symbols}
 use Rattle.tm_channel.specs.Items.{AreNearest, IsItem, are_fixed}
 use Rattle.tm_channel.specs.Receiving.{AreItemsFor, IsItemAt}
-use Rattle.tm_channel.specs.Storing.{AreDecoded, AreRead, IsDecoded, IsRead, answers_of, codeblock_in_slot, item_in, kept_in, words_at}
+use Rattle.tm_channel.specs.Storing.{AreDecoded, AreRead, IsDecoded, IsRead, answers_of, codeblock_in_slot, item_in, stored_in, words_at}
 use Rattle.tm_channel.specs.declared.slot.Slot.{Slot}
 
 -- words that were decoded hold what is nearest to the columns that were read into them
@@ -37,7 +37,7 @@ nearest-are c code (w ∷ words) (w' ∷ now) e n become = (one become.0, neares
         → IsNearest (correctable c.code) c.repair (symbols_of c w)
         (found (unwrap_or w'.answer Beyond) (symbols_of c w'))
     one d =
-        let told : d.answer ≡ unwrap_or w'.answer Beyond = sym (ap (λ (o : Option Answer). unwrap_or o Beyond) d.told) in
+        let told : d.answer ≡ unwrap_or w'.answer Beyond = sym (ap (λ (o : Option Answer). unwrap_or o Beyond) d.answered) in
         subst (λ (k : ℕ). IsNearest (correctable c.code) c.repair (numbers (take k w.symbols))
         (found (unwrap_or w'.answer Beyond) (numbers (take k w'.symbols)))) n
         (subst (λ (a : Answer). IsNearest (correctable c.code) c.repair (numbers (take code.n w.symbols))
@@ -153,16 +153,16 @@ item-more c olds slots index now d below long same one done j slot less = at (ca
 -- each slot has its codeblock's item
 pub items-are : (c : Configuration) (olds slots : List Slot) → length slots ≡ length olds
     → ((j : ℕ) (slot : Slot) → j < length olds → IsItem c (get_or olds j slot).found (codeblock_in_slot c olds j slot) (item_in c (get_or slots j slot)))
-    → AreItemsFor c (map (kept_in (codeblock_length c)) olds) (map (item_in c) slots)
+    → AreItemsFor c (map (stored_in (codeblock_length c)) olds) (map (item_in c) slots)
 items-are c [] [] long each = tt
 items-are c [] (s ∷ slots) long each = absurd (omega arith)
 items-are c (o ∷ olds) [] long each = absurd (omega arith)
 items-are c (o ∷ olds) (s ∷ slots) long each = (each 0 o (omega arith), items-are c olds slots (omega arith) (λ j slot below. each (suc j) slot (omega arith)))
 
 -- the item of one codeblock
-pub item-in-slot : (c : Configuration) (size count : ℕ) (slots : List Slot) (index : ℕ) (d : Slot) → AreItemsFor c (map (kept_in size) (take count slots)) (map (item_in c) (take count slots))
-    → index < length (map (kept_in size) (take count slots)) → IsItemAt c (map (kept_in size) (take count slots)) index (item_in c (get_or slots index d))
+pub item-in-slot : (c : Configuration) (size count : ℕ) (slots : List Slot) (index : ℕ) (d : Slot) → AreItemsFor c (map (stored_in size) (take count slots)) (map (item_in c) (take count slots))
+    → index < length (map (stored_in size) (take count slots)) → IsItemAt c (map (stored_in size) (take count slots)) index (item_in c (get_or slots index d))
 item-in-slot c size zero slots index d are below = absurd (omega arith)
 item-in-slot c size (suc count) [] index d are below = absurd (omega arith)
-item-in-slot c size (suc count) (s ∷ slots) zero d are below = (kept_in size s, refl, are.0)
+item-in-slot c size (suc count) (s ∷ slots) zero d are below = (stored_in size s, refl, are.0)
 item-in-slot c size (suc count) (s ∷ slots) (suc index) d are below = item-in-slot c size count slots index d are.1 (omega arith)

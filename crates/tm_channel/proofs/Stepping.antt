@@ -13,45 +13,45 @@ use Rattle.tm_config.specs.Configuration.{Configuration, codeblock_length}
 use Rattle.tm_sync.specs.declared.found.Found.{Found}
 use Rattle.tm_sync.specs.Places.{Rules, places, verify_bits}
 use Rattle.tm_sync.specs.Searching.{Searching, StandsFor, inside_next, inside_of, is_pending, waiting_of}
-use Rattle.tm_sync.proofs.Given.{told-recent}
+use Rattle.tm_sync.proofs.Given.{reported-recent}
 use Rattle.tm_codeblock.specs.ReceivedCodeblock.{rules_of}
 use Rattle.tm_codeblock.specs.RoomBits.{room_bits}
 use Rattle.tm_codeblock.proofs.Gathered.{low_bits-split}
 use Rattle.tm_codeblock.proofs.RoomBits.{length-room_bits}
-use Rattle.tm_channel.specs.Receiving.{Agree, Batching, Holding, Holds, HoldsMore, HoldsTold, IsGathered, IsReady, Kept, kept_at, kept_of}
+use Rattle.tm_channel.specs.Receiving.{Agree, Batching, Holding, Holds, HoldsMore, HoldsReported, IsGathered, IsReady, StoredCodeblock, stored_at, stored_of}
 use Rattle.tm_channel.proofs.Recalled.{room_bits-given}
-use Rattle.tm_channel.proofs.Streaming.{kept-last, more-begun, more-inside, more-outside, told-kept}
+use Rattle.tm_channel.proofs.Streaming.{stored-last, more-begun, more-inside, more-outside, reported-stored}
 
 -- ---- what a search, its room and a batch hold
 -- bits of the codeblock under way
 pub stands-inside : (s s' : Searching) (room room' : List ℕ) (b b' : Batching) (handed : ℕ) (bits more : List Bool)
-    → b'.config ≡ b.config → b'.part ≡ b.part ++ more → b'.kept ≡ b.kept
+    → b'.config ≡ b.config → b'.part ≡ b.part ++ more → b'.stored ≡ b.stored
     → ((found : List Found) → StandsFor s room bits found → StandsFor s' room' (bits ++ more) found)
     → Holds s room b handed bits → HoldsMore s' room' b' handed bits more
-stands-inside s s' room room' b b' handed bits more config grows same told h =
-    subst (λ (k : Configuration). Holding k (StandsFor s' room') b'.part b'.kept handed (bits ++ more) (places (rules_of k) bits)) (sym config)
-    (more-inside b.config (StandsFor s room) (StandsFor s' room') b.part b'.part b.kept b'.kept handed bits more h grows same
-    (told (places (rules_of b.config) bits) h.search))
+stands-inside s s' room room' b b' handed bits more config grows same reported h =
+    subst (λ (k : Configuration). Holding k (StandsFor s' room') b'.part b'.stored handed (bits ++ more) (places (rules_of k) bits)) (sym config)
+    (more-inside b.config (StandsFor s room) (StandsFor s' room') b.part b'.part b.stored b'.stored handed bits more h grows same
+    (reported (places (rules_of b.config) bits) h.search))
 
 -- bits where none is under way, of which the last ones begin one
 pub stands-begun : (s s' : Searching) (room room' : List ℕ) (b b' : Batching) (handed : ℕ) (bits before more : List Bool)
-    → b'.config ≡ b.config → more ≡ before ++ b'.part → b'.kept ≡ b.kept
+    → b'.config ≡ b.config → more ≡ before ++ b'.part → b'.stored ≡ b.stored
     → ((found : List Found) → StandsFor s room bits found → StandsFor s' room' (bits ++ more) found)
     → Holds s room b handed bits → HoldsMore s' room' b' handed bits more
-stands-begun s s' room room' b b' handed bits before more config ends same told h =
-    subst (λ (k : Configuration). Holding k (StandsFor s' room') b'.part b'.kept handed (bits ++ more) (places (rules_of k) bits)) (sym config)
-    (more-begun b.config (StandsFor s room) (StandsFor s' room') b.part b'.part b.kept b'.kept handed bits before more h ends same
-    (told (places (rules_of b.config) bits) h.search))
+stands-begun s s' room room' b b' handed bits before more config ends same reported h =
+    subst (λ (k : Configuration). Holding k (StandsFor s' room') b'.part b'.stored handed (bits ++ more) (places (rules_of k) bits)) (sym config)
+    (more-begun b.config (StandsFor s room) (StandsFor s' room') b.part b'.part b.stored b'.stored handed bits before more h ends same
+    (reported (places (rules_of b.config) bits) h.search))
 
 -- bits where none is under way
 pub stands-outside : (s s' : Searching) (room room' : List ℕ) (b b' : Batching) (handed : ℕ) (bits more : List Bool)
-    → b'.config ≡ b.config → length b'.part ≡ 0 → b'.kept ≡ b.kept
+    → b'.config ≡ b.config → length b'.part ≡ 0 → b'.stored ≡ b.stored
     → ((found : List Found) → StandsFor s room bits found → StandsFor s' room' (bits ++ more) found)
     → Holds s room b handed bits → HoldsMore s' room' b' handed bits more
-stands-outside s s' room room' b b' handed bits more config none same told h =
-    subst (λ (k : Configuration). Holding k (StandsFor s' room') b'.part b'.kept handed (bits ++ more) (places (rules_of k) bits)) (sym config)
-    (more-outside b.config (StandsFor s room) (StandsFor s' room') b.part b'.part b.kept b'.kept handed bits more h none same
-    (told (places (rules_of b.config) bits) h.search))
+stands-outside s s' room room' b b' handed bits more config none same reported h =
+    subst (λ (k : Configuration). Holding k (StandsFor s' room') b'.part b'.stored handed (bits ++ more) (places (rules_of k) bits)) (sym config)
+    (more-outside b.config (StandsFor s room) (StandsFor s' room') b.part b'.part b.stored b'.stored handed bits more h none same
+    (reported (places (rules_of b.config) bits) h.search))
 
 -- an octet ends with its lowest bits
 pub octet-ends : (count octet : ℕ) → count < 8 → bits_of_octet octet ≡ low_bits (8 - count) (octet / 2 ^ count) ++ low_bits count octet
@@ -93,7 +93,7 @@ none-inside None size count free is = refl
 none-inside (Some n) size zero free is = omega (arith, is)
 none-inside (Some n) size (suc count) free is = let below = below-test n size free in absurd (omega (arith, is, below))
 
-pub agree-ready : (s : Searching) (room : List ℕ) (b : Batching) → Agree s room b → is_pending s ≡ false → length b.kept < b.config.batch → IsReady s room b
+pub agree-ready : (s : Searching) (room : List ℕ) (b : Batching) → Agree s room b → is_pending s ≡ false → length b.stored < b.config.batch → IsReady s room b
 agree-ready s room b a free few = go a.gathered
   where
     go : IsGathered s b.part → IsReady s room b
@@ -171,7 +171,7 @@ next-more rules count more =
     let test : nat_le (32 + rules.block_bits) count ≡ true = grind (arith, nat_tests) in
     ap (λ c. cond c (Some (count - (32 + rules.block_bits))) None) test
 
--- it is kept
+-- it is stored
 pub agree-next : (s s' : Searching) (room : List ℕ) (b b' : Batching) (count : ℕ) → Agree s room b → s'.rules ≡ s.rules → inside_of s ≡ Some count
     → inside_of s' ≡ inside_next s.rules count → b'.config ≡ b.config → b'.part ≡ [] → Agree s' room b'
 agree-next s s' room b b' count a rules is next config none = go a.gathered
@@ -201,9 +201,10 @@ agree-next s s' room b b' count a rules is next config none = go a.gathered
         agree-recalled s' room b' more same sized none most
         (left ∙ here ∙ ap (λ (r : Rules). more * (32 + r.block_bits)) (sym rules))
 
--- one more is kept
-pub one-more : (kept kept' : List Kept) (k : Kept) → kept' ≡ kept ++ k ∷ [] → length kept' ≡ length kept + 1
-one-more kept kept' k is = ap length is ∙ length-append kept (k ∷ [])
+-- one more is stored
+pub one-more : (stored stored' : List StoredCodeblock) (k : StoredCodeblock) → stored' ≡ stored ++ k ∷ []
+    → length stored' ≡ length stored + 1
+one-more stored stored' k is = ap length is ∙ length-append stored (k ∷ [])
 
 -- fewer wait then
 pub waiting-less : (s s' : Searching) (count : ℕ) → s'.rules ≡ s.rules → inside_of s ≡ Some count → s.rules.block_bits ≤ count
@@ -249,13 +250,13 @@ recall-needs s room b count a is whole fewer = go a.gathered
     )
 
 -- what `next` says of a search whose codeblock is whole
-abbrev pub Told : Searching → Searching → List ℕ → Found → Type 0
-Told s s' room f = (l : List Bool) (found : List Found) → StandsFor s room l found
+abbrev pub Reported : Searching → Searching → List ℕ → Found → Type 0
+Reported s s' room f = (l : List Bool) (found : List Found) → StandsFor s room l found
     → StandsFor s' room l (found ++ f ∷ [])
     × ((rest : List Found) × (places s.rules l ≡ found ++ f ∷ rest) × (length rest ≡ waiting_of s'))
     × (f.place + 32 + unwrap_or (inside_of s) 0 ≡ length l)
 
--- the bits of the codeblock that is kept, which was gathered or is looked up in the room
+-- the bits of the codeblock that is stored, which was gathered or is looked up in the room
 abbrev pub IsComplete : List ℕ → Batching → ℕ → List Bool → Type 0
 IsComplete room b place part = ((length b.part ≡ 8 * codeblock_length b.config) × (part ≡ b.part))
     ⊎ ((length b.part < 8 * codeblock_length b.config)
@@ -266,11 +267,11 @@ complete-size room b place part (inl (all, same)) = ap length same ∙ all
 complete-size room b place part (inr (fewer, same)) = ap length same ∙ length-room_bits room ((place + 32) % 2 ^ 64) (8 * codeblock_length b.config)
 
 -- they are those after its marker
-block-told : (s : Searching) (room : List ℕ) (b : Batching) (part : List Bool) (count : ℕ) (f : Found) (bits prefix : List Bool) (told rest : List Found)
+block-reported : (s : Searching) (room : List ℕ) (b : Batching) (part : List Bool) (count : ℕ) (f : Found) (bits prefix : List Bool) (reported rest : List Found)
     → Agree s room b → inside_of s ≡ Some count → s.rules.block_bits ≤ count → IsComplete room b f.place part → length bits < 2 ^ 63
-    → StandsFor s room bits told → places s.rules bits ≡ told ++ f ∷ rest → f.place + 32 + unwrap_or (inside_of s) 0 ≡ length bits → bits ≡ prefix ++ b.part
-    → kept_at b.config bits f ≡ kept_of b.config f part
-block-told s room b part count f bits prefix told rest a is whole complete few stood tells ends parts = go complete a.gathered
+    → StandsFor s room bits reported → places s.rules bits ≡ reported ++ f ∷ rest → f.place + 32 + unwrap_or (inside_of s) 0 ≡ length bits → bits ≡ prefix ++ b.part
+    → stored_at b.config bits f ≡ stored_of b.config f part
+block-reported s room b part count f bits prefix reported rest a is whole complete few stood tells ends parts = go complete a.gathered
   where
     size : s.rules.block_bits ≡ 8 * codeblock_length b.config
     size = ap (λ (r : Rules). r.block_bits) a.same
@@ -278,45 +279,47 @@ block-told s room b part count f bits prefix told rest a is whole complete few s
     was : unwrap_or (inside_of s) 0 ≡ count
     was = ap (λ (o : Option ℕ). unwrap_or o 0) is
 
-    go : IsComplete room b f.place part → IsGathered s b.part → kept_at b.config bits f ≡ kept_of b.config f part
+    go : IsComplete room b f.place part → IsGathered s b.part → stored_at b.config bits f ≡ stored_of b.config f part
     go (inl (all, same)) (inl (within, long)) =
-        kept-last b.config bits prefix b.part f parts all (omega (arith, ends, all, long))
-        ∙ ap (kept_of b.config f) (sym same)
+        stored-last b.config bits prefix b.part f parts all (omega (arith, ends, all, long))
+        ∙ ap (stored_of b.config f) (sym same)
     go (inl (all, same)) (inr (none, run)) =
         let empty : 8 * codeblock_length b.config ≡ 0 = sym all ∙ ap length none in
-        ap (λ n. kept_of b.config f (take n (drop (f.place + 32) bits))) empty ∙ ap (kept_of b.config f) (sym (same ∙ none))
+        ap (λ n. stored_of b.config f (take n (drop (f.place + 32) bits))) empty ∙ ap (stored_of b.config f) (sym (same ∙ none))
     go (inr (fewer, same)) (inl (within, long)) = absurd (omega (arith, within, long, was, whole, fewer, size))
     go (inr (fewer, same)) (inr (none, (zero, most, lag))) = absurd (omega (arith, lag, was, whole, fewer, size))
     go (inr (fewer, same)) (inr (none, (suc n, most, lag))) =
-        let recent = told-recent s room count bits told rest f is (omega (arith, lag, was)) stood tells in
+        let recent = reported-recent s room count bits reported rest f is (omega (arith, lag, was)) stood tells in
         let from : (f.place + 32) % 2 ^ 64 ≡ f.place + 32 = omega (arith, ends, few) in
         let bound = mul-le-mul_right (32 + s.rules.block_bits) most in
         let looked : room_bits room (f.place + 32) (8 * codeblock_length b.config) ≡ take (8 * codeblock_length b.config) (drop (f.place + 32) bits) =
         room_bits-given room bits f.place (f.place + 32) (8 * codeblock_length b.config) recent (omega arith) (omega (arith, ends, lag, size))
         (omega (arith, ends, lag, bound, a.sized)) in
-        ap (kept_of b.config f) (sym looked ∙ ap (λ n. room_bits room n (8 * codeblock_length b.config)) (sym from) ∙ sym same)
+        ap (stored_of b.config f) (sym looked ∙ ap (λ n. room_bits room n (8 * codeblock_length b.config)) (sym from) ∙ sym same)
 
--- it is kept
-pub keeps-told : (s s' now : Searching) (room room' : List ℕ) (b b' : Batching) (part : List Bool) (count : ℕ) (f : Found) (handed : ℕ) (bits : List Bool) (told : List Found)
-    → Agree s room b → inside_of s ≡ Some count → s.rules.block_bits ≤ count → Told s s' room f → IsComplete room b f.place part
-    → now ≡ s' → room' ≡ room → b'.config ≡ b.config → b'.part ≡ [] → b'.kept ≡ b.kept ++ kept_of b.config f part ∷ []
-    → length bits < 2 ^ 63 → HoldsTold s room b handed bits told → HoldsTold now room' b' handed bits (told ++ f ∷ [])
-keeps-told s s' now room room' b b' part count f handed bits told a is whole tell complete same_search same_room config none kept few h =
-    let t = tell bits told h.search in
-    let tells : places (rules_of b.config) bits ≡ told ++ f ∷ t.1.0 = ap (λ (r : Rules). places r bits) (sym a.same) ∙ t.1.1 in
-    let one = block-told s room b part count f bits h.prefix told t.1.0 a is whole complete few h.search t.1.1 t.2 h.parts in
-    subst (λ (v : Searching). HoldsTold v room' b' handed bits (told ++ f ∷ [])) (sym same_search)
-    (subst (λ (l : List ℕ). HoldsTold s' l b' handed bits (told ++ f ∷ [])) (sym same_room)
-    (subst (λ (k : Configuration). Holding k (StandsFor s' room) b'.part b'.kept handed bits (told ++ f ∷ [])) (sym config)
-    (told-kept b.config (StandsFor s room) (StandsFor s' room) b.part part b'.part b.kept b'.kept handed bits told t.1.0 f h tells one kept none t.0)))
+-- it is stored
+pub keeps-reported : (s s' now : Searching) (room room' : List ℕ) (b b' : Batching) (part : List Bool) (count : ℕ) (f : Found) (handed : ℕ) (bits : List Bool) (reported : List Found)
+    → Agree s room b → inside_of s ≡ Some count → s.rules.block_bits ≤ count → Reported s s' room f → IsComplete room b f.place part
+    → now ≡ s' → room' ≡ room → b'.config ≡ b.config → b'.part ≡ []
+        → b'.stored ≡ b.stored ++ stored_of b.config f part ∷ []
+    → length bits < 2 ^ 63 → HoldsReported s room b handed bits reported
+        → HoldsReported now room' b' handed bits (reported ++ f ∷ [])
+keeps-reported s s' now room room' b b' part count f handed bits reported a is whole tell complete same_search same_room config none stored few h =
+    let t = tell bits reported h.search in
+    let tells : places (rules_of b.config) bits ≡ reported ++ f ∷ t.1.0 = ap (λ (r : Rules). places r bits) (sym a.same) ∙ t.1.1 in
+    let one = block-reported s room b part count f bits h.prefix reported t.1.0 a is whole complete few h.search t.1.1 t.2 h.parts in
+    subst (λ (v : Searching). HoldsReported v room' b' handed bits (reported ++ f ∷ [])) (sym same_search)
+    (subst (λ (l : List ℕ). HoldsReported s' l b' handed bits (reported ++ f ∷ [])) (sym same_room)
+    (subst (λ (k : Configuration). Holding k (StandsFor s' room) b'.part b'.stored handed bits (reported ++ f ∷ [])) (sym config)
+    (reported-stored b.config (StandsFor s room) (StandsFor s' room) b.part part b'.part b.stored b'.stored handed bits reported t.1.0 f h tells one stored none t.0)))
 
 -- none is
-pub none-told : (s s' : Searching) (room : List ℕ) (b : Batching) (handed : ℕ) (bits : List Bool) (told : List Found) → s.rules ≡ rules_of b.config → s' ≡ s
+pub none-reported : (s s' : Searching) (room : List ℕ) (b : Batching) (handed : ℕ) (bits : List Bool) (reported : List Found) → s.rules ≡ rules_of b.config → s' ≡ s
     → ((l : List Bool) (found : List Found) → StandsFor s room l found → places s.rules l ≡ found)
-    → HoldsTold s room b handed bits told → HoldsTold s' room b handed bits told × (places (rules_of b.config) bits ≡ told)
-none-told s s' room b handed bits told rules same none h = (
-  subst (λ (v : Searching). HoldsTold v room b handed bits told) (sym same) h,
-  ap (λ (r : Rules). places r bits) (sym rules) ∙ none bits told h.search,
+    → HoldsReported s room b handed bits reported → HoldsReported s' room b handed bits reported × (places (rules_of b.config) bits ≡ reported)
+none-reported s s' room b handed bits reported rules same none h = (
+  subst (λ (v : Searching). HoldsReported v room b handed bits reported) (sym same) h,
+  ap (λ (r : Rules). places r bits) (sym rules) ∙ none bits reported h.search,
 )
 
 -- where the room is empty no further markers verify a place

@@ -72,7 +72,7 @@ frames-more a b c taken_a taken_b taken_c first second p q = record {
       (sends-more a.inner b.inner c.inner taken_a taken_b taken_c (flat_map (cadu a.config) p.frames) (flat_map (cadu a.config) q.frames) p.inner then);
 }
 
--- a piece, and another of which a front was written
+-- a piece, and another of which a prefix was written
 pub frames-prefix : (a b : Sending) (taken_a taken_b taken_c : Option (List ℕ)) (first second : List ℕ)
     → SendsFrames a b taken_a taken_b first → SendsFramesPrefix b taken_b taken_c second → SendsFramesPrefix a taken_a taken_c (first ++ second)
 frames-prefix a b taken_a taken_b taken_c first second p q = record {

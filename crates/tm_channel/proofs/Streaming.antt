@@ -11,20 +11,20 @@ use Rattle.tm_config.specs.Configuration.{Configuration}
 use Rattle.tm_codeblock.specs.ReceivedCodeblock.{rules_of, codeblock_at}
 use Rattle.tm_channel.specs.Items.{ItemValue, IsItem, AreItemsOf, AreFirstItemsOf}
 use Rattle.tm_channel.specs.Due.{in_batches, due_count, due_count_of, due_of, due}
-use Rattle.tm_channel.specs.Receiving.{Kept, kept_of, kept_at, beyond, AreItemsFor, Holding, IsHanded}
+use Rattle.tm_channel.specs.Receiving.{StoredCodeblock, stored_of, stored_at, beyond, AreItemsFor, Holding, IsHanded}
 use Rattle.tm_channel.proofs.Batches.{batches-le, batches-more, full, length-due, not_full}
 
 -- ---- codeblocks stay as the bits go on
-block-same : (c : Configuration) (bits more : List Bool) (f : Found) → f.place + 32 + (rules_of c).block_bits ≤ length bits → kept_at c (bits ++ more) f ≡ kept_at c bits f
+block-same : (c : Configuration) (bits more : List Bool) (f : Found) → f.place + 32 + (rules_of c).block_bits ≤ length bits → stored_at c (bits ++ more) f ≡ stored_at c bits f
 block-same c bits more f ends =
     let far : take (rules_of c).block_bits (drop (f.place + 32) (bits ++ more)) ≡ take (rules_of c).block_bits (drop (f.place + 32) bits) =
     ap (take (rules_of c).block_bits) (drop-append-le (f.place + 32) bits more (omega arith))
     ∙ take-append-le (rules_of c).block_bits (drop (f.place + 32) bits) more (omega (arith, length-drop (f.place + 32) bits)) in
-    λ i. kept_of c f (far i)
+    λ i. stored_of c f (far i)
 
-pub kept-same : (c : Configuration) (bits more : List Bool) (fs : List Found) → EndBefore (rules_of c) (length bits) fs → map (kept_at c (bits ++ more)) fs ≡ map (kept_at c bits) fs
-kept-same c bits more [] ends = refl
-kept-same c bits more (f ∷ fs) ends = λ i. block-same c bits more f ends.0 i ∷ kept-same c bits more fs ends.1 i
+pub stored-same : (c : Configuration) (bits more : List Bool) (fs : List Found) → EndBefore (rules_of c) (length bits) fs → map (stored_at c (bits ++ more)) fs ≡ map (stored_at c bits) fs
+stored-same c bits more [] ends = refl
+stored-same c bits more (f ∷ fs) ends = λ i. block-same c bits more f ends.0 i ∷ stored-same c bits more fs ends.1 i
 
 drop-all : {A : Type 0} (P : A → Type 0) (count : ℕ) (xs : List A) → AllByRecursion P xs → AllByRecursion P (drop count xs)
 drop-all P zero xs all = all
@@ -32,18 +32,18 @@ drop-all P (suc count) [] all = tt
 drop-all P (suc count) (x ∷ xs) all = drop-all P count xs all.1
 
 -- a codeblock that ends with the bits
-pub kept-last : (c : Configuration) (bits prefix part : List Bool) (f : Found) → bits ≡ prefix ++ part → length part ≡ (rules_of c).block_bits → f.place + 32 + (rules_of c).block_bits ≡ length bits
-    → kept_at c bits f ≡ kept_of c f part
-kept-last c bits prefix part f parts size ends =
+pub stored-last : (c : Configuration) (bits prefix part : List Bool) (f : Found) → bits ≡ prefix ++ part → length part ≡ (rules_of c).block_bits → f.place + 32 + (rules_of c).block_bits ≡ length bits
+    → stored_at c bits f ≡ stored_of c f part
+stored-last c bits prefix part f parts size ends =
     let long : length prefix ≡ f.place + 32 = omega (arith, ap length parts, length-append prefix part) in
     let is : take (rules_of c).block_bits (drop (f.place + 32) bits) ≡ part =
     ap (λ l. take (rules_of c).block_bits (drop (f.place + 32) l)) parts
     ∙ ap (take (rules_of c).block_bits) (drop_at prefix part (f.place + 32) long)
     ∙ ap (λ n. take n part) (sym size) ∙ take-length part in
-    λ i. kept_of c f (is i)
+    λ i. stored_of c f (is i)
 
--- ---- items of kept codeblocks are items of the bits
-pub items-of : (c : Configuration) (bits : List Bool) (fs : List Found) (items : List ItemValue) → AreItemsFor c (map (kept_at c bits) fs) items → AreItemsOf c bits fs items
+-- ---- items of stored codeblocks are items of the bits
+pub items-of : (c : Configuration) (bits : List Bool) (fs : List Found) (items : List ItemValue) → AreItemsFor c (map (stored_at c bits) fs) items → AreItemsOf c bits fs items
 items-of c bits [] [] are = tt
 items-of c bits [] (item ∷ items) are = absurd are
 items-of c bits (f ∷ fs) [] are = absurd are
@@ -55,10 +55,10 @@ take-map' f (suc count) [] = refl
 take-map' f (suc count) (x ∷ xs) = ap (λ l. f x ∷ l) (take-map' f count xs)
 
 -- the codeblocks that wait stay as the bits go on
-kept-longer : (c : Configuration) (bits more : List Bool) (handed : ℕ)
-    → map (kept_at c (bits ++ more)) (drop handed (places (rules_of c) bits)) ≡ map (kept_at c bits) (drop handed (places (rules_of c) bits))
-kept-longer c bits more handed =
-    kept-same c bits more (drop handed (places (rules_of c) bits))
+stored-longer : (c : Configuration) (bits more : List Bool) (handed : ℕ)
+    → map (stored_at c (bits ++ more)) (drop handed (places (rules_of c) bits)) ≡ map (stored_at c bits) (drop handed (places (rules_of c) bits))
+stored-longer c bits more handed =
+    stored-same c bits more (drop handed (places (rules_of c) bits))
     (drop-all (λ (f : Found). f.place + 32 + (rules_of c).block_bits ≤ length bits) handed (places (rules_of c) bits)
     (places-end (rules_of c) bits))
 
@@ -69,31 +69,31 @@ first-places c bits more =
     let go = places-append (rules_of c) bits more in
     ap (take (length fs)) go.is ∙ take-append-le (length fs) fs go.rest (omega arith) ∙ take-length fs
 
--- ---- one place is told
-first-told : (c : Configuration) (bits : List Bool) (told rest : List Found) (f : Found) → places (rules_of c) bits ≡ told ++ f ∷ rest
-    → take (length (told ++ f ∷ [])) (places (rules_of c) bits) ≡ told ++ f ∷ []
-first-told c bits told rest f tells =
-    let prefix : List Found = told ++ f ∷ [] in
-    ap (take (length prefix)) (tells ∙ sym (append_assoc told (f ∷ []) rest))
+-- ---- one place is reported
+first-reported : (c : Configuration) (bits : List Bool) (reported rest : List Found) (f : Found) → places (rules_of c) bits ≡ reported ++ f ∷ rest
+    → take (length (reported ++ f ∷ [])) (places (rules_of c) bits) ≡ reported ++ f ∷ []
+first-reported c bits reported rest f tells =
+    let prefix : List Found = reported ++ f ∷ [] in
+    ap (take (length prefix)) (tells ∙ sym (append_assoc reported (f ∷ []) rest))
     ∙ take-append-le (length prefix) prefix rest (omega arith) ∙ take-length prefix
 
--- its codeblock is kept
-pub told-kept : (c : Configuration) (stands stands' : List Bool → List Found → Type 0) (old part now : List Bool)
-    (kept kept' : List Kept) (handed : ℕ) (bits : List Bool) (told rest : List Found) (f : Found)
-    → Holding c stands old kept handed bits told → places (rules_of c) bits ≡ told ++ f ∷ rest
-    → kept_at c bits f ≡ kept_of c f part → kept' ≡ kept ++ kept_of c f part ∷ [] → now ≡ []
-    → stands' bits (told ++ f ∷ []) → Holding c stands' now kept' handed bits (told ++ f ∷ [])
-told-kept c stands stands' old part now kept kept' handed bits told rest f h tells one is none next =
-    let after : drop handed (told ++ f ∷ []) ≡ drop handed told ++ f ∷ [] = drop-append-le handed told (f ∷ []) h.within in
-    let size = length-append told (f ∷ []) in
+-- its codeblock is stored
+pub reported-stored : (c : Configuration) (stands stands' : List Bool → List Found → Type 0) (old part now : List Bool)
+    (stored stored' : List StoredCodeblock) (handed : ℕ) (bits : List Bool) (reported rest : List Found) (f : Found)
+    → Holding c stands old stored handed bits reported → places (rules_of c) bits ≡ reported ++ f ∷ rest
+    → stored_at c bits f ≡ stored_of c f part → stored' ≡ stored ++ stored_of c f part ∷ [] → now ≡ []
+    → stands' bits (reported ++ f ∷ []) → Holding c stands' now stored' handed bits (reported ++ f ∷ [])
+reported-stored c stands stands' old part now stored stored' handed bits reported rest f h tells one is none next =
+    let after : drop handed (reported ++ f ∷ []) ≡ drop handed reported ++ f ∷ [] = drop-append-le handed reported (f ∷ []) h.within in
+    let size = length-append reported (f ∷ []) in
     let below = h.within in
     record {
       search = next;
-      first = first-told c bits told rest f tells;
+      first = first-reported c bits reported rest f tells;
       within = omega (arith, size, below);
       waiting = is ∙ (λ i. h.waiting i ++ sym one i ∷ [])
-          ∙ sym (map-append (kept_at c bits) (drop handed told) (f ∷ []))
-          ∙ ap (map (kept_at c bits)) (sym after);
+          ∙ sym (map-append (stored_at c bits) (drop handed reported) (f ∷ []))
+          ∙ ap (map (stored_at c bits)) (sym after);
       prefix = bits;
       parts = sym (append-nil bits) ∙ ap (λ l. bits ++ l) (sym none);
     }
@@ -129,13 +129,14 @@ first-append c bits (f ∷ fs) gs (item ∷ items) others are also = (are.0, fir
 -- ---- a batch that is full, or not
 
 -- how many codeblocks wait
-waiting-count : (c : Configuration) (stands : List Bool → List Found → Type 0) (part : List Bool) (kept : List Kept)
-    (handed : ℕ) (bits : List Bool) (told : List Found)
-    → Holding c stands part kept handed bits told → length kept ≡ length told - handed
-waiting-count c stands part kept handed bits told h =
-    ap length h.waiting ∙ length-map (drop handed told) (kept_at c bits) ∙ length-drop handed told
+waiting-count : (c : Configuration) (stands : List Bool → List Found → Type 0) (part : List Bool)
+    (stored : List StoredCodeblock)
+    (handed : ℕ) (bits : List Bool) (reported : List Found)
+    → Holding c stands part stored handed bits reported → length stored ≡ length reported - handed
+waiting-count c stands part stored handed bits reported h =
+    ap length h.waiting ∙ length-map (drop handed reported) (stored_at c bits) ∙ length-drop handed reported
 
--- what follows the places of a front that are due
+-- what follows the places of a prefix that are due
 pub after-due : (c : Configuration) (bits : List Bool) (fs : List Found)
     → beyond (due c bits) fs ≡ drop (due_count c bits) fs
 after-due c bits fs =
@@ -145,65 +146,68 @@ after-due c bits fs =
 pub due-none : (c : Configuration) (bits : List Bool) → drop (due_count c bits) (due c bits) ≡ []
 due-none c bits = ap (λ k. drop k (due c bits)) (sym (length-due c bits)) ∙ drop-length (due c bits)
 
--- the batch was handed over where it is full with what was told last
+-- the batch was handed over where it is full with what was reported last
 pub turn-stands : (c : Configuration) (stands : List Bool → List Found
-    → Type 0) (part : List Bool) (kept kept' : List Kept)
-    (told now : List Found) (bits : List Bool) (items : List ItemValue)
-    → Holding c stands part kept (due_count_of c told) bits now → IsHanded c kept kept' items
-    → Holding c stands part kept' (due_count_of c now) bits now
-turn-stands c stands part kept kept' told now bits items h (inl (few, same, none)) =
-    let count = waiting-count c stands part kept (due_count_of c told) bits now h in
-    let still = not_full c.batch (length told) (length now) h.within (subst (λ n. n < c.batch) count few) in
-    subst (λ (l : List Kept). Holding c stands part l (due_count_of c now) bits now) (sym same)
-    (subst (λ n. Holding c stands part kept n bits now) (sym still) h)
-turn-stands c stands part kept kept' told now bits items h (inr (many, nothing, are)) =
-    let count = waiting-count c stands part kept (due_count_of c told) bits now h in
-    let whole = full c.batch (length told) (length now) h.within (sym count ∙ many) in
+    → Type 0) (part : List Bool) (stored stored' : List StoredCodeblock)
+    (reported now : List Found) (bits : List Bool) (items : List ItemValue)
+    → Holding c stands part stored (due_count_of c reported) bits now → IsHanded c stored stored' items
+    → Holding c stands part stored' (due_count_of c now) bits now
+turn-stands c stands part stored stored' reported now bits items h (inl (few, same, none)) =
+    let count = waiting-count c stands part stored (due_count_of c reported) bits now h in
+    let still = not_full c.batch (length reported) (length now) h.within (subst (λ n. n < c.batch) count few) in
+    subst (λ (l : List StoredCodeblock). Holding c stands part l (due_count_of c now) bits now) (sym same)
+    (subst (λ n. Holding c stands part stored n bits now) (sym still) h)
+turn-stands c stands part stored stored' reported now bits items h (inr (many, nothing, are)) =
+    let count = waiting-count c stands part stored (due_count_of c reported) bits now h in
+    let whole = full c.batch (length reported) (length now) h.within (sym count ∙ many) in
     record {
       search = h.search;
       first = h.first;
       within = batches-le c.batch (length now);
-      waiting = nothing ∙ ap (map (kept_at c bits)) (sym (ap (λ n. drop n now) whole ∙ drop-length now));
+      waiting = nothing ∙ ap (map (stored_at c bits)) (sym (ap (λ n. drop n now) whole ∙ drop-length now));
       prefix = h.prefix;
       parts = h.parts;
     }
 
--- the places told that are due, before and after those that wait
-due-before : (c : Configuration) (told : List Found) (f : Found) → take (due_count_of c told) (told ++ f ∷ []) ≡ due_of c told
-due-before c told f = take-append-le (due_count_of c told) told (f ∷ []) (batches-le c.batch (length told))
+-- the places reported that are due, before and after those that wait
+due-before : (c : Configuration) (reported : List Found) (f : Found) → take (due_count_of c reported) (reported ++ f ∷ []) ≡ due_of c reported
+due-before c reported f =
+    take-append-le (due_count_of c reported) reported (f ∷ []) (batches-le c.batch (length reported))
 
-due-split : (c : Configuration) (told : List Found) (f : Found) (count : ℕ) → count ≤ due_count_of c told
-    → drop count (told ++ f ∷ []) ≡ drop count (due_of c told) ++ drop (due_count_of c told) (told ++ f ∷ [])
-due-split c told f count least =
-    let now : List Found = told ++ f ∷ [] in
-    let long : length (due_of c told) ≡ due_count_of c told = length-take-le (due_count_of c told) told (batches-le c.batch (length told)) in
-    let split : now ≡ due_of c told ++ drop (due_count_of c told) now =
-    sym (take-append-drop (due_count_of c told) now) ∙ ap (λ l. l ++ drop (due_count_of c told) now) (due-before c told f) in
-    ap (drop count) split ∙ drop-append-le count (due_of c told) (drop (due_count_of c told) now) (omega (arith, long, least))
+due-split : (c : Configuration) (reported : List Found) (f : Found) (count : ℕ) → count ≤ due_count_of c reported
+    → drop count (reported ++ f ∷ [])
+    ≡ drop count (due_of c reported) ++ drop (due_count_of c reported) (reported ++ f ∷ [])
+due-split c reported f count least =
+    let now : List Found = reported ++ f ∷ [] in
+    let long : length (due_of c reported) ≡ due_count_of c reported = length-take-le (due_count_of c reported) reported (batches-le c.batch (length reported)) in
+    let split : now ≡ due_of c reported ++ drop (due_count_of c reported) now =
+    sym (take-append-drop (due_count_of c reported) now) ∙ ap (λ l. l ++ drop (due_count_of c reported) now) (due-before c reported f) in
+    ap (drop count) split ∙ drop-append-le count (due_of c reported) (drop (due_count_of c reported) now) (omega (arith, long, least))
 
--- the items handed over are those of the places told that are due, but for so many of the first
+-- the items handed over are those of the places reported that are due, but for so many of the first
 pub turn-items : (c : Configuration) (stands : List Bool → List Found
-    → Type 0) (part : List Bool) (kept kept' : List Kept)
-    (told : List Found) (f : Found) (bits : List Bool) (count : ℕ) (items others : List ItemValue)
-    → Holding c stands part kept (due_count_of c told) bits (told ++ f ∷ []) → IsHanded c kept kept' others
-    → count ≤ due_count_of c told → AreItemsOf c bits (drop count (due_of c told)) items
-    → AreItemsOf c bits (drop count (due_of c (told ++ f ∷ []))) (items ++ others)
-turn-items c stands part kept kept' told f bits count items others h (inl (few, same, none)) least were =
-    let now : List Found = told ++ f ∷ [] in
-    let wait = waiting-count c stands part kept (due_count_of c told) bits now h in
-    let still = not_full c.batch (length told) (length now) h.within (subst (λ n. n < c.batch) wait few) in
-    let due_now : due_of c now ≡ due_of c told = ap (λ n. take n now) still ∙ due-before c told f in
+    → Type 0) (part : List Bool) (stored stored' : List StoredCodeblock)
+    (reported : List Found) (f : Found) (bits : List Bool) (count : ℕ) (items others : List ItemValue)
+    → Holding c stands part stored (due_count_of c reported) bits (reported ++ f ∷ [])
+    → IsHanded c stored stored' others
+    → count ≤ due_count_of c reported → AreItemsOf c bits (drop count (due_of c reported)) items
+    → AreItemsOf c bits (drop count (due_of c (reported ++ f ∷ []))) (items ++ others)
+turn-items c stands part stored stored' reported f bits count items others h (inl (few, same, none)) least were =
+    let now : List Found = reported ++ f ∷ [] in
+    let wait = waiting-count c stands part stored (due_count_of c reported) bits now h in
+    let still = not_full c.batch (length reported) (length now) h.within (subst (λ n. n < c.batch) wait few) in
+    let due_now : due_of c now ≡ due_of c reported = ap (λ n. take n now) still ∙ due-before c reported f in
     subst (λ (fs : List Found). AreItemsOf c bits (drop count fs) (items ++ others)) (sym due_now)
-    (subst (λ (l : List ItemValue). AreItemsOf c bits (drop count (due_of c told)) l)
+    (subst (λ (l : List ItemValue). AreItemsOf c bits (drop count (due_of c reported)) l)
     (sym (ap (λ l. items ++ l) none ∙ append-nil items)) were)
-turn-items c stands part kept kept' told f bits count items others h (inr (many, nothing, are)) least were =
-    let now : List Found = told ++ f ∷ [] in
-    let wait = waiting-count c stands part kept (due_count_of c told) bits now h in
-    let whole = full c.batch (length told) (length now) h.within (sym wait ∙ many) in
+turn-items c stands part stored stored' reported f bits count items others h (inr (many, nothing, are)) least were =
+    let now : List Found = reported ++ f ∷ [] in
+    let wait = waiting-count c stands part stored (due_count_of c reported) bits now h in
+    let whole = full c.batch (length reported) (length now) h.within (sym wait ∙ many) in
     let all : due_of c now ≡ now = ap (λ n. take n now) whole ∙ take-length now in
-    subst (λ (fs : List Found). AreItemsOf c bits fs (items ++ others)) (sym (ap (drop count) all ∙ due-split c told f count least))
-    (items-append c bits (drop count (due_of c told)) (drop (due_count_of c told) now) items others were
-    (items-of c bits (drop (due_count_of c told) now) others (subst (λ (ks : List Kept). AreItemsFor c ks others) h.waiting are)))
+    subst (λ (fs : List Found). AreItemsOf c bits fs (items ++ others)) (sym (ap (drop count) all ∙ due-split c reported f count least))
+    (items-append c bits (drop count (due_of c reported)) (drop (due_count_of c reported) now) items others were
+    (items-of c bits (drop (due_count_of c reported) now) others (subst (λ (ks : List StoredCodeblock). AreItemsFor c ks others) h.waiting are)))
 
 take-take : (a c : ℕ) (xs : List Found) → a ≤ c → take a (take c xs) ≡ take a xs
 take-take zero c xs le = refl
@@ -211,48 +215,49 @@ take-take (suc a) zero xs le = absurd (omega arith)
 take-take (suc a) (suc c) [] le = refl
 take-take (suc a) (suc c) (x ∷ xs) le = ap (λ l. x ∷ l) (take-take a c xs (omega arith))
 
--- places told that are whole batches are first ones of all that are due
-due-first : (c : Configuration) (bits : List Bool) (told : List Found) → take (length told) (places (rules_of c) bits) ≡ told → due_count_of c told ≡ length told
-    → due c bits ≡ told ++ drop (length told) (due c bits)
-due-first c bits told first whole =
+-- places reported that are whole batches are first ones of all that are due
+due-first : (c : Configuration) (bits : List Bool) (reported : List Found) → take (length reported) (places (rules_of c) bits) ≡ reported → due_count_of c reported ≡ length reported
+    → due c bits ≡ reported ++ drop (length reported) (due c bits)
+due-first c bits reported first whole =
     let all : List Found = places (rules_of c) bits in
-    let rest : List Found = drop (length told) all in
-    let parts : all ≡ told ++ rest = sym (take-append-drop (length told) all) ∙ ap (λ l. l ++ rest) first in
-    let size : length all ≡ length told + length rest = ap length parts ∙ length-append told rest in
-    let more : due_count_of c told ≤ due_count c bits = subst (λ n. due_count_of c told ≤ in_batches c.batch n) (sym size) (batches-more c.batch (length told) (length rest)) in
-    let prefix : take (length told) (due c bits) ≡ told = take-take (length told) (due_count c bits) all (omega (arith, whole, more)) ∙ first in
-    sym (take-append-drop (length told) (due c bits)) ∙ ap (λ l. l ++ drop (length told) (due c bits)) prefix
+    let rest : List Found = drop (length reported) all in
+    let parts : all ≡ reported ++ rest = sym (take-append-drop (length reported) all) ∙ ap (λ l. l ++ rest) first in
+    let size : length all ≡ length reported + length rest = ap length parts ∙ length-append reported rest in
+    let more : due_count_of c reported ≤ due_count c bits = subst (λ n. due_count_of c reported ≤ in_batches c.batch n) (sym size) (batches-more c.batch (length reported) (length rest)) in
+    let prefix : take (length reported) (due c bits) ≡ reported = take-take (length reported) (due_count c bits) all (omega (arith, whole, more)) ∙ first in
+    sym (take-append-drop (length reported) (due c bits)) ∙ ap (λ l. l ++ drop (length reported) (due c bits)) prefix
 
 -- the taker failed at an item of a full batch
-pub turn-broke : (c : Configuration) (stands : List Bool → List Found → Type 0) (part : List Bool) (kept : List Kept)
-    (told : List Found) (f : Found) (bits : List Bool) (count number : ℕ) (items others : List ItemValue)
-    → Holding c stands part kept (due_count_of c told) bits (told ++ f ∷ []) → length kept ≡ c.batch
-    → AreItemsFor c (take number kept) others
-    → count ≤ due_count_of c told → AreItemsOf c bits (drop count (due_of c told)) items
+pub turn-broke : (c : Configuration) (stands : List Bool → List Found → Type 0) (part : List Bool)
+    (stored : List StoredCodeblock)
+    (reported : List Found) (f : Found) (bits : List Bool) (count number : ℕ) (items others : List ItemValue)
+    → Holding c stands part stored (due_count_of c reported) bits (reported ++ f ∷ []) → length stored ≡ c.batch
+    → AreItemsFor c (take number stored) others
+    → count ≤ due_count_of c reported → AreItemsOf c bits (drop count (due_of c reported)) items
     → AreFirstItemsOf c bits (drop count (due c bits)) (items ++ others)
-turn-broke c stands part kept told f bits count number items others h many are least were =
-    let now : List Found = told ++ f ∷ [] in
-    let wait = waiting-count c stands part kept (due_count_of c told) bits now h in
-    let whole = full c.batch (length told) (length now) h.within (sym wait ∙ many) in
-    let waiting : List Found = drop (due_count_of c told) now in
+turn-broke c stands part stored reported f bits count number items others h many are least were =
+    let now : List Found = reported ++ f ∷ [] in
+    let wait = waiting-count c stands part stored (due_count_of c reported) bits now h in
+    let whole = full c.batch (length reported) (length now) h.within (sym wait ∙ many) in
+    let waiting : List Found = drop (due_count_of c reported) now in
     let within = h.within in
     let rest : List Found = drop (length now) (due c bits) in
-    let split : drop count (due c bits) ≡ (drop count (due_of c told) ++ waiting) ++ rest =
+    let split : drop count (due c bits) ≡ (drop count (due_of c reported) ++ waiting) ++ rest =
     ap (drop count) (due-first c bits now h.first whole) ∙ drop-append-le count now rest (omega (arith, least, within))
-    ∙ ap (λ l. l ++ rest) (due-split c told f count least) in
+    ∙ ap (λ l. l ++ rest) (due-split c reported f count least) in
     let last : AreFirstItemsOf c bits waiting others =
     first-of c bits number waiting others (items-of c bits (take number waiting) others
-    (subst (λ (ks : List Kept). AreItemsFor c ks others)
-    (ap (take number) h.waiting ∙ take-map' (kept_at c bits) number waiting) are)) in
+    (subst (λ (ks : List StoredCodeblock). AreItemsFor c ks others)
+    (ap (take number) h.waiting ∙ take-map' (stored_at c bits) number waiting) are)) in
     subst (λ (fs : List Found). AreFirstItemsOf c bits fs (items ++ others)) (sym split)
-    (first-longer c bits (drop count (due_of c told) ++ waiting) rest (items ++ others)
-    (first-append c bits (drop count (due_of c told)) waiting items others were last))
+    (first-longer c bits (drop count (due_of c reported) ++ waiting) rest (items ++ others)
+    (first-append c bits (drop count (due_of c reported)) waiting items others were last))
 
 -- ---- items stay as the bits go on
 item-more : (c : Configuration) (bits more : List Bool) (f : Found) (item : ItemValue) → f.place + 32 + (rules_of c).block_bits ≤ length bits
     → IsItem c f (codeblock_at c bits f) item → IsItem c f (codeblock_at c (bits ++ more) f) item
 item-more c bits more f item ends is =
-    subst (λ (k : Kept). IsItem c f k.codeblock item) (sym (block-same c bits more f ends)) is
+    subst (λ (k : StoredCodeblock). IsItem c f k.codeblock item) (sym (block-same c bits more f ends)) is
 
 pub items-more : (c : Configuration) (bits more : List Bool) (fs : List Found) (items : List ItemValue) → EndBefore (rules_of c) (length bits) fs → AreItemsOf c bits fs items → AreItemsOf c (bits ++ more) fs items
 items-more c bits more [] [] ends are = tt
@@ -320,7 +325,7 @@ first-then c bits more rest items others are also =
     (first-append c ((bits ++ more) ++ rest) first second items others
     (items-more c (bits ++ more) rest first items (due-end c (bits ++ more) (length (due c bits))) are) also)
 
--- what was due of a front is first of what is due of all
+-- what was due of a prefix is first of what is due of all
 pub first-of-all : (c : Configuration) (bits more rest : List Bool) (items : List ItemValue)
     → AreFirstItemsOf c (bits ++ more) (beyond (due c bits) (due c (bits ++ more))) items
     → AreFirstItemsOf c ((bits ++ more) ++ rest) (beyond (due c bits) (due c ((bits ++ more) ++ rest))) items
@@ -332,80 +337,81 @@ first-of-all c bits more rest items are =
     (first-more c (bits ++ more) rest first items (due-end c (bits ++ more) (length (due c bits))) are))
 
 -- ---- the end
-pub items-last : (c : Configuration) (stands : List Bool → List Found → Type 0) (part : List Bool) (kept : List Kept) (bits : List Bool) (items : List ItemValue)
-    → Holding c stands part kept (due_count c bits) bits (places (rules_of c) bits) → AreItemsFor c kept items
+pub items-last : (c : Configuration) (stands : List Bool → List Found → Type 0) (part : List Bool) (stored : List StoredCodeblock) (bits : List Bool) (items : List ItemValue)
+    → Holding c stands part stored (due_count c bits) bits (places (rules_of c) bits) → AreItemsFor c stored items
     → AreItemsOf c bits (beyond (due c bits) (places (rules_of c) bits)) items
-items-last c stands part kept bits items h are =
+items-last c stands part stored bits items h are =
     let waiting : List Found = drop (due_count c bits) (places (rules_of c) bits) in
     subst (λ (fs : List Found). AreItemsOf c bits fs items) (sym (after-due c bits (places (rules_of c) bits)))
-    (items-of c bits waiting items (subst (λ (ks : List Kept). AreItemsFor c ks items) h.waiting are))
+    (items-of c bits waiting items (subst (λ (ks : List StoredCodeblock). AreItemsFor c ks items) h.waiting are))
 
-pub first-last : (c : Configuration) (stands : List Bool → List Found → Type 0) (part : List Bool) (kept : List Kept) (bits : List Bool) (count : ℕ) (items : List ItemValue)
-    → Holding c stands part kept (due_count c bits) bits (places (rules_of c) bits)
-    → AreItemsFor c (take count kept) items
+pub first-last : (c : Configuration) (stands : List Bool → List Found → Type 0) (part : List Bool) (stored : List StoredCodeblock) (bits : List Bool) (count : ℕ) (items : List ItemValue)
+    → Holding c stands part stored (due_count c bits) bits (places (rules_of c) bits)
+    → AreItemsFor c (take count stored) items
     → AreFirstItemsOf c bits (beyond (due c bits) (places (rules_of c) bits)) items
-first-last c stands part kept bits count items h are =
+first-last c stands part stored bits count items h are =
     let waiting : List Found = drop (due_count c bits) (places (rules_of c) bits) in
     subst (λ (fs : List Found). AreFirstItemsOf c bits fs items) (sym (after-due c bits (places (rules_of c) bits)))
     (first-of c bits count waiting items (items-of c bits (take count waiting) items
-    (subst (λ (ks : List Kept). AreItemsFor c ks items) (ap (take count) h.waiting ∙ take-map' (kept_at c bits) count waiting) are)))
+    (subst (λ (ks : List StoredCodeblock). AreItemsFor c ks items) (ap (take count) h.waiting ∙ take-map' (stored_at c bits) count waiting) are)))
 
-pub stands-new : (c : Configuration) (stands : List Bool → List Found → Type 0) (part : List Bool) (kept : List Kept)
-    → stands [] [] → part ≡ [] → kept ≡ []
-    → Holding c stands part kept (due_count c []) [] (places (rules_of c) [])
-stands-new c stands part kept told none nothing =
+pub stands-new : (c : Configuration) (stands : List Bool → List Found → Type 0) (part : List Bool)
+    (stored : List StoredCodeblock)
+    → stands [] [] → part ≡ [] → stored ≡ []
+    → Holding c stands part stored (due_count c []) [] (places (rules_of c) [])
+stands-new c stands part stored reported none nothing =
     let no : places (rules_of c) [] ≡ [] = places_from-nil (rules_of c) 0 0 None in record {
-      search = subst (λ (fs : List Found). stands [] fs) (sym no) told;
+      search = subst (λ (fs : List Found). stands [] fs) (sym no) reported;
       first = take-length (places (rules_of c) []);
       within = batches-le c.batch (length (places (rules_of c) []));
-      waiting = nothing ∙ ap (map (kept_at c [])) (sym (drop-nil (in_batches c.batch 0)))
-          ∙ ap (λ (fs : List Found). map (kept_at c []) (drop (in_batches c.batch (length fs)) fs)) (sym no);
+      waiting = nothing ∙ ap (map (stored_at c [])) (sym (drop-nil (in_batches c.batch 0)))
+          ∙ ap (λ (fs : List Found). map (stored_at c []) (drop (in_batches c.batch (length fs)) fs)) (sym no);
       prefix = [];
       parts = sym none;
     }
 
--- ---- further bits are given, of which the search is told nothing yet
+-- ---- further bits are given, of which the search reports nothing yet
 -- the codeblock under way has the last of them
 more-held : (c : Configuration) (stands stands' : List Bool → List Found
-    → Type 0) (part part' : List Bool) (kept kept' : List Kept)
-    (handed : ℕ) (bits more prefix : List Bool) → Holding c stands part kept handed bits (places (rules_of c) bits)
-    → kept' ≡ kept → stands' (bits ++ more) (places (rules_of c) bits) → bits ++ more ≡ prefix ++ part'
-    → Holding c stands' part' kept' handed (bits ++ more) (places (rules_of c) bits)
-more-held c stands stands' part part' kept kept' handed bits more prefix h same told parts = record {
-  search = told;
+    → Type 0) (part part' : List Bool) (stored stored' : List StoredCodeblock)
+    (handed : ℕ) (bits more prefix : List Bool) → Holding c stands part stored handed bits (places (rules_of c) bits)
+    → stored' ≡ stored → stands' (bits ++ more) (places (rules_of c) bits) → bits ++ more ≡ prefix ++ part'
+    → Holding c stands' part' stored' handed (bits ++ more) (places (rules_of c) bits)
+more-held c stands stands' part part' stored stored' handed bits more prefix h same reported parts = record {
+  search = reported;
   first = first-places c bits more;
   within = h.within;
-  waiting = same ∙ h.waiting ∙ sym (kept-longer c bits more handed);
+  waiting = same ∙ h.waiting ∙ sym (stored-longer c bits more handed);
   prefix = prefix;
   parts = parts;
 }
 
 -- to the codeblock under way
 pub more-inside : (c : Configuration) (stands stands' : List Bool → List Found
-    → Type 0) (part part' : List Bool) (kept kept' : List Kept)
-    (handed : ℕ) (bits more : List Bool) → Holding c stands part kept handed bits (places (rules_of c) bits)
-    → part' ≡ part ++ more → kept' ≡ kept → stands' (bits ++ more) (places (rules_of c) bits)
-    → Holding c stands' part' kept' handed (bits ++ more) (places (rules_of c) bits)
-more-inside c stands stands' part part' kept kept' handed bits more h grows same told =
-    more-held c stands stands' part part' kept kept' handed bits more h.prefix h same told
+    → Type 0) (part part' : List Bool) (stored stored' : List StoredCodeblock)
+    (handed : ℕ) (bits more : List Bool) → Holding c stands part stored handed bits (places (rules_of c) bits)
+    → part' ≡ part ++ more → stored' ≡ stored → stands' (bits ++ more) (places (rules_of c) bits)
+    → Holding c stands' part' stored' handed (bits ++ more) (places (rules_of c) bits)
+more-inside c stands stands' part part' stored stored' handed bits more h grows same reported =
+    more-held c stands stands' part part' stored stored' handed bits more h.prefix h same reported
     (ap (λ l. l ++ more) h.parts ∙ append_assoc h.prefix part more ∙ ap (λ l. h.prefix ++ l) (sym grows))
 
 -- where none is under way, and the last bits begin one
 pub more-begun : (c : Configuration) (stands stands' : List Bool → List Found
-    → Type 0) (part part' : List Bool) (kept kept' : List Kept)
-    (handed : ℕ) (bits before more : List Bool) → Holding c stands part kept handed bits (places (rules_of c) bits)
-    → more ≡ before ++ part' → kept' ≡ kept → stands' (bits ++ more) (places (rules_of c) bits)
-    → Holding c stands' part' kept' handed (bits ++ more) (places (rules_of c) bits)
-more-begun c stands stands' part part' kept kept' handed bits before more h ends same told =
-    more-held c stands stands' part part' kept kept' handed bits more (bits ++ before) h same told
+    → Type 0) (part part' : List Bool) (stored stored' : List StoredCodeblock)
+    (handed : ℕ) (bits before more : List Bool) → Holding c stands part stored handed bits (places (rules_of c) bits)
+    → more ≡ before ++ part' → stored' ≡ stored → stands' (bits ++ more) (places (rules_of c) bits)
+    → Holding c stands' part' stored' handed (bits ++ more) (places (rules_of c) bits)
+more-begun c stands stands' part part' stored stored' handed bits before more h ends same reported =
+    more-held c stands stands' part part' stored stored' handed bits more (bits ++ before) h same reported
     (ap (λ l. bits ++ l) ends ∙ sym (append_assoc bits before part'))
 
 -- where none is under way
 pub more-outside : (c : Configuration) (stands stands' : List Bool → List Found
-    → Type 0) (part part' : List Bool) (kept kept' : List Kept)
-    (handed : ℕ) (bits more : List Bool) → Holding c stands part kept handed bits (places (rules_of c) bits)
-    → length part' ≡ 0 → kept' ≡ kept → stands' (bits ++ more) (places (rules_of c) bits)
-    → Holding c stands' part' kept' handed (bits ++ more) (places (rules_of c) bits)
-more-outside c stands stands' part part' kept kept' handed bits more h none same told =
-    more-held c stands stands' part part' kept kept' handed bits more (bits ++ more) h same told
+    → Type 0) (part part' : List Bool) (stored stored' : List StoredCodeblock)
+    (handed : ℕ) (bits more : List Bool) → Holding c stands part stored handed bits (places (rules_of c) bits)
+    → length part' ≡ 0 → stored' ≡ stored → stands' (bits ++ more) (places (rules_of c) bits)
+    → Holding c stands' part' stored' handed (bits ++ more) (places (rules_of c) bits)
+more-outside c stands stands' part part' stored stored' handed bits more h none same reported =
+    more-held c stands stands' part part' stored stored' handed bits more (bits ++ more) h same reported
     (sym (append-nil (bits ++ more)) ∙ ap (λ l. (bits ++ more) ++ l) (sym (nil_from_length part' none)))

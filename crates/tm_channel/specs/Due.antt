@@ -11,11 +11,11 @@ in_batches size count = size * (count / size)
 
 -- how many of these places have items that are due: those in whole batches of the configuration
 abbrev pub due_count_of : Configuration → List Found → ℕ
-due_count_of c told = in_batches c.batch (length told)
+due_count_of c found = in_batches c.batch (length found)
 
 -- these places: the first ones
 abbrev pub due_of : Configuration → List Found → List Found
-due_of c told = take (due_count_of c told) told
+due_of c found = take (due_count_of c found) found
 
 -- those of the places of bits
 abbrev pub due_count : Configuration → List Bool → ℕ

@@ -5,7 +5,7 @@ use Rattle.tm_base.specs.Handed.{Handed, Phase, Item}
 use Rattle.tm_config.specs.Configuration.{Configuration}
 use Rattle.tm_windows.specs.declared.choosing.Chosen.{Chosen}
 use Rattle.tm_viterbi.specs.WindowBlock.{WindowBlock}
-use Rattle.tm_inner.specs.Inner.{Inner, slips_told}
+use Rattle.tm_inner.specs.Inner.{Inner, reported_slips}
 use Rattle.tm_inner.specs.Phase.{WithPhase, WithPhaseSettled, WithPhaseSoFar}
 use Rattle.tm_channel.specs.declared.totals.Totals.{Totals}
 use Rattle.tm_channel.specs.Items.{ItemValue, AreItems}
@@ -24,7 +24,7 @@ phase_of handed = phase_from None handed
 
 -- what octets come to that are received as these bits, in these blocks
 abbrev pub totals_of : Configuration → List Bool → List WindowBlock → Totals
-totals_of c bits blocks = record { bits = length bits; slips = slips_told c blocks }
+totals_of c bits blocks = record { bits = length bits; slips = reported_slips c blocks }
 
 -- what octets come to that were not disturbed: this many bits, and no octet was dropped
 abbrev pub clean_totals : Configuration → ℕ → Totals

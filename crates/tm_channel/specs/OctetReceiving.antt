@@ -159,7 +159,7 @@ FinishChooses before now = (given : List ℕ) (done : List (Handed ItemValue))
 
 -- ---- codeblocks that are whole
 
--- Whatever bits it stood for, and whichever were given then, of which the search was told nothing:
+-- Whatever bits it stood for, and whichever were given then, of which the search reported nothing:
 -- it stands for all now, and these are the items that are due with the last ones.
 abbrev pub Settles : BitReceiving → BitReceiving → List ItemValue → Type 0
 Settles before now items = (bits more : List Bool) → length (bits ++ more) < bits_bound

@@ -54,75 +54,76 @@ abbrev pub GoesOn : (List Bool → Type 0) → (List Bool → Type 0) → List B
 GoesOn Stood Stands piece = (bits : List Bool) → length (bits ++ piece) < bits_bound → Stood bits
     → Stands (bits ++ piece)
 
--- ---- what is kept
+-- ---- what is stored
 
 -- a codeblock that is whole, as octets, in its polarity and with the randomizer taken off
-pub record Kept : Type 0 where
+pub record StoredCodeblock : Type 0 where
   pub found : Found
   pub codeblock : List ℕ
 
 -- the codeblock of a place, whose bits are these
-abbrev pub kept_of : Configuration → Found → List Bool → Kept
-kept_of c f bits = record { found = f; codeblock = codeblock_in c f.inverted bits }
+abbrev pub stored_of : Configuration → Found → List Bool → StoredCodeblock
+stored_of c f bits = record { found = f; codeblock = codeblock_in c f.inverted bits }
 
 -- the codeblock of a place in these bits
-abbrev pub kept_at : Configuration → List Bool → Found → Kept
-kept_at c bits f = kept_of c f (take (8 * codeblock_length c) (drop (f.place + 32) bits))
+abbrev pub stored_at : Configuration → List Bool → Found → StoredCodeblock
+stored_at c bits f = stored_of c f (take (8 * codeblock_length c) (drop (f.place + 32) bits))
 
--- the item of a codeblock that is kept
-abbrev pub IsItemAt : Configuration → List Kept → ℕ → ItemValue → Type 0
-IsItemAt c kept index item = (k : Kept) × (get_or kept index k ≡ k)
+-- the item of a codeblock that is stored
+abbrev pub IsItemAt : Configuration → List StoredCodeblock → ℕ → ItemValue → Type 0
+IsItemAt c stored index item = (k : StoredCodeblock) × (get_or stored index k ≡ k)
     × IsItem c k.found k.codeblock item
 
--- an item for each codeblock that is kept
-abbrev pub AreItemsFor : Configuration → List Kept → List ItemValue → Type 0
+-- an item for each codeblock that is stored
+abbrev pub AreItemsFor : Configuration → List StoredCodeblock → List ItemValue → Type 0
 AreItemsFor c [] [] = Unit {0}
-AreItemsFor c (k ∷ kept) (item ∷ items) =
-    IsItem c k.found k.codeblock item × AreItemsFor c kept items
-AreItemsFor c kept items = ⊥
+AreItemsFor c (k ∷ stored) (item ∷ items) =
+    IsItem c k.found k.codeblock item × AreItemsFor c stored items
+AreItemsFor c stored items = ⊥
 
--- A batch that is full was handed over, and none of it is kept; one that is not full stays as it
+-- A batch that is full was handed over, and none of it is stored; one that is not full stays as it
 -- was.
-abbrev pub IsHanded : Configuration → List Kept → List Kept → List ItemValue → Type 0
-IsHanded c before kept items =
-    ((length before < c.batch) × (kept ≡ before) × (items ≡ []))
-    ⊎ ((length before ≡ c.batch) × (kept ≡ []) × AreItemsFor c before items)
+abbrev pub IsHanded : Configuration → List StoredCodeblock → List StoredCodeblock → List ItemValue
+    → Type 0
+IsHanded c before stored items =
+    ((length before < c.batch) × (stored ≡ before) × (items ≡ []))
+    ⊎ ((length before ≡ c.batch) × (stored ≡ []) × AreItemsFor c before items)
 
--- What is kept of these bits where the search was told these of their places, the first ones, and
+-- What is stored of these bits where the search reported these of their places, the first ones, and
 -- the items of the first `handed` of them were handed over: the codeblocks of the others wait, and
 -- the codeblock under way has the last bits.
 pub record Holding (c : Configuration) (stands : List Bool → List Found
-    → Type 0) (part : List Bool) (kept : List Kept)
-    (handed : ℕ) (bits : List Bool) (told : List Found) : Type 0 where
-  pub search : stands bits told
-  pub first : take (length told) (places (rules_of c) bits) ≡ told
-  pub within : handed ≤ length told
-  pub waiting : kept ≡ map (kept_at c bits) (drop handed told)
+    → Type 0) (part : List Bool) (stored : List StoredCodeblock)
+    (handed : ℕ) (bits : List Bool) (reported : List Found) : Type 0 where
+  pub search : stands bits reported
+  pub first : take (length reported) (places (rules_of c) bits) ≡ reported
+  pub within : handed ≤ length reported
+  pub waiting : stored ≡ map (stored_at c bits) (drop handed reported)
   pub prefix : List Bool
   pub parts : bits ≡ prefix ++ part
 
--- what contracts see of a batch of codeblocks: the bits of the one under way, those that are kept,
--- and the items that were written when these were repaired
+-- what contracts see of a batch of codeblocks: the bits of the one under way, those that are
+-- stored, and the items that were written when these were repaired
 pub record Batching : Type 0 where
   pub config : Configuration
   pub part : List Bool
-  pub kept : List Kept
+  pub stored : List StoredCodeblock
   pub items : List ItemValue
 
--- these bits were given to a search with its room and to a batch, the search was told these of
--- their places, and the codeblocks of all of these but the first `handed` ones are kept
-abbrev pub HoldsTold : Searching → List ℕ → Batching → ℕ → List Bool → List Found → Type 0
-HoldsTold s room b handed bits told =
-    Holding b.config (StandsFor s room) b.part b.kept handed bits told
+-- these bits were given to a search with its room and to a batch, the search reported these of
+-- their places, and the codeblocks of all of these but the first `handed` ones are stored
+abbrev pub HoldsReported : Searching → List ℕ → Batching → ℕ → List Bool → List Found → Type 0
+HoldsReported s room b handed bits reported =
+    Holding b.config (StandsFor s room) b.part b.stored handed bits reported
 
--- the search was told all of their places
+-- the search reported all of their places
 abbrev pub Holds : Searching → List ℕ → Batching → ℕ → List Bool → Type 0
-Holds s room b handed bits = HoldsTold s room b handed bits (places (rules_of b.config) bits)
+Holds s room b handed bits = HoldsReported s room b handed bits (places (rules_of b.config) bits)
 
--- then `more` bits were given too, of which the search was told nothing yet
+-- then `more` bits were given too, of which the search reported nothing yet
 abbrev pub HoldsMore : Searching → List ℕ → Batching → ℕ → List Bool → List Bool → Type 0
 HoldsMore s room b handed bits more =
-    HoldsTold s room b handed (bits ++ more) (places (rules_of b.config) bits)
+    HoldsReported s room b handed (bits ++ more) (places (rules_of b.config) bits)
 
 -- these bits were given to a search and a batch, which was handed over whenever it was full
 abbrev pub Stands : Searching → List ℕ → Batching → List Bool → Type 0
@@ -144,14 +145,14 @@ pub record Agree (s : Searching) (room : List ℕ) (b : Batching) : Type 0 where
   pub gathered : IsGathered s b.part
   pub most : length b.part ≤ 8 * codeblock_length b.config
 
--- they agree, no codeblock is whole that is not kept, and the batch is not full
+-- they agree, no codeblock is whole that is not stored, and the batch is not full
 pub record IsReady (s : Searching) (room : List ℕ) (b : Batching) : Type 0 where
   pub same : s.rules ≡ rules_of b.config
   pub sized : length room ≡ verify_bits s.rules
   pub within : unwrap_or (inside_of s) 0 ≤ s.rules.block_bits
   pub long : length b.part ≡ unwrap_or (inside_of s) 0
   pub free : is_pending s ≡ false
-  pub few : length b.kept < b.config.batch
+  pub few : length b.stored < b.config.batch
 
 -- how many bits may wait at most where a batch lacks so many codeblocks: as many as these have with
 -- their markers, and none where one worker decodes

@@ -7,12 +7,12 @@ use Rattle.tm_workers.specs.declared.words.Word.{Word}
 use Rattle.tm_codeblock.specs.ReceivedCodeblock.{column_count, received_columns}
 use Rattle.tm_channel.specs.ColumnWords.{all_symbols}
 use Rattle.tm_channel.specs.Items.{ItemValue, AreNearest, are_fixed}
-use Rattle.tm_channel.specs.Receiving.{Kept}
+use Rattle.tm_channel.specs.Receiving.{StoredCodeblock}
 use Rattle.tm_channel.specs.declared.slot.Slot.{Slot}
 
 -- the codeblock of so many octets in a slot
-abbrev pub kept_in : ℕ → Slot → Kept
-kept_in size slot = record { found = slot.found; codeblock = take size slot.octets }
+abbrev pub stored_in : ℕ → Slot → StoredCodeblock
+stored_in size slot = record { found = slot.found; codeblock = take size slot.octets }
 
 -- the item that is written in a slot
 abbrev pub item_in : Configuration → Slot → ItemValue

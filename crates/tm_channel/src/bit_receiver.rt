@@ -11,7 +11,7 @@ ghost use Rattle.tm_config.specs.Configuration.{codeblock_length};
 ghost use Rattle.tm_codeblock.specs.ReceivedCodeblock.{rules_of};
 ghost use Rattle.tm_codeblock.specs.RoomBits.{room_bits};
 ghost use Rattle.tm_channel.specs.Items.{ItemValue};
-ghost use Rattle.tm_channel.specs.Receiving.{Agree, AreItemsFor, Holds, HoldsMore, HoldsTold, IsHanded, IsReady, bits_between};
+ghost use Rattle.tm_channel.specs.Receiving.{Agree, AreItemsFor, Holds, HoldsMore, HoldsReported, IsHanded, IsReady, bits_between};
 ghost use Rattle.tm_channel.specs.OctetReceiving.{Received, ReceivedPart, Settles, SettlesPart};
 
 use crate::item::ItemTaker;
@@ -21,13 +21,13 @@ use tm_base::Failed;
 use tm_codeblock::bits_of_octet;
 use tm_sync::Search;
 
-// Hands over the items of the codeblocks that are kept.
+// Hands over the items of the codeblocks that are stored.
 fn hand_over<T: ItemTaker>(batch: &Codeblocks, taker: &mut T) -> Result<(), Failed>
-    requires { AreItemsFor batch.now.config batch.now.kept batch.now.items }
-    ensures all { OnOk result ((items : List ItemValue) × AreItemsFor batch.now.config batch.now.kept items
+    requires { AreItemsFor batch.now.config batch.now.stored batch.now.items }
+    ensures all { OnOk result ((items : List ItemValue) × AreItemsFor batch.now.config batch.now.stored items
         × HandedOver T.took taker.old items taker.new) }
     ensures part { OnErr result ((count : ℕ) × (items : List ItemValue)
-        × AreItemsFor batch.now.config (take count batch.now.kept) items
+        × AreItemsFor batch.now.config (take count batch.now.stored) items
         × HandedPart T.took T.broke taker.old items taker.new) }
     ensures cause { HasCause (T.faults taker.old) (T.faults taker.new) (T.is_last taker.new) result }
 {
@@ -92,7 +92,7 @@ impl BitReceiver {
     fn keep_all<P: Workers, T: ItemTaker>(&mut self, by: &P, taker: &mut T) -> Result<(), Failed>
         requires workers { P.is_ready by.now }
         requires agree { Agree self.old.search self.old.room.items self.old.batch }
-        requires few { length self.old.batch.kept < self.old.batch.config.batch }
+        requires few { length self.old.batch.stored < self.old.batch.config.batch }
         ensures ready { IsReady self.new.search self.new.room.items self.new.batch }
         ensures config { self.new.batch.config ≡ self.old.batch.config }
         ensures all { OnOk result ((items : List ItemValue) × HandedOver T.took taker.old items taker.new
@@ -118,7 +118,7 @@ impl BitReceiver {
     // Passes over the codeblocks that are whole, and keeps none.
     fn skip_whole(&mut self)
         requires agree { Agree self.old.search self.old.room.items self.old.batch }
-        requires few { length self.old.batch.kept < self.old.batch.config.batch }
+        requires few { length self.old.batch.stored < self.old.batch.config.batch }
         ensures ready { IsReady self.new.search self.new.room.items self.new.batch }
         ensures config { self.new.batch.config ≡ self.old.batch.config }
     {
@@ -138,7 +138,7 @@ impl BitReceiver {
         ensures within { at + result ≤ 8 * length octets.now }
         ensures agree { Agree self.new.search self.new.room.items self.new.batch }
         ensures config { self.new.batch.config ≡ self.old.batch.config }
-        ensures kept { self.new.batch.kept ≡ self.old.batch.kept }
+        ensures stored { self.new.batch.stored ≡ self.old.batch.stored }
         ensures holds { (handed : ℕ) (bits : List Bool)
             → length (bits ++ bits_between at (at + result) octets.now) < bits_bound
             → Holds self.old.search self.old.room.items self.old.batch handed bits
@@ -166,7 +166,7 @@ impl BitReceiver {
         requires ready { IsReady self.old.search self.old.room.items self.old.batch }
         ensures agree { Agree self.new.search self.new.room.items self.new.batch }
         ensures config { self.new.batch.config ≡ self.old.batch.config }
-        ensures kept { self.new.batch.kept ≡ self.old.batch.kept }
+        ensures stored { self.new.batch.stored ≡ self.old.batch.stored }
         ensures holds { (handed : ℕ) (bits : List Bool) → length (bits ++ bit ∷ []) < bits_bound
             → Holds self.old.search self.old.room.items self.old.batch handed bits
             → HoldsMore self.new.search self.new.room.items self.new.batch handed bits (bit ∷ []) }
@@ -186,7 +186,7 @@ impl BitReceiver {
             * length octets.now ≤ self.old.search.rules.block_bits }
         ensures agree { Agree self.new.search self.new.room.items self.new.batch }
         ensures config { self.new.batch.config ≡ self.old.batch.config }
-        ensures kept { self.new.batch.kept ≡ self.old.batch.kept }
+        ensures stored { self.new.batch.stored ≡ self.old.batch.stored }
         ensures holds { (handed : ℕ) (bits : List Bool) → length (bits ++ bits_of octets.now) < bits_bound
             → Holds self.old.search self.old.room.items self.old.batch handed bits
             → HoldsMore self.new.search self.new.room.items self.new.batch handed bits (bits_of octets.now) }
@@ -204,7 +204,7 @@ impl BitReceiver {
         requires fits { 8 ≤ self.old.search.rules.block_bits }
         ensures agree { Agree self.new.search self.new.room.items self.new.batch }
         ensures config { self.new.batch.config ≡ self.old.batch.config }
-        ensures kept { self.new.batch.kept ≡ self.old.batch.kept }
+        ensures stored { self.new.batch.stored ≡ self.old.batch.stored }
         ensures holds { (handed : ℕ) (bits : List Bool) → length (bits ++ bits_of_octet octet) < bits_bound
             → Holds self.old.search self.old.room.items self.old.batch handed bits
             → HoldsMore self.new.search self.new.room.items self.new.batch handed bits (bits_of_octet octet) }
@@ -218,19 +218,20 @@ impl BitReceiver {
     #[inline(always)]
     fn keep_whole(&mut self) -> bool
         requires agree { Agree self.old.search self.old.room.items self.old.batch }
-        requires few { length self.old.batch.kept < self.old.batch.config.batch }
+        requires few { length self.old.batch.stored < self.old.batch.config.batch }
         ensures config { self.new.batch.config ≡ self.old.batch.config }
         ensures agree { Agree self.new.search self.new.room.items self.new.batch }
-        ensures most { length self.new.batch.kept ≤ self.new.batch.config.batch }
+        ensures most { length self.new.batch.stored ≤ self.new.batch.config.batch }
         ensures left { IsTrue result → waiting_of self.new.search < waiting_of self.old.search }
         ensures ready { result ≡ false → IsReady self.new.search self.new.room.items self.new.batch }
-        ensures none { result ≡ false → (handed : ℕ) (bits : List Bool) (told : List Found)
-            → HoldsTold self.old.search self.old.room.items self.old.batch handed bits told
-            → HoldsTold self.new.search self.new.room.items self.new.batch handed bits told
-            × (places (rules_of self.old.batch.config) bits ≡ told) }
-        ensures kept { IsTrue result → (f : Found) × ((handed : ℕ) (bits : List Bool) (told : List Found)
-            → length bits < bits_bound → HoldsTold self.old.search self.old.room.items self.old.batch handed bits told
-            → HoldsTold self.new.search self.new.room.items self.new.batch handed bits (told ++ f ∷ [])) }
+        ensures none { result ≡ false → (handed : ℕ) (bits : List Bool) (reported : List Found)
+            → HoldsReported self.old.search self.old.room.items self.old.batch handed bits reported
+            → HoldsReported self.new.search self.new.room.items self.new.batch handed bits reported
+            × (places (rules_of self.old.batch.config) bits ≡ reported) }
+        ensures stored { IsTrue result → (f : Found) × ((handed : ℕ) (bits : List Bool) (reported : List Found)
+            → length bits < bits_bound
+            → HoldsReported self.old.search self.old.room.items self.old.batch handed bits reported
+            → HoldsReported self.new.search self.new.room.items self.new.batch handed bits (reported ++ f ∷ [])) }
     {
         match self.search.next(self.room.as_slice()) {
             None => false,
@@ -250,7 +251,7 @@ impl BitReceiver {
         ensures search { self.new.search ≡ self.old.search }
         ensures room { self.new.room.items ≡ self.old.room.items }
         ensures config { self.new.batch.config ≡ self.old.batch.config }
-        ensures kept { self.new.batch.kept ≡ self.old.batch.kept }
+        ensures stored { self.new.batch.stored ≡ self.old.batch.stored }
         ensures part { ((length self.old.batch.part ≡ 8 * codeblock_length self.old.batch.config)
             × (self.new.batch.part ≡ self.old.batch.part))
             ⊎ ((length self.old.batch.part < 8 * codeblock_length self.old.batch.config)
@@ -267,18 +268,18 @@ impl BitReceiver {
     // Hands over the items of a batch that is full, and keeps none of its codeblocks.
     fn hand_full<P: Workers, T: ItemTaker>(&mut self, by: &P, taker: &mut T) -> Result<(), Failed>
         requires workers { P.is_ready by.now }
-        requires most { length self.old.batch.kept ≤ self.old.batch.config.batch }
+        requires most { length self.old.batch.stored ≤ self.old.batch.config.batch }
         ensures search { self.new.search ≡ self.old.search }
         ensures room { self.new.room.items ≡ self.old.room.items }
         ensures config { self.new.batch.config ≡ self.old.batch.config }
         ensures part { self.new.batch.part ≡ self.old.batch.part }
-        ensures few { length self.new.batch.kept < self.new.batch.config.batch }
+        ensures few { length self.new.batch.stored < self.new.batch.config.batch }
         ensures all { OnOk result ((items : List ItemValue)
-            × IsHanded self.old.batch.config self.old.batch.kept self.new.batch.kept items
+            × IsHanded self.old.batch.config self.old.batch.stored self.new.batch.stored items
             × HandedOver T.took taker.old items taker.new) }
         ensures broke { OnErr result ((count : ℕ) × (items : List ItemValue)
-            × AreItemsFor self.old.batch.config (take count self.old.batch.kept) items
-            × (length self.old.batch.kept ≡ self.old.batch.config.batch)
+            × AreItemsFor self.old.batch.config (take count self.old.batch.stored) items
+            × (length self.old.batch.stored ≡ self.old.batch.config.batch)
             × HandedPart T.took T.broke taker.old items taker.new) }
         ensures cause { HasCause (T.faults taker.old) (T.faults taker.new) (T.is_last taker.new) result }
     {
@@ -291,7 +292,7 @@ impl BitReceiver {
         }
     }
 
-    /// Hands over the items of all codeblocks that are kept, and keeps none.
+    /// Hands over the items of all codeblocks that are stored, and keeps none.
     pub fn hand_all<P: Workers, T: ItemTaker>(
         &mut self,
         by: &P,
@@ -302,12 +303,12 @@ impl BitReceiver {
         ensures room { self.new.room.items ≡ self.old.room.items }
         ensures config { self.new.batch.config ≡ self.old.batch.config }
         ensures part { self.new.batch.part ≡ self.old.batch.part }
-        ensures kept { self.new.batch.kept ≡ [] }
+        ensures stored { self.new.batch.stored ≡ [] }
         ensures all { OnOk result ((items : List ItemValue)
-            × AreItemsFor self.old.batch.config self.old.batch.kept items
+            × AreItemsFor self.old.batch.config self.old.batch.stored items
             × HandedOver T.took taker.old items taker.new) }
         ensures broke { OnErr result ((count : ℕ) × (items : List ItemValue)
-            × AreItemsFor self.old.batch.config (take count self.old.batch.kept) items
+            × AreItemsFor self.old.batch.config (take count self.old.batch.stored) items
             × HandedPart T.took T.broke taker.old items taker.new) }
         ensures cause { HasCause (T.faults taker.old) (T.faults taker.new) (T.is_last taker.new) result }
     {

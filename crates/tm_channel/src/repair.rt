@@ -3,7 +3,7 @@ ghost use Rattle.std.specs.Prelude.{◌≢◌, ◌≡◌, ◌<◌, ◌≤◌, �
 ghost use Rattle.tm_config.specs.Configuration.{codeblock_length, most_batch};
 ghost use Rattle.tm_codeblock.specs.ReceivedCodeblock.{column_count};
 ghost use Rattle.tm_channel.specs.Receiving.{AreItemsFor};
-ghost use Rattle.tm_channel.specs.Storing.{AreDecoded, AreRead, item_in, kept_in};
+ghost use Rattle.tm_channel.specs.Storing.{AreDecoded, AreRead, item_in, stored_in};
 
 use crate::columns::read_columns;
 use crate::slot::Slot;
@@ -27,9 +27,9 @@ pub fn repair<P: Workers>(
     requires count { count ≤ length slots.old }
     requires slots { length slots.old ≤ most_batch }
     requires words { length words.old ≡ length slots.old * column_count config.now }
-    ensures kept { map (kept_in (codeblock_length config.now)) (take count slots.new)
-        ≡ map (kept_in (codeblock_length config.now)) (take count slots.old) }
-    ensures items { AreItemsFor config.now (map (kept_in (codeblock_length config.now)) (take count slots.old))
+    ensures stored { map (stored_in (codeblock_length config.now)) (take count slots.new)
+        ≡ map (stored_in (codeblock_length config.now)) (take count slots.old) }
+    ensures items { AreItemsFor config.now (map (stored_in (codeblock_length config.now)) (take count slots.old))
         (map (item_in config.now) (take count slots.new)) }
     ensures slots { length slots.new ≡ length slots.old }
     ensures words { length words.new ≡ length words.old }
@@ -83,9 +83,9 @@ fn write_items(config: &Config, words: &[Word], slots: &mut [Slot])
     requires slots { length slots.old ≤ most_batch }
     requires words { length words.now ≡ length slots.old * column_count config.now }
     requires decoded { AreDecoded config.now slots.old words.now }
-    ensures kept { map (kept_in (codeblock_length config.now)) slots.new
-        ≡ map (kept_in (codeblock_length config.now)) slots.old }
-    ensures items { AreItemsFor config.now (map (kept_in (codeblock_length config.now)) slots.old)
+    ensures stored { map (stored_in (codeblock_length config.now)) slots.new
+        ≡ map (stored_in (codeblock_length config.now)) slots.old }
+    ensures items { AreItemsFor config.now (map (stored_in (codeblock_length config.now)) slots.old)
         (map (item_in config.now) slots.new) }
     ensures length { length slots.new ≡ length slots.old }
 {

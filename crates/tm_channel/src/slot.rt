@@ -4,8 +4,8 @@ ghost use Rattle.tm_base.specs.Bits.{bits_of};
 ghost use Rattle.tm_config.specs.Configuration.{codeblock_length, longest_codeblock};
 ghost use Rattle.tm_codeblock.specs.ReceivedCodeblock.{column_count};
 ghost use Rattle.tm_channel.specs.Items.{IsItem};
-ghost use Rattle.tm_channel.specs.Receiving.{kept_of};
-ghost use Rattle.tm_channel.specs.Storing.{IsDecoded, answers_of, item_in, kept_in};
+ghost use Rattle.tm_channel.specs.Receiving.{stored_of};
+ghost use Rattle.tm_channel.specs.Storing.{IsDecoded, answers_of, item_in, stored_in};
 
 use crate::columns::write_frame;
 use crate::item::{Item, are_fixed};
@@ -29,7 +29,7 @@ impl Slot {
     pub fn fill(&mut self, config: &Config, found: Found, size: usize, received: &[u8])
         requires size { length received.now ≡ size }
         requires most { size ≤ longest_codeblock }
-        ensures { kept_in size self.new ≡ kept_of config.now found (bits_of received.now) }
+        ensures { stored_in size self.new ≡ stored_of config.now found (bits_of received.now) }
     {
         self.found = found;
         read_codeblock(config, found.inverted, received, &mut self.octets[..size]);

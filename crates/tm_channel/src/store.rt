@@ -3,7 +3,7 @@ ghost use Rattle.std.specs.Prelude.{◌≡◌, ◌<◌, ◌≤◌, ◌+◌, ◌-
 ghost use Rattle.tm_base.specs.Bits.{bits_of, low_bits};
 ghost use Rattle.tm_config.specs.Configuration.{longest_codeblock, most_batch, codeblock_length};
 ghost use Rattle.tm_codeblock.specs.RoomBits.{room_bits};
-ghost use Rattle.tm_channel.specs.Receiving.{AreItemsFor, IsItemAt, kept_of, waiting_bits};
+ghost use Rattle.tm_channel.specs.Receiving.{AreItemsFor, IsItemAt, stored_of, waiting_bits};
 
 use crate::item::Item;
 use crate::repair::repair;
@@ -38,14 +38,14 @@ impl Model for Codeblocks {
     ghost use Rattle.tm_config.specs.Configuration.{codeblock_length, longest_codeblock, most_batch};
     ghost use Rattle.tm_channel.specs.Receiving.{Batching};
     ghost use Rattle.tm_codeblock.specs.ReceivedCodeblock.{column_count};
-    ghost use Rattle.tm_channel.specs.Storing.{item_in, kept_in};
+    ghost use Rattle.tm_channel.specs.Storing.{item_in, stored_in};
 
     ghost Value = { Batching };
 
     ghost view = { λ s. record {
       config = s.config;
       part = s.gathering;
-      kept = map (kept_in s.size) (take s.count s.slots.items);
+      stored = map (stored_in s.size) (take s.count s.slots.items);
       items = map (item_in s.config) (take s.count s.slots.items);
     } };
 
@@ -59,7 +59,7 @@ impl Codeblocks {
     /// Room for codeblocks of this configuration, with none in it. It takes all its memory here.
     pub fn open(alloc: Global, config: Config) -> Result<Codeblocks, AllocError>
         ensures { IfOk result (λ codeblocks. codeblocks
-            ≡ record { config = config; part = []; kept = []; items = [] }) }
+            ≡ record { config = config; part = []; stored = []; items = [] }) }
     {
         let word = Word {
             symbols: [Gf(0); 255],
@@ -88,7 +88,7 @@ impl Codeblocks {
         requires { count < 8 }
         ensures config { self.new.config ≡ self.old.config }
         ensures part { self.new.part ≡ low_bits count octet }
-        ensures kept { self.new.kept ≡ self.old.kept }
+        ensures stored { self.new.stored ≡ self.old.stored }
     {
         self.gathering.begin(octet, count);
     }
@@ -98,7 +98,7 @@ impl Codeblocks {
         requires { length self.old.part < 8 * codeblock_length self.old.config }
         ensures config { self.new.config ≡ self.old.config }
         ensures part { self.new.part ≡ self.old.part ++ bit ∷ [] }
-        ensures kept { self.new.kept ≡ self.old.kept }
+        ensures stored { self.new.stored ≡ self.old.stored }
     {
         // So that the proof has the invariant of the store.
         let _size = self.size;
@@ -110,7 +110,7 @@ impl Codeblocks {
         requires { length self.old.part + 8 * length octets.now ≤ 8 * codeblock_length self.old.config }
         ensures config { self.new.config ≡ self.old.config }
         ensures part { self.new.part ≡ self.old.part ++ bits_of octets.now }
-        ensures kept { self.new.kept ≡ self.old.kept }
+        ensures stored { self.new.stored ≡ self.old.stored }
     {
         // So that the proof has the invariant of the store.
         let _size = self.size;
@@ -124,18 +124,18 @@ impl Codeblocks {
         requires some { 0 < length room.now }
         ensures config { self.new.config ≡ self.old.config }
         ensures part { self.new.part ≡ room_bits room.now from (8 * codeblock_length self.old.config) }
-        ensures kept { self.new.kept ≡ self.old.kept }
+        ensures stored { self.new.stored ≡ self.old.stored }
     {
         self.gathering.recall(8 * self.size, room, from);
     }
 
     /// Keeps the codeblock under way, which is whole, as that of this place.
     pub fn keep(&mut self, found: Found)
-        requires room { length self.old.kept < self.old.config.batch }
+        requires room { length self.old.stored < self.old.config.batch }
         requires whole { length self.old.part ≡ 8 * codeblock_length self.old.config }
         ensures config { self.new.config ≡ self.old.config }
         ensures part { self.new.part ≡ [] }
-        ensures kept { self.new.kept ≡ self.old.kept ++ kept_of self.old.config found self.old.part ∷ [] }
+        ensures stored { self.new.stored ≡ self.old.stored ++ stored_of self.old.config found self.old.part ∷ [] }
     {
         let size = self.size;
         let received = self.gathering.octets();
@@ -160,17 +160,17 @@ impl Codeblocks {
         self.slots.len()
     }
 
-    /// How many codeblocks are kept.
+    /// How many codeblocks are stored.
     pub fn count(&self) -> usize
-        ensures { result ≡ length self.now.kept }
+        ensures { result ≡ length self.now.stored }
     {
         self.count
     }
 
     /// How many bits the codeblocks that the batch lacks have with their markers; none with one worker.
     pub fn bits_lacking(&self) -> u64
-        ensures value { result ≡ waiting_bits self.now.config (self.now.config.batch - length self.now.kept) }
-        ensures all { self.now.kept ≡ [] → result ≡ waiting_bits self.now.config self.now.config.batch }
+        ensures value { result ≡ waiting_bits self.now.config (self.now.config.batch - length self.now.stored) }
+        ensures all { self.now.stored ≡ [] → result ≡ waiting_bits self.now.config self.now.config.batch }
         ensures most { result ≤ most_batch * (32 + 8 * longest_codeblock) }
     {
         if self.config.workers() < 2 {
@@ -179,13 +179,13 @@ impl Codeblocks {
         ((self.slots.len() - self.count) * (32 + 8 * self.size)) as u64
     }
 
-    /// Repairs all codeblocks that are kept, by these workers, and writes their items.
+    /// Repairs all codeblocks that are stored, by these workers, and writes their items.
     pub fn repair<P: Workers>(&mut self, by: &P)
         requires { P.is_ready by.now }
         ensures config { self.new.config ≡ self.old.config }
         ensures part { self.new.part ≡ self.old.part }
-        ensures kept { self.new.kept ≡ self.old.kept }
-        ensures repaired { AreItemsFor self.new.config self.new.kept self.new.items }
+        ensures stored { self.new.stored ≡ self.old.stored }
+        ensures repaired { AreItemsFor self.new.config self.new.stored self.new.items }
     {
         repair(
             by,
@@ -199,9 +199,9 @@ impl Codeblocks {
 
     /// What came of one of them.
     pub fn item(&self, index: usize) -> Item<'_>
-        requires repaired { AreItemsFor self.now.config self.now.kept self.now.items }
-        requires within { index < length self.now.kept }
-        ensures { IsItemAt self.now.config self.now.kept index result }
+        requires repaired { AreItemsFor self.now.config self.now.stored self.now.items }
+        requires within { index < length self.now.stored }
+        ensures { IsItemAt self.now.config self.now.stored index result }
     {
         self.slots[index].item(&self.config)
     }
@@ -210,7 +210,7 @@ impl Codeblocks {
     pub fn clear(&mut self)
         ensures config { self.new.config ≡ self.old.config }
         ensures part { self.new.part ≡ self.old.part }
-        ensures kept { self.new.kept ≡ [] }
+        ensures stored { self.new.stored ≡ [] }
     {
         self.count = 0;
     }

@@ -46,7 +46,7 @@ impl BitStream {
         requires sized { length room.items ≡ verify_bits search.rules }
         requires stands { SearchStandsFor search room.items [] [] }
         requires part { batch.part ≡ [] }
-        requires kept { batch.kept ≡ [] }
+        requires stored { batch.stored ≡ [] }
         requires some { 0 < batch.config.batch }
         ensures config { result.batch.config ≡ batch.config }
         ensures stands { StandsForBits result [] }

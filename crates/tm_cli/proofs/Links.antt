@@ -14,7 +14,7 @@ use Rattle.tm_config.specs.Accepted.{IsAccepted}
 use Rattle.tm_conv.specs.declared.rates.Rate.{Rate}
 use Rattle.tm_windows.specs.declared.choosing.Chosen.{Chosen}
 use Rattle.tm_viterbi.specs.WindowBlock.{WindowBlock}
-use Rattle.tm_inner.specs.Inner.{AreInnerBlocks, BlocksAt, Inner, IsStartKnown, plain_count, slips_told}
+use Rattle.tm_inner.specs.Inner.{AreInnerBlocks, BlocksAt, Inner, IsStartKnown, plain_count, reported_slips}
 use Rattle.tm_inner.specs.Phase.{IsChosen, PhaseAt, phase_octets, skip_of, with_phase}
 use Rattle.tm_inner.proofs.WithPhase.{OnePhase, one-choice}
 use Rattle.tm_inner.proofs.ReceivedBits.{bits-plain}
@@ -165,7 +165,7 @@ same-totals c phase octets others bits more plain long a b =
     let count : length bits ≡ length more = ap length a.are_bits ∙ sym (bits-plain c n m octets a.blocks plain long refl)
     ∙ bits-plain c n m others b.blocks plain refl refl ∙ sym (ap length b.are_bits) in
     let none : a.blocks ≡ b.blocks = no-blocks c phase octets a.blocks a.left plain a.are_blocks ∙ sym (no-blocks c phase others b.blocks b.left plain b.are_blocks) in
-    λ i. record { bits = count i; slips = slips_told c (none i) }
+    λ i. record { bits = count i; slips = reported_slips c (none i) }
   where
     no-blocks : (c : Configuration) (phase : ℕ) (octets : List ℕ) (blocks : List WindowBlock) (left : ℕ) → c.inner ≡ None
         → AreInnerBlocks c phase octets blocks left → blocks ≡ []

@@ -219,51 +219,52 @@ abbrev FedPart : {F T : Type 0} → (F → OctetReceiving) → (F → T) → (to
 FedPart receiver taker took broke x y o stop = (stop ≡ FeedFault) × ReceivesPart took broke (receiver x) (taker x) (taker y) o
 
 abbrev Last : {F T : Type 0} → (F → OctetReceiving) → (F → T) → (T → Handed ItemValue → T → Type 0) → (T → Totals → Bool → T → Type 0) → F → F → Outcome → Type 0
-Last receiver taker took told x y outcome =
-    (is_good : Bool) × (outcome ≡ cond is_good Whole Beyond) × HandedLast took (receiver x) (taker x) (λ middle totals. told middle totals is_good (taker y))
+Last receiver taker took took_end x y outcome =
+    (is_good : Bool) × (outcome ≡ cond is_good Whole Beyond) × HandedLast took (receiver x) (taker x) (λ middle totals. took_end middle totals is_good (taker y))
 
 abbrev LastPart : {F T : Type 0} → (F → OctetReceiving) → (F → T) → (took broke : T → Handed ItemValue → T → Type 0) → (T → Totals → T → Type 0) → F → F → Type 0
 LastPart receiver taker took broke broke_end x y =
     HandedLastPart took broke (receiver x) (taker x) (taker y) ⊎ HandedLast took (receiver x) (taker x) (λ middle totals. broke_end middle totals (taker y))
 
-received-to : {F T : Type 0} (receiver : F → OctetReceiving) (taker : F → T) (took broke : T → Handed ItemValue → T → Type 0) (told : T → Totals → Bool → T → Type 0)
+received-to : {F T : Type 0} (receiver : F → OctetReceiving) (taker : F → T) (took broke : T → Handed ItemValue → T → Type 0) (took_end : T → Totals → Bool → T → Type 0)
     (broke_end : T → Totals → T → Type 0) (c : Configuration) (a b : F) (ended unended : Type 0) (e : Ending) (octets : List ℕ)
     → IsAccepted c → (receiver a).config ≡ c → StandsFor (receiver a) [] []
-    → DrivenTo (Fed receiver taker took) (FedPart receiver taker took broke) (Last receiver taker took told) (LastPart receiver taker took broke broke_end) c.limit a b ended unended e octets
-    → ReceivedTo took broke told broke_end c e octets (taker a) (taker b)
-received-to receiver taker took broke told broke_end c a b ended unended Done octets accepted same stands p =
+    → DrivenTo (Fed receiver taker took) (FedPart receiver taker took broke) (Last receiver taker took took_end) (LastPart receiver taker took broke broke_end) c.limit a b ended unended e octets
+    → ReceivedTo took broke took_end broke_end c e octets (taker a) (taker b)
+received-to receiver taker took broke took_end broke_end c a b ended unended Done octets accepted same stands p =
     let new = due-none took c (receiver a) (taker a) accepted same stands in
     let m = p.middle in
     let end = p.at_end in
-    all-received took c (receiver m) (taker a) (taker m) (λ middle totals. told middle totals true (taker b)) octets accepted p.within (p.were_fed c (taker a) [] new)
-    (subst (λ g. HandedLast took (receiver m) (taker m) (λ middle totals. told middle totals g (taker b))) (good-of end.0 end.1) end.2)
-received-to receiver taker took broke told broke_end c a b ended unended Bad octets accepted same stands p =
+    all-received took c (receiver m) (taker a) (taker m) (λ middle totals. took_end middle totals true (taker b)) octets accepted p.within (p.were_fed c (taker a) [] new)
+    (subst (λ g. HandedLast took (receiver m) (taker m) (λ middle totals. took_end middle totals g (taker b))) (good-of end.0 end.1) end.2)
+received-to receiver taker took broke took_end broke_end c a b ended unended Bad octets accepted same stands p =
     let new = due-none took c (receiver a) (taker a) accepted same stands in
     let m = p.middle in
     let end = p.at_end in
-    all-received took c (receiver m) (taker a) (taker m) (λ middle totals. told middle totals false (taker b)) octets accepted p.within (p.were_fed c (taker a) [] new)
-    (subst (λ g. HandedLast took (receiver m) (taker m) (λ middle totals. told middle totals g (taker b))) (bad-of end.0 end.1) end.2)
-received-to receiver taker took broke told broke_end c a b ended unended LeftOver octets accepted same stands p = never-left p.at_end.0 p.at_end.1
-received-to receiver taker took broke told broke_end c a b ended unended BadWindow octets accepted same stands p = cc p.0
-received-to receiver taker took broke told broke_end c a b ended unended SourceFault octets accepted same stands p =
+    all-received took c (receiver m) (taker a) (taker m) (λ middle totals. took_end middle totals false (taker b)) octets accepted p.within (p.were_fed c (taker a) [] new)
+    (subst (λ g. HandedLast took (receiver m) (taker m) (λ middle totals. took_end middle totals g (taker b))) (bad-of end.0 end.1) end.2)
+received-to receiver taker took broke took_end broke_end c a b ended unended LeftOver octets accepted same stands p = never-left p.at_end.0 p.at_end.1
+received-to receiver taker took broke took_end broke_end c a b ended unended BadWindow octets accepted same stands p = cc p.0
+received-to receiver taker took broke took_end broke_end c a b ended unended SourceFault octets accepted same stands p =
     let new = due-none took c (receiver a) (taker a) accepted same stands in
     let due = p.0 c (taker a) [] new in
     (due.handed, (due.stands (few c octets accepted p.1)).1, due.holds, p.1)
-received-to receiver taker took broke told broke_end c a b ended unended PastLimit octets accepted same stands p =
+received-to receiver taker took broke took_end broke_end c a b ended unended PastLimit octets accepted same stands p =
     let new = due-none took c (receiver a) (taker a) accepted same stands in
     let due = p.0 c (taker a) [] new in
     let within : length (take c.limit octets) ≤ c.limit = omega (arith, length-take c.limit octets) in
     (due.handed, (due.stands (few c (take c.limit octets) accepted within)).1, due.holds, p.1)
-received-to receiver taker took broke told broke_end c a b ended unended SinkFault octets accepted same stands (inl p) =
+received-to receiver taker took broke took_end broke_end c a b ended unended SinkFault octets
+    accepted same stands (inl p) =
     let new = due-none took c (receiver a) (taker a) accepted same stands in
     let first = p.0.1 c (taker a) [] new in
     let within : length (take c.limit octets) ≤ c.limit = omega (arith, length-take c.limit octets) in
     inl (first.handed, inl (first.are_first (few c (take c.limit octets) accepted within)), first.holds)
-received-to {F} {T} receiver taker took broke told broke_end c a b ended unended SinkFault octets accepted same stands (inr p) =
+received-to {F} {T} receiver taker took broke took_end broke_end c a b ended unended SinkFault octets accepted same stands (inr p) =
     let end = p.0 in
     let m = end.middle in
     let due = end.were_fed c (taker a) [] (due-none took c (receiver a) (taker a) accepted same stands) in
-    elim end.at_end as (λ _. ReceivedTo took broke told broke_end c SinkFault octets (taker a) (taker b)) [
+    elim end.at_end as (λ _. ReceivedTo took broke took_end broke_end c SinkFault octets (taker a) (taker b)) [
       | inl part ↦ (
           let prefix = prefix-handed took broke c (receiver m) (taker a) (taker m) (taker b) octets part.tried accepted end.within due part.handed part.prefix in
           inl (prefix.0, inr (subst (λ l. AreReceivedPrefix c l prefix.0) (sym (take_all c.limit octets end.within)) prefix.1), prefix.2)
@@ -271,12 +272,13 @@ received-to {F} {T} receiver taker took broke told broke_end c a b ended unended
       | inr last ↦ inr (all-received took c (receiver m) (taker a) (taker m) (λ middle totals. broke_end middle totals (taker b)) octets accepted end.within due last)
     ]
 
-pub received-driven : {F T : Type 0} (receiver : F → OctetReceiving) (taker : F → T) (took broke : T → Handed ItemValue → T → Type 0) (told : T → Totals → Bool → T → Type 0)
+pub received-driven : {F T : Type 0} (receiver : F → OctetReceiving) (taker : F → T) (took broke : T → Handed ItemValue → T → Type 0) (took_end : T → Totals → Bool → T → Type 0)
     (broke_end : T → Totals → T → Type 0) (c : Configuration) (limit : ℕ) (a b : F) (ended unended : Type 0) (e : Ending) (octets : List ℕ)
     → IsAccepted c → (receiver a).config ≡ c → StandsFor (receiver a) [] [] → limit ≡ c.limit
-    → DrivenTo (Fed receiver taker took) (FedPart receiver taker took broke) (Last receiver taker took told) (LastPart receiver taker took broke broke_end) limit a b ended unended e octets
-    → ReceivedTo took broke told broke_end c e octets (taker a) (taker b)
-received-driven receiver taker took broke told broke_end c limit a b ended unended e octets accepted same stands is p =
-    received-to receiver taker took broke told broke_end c a b ended unended e octets accepted same stands
-    (subst (λ (n : ℕ). DrivenTo (Fed receiver taker took) (FedPart receiver taker took broke) (Last receiver taker took told) (LastPart receiver taker took broke broke_end) n
+    → DrivenTo (Fed receiver taker took) (FedPart receiver taker took broke) (Last receiver taker took took_end) (LastPart receiver taker took broke broke_end) limit a b ended unended e octets
+    → ReceivedTo took broke took_end broke_end c e octets (taker a) (taker b)
+received-driven receiver taker took broke took_end broke_end c limit a b ended unended e octets
+    accepted same stands is p =
+    received-to receiver taker took broke took_end broke_end c a b ended unended e octets accepted same stands
+    (subst (λ (n : ℕ). DrivenTo (Fed receiver taker took) (FedPart receiver taker took broke) (Last receiver taker took took_end) (LastPart receiver taker took broke broke_end) n
     a b ended unended e octets) is p)

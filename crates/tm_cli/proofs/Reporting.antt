@@ -203,7 +203,7 @@ decoding-broke out notes out_last notes_last counts handed a b new few part =
       ];
     }
 
--- ---- after a fault fronts stand
+-- ---- after a fault prefixes stand
 
 pub lines-prefix : (before now : SinkState) (last : Type 0) (prefix rest : List (Handed ItemValue)) (next : Handed ItemValue)
     → BrokeText before now last (items_text 0 prefix) (handed_item_text (length (items_of prefix)) next) → WrotePrefix before.taken now.taken (items_text 0 (prefix ++ next ∷ rest))

@@ -211,7 +211,7 @@ told-prefix before now last handed totals broke =
 
 -- ---- how `decode` ends
 
--- the first frames and lines are fronts of all frames and of the report
+-- the first frames and lines are prefixes of all frames and of the report
 decode-prefixes : (c : Configuration) (octets : List ℕ) (first : List (Handed ItemValue)) (taken taken_now noted noted_now : Option (List ℕ)) (output : Output) → StandFirst c octets first
     → WrotePrefix taken taken_now (handed_frames first) → WrotePrefix noted noted_now (items_text 0 first) → IsDecoded c octets output.out output.notes → WrotePrefixes output (taken_by taken taken_now noted noted_now)
 decode-prefixes c octets first taken taken_now noted noted_now output stand out notes is =

@@ -84,24 +84,24 @@ pub record ReceivedAll {T : Type 0} (took : T → Handed ItemValue → T
 -- which says whether nothing in them is uncorrectable; what is due for them; or a part, or all and
 -- a part of that end.
 abbrev pub ReceivedTo : {T : Type 0} → (took broke : T → Handed ItemValue → T → Type 0)
-    → (told : T → Totals → Bool → T → Type 0) → (broke_end : T → Totals → T → Type 0)
+    → (took_end : T → Totals → Bool → T → Type 0) → (broke_end : T → Totals → T → Type 0)
     → Configuration → Ending → List ℕ → (before now : T) → Type 0
-ReceivedTo took broke told broke_end c Done octets before now = ReceivedAll took c octets before
-    (λ middle totals. told middle totals true now)
-ReceivedTo took broke told broke_end c Bad octets before now = ReceivedAll took c octets before
-    (λ middle totals. told middle totals false now)
-ReceivedTo took broke told broke_end c BadWindow octets before now = ⊥
-ReceivedTo took broke told broke_end c LeftOver octets before now = ⊥
-ReceivedTo took broke told broke_end c SourceFault octets before now = (handed : List
+ReceivedTo took broke took_end broke_end c Done octets before now = ReceivedAll took c octets before
+    (λ middle totals. took_end middle totals true now)
+ReceivedTo took broke took_end broke_end c Bad octets before now = ReceivedAll took c octets before
+    (λ middle totals. took_end middle totals false now)
+ReceivedTo took broke took_end broke_end c BadWindow octets before now = ⊥
+ReceivedTo took broke took_end broke_end c LeftOver octets before now = ⊥
+ReceivedTo took broke took_end broke_end c SourceFault octets before now = (handed : List
     (Handed ItemValue)) × AreReceivedDue c octets handed
     × HandedOver took before handed now × (length octets ≤ c.limit)
-ReceivedTo took broke told broke_end c SinkFault octets before now =
+ReceivedTo took broke took_end broke_end c SinkFault octets before now =
     ((handed : List (Handed ItemValue))
     × (AreReceivedFirst c (take c.limit octets) handed
     ⊎ AreReceivedPrefix c (take c.limit octets) handed)
     × HandedPart took broke before handed now)
     ⊎ ReceivedAll took c octets before (λ middle totals. broke_end middle totals now)
-ReceivedTo took broke told broke_end c PastLimit octets before now = (handed : List
+ReceivedTo took broke took_end broke_end c PastLimit octets before now = (handed : List
     (Handed ItemValue)) × AreReceivedDue c (take c.limit octets) handed
     × HandedOver took before handed now × (length octets ≡ c.limit + 1)
 

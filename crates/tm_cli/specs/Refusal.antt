@@ -46,8 +46,8 @@ first_refusal (fault ∷ faults) job = Some Words
 abbrev pub refusal_of : List Text → Option Refusal
 refusal_of words = first_refusal (fault_of command_line words) (job_of_words words)
 
--- the words are not refused, and ask for this job
-pub record IsAsked (words : List Text) (job : Job) : Type 0 where
+-- the words are not refused, and parse as this job
+pub record AreParsedAs (words : List Text) (job : Job) : Type 0 where
   pub accepted : refusal_of words ≡ None
   pub read : job_of_words words ≡ Some job
 

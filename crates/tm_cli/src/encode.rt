@@ -7,7 +7,7 @@ ghost use Rattle.tm_driver.specs.declared.ending.Ending.TheVariants.{SinkFault};
 
 use tm_base::{Failed, Sink, Source};
 use tm_channel::{Config, Sender};
-use tm_driver::{Ending, Feed, Outcome, Stop, drive, tell_rest};
+use tm_driver::{Ending, Feed, Outcome, Stop, drive, report_rest};
 
 // A sender, where it writes, and where what is left over is reported.
 struct Encoding<'a, 'b, 'c, O, N> {
@@ -88,7 +88,7 @@ impl<'a, 'b, 'c, O: Sink, N: Sink> Feed for Encoding<'a, 'b, 'c, O, N> {
     }
 
     fn finish(&mut self) -> Result<Outcome, Failed> {
-        tell_rest(self.notes, self.sender.left_over())
+        report_rest(self.notes, self.sender.left_over())
     }
 }
 

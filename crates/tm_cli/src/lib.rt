@@ -6,12 +6,12 @@
 
 mod counts;
 mod decode;
+mod dispatch;
 mod encode;
 mod ends;
 mod generated;
 mod lines;
 mod link;
-mod obey;
 mod receiving;
 mod refusal;
 mod soak;

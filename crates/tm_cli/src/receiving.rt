@@ -17,14 +17,14 @@ use tm_driver::{Ending, Feed, Outcome, Stop, drive};
 /// Takes the end of a report, after its items.
 pub trait ReportEnd {
     /// The end of the report of octets that came to this was written, and whether no column was uncorrectable.
-    ghost told: { Self → Totals → Bool → Self → Type 0 };
+    ghost took_end: { Self → Totals → Bool → Self → Type 0 };
 
     /// A sink failed in it.
     ghost broke_end: { Self → Totals → Self → Type 0 };
 
     /// Writes the end of the report of octets that came to this. Answers whether no column was uncorrectable.
     fn end(&mut self, totals: Totals) -> Result<bool, Failed>
-        ensures told { IfOk result (λ is_good. told self.old totals is_good self.new) }
+        ensures took_end { IfOk result (λ is_good. took_end self.old totals is_good self.new) }
         ensures broke { OnErr result (broke_end self.old totals self.new) };
 }
 
@@ -56,7 +56,7 @@ impl<'a, 'b, 'c, R: Threads + Sync, T: ItemTaker + ReportEnd> Feed for Receiving
 
     ghost finished = { λ a b outcome. (is_good : Bool) × (outcome ≡ (if is_good then Done else Bad))
         × HandedLast (on_handed T.took_phase T.took) a.receiver.now a.taker.now
-        (λ middle totals. T.told middle totals is_good b.taker.now) };
+        (λ middle totals. T.took_end middle totals is_good b.taker.now) };
 
     ghost failed = { λ a b. HandedLastPart (on_handed T.took_phase T.took)
         (on_handed T.broke_phase T.broke) a.receiver.now a.taker.now b.taker.now
@@ -127,7 +127,7 @@ pub fn receive<R: Threads + Sync, S: Source, T: ItemTaker + ReportEnd>(
         × Gave (S.given source.old) (S.given source.new) (S.left source.old) (S.left source.new) octets
         × (length octets ≤ config.now.limit + 1)
         × ReceivedTo (on_handed T.took_phase T.took)
-        (on_handed T.broke_phase T.broke) T.told T.broke_end config.now ending octets taker.old taker.new) }
+        (on_handed T.broke_phase T.broke) T.took_end T.broke_end config.now ending octets taker.old taker.new) }
     ensures memory { OnErr result ((source.new ≡ source.old) × (taker.new ≡ taker.old)) }
     ensures accepted { IsAccepted config.now }
     ensures source { IfOk result (λ ending. SourceWent ending

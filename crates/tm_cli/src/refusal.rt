@@ -7,7 +7,7 @@ ghost use Rattle.tm_config.specs.Configuration.{configuration_of, Configuration}
 ghost use Rattle.tm_config.specs.Accepted.{IsAccepted};
 ghost use Rattle.tm_words.specs.declared.job.Job.{Job};
 ghost use Rattle.tm_cli.specs.Commands.{command_of};
-ghost use Rattle.tm_cli.specs.Refusal.{reason_of, refusal_of, refusal_of_command, IsAsked};
+ghost use Rattle.tm_cli.specs.Refusal.{reason_of, refusal_of, refusal_of_command, AreParsedAs};
 
 use crate::soak_refusal::{SoakRefusal, test_soak};
 use std::alloc::Global;
@@ -47,7 +47,7 @@ impl Refusal {
 
 /// What the words ask for, or why they are refused.
 #[derive(Drop)]
-pub enum Asked {
+pub enum Parsed {
     /// A command with the values of its options, and the configuration that these give.
     Command(Job, Config),
     /// The words are refused.
@@ -80,25 +80,25 @@ fn test_command(job: &Job, config: &Config) -> Option<Refusal>
 }
 
 /// Reads the words and tests the values that they give.
-pub fn ask(alloc: Global, words: &[String]) -> Asked
-    ensures command { (job : Job) (config : Configuration) → result ≡ Asked.Command job config
-        → IsAsked (map string_bytes words.now) job × (configuration_of job.raw ≡ config) × IsAccepted config
+pub fn parse(alloc: Global, words: &[String]) -> Parsed
+    ensures command { (job : Job) (config : Configuration) → result ≡ Parsed.Command job config
+        → AreParsedAs (map string_bytes words.now) job × (configuration_of job.raw ≡ config) × IsAccepted config
         × (refusal_of_command config (command_of job) ≡ None) }
-    ensures refused { (why : Refusal) → result ≡ Asked.Refused why
+    ensures refused { (why : Refusal) → result ≡ Parsed.Refused why
         → refusal_of (map string_bytes words.now) ≡ Some why }
 {
     let job = match read_words(alloc, words) {
         Ok(job) => job,
-        Err(WordsError::Words) => return Asked::Refused(Refusal::Words),
-        Err(WordsError::Memory) => return Asked::NoMemory,
+        Err(WordsError::Words) => return Parsed::Refused(Refusal::Words),
+        Err(WordsError::Memory) => return Parsed::NoMemory,
     };
     let config = match Config::check(&job.raw) {
         Ok(config) => config,
-        Err(error) => return Asked::Refused(Refusal::Value(error)),
+        Err(error) => return Parsed::Refused(Refusal::Value(error)),
     };
     match test_command(&job, &config) {
-        None => Asked::Command(job, config),
-        Some(why) => Asked::Refused(why),
+        None => Parsed::Command(job, config),
+        Some(why) => Parsed::Refused(why),
     }
 }
 

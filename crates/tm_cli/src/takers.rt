@@ -129,7 +129,7 @@ impl<'a, 'b, O: Sink, N: Sink> ReportEnd for Decoding<'a, 'b, O, N> {
     ghost use Rattle.tm_driver.specs.Courses.{SinkState, sink_state};
     ghost use Rattle.tm_driver.specs.Texts.{TookText, BrokeText};
 
-    ghost told = { λ a totals is_good b. (b.out.ghost_name ≡ a.out.ghost_name)
+    ghost took_end = { λ a totals is_good b. (b.out.ghost_name ≡ a.out.ghost_name)
         × (b.report.lines.ghost_name ≡ a.report.lines.ghost_name) × (b.out.now ≡ a.out.now)
         × ((start : SinkState) (handed : List (Handed ItemValue))
         → ReportedAll start (sink_state (N.taken a.report.lines.now) (N.faults a.report.lines.now)) no_counts

@@ -3,13 +3,13 @@ ghost use Rattle.std.specs.Prelude.{◌≡◌, ◌⊎◌, ◌≤◌, map, string
 ghost use Rattle.tm_config.specs.Configuration.{configuration_of};
 ghost use Rattle.tm_words.specs.declared.job.Job.{Job};
 ghost use Rattle.tm_cli.specs.Commands.{command_of, reads};
-ghost use Rattle.tm_cli.specs.Refusal.{refusal_of, IsAsked};
+ghost use Rattle.tm_cli.specs.Refusal.{refusal_of, AreParsedAs};
 ghost use Rattle.tm_cli.specs.Run.{Answers, IsRefused, call_of};
 ghost use Rattle.tm_driver.specs.Courses.{sink_state, source_state};
 
+use crate::dispatch::dispatch;
 use crate::link::link_law;
-use crate::obey::obey;
-use crate::refusal::{Asked, ask, refusal_line};
+use crate::refusal::{Parsed, parse, refusal_line};
 use std::alloc::Global;
 use std::thread::Threads;
 use tm_base::{NoMemory, Sink, Source};
@@ -53,7 +53,7 @@ pub fn run<R: Threads + Sync, S: Source, O: Sink, N: Sink>(
     ensures memory { result ≡ 5 → notes.new ≡ notes.old }
 
     // They are accepted, and ask for a job.
-    ensures answered { (job : Job) → IsAsked (map string_bytes words.now) job → (result ≡ 5 → ⊥)
+    ensures answered { (job : Job) → AreParsedAs (map string_bytes words.now) job → (result ≡ 5 → ⊥)
         → Answers result (command_of job) (configuration_of job.raw) (call_of
         (source_state (S.given source.old) (S.left source.old)
         (S.ended source.old) (S.faults source.old))
@@ -64,20 +64,28 @@ pub fn run<R: Threads + Sync, S: Source, O: Sink, N: Sink>(
         (sink_state (O.taken out.new) (O.faults out.new)) (O.is_last out.new)
         (sink_state (N.taken notes.old) (N.faults notes.old))
         (sink_state (N.taken notes.new) (N.faults notes.new)) (N.is_last notes.new)) }
-    ensures only_words { (job : Job) → IsAsked (map string_bytes words.now) job
+    ensures only_words { (job : Job) → AreParsedAs (map string_bytes words.now) job
         → reads (command_of job) ≡ false → (source.new ≡ source.old) × (notes.new ≡ notes.old) }
 {
     link_law();
     certificate_law();
-    match ask(alloc, words) {
-        Asked::Command(job, config) => match obey(rt, alloc, &job, &config, source, out, notes) {
+    match parse(alloc, words) {
+        Parsed::Command(job, config) => match dispatch(
+            rt,
+            alloc,
+            &job,
+            &config,
+            source,
+            out,
+            notes,
+        ) {
             Ok(ending) => ending.status(),
             Err(NoMemory) => 5,
         },
-        Asked::Refused(why) => {
+        Parsed::Refused(why) => {
             let _ = refusal_line(notes, why);
             2
         }
-        Asked::NoMemory => 5,
+        Parsed::NoMemory => 5,
     }
 }

@@ -148,8 +148,7 @@ fn item_of<'a>(rt: &impl Abort, row: &Row<'a>) -> Item<'a> {
     }
 }
 
-// A window of the soft decoder.
-// How far windows are told.
+// A window of the soft decoder. How far windows are reported.
 fn after(blocks: u64, bits: u64) -> Tally {
     Tally { blocks, bits }
 }
@@ -234,7 +233,7 @@ fn writes_the_other_lines(rt: HostRuntime) -> Result<(), Fail> {
     Ok(())
 }
 
-// Octets that are dropped before a window are told in a line before its own, and how often in one before the last.
+// Octets that are dropped before a window are reported in a line before its own, and how often in one before the last.
 #[test]
 fn writes_where_octets_were_dropped(rt: HostRuntime) -> Result<(), Fail> {
     let mut out = sink(&rt, rt.alloc(), 1024);

@@ -68,7 +68,7 @@ splits-more size octets more held rest frames others s t = record {
     joined [] h = t.sized
     joined (f ∷ fs) h = (h.0, joined fs h.1)
 
--- the whole frames of a longer list are those of its front, and then others
+-- the whole frames of a longer list are those of its prefix, and then others
 pub whole_frames-more : (size : ℕ) (octets more : List ℕ) → 0 < size → whole_frames size (octets ++ more) ≡ whole_frames size octets ++ whole_frames size (after_frames size octets ++ more)
 whole_frames-more size octets more pos =
     let held = after_frames size octets in

@@ -102,7 +102,7 @@ cost-none (x ∷ xs) (y ∷ ys) p q long e =
     let more = cost-none xs ys p.1 q.1 (omega arith) (omega arith) in
     λ i. one i ∷ more i
 
--- ---- the front of a path
+-- ---- the prefix of a path
 pub path-append : (rate : Rate) (invert : Bool) (t r : ℕ) (xs ys : List ℕ)
     → path rate invert t r (xs ++ ys) ≡ path rate invert t r xs ++ path rate invert (t + length xs) (register_after r xs) ys
 path-append rate invert t r [] ys = ap (λ n. path rate invert n r ys) (omega arith)

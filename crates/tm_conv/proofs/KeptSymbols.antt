@@ -26,25 +26,25 @@ below (x ∷ xs) e =
 
 -- the rows of a rate begin with this one
 abbrev pub AreRows : ℕ → Rate → Type 0
-AreRows first rate = (phase : ℕ) → phase < period rate → AreKept rate phase (get_or KEPT (first + phase) []) (get_or COUNTS (first + phase) 0)
+AreRows first rate = (position : ℕ) → position < period rate → AreKept rate position (get_or KEPT (first + position) []) (get_or COUNTS (first + position) 0)
 
 pub at_half : AreRows 0 R12
 unfolding are_below
 at_half zero lt = record { long = refl; small = below (get_or KEPT 0 []) refl; at_most = omega arith; kept = λ f invert register a b c d e g h i. refl }
-at_half (suc phase) lt = absurd (omega arith)
+at_half (suc position) lt = absurd (omega arith)
 
 pub at_two_thirds : AreRows 1 R23
 unfolding are_below
 at_two_thirds zero lt = record { long = refl; small = below (get_or KEPT 1 []) refl; at_most = omega arith; kept = λ f invert register a b c d e g h i. refl }
 at_two_thirds (suc zero) lt = record { long = refl; small = below (get_or KEPT 2 []) refl; at_most = omega arith; kept = λ f invert register a b c d e g h i. refl }
-at_two_thirds (suc (suc phase)) lt = absurd (omega arith)
+at_two_thirds (suc (suc position)) lt = absurd (omega arith)
 
 pub at_three_quarters : AreRows 3 R34
 unfolding are_below
 at_three_quarters zero lt = record { long = refl; small = below (get_or KEPT 3 []) refl; at_most = omega arith; kept = λ f invert register a b c d e g h i. refl }
 at_three_quarters (suc zero) lt = record { long = refl; small = below (get_or KEPT 4 []) refl; at_most = omega arith; kept = λ f invert register a b c d e g h i. refl }
 at_three_quarters (suc (suc zero)) lt = record { long = refl; small = below (get_or KEPT 5 []) refl; at_most = omega arith; kept = λ f invert register a b c d e g h i. refl }
-at_three_quarters (suc (suc (suc phase))) lt = absurd (omega arith)
+at_three_quarters (suc (suc (suc position))) lt = absurd (omega arith)
 
 pub at_five_sixths : AreRows 6 R56
 unfolding are_below
@@ -53,7 +53,7 @@ at_five_sixths (suc zero) lt = record { long = refl; small = below (get_or KEPT 
 at_five_sixths (suc (suc zero)) lt = record { long = refl; small = below (get_or KEPT 8 []) refl; at_most = omega arith; kept = λ f invert register a b c d e g h i. refl }
 at_five_sixths (suc (suc (suc zero))) lt = record { long = refl; small = below (get_or KEPT 9 []) refl; at_most = omega arith; kept = λ f invert register a b c d e g h i. refl }
 at_five_sixths (suc (suc (suc (suc zero)))) lt = record { long = refl; small = below (get_or KEPT 10 []) refl; at_most = omega arith; kept = λ f invert register a b c d e g h i. refl }
-at_five_sixths (suc (suc (suc (suc (suc phase))))) lt = absurd (omega arith)
+at_five_sixths (suc (suc (suc (suc (suc position))))) lt = absurd (omega arith)
 
 pub at_seven_eighths : AreRows 11 R78
 unfolding are_below
@@ -64,26 +64,27 @@ at_seven_eighths (suc (suc (suc zero))) lt = record { long = refl; small = below
 at_seven_eighths (suc (suc (suc (suc zero)))) lt = record { long = refl; small = below (get_or KEPT 15 []) refl; at_most = omega arith; kept = λ f invert register a b c d e g h i. refl }
 at_seven_eighths (suc (suc (suc (suc (suc zero))))) lt = record { long = refl; small = below (get_or KEPT 16 []) refl; at_most = omega arith; kept = λ f invert register a b c d e g h i. refl }
 at_seven_eighths (suc (suc (suc (suc (suc (suc zero)))))) lt = record { long = refl; small = below (get_or KEPT 17 []) refl; at_most = omega arith; kept = λ f invert register a b c d e g h i. refl }
-at_seven_eighths (suc (suc (suc (suc (suc (suc (suc phase))))))) lt = absurd (omega arith)
+at_seven_eighths (suc (suc (suc (suc (suc (suc (suc position))))))) lt = absurd (omega arith)
 
 -- the places after an octet, in the rows of a rate
 abbrev pub AreNext : ℕ → Rate → Type 0
-AreNext first rate = (phase : ℕ) → phase < period rate → get_or NEXT (first + phase) 0 ≡ (phase + 8) % period rate
+AreNext first rate =
+    (position : ℕ) → position < period rate → get_or NEXT (first + position) 0 ≡ (position + 8) % period rate
 
 pub next_at_half : AreNext 0 R12
 next_at_half zero lt = refl
-next_at_half (suc phase) lt = absurd (omega arith)
+next_at_half (suc position) lt = absurd (omega arith)
 
 pub next_at_two_thirds : AreNext 1 R23
 next_at_two_thirds zero lt = refl
 next_at_two_thirds (suc zero) lt = refl
-next_at_two_thirds (suc (suc phase)) lt = absurd (omega arith)
+next_at_two_thirds (suc (suc position)) lt = absurd (omega arith)
 
 pub next_at_three_quarters : AreNext 3 R34
 next_at_three_quarters zero lt = refl
 next_at_three_quarters (suc zero) lt = refl
 next_at_three_quarters (suc (suc zero)) lt = refl
-next_at_three_quarters (suc (suc (suc phase))) lt = absurd (omega arith)
+next_at_three_quarters (suc (suc (suc position))) lt = absurd (omega arith)
 
 pub next_at_five_sixths : AreNext 6 R56
 next_at_five_sixths zero lt = refl
@@ -91,7 +92,7 @@ next_at_five_sixths (suc zero) lt = refl
 next_at_five_sixths (suc (suc zero)) lt = refl
 next_at_five_sixths (suc (suc (suc zero))) lt = refl
 next_at_five_sixths (suc (suc (suc (suc zero)))) lt = refl
-next_at_five_sixths (suc (suc (suc (suc (suc phase))))) lt = absurd (omega arith)
+next_at_five_sixths (suc (suc (suc (suc (suc position))))) lt = absurd (omega arith)
 
 pub next_at_seven_eighths : AreNext 11 R78
 next_at_seven_eighths zero lt = refl
@@ -101,4 +102,4 @@ next_at_seven_eighths (suc (suc (suc zero))) lt = refl
 next_at_seven_eighths (suc (suc (suc (suc zero)))) lt = refl
 next_at_seven_eighths (suc (suc (suc (suc (suc zero))))) lt = refl
 next_at_seven_eighths (suc (suc (suc (suc (suc (suc zero)))))) lt = refl
-next_at_seven_eighths (suc (suc (suc (suc (suc (suc (suc phase))))))) lt = absurd (omega arith)
+next_at_seven_eighths (suc (suc (suc (suc (suc (suc (suc position))))))) lt = absurd (omega arith)

@@ -13,37 +13,37 @@ use Rattle.tm_conv.specs.declared.rates.Rate.TheVariants.{R12, R23, R34, R56, R7
 use Rattle.tm_conv.specs.Path.{c1, c2, next_register, path, period, register_after, step_symbols}
 use Rattle.tm_conv.specs.Encoding.{Encoding, StandsFor, bit_numbers, level, levels, sent_for}
 use Rattle.tm_conv.proofs.Paths.{path-append, register_after-append}
-use Rattle.tm_conv.proofs.Encoded.{sent-phase, phase-next}
+use Rattle.tm_conv.proofs.Encoded.{sent-position, position-next}
 
 -- a path by its place in the pattern
-path-phase : (rate : Rate) (invert : Bool) (t s register : ℕ) (bits : List ℕ) → t % period rate ≡ s % period rate → path rate invert t register bits ≡ path rate invert s register bits
-path-phase rate invert t s register [] same = refl
-path-phase rate invert t s register (bit ∷ bits) same =
+path-position : (rate : Rate) (invert : Bool) (t s register : ℕ) (bits : List ℕ) → t % period rate ≡ s % period rate → path rate invert t register bits ≡ path rate invert s register bits
+path-position rate invert t s register [] same = refl
+path-position rate invert t s register (bit ∷ bits) same =
     let step : step_symbols rate invert t register bit ≡ step_symbols rate invert s register bit =
-    sym (sent-phase rate invert t (c1 register bit) (c2 register bit)) ∙ ap (λ k. step_symbols rate invert k register bit) same ∙ sent-phase rate invert s (c1 register bit) (c2 register bit) in
-    let next : (t + 1) % period rate ≡ (s + 1) % period rate = sym (phase-next rate t) ∙ ap (λ k. (k + 1) % period rate) same ∙ phase-next rate s in
-    (λ i. step i ++ path-phase rate invert (t + 1) (s + 1) (next_register register bit) bits next i)
+    sym (sent-position rate invert t (c1 register bit) (c2 register bit)) ∙ ap (λ k. step_symbols rate invert k register bit) same ∙ sent-position rate invert s (c1 register bit) (c2 register bit) in
+    let next : (t + 1) % period rate ≡ (s + 1) % period rate = sym (position-next rate t) ∙ ap (λ k. (k + 1) % period rate) same ∙ position-next rate s in
+    (λ i. step i ++ path-position rate invert (t + 1) (s + 1) (next_register register bit) bits next i)
 
-phase-more : (rate : Rate) (t n : ℕ) → (t % period rate + n) % period rate ≡ (t + n) % period rate
-phase-more R12 t n = let e : (t % 1 + n) % 1 ≡ (t + n) % 1 = omega arith in e
-phase-more R23 t n = let e : (t % 2 + n) % 2 ≡ (t + n) % 2 = omega arith in e
-phase-more R34 t n = let e : (t % 3 + n) % 3 ≡ (t + n) % 3 = omega arith in e
-phase-more R56 t n = let e : (t % 5 + n) % 5 ≡ (t + n) % 5 = omega arith in e
-phase-more R78 t n = let e : (t % 7 + n) % 7 ≡ (t + n) % 7 = omega arith in e
+position-more : (rate : Rate) (t n : ℕ) → (t % period rate + n) % period rate ≡ (t + n) % period rate
+position-more R12 t n = let e : (t % 1 + n) % 1 ≡ (t + n) % 1 = omega arith in e
+position-more R23 t n = let e : (t % 2 + n) % 2 ≡ (t + n) % 2 = omega arith in e
+position-more R34 t n = let e : (t % 3 + n) % 3 ≡ (t + n) % 3 = omega arith in e
+position-more R56 t n = let e : (t % 5 + n) % 5 ≡ (t + n) % 5 = omega arith in e
+position-more R78 t n = let e : (t % 7 + n) % 7 ≡ (t + n) % 7 = omega arith in e
 
-phase-twice : (rate : Rate) (t : ℕ) → t % period rate % period rate ≡ t % period rate
-phase-twice R12 t = let e : t % 1 % 1 ≡ t % 1 = omega arith in e
-phase-twice R23 t = let e : t % 2 % 2 ≡ t % 2 = omega arith in e
-phase-twice R34 t = let e : t % 3 % 3 ≡ t % 3 = omega arith in e
-phase-twice R56 t = let e : t % 5 % 5 ≡ t % 5 = omega arith in e
-phase-twice R78 t = let e : t % 7 % 7 ≡ t % 7 = omega arith in e
+position-twice : (rate : Rate) (t : ℕ) → t % period rate % period rate ≡ t % period rate
+position-twice R12 t = let e : t % 1 % 1 ≡ t % 1 = omega arith in e
+position-twice R23 t = let e : t % 2 % 2 ≡ t % 2 = omega arith in e
+position-twice R34 t = let e : t % 3 % 3 ≡ t % 3 = omega arith in e
+position-twice R56 t = let e : t % 5 % 5 ≡ t % 5 = omega arith in e
+position-twice R78 t = let e : t % 7 % 7 ≡ t % 7 = omega arith in e
 
-pub phase-within : (rate : Rate) (t : ℕ) → t % period rate < period rate
-phase-within R12 t = let e : t % 1 < 1 = omega arith in e
-phase-within R23 t = let e : t % 2 < 2 = omega arith in e
-phase-within R34 t = let e : t % 3 < 3 = omega arith in e
-phase-within R56 t = let e : t % 5 < 5 = omega arith in e
-phase-within R78 t = let e : t % 7 < 7 = omega arith in e
+pub position-within : (rate : Rate) (t : ℕ) → t % period rate < period rate
+position-within R12 t = let e : t % 1 < 1 = omega arith in e
+position-within R23 t = let e : t % 2 < 2 = omega arith in e
+position-within R34 t = let e : t % 3 < 3 = omega arith in e
+position-within R56 t = let e : t % 5 < 5 = omega arith in e
+position-within R78 t = let e : t % 7 < 7 = omega arith in e
 
 -- the bits of octets as numbers
 abbrev pub octet_bits : List ℕ → List ℕ
@@ -69,28 +69,30 @@ register-more register here octets i within is =
     ∙ ap (register_after register) (sym (bits-more octets i within))
 
 -- the place in the pattern after one octet more
-pub place-more : (rate : Rate) (phase here i : ℕ) → here ≡ (phase + 8 * i) % period rate → (here + 8) % period rate ≡ (phase + 8 * (i + 1)) % period rate
-place-more rate phase here i is =
-    ap (λ t. (t + 8) % period rate) is ∙ phase-more rate (phase + 8 * i) 8
-    ∙ (let more : phase + 8 * i + 8 ≡ phase + 8 * (i + 1) = omega arith in ap (λ t. t % period rate) more)
+pub place-more : (rate : Rate) (position here i : ℕ) → here ≡ (position + 8 * i) % period rate → (here + 8) % period rate ≡ (position + 8 * (i + 1)) % period rate
+place-more rate position here i is =
+    ap (λ t. (t + 8) % period rate) is ∙ position-more rate (position + 8 * i) 8
+    ∙ (let more : position + 8 * i + 8 ≡ position + 8 * (i + 1) = omega arith in ap (λ t. t % period rate) more)
 
 -- the symbols of one octet more
-path-more : (rate : Rate) (invert : Bool) (phase register place here : ℕ) (octets : List ℕ) (i : ℕ) → i < length octets
-    → place ≡ (phase + 8 * i) % period rate → here ≡ register_after register (octet_bits (take i octets))
-    → path rate invert phase register (octet_bits (take (i + 1) octets))
-    ≡ path rate invert phase register (octet_bits (take i octets)) ++ path rate invert place here (bit_numbers (bits_of_octet (get_or octets i 0)))
-path-more rate invert phase register place here octets i within at is =
+path-more : (rate : Rate) (invert : Bool) (position register place here : ℕ) (octets : List ℕ) (i : ℕ)
+    → i < length octets
+    → place ≡ (position + 8 * i) % period rate → here ≡ register_after register (octet_bits (take i octets))
+    → path rate invert position register (octet_bits (take (i + 1) octets))
+    ≡ path rate invert position register (octet_bits (take i octets)) ++ path rate invert place here (bit_numbers (bits_of_octet (get_or octets i 0)))
+path-more rate invert position register place here octets i within at is =
     let bits = octet_bits (take i octets) in
     let own = bit_numbers (bits_of_octet (get_or octets i 0)) in
-    let long : phase + length bits ≡ phase + 8 * i = omega (arith, length-octet_bits (take i octets), length-take-le i octets (omega arith)) in
-    let same : (phase + length bits) % period rate ≡ place % period rate =
-    ap (λ t. t % period rate) long ∙ sym (phase-twice rate (phase + 8 * i)) ∙ ap (λ t. t % period rate) (sym at) in
-    ap (path rate invert phase register) (bits-more octets i within)
-    ∙ path-append rate invert phase register bits own
-    ∙ ap (λ l. path rate invert phase register bits ++ l)
-    (path-phase rate invert (phase + length bits) place (register_after register bits) own same ∙ ap (λ r. path rate invert place r own) (sym is))
+    let long : position + length bits ≡ position + 8 * i = omega (arith, length-octet_bits (take i octets), length-take-le i octets (omega arith)) in
+    let same : (position + length bits) % period rate ≡ place % period rate =
+    ap (λ t. t % period rate) long ∙ sym (position-twice rate (position + 8 * i)) ∙ ap
+        (λ t. t % period rate) (sym at) in
+    ap (path rate invert position register) (bits-more octets i within)
+    ∙ path-append rate invert position register bits own
+    ∙ ap (λ l. path rate invert position register bits ++ l)
+    (path-position rate invert (position + length bits) place (register_after register bits) own same ∙ ap (λ r. path rate invert place r own) (sym is))
 
--- a vector's front after what stands before it
+-- a vector's prefix after what stands before it
 stored : (out lanes : List ℕ) (count k kept : ℕ) → k ≡ 16 → length lanes ≡ 16 → kept ≤ 16 → count + 16 ≤ length out
     → take (count + kept) (put_mid count k out (put_chunk 0 (take k (drop count out)) lanes)) ≡ take count out ++ take kept lanes
 stored out lanes count k kept is long most room =
@@ -103,42 +105,42 @@ stored out lanes count k kept is long most room =
     ∙ ap (λ n. take (n + kept) (take count out ++ lanes)) (sym prefix)
     ∙ take-append-add (take count out) lanes kept
 
-pub symbols-more : (rate : Rate) (invert : Bool) (low phase register place here : ℕ) (octets out lanes : List ℕ) (i count k kept : ℕ) → i < length octets
-    → place ≡ (phase + 8 * i) % period rate → here ≡ register_after register (octet_bits (take i octets))
+pub symbols-more : (rate : Rate) (invert : Bool) (low position register place here : ℕ) (octets out lanes : List ℕ) (i count k kept : ℕ) → i < length octets
+    → place ≡ (position + 8 * i) % period rate → here ≡ register_after register (octet_bits (take i octets))
     → take kept lanes ≡ levels low (path rate invert place here (bit_numbers (bits_of_octet (get_or octets i 0))))
     → k ≡ 16 → length lanes ≡ 16 → kept ≤ 16 → count + 16 ≤ length out
-    → take count out ≡ levels low (path rate invert phase register (octet_bits (take i octets)))
-    → take (count + kept) (put_mid count k out (put_chunk 0 (take k (drop count out)) lanes)) ≡ levels low (path rate invert phase register (octet_bits (take (i + 1) octets)))
-symbols-more rate invert low phase register place here octets out lanes i count k kept within at is symbols whole long most room done =
+    → take count out ≡ levels low (path rate invert position register (octet_bits (take i octets)))
+    → take (count + kept) (put_mid count k out (put_chunk 0 (take k (drop count out)) lanes)) ≡ levels low (path rate invert position register (octet_bits (take (i + 1) octets)))
+symbols-more rate invert low position register place here octets out lanes i count k kept within at is symbols whole long most room done =
     stored out lanes count k kept whole long most room
     ∙ (λ j. done j ++ symbols j)
-    ∙ sym (map-append (level low) (path rate invert phase register (octet_bits (take i octets))) (path rate invert place here (bit_numbers (bits_of_octet (get_or octets i 0)))))
-    ∙ ap (levels low) (sym (path-more rate invert phase register place here octets i within at is))
+    ∙ sym (map-append (level low) (path rate invert position register (octet_bits (take i octets))) (path rate invert place here (bit_numbers (bits_of_octet (get_or octets i 0)))))
+    ∙ ap (levels low) (sym (path-more rate invert position register place here octets i within at is))
 
 -- ---- what that means for the bits given so far
 
 pub StandsFor-octets : (before now : Encoding) (given : List Bool) (octets : List ℕ) → now.rate ≡ before.rate
-    → now.register ≡ register_after before.register (octet_bits octets) → now.phase ≡ (before.phase + 8 * length octets) % period before.rate
+    → now.register ≡ register_after before.register (octet_bits octets) → now.position ≡ (before.position + 8 * length octets) % period before.rate
     → StandsFor before given → StandsFor now (given ++ bits_of octets)
-StandsFor-octets before now given octets same register phase stands = record {
+StandsFor-octets before now given octets same register position stands = record {
   register = register ∙ ap (λ r. register_after r (octet_bits octets)) stands.register
       ∙ sym (register_after-append 0 (bit_numbers given) (octet_bits octets)) ∙ ap (register_after 0) (sym (map-append bit_number given (bits_of octets)));
-  phase = phase ∙ ap (λ t. (t + 8 * length octets) % period before.rate) stands.phase ∙ phase-more before.rate (length given) (8 * length octets)
+  position = position ∙ ap (λ t. (t + 8 * length octets) % period before.rate) stands.position ∙ position-more before.rate (length given) (8 * length octets)
       ∙ ap (λ t. t % period before.rate) (ap (λ n. length given + n) (sym (length-bits_of octets)) ∙ sym (length-append given (bits_of octets)))
       ∙ ap (λ (r : Rate). length (given ++ bits_of octets) % period r) (sym same);
 }
 
-pub sent_for-octets : (before : Encoding) (low : ℕ) (given : List Bool) (octets symbols : List ℕ) → symbols ≡ levels low (path before.rate before.invert before.phase before.register (octet_bits octets))
+pub sent_for-octets : (before : Encoding) (low : ℕ) (given : List Bool) (octets symbols : List ℕ) → symbols ≡ levels low (path before.rate before.invert before.position before.register (octet_bits octets))
     → StandsFor before given → levels low (sent_for before.rate before.invert (given ++ bits_of octets)) ≡ levels low (sent_for before.rate before.invert given) ++ symbols
 sent_for-octets before low given octets symbols is stands =
     let numbers = bit_numbers given in
     let rate = before.rate in
     let from_none : 0 + length numbers ≡ length given = omega (arith, length-map given bit_number) in
-    let same : (0 + length numbers) % period rate ≡ before.phase % period rate =
-    ap (λ t. t % period rate) from_none ∙ sym (phase-twice rate (length given)) ∙ ap (λ t. t % period rate) (sym stands.phase) in
+    let same : (0 + length numbers) % period rate ≡ before.position % period rate =
+    ap (λ t. t % period rate) from_none ∙ sym (position-twice rate (length given)) ∙ ap (λ t. t % period rate) (sym stands.position) in
     ap (λ l. levels low (path rate before.invert 0 0 l)) (map-append bit_number given (bits_of octets))
     ∙ ap (levels low) (path-append rate before.invert 0 0 numbers (octet_bits octets)
     ∙ ap (λ l. path rate before.invert 0 0 numbers ++ l)
-    (path-phase rate before.invert (0 + length numbers) before.phase (register_after 0 numbers) (octet_bits octets) same ∙ ap (λ r. path rate before.invert before.phase r (octet_bits octets)) (sym stands.register)))
-    ∙ map-append (level low) (path rate before.invert 0 0 numbers) (path rate before.invert before.phase before.register (octet_bits octets))
+    (path-position rate before.invert (0 + length numbers) before.position (register_after 0 numbers) (octet_bits octets) same ∙ ap (λ r. path rate before.invert before.position r (octet_bits octets)) (sym stands.register)))
+    ∙ map-append (level low) (path rate before.invert 0 0 numbers) (path rate before.invert before.position before.register (octet_bits octets))
     ∙ ap (λ l. levels low (path rate before.invert 0 0 numbers) ++ l) (sym is)

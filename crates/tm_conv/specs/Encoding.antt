@@ -27,15 +27,15 @@ level low symbol = if symbol == 0 then low else 255 - low
 abbrev pub levels : ℕ → List ℕ → List ℕ
 levels low symbols = map (level low) symbols
 
--- what contracts see of an encoder: its register, and the place of its next step in the puncture
+-- what contracts see of an encoder: its register, and the position of its next step in the puncture
 -- pattern
 pub record Encoding : Type 0 where
   pub rate : Rate
   pub invert : Bool
   pub register : ℕ
-  pub phase : ℕ
+  pub position : ℕ
 
 -- an encoder that was given these bits, and no others
 pub record StandsFor (encoder : Encoding) (bits : List Bool) : Type 0 where
   pub register : encoder.register ≡ register_after 0 (bit_numbers bits)
-  pub phase : encoder.phase ≡ length bits % period encoder.rate
+  pub position : encoder.position ≡ length bits % period encoder.rate

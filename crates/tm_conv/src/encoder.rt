@@ -15,14 +15,14 @@ pub enum Symbols {
     Two(bool, bool),
 }
 
-/// Turns bits into symbols, one step after another. The register and the place in the puncture pattern run on over all
-/// bits.
+/// Turns bits into symbols, one step after another. The register and the position in the puncture pattern run on over
+/// all bits.
 #[derive(Drop)]
 pub struct Encoder {
     rate: Rate,
     invert: bool,
     register: u8,
-    phase: u8,
+    position: u8,
 }
 
 impl Model for Encoder {
@@ -32,9 +32,9 @@ impl Model for Encoder {
 
     ghost Value = { Encoding };
 
-    ghost view = { λ e. record { rate = e.rate; invert = e.invert; register = e.register; phase = e.phase } };
+    ghost view = { λ e. record { rate = e.rate; invert = e.invert; register = e.register; position = e.position } };
 
-    ghost invariant = { λ e. (e.register < 64) × (e.phase < period e.rate) };
+    ghost invariant = { λ e. (e.register < 64) × (e.position < period e.rate) };
 }
 
 impl Encoder {
@@ -49,7 +49,7 @@ impl Encoder {
             rate,
             invert,
             register: 0,
-            phase: 0,
+            position: 0,
         }
     }
 
@@ -63,9 +63,9 @@ impl Encoder {
             ≡ sent_for self.old.rate self.old.invert given ++ symbol_list result }
     {
         let (first, second) = sums(self.register, bit);
-        let symbols = symbols_kept(self.rate, self.invert, self.phase, first, second);
+        let symbols = symbols_kept(self.rate, self.invert, self.position, first, second);
         self.register = self.register / 2 + 32 * u8::from(bit);
-        self.phase = (self.phase + 1) % period(self.rate);
+        self.position = (self.position + 1) % period(self.rate);
         symbols
     }
 
@@ -85,17 +85,17 @@ impl Encoder {
         ensures at_most { result ≤ 16 * length octets.now }
         ensures length { length out.new ≡ length out.old }
     {
-        let (count, register, phase) = encode_octets(
+        let (count, register, position) = encode_octets(
             self.rate,
             self.invert,
             low,
-            self.phase,
+            self.position,
             self.register,
             octets,
             out,
         );
         self.register = register;
-        self.phase = phase;
+        self.position = position;
         count
     }
 }
@@ -112,12 +112,12 @@ fn sums(register: u8, bit: bool) -> (bool, bool)
     (first == 1, second == 1)
 }
 
-// What a step at this place of the pattern sends of its two sums.
-fn symbols_kept(rate: Rate, invert: bool, phase: u8, first: bool, second: bool) -> Symbols
-    ensures { symbol_list result ≡ sent rate invert phase (bit_number first) (bit_number second) }
+// What a step at this position of the pattern sends of its two sums.
+fn symbols_kept(rate: Rate, invert: bool, position: u8, first: bool, second: bool) -> Symbols
+    ensures { symbol_list result ≡ sent rate invert position (bit_number first) (bit_number second) }
 {
     let sent_second = second != invert;
-    match kept(rate, u64::from(phase)) {
+    match kept(rate, u64::from(position)) {
         (true, true) => Symbols::Two(first, sent_second),
         (true, false) => Symbols::One(first),
         (false, _) => Symbols::One(sent_second),

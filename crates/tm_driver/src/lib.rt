@@ -13,4 +13,4 @@ pub use driver::{TURN, drive};
 pub use ending::{Ending, Outcome, Stop};
 pub use feed::Feed;
 pub use line::Line;
-pub use lines::{add_slips, phase_line, tell_rest};
+pub use lines::{add_slips, phase_line, report_rest};

@@ -25,7 +25,7 @@ fn left_over_line<N: Sink>(notes: &mut N, rest: u32) -> Result<(), Failed>
 
 /// Writes how many octets follow the last whole frame or record, where there are some, and answers what came of the
 /// input by that.
-pub fn tell_rest<N: Sink>(notes: &mut N, rest: u32) -> Result<Outcome, Failed>
+pub fn report_rest<N: Sink>(notes: &mut N, rest: u32) -> Result<Outcome, Failed>
     ensures ok { IfOk result (λ outcome. (outcome ≡ outcome_by rest)
         × Wrote (N.taken notes.old) (N.taken notes.new) (left_over_text rest)) }
     ensures err { OnErr result (WrotePrefix (N.taken notes.old) (N.taken notes.new) (left_over_text rest)) }

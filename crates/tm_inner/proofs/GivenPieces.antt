@@ -55,7 +55,7 @@ hands-prefix took broke Stands First a b taker middle now first second p q = rec
       (subst (First ((given ++ first) ++ second)) (append_assoc done p.more q.tried) last);
 }
 
--- what is first of a front is first
+-- what is first of a prefix is first
 abbrev pub Stay : {I : Type 0} → (List ℕ → List I → Type 0) → Type 0
 Stay {I} First = (octets more : List ℕ) (items : List I) → First octets items → First (octets ++ more) items
 

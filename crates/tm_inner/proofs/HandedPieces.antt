@@ -11,7 +11,7 @@ use Rattle.tm_viterbi.specs.WindowBlock.{WindowBlock}
 use Rattle.tm_inner.specs.declared.inner_decoder.InnerDecoder.{InnerDecoder}
 use Rattle.tm_windows.specs.Windows.{AreFirstIn}
 use Rattle.tm_windows.specs.declared.choosing.Chosen.{Chosen}
-use Rattle.tm_inner.specs.Inner.{windows_of, soft_value, soft_octets, AreInnerBlocks, AreInnerDue, inner_bits, slips_told}
+use Rattle.tm_inner.specs.Inner.{windows_of, soft_value, soft_octets, AreInnerBlocks, AreInnerDue, inner_bits, reported_slips}
 use Rattle.tm_inner.specs.Phase.{IsChosen, IsChosenSoFar, IsChosenBy, IsChosenSoFar, IsSettledBy, IsSoFarBy, needed_at, skipped_at, phase_octets, skip_of, with_phase}
 use Rattle.tm_inner.specs.Receiving.{AreInnerFirst, HasClosedAll, HasCountedAll, IsCount, IsDecoderOf, DecodesFor, FirstFor, FirstAt, Hands, HandsPrefix, InnerReceiving, StandsFor, Phasing, Goes, PhasesFor, IsPrefixBy, IsFirstBy, soft_form}
 use Rattle.tm_inner.specs.Handing.{AreHanded, AreHandedDue, AreHandedFirst, AreHandedPrefix}
@@ -248,7 +248,7 @@ chosen-last r chosen inside is given done stood =
 abbrev pub Counted : InnerReceiving → (phase bits : ℕ) → Option ℕ → Option InnerDecoder → Type 0
 Counted r phase bits slips now = (given : List ℕ) (blocks : List WindowBlock) (left : ℕ) → length given ≡ r.count → length given < 2 ^ 60
     → AreInnerBlocks r.config phase given blocks left → HasCountedAll now blocks
-    → (bits ≡ length (inner_bits r.config given blocks)) × (slips ≡ slips_told r.config blocks)
+    → (bits ≡ length (inner_bits r.config given blocks)) × (slips ≡ reported_slips r.config blocks)
 
 pub all-handed : (r : InnerReceiving) (now : Option InnerDecoder) (chosen : Option Chosen) (last : List (Handed WindowBlock)) (bits left : ℕ) (slips : Option ℕ)
     → r.phased.config ≡ r.config → Counted r (skip_of chosen) bits slips now
@@ -256,7 +256,7 @@ pub all-handed : (r : InnerReceiving) (now : Option InnerDecoder) (chosen : Opti
     → AllCounted r.phased.config given (done ++ last) left chosen now)
     → (given : List ℕ) (done : List (Handed WindowBlock)) → StandsFor r given done
     → AreHanded r.config given (done ++ last) left × (bits ≡ length (inner_bits r.config given (items_of (done ++ last))))
-    × (slips ≡ slips_told r.config (items_of (done ++ last)))
+    × (slips ≡ reported_slips r.config (items_of (done ++ last)))
 all-handed r now chosen last bits left slips inside counts handed given done stood =
     let c = r.config in
     let h : AllCounted c given (done ++ last) left chosen now =
@@ -267,5 +267,5 @@ all-handed r now chosen last bits left slips inside counts handed given done sto
     let said = counts given all.items left stood.count stood.few (subst (λ (o : Option Chosen). AreInnerBlocks c (skip_of o) given all.items left) h.1 all.are_items) h.2 in (
       all,
       said.0 ∙ ap (λ (l : List WindowBlock). length (inner_bits c given l)) (sym items),
-      said.1 ∙ ap (slips_told c) (sym items),
+      said.1 ∙ ap (reported_slips c) (sym items),
     )

@@ -1,4 +1,4 @@
--- The symbols for a longer list go on from those for its front.
+-- The symbols for a longer list go on from those for its prefix.
 use Rattle.std.proofs.Common.{◌≡◌, ℕ, List, [], ◌∷◌, ◌++◌, ◌+◌, ◌*◌, ◌<◌, ◌≤◌, take, get_or, Bool, true, false, Option, Some, None, length, drop, refl, sym, ◌∙◌, ap, arith}
 use Rattle.std.proofs.Math.Seq.{drop-append_seam}
 use Rattle.std.proofs.lemmas.List.{append-nil, length-map, map-append, take_more}
@@ -15,7 +15,7 @@ use Rattle.tm_conv.proofs.Paths.{path-append}
 use Rattle.tm_inner.specs.Symbols.{low_level, plain_symbols, symbols_by, symbols_of_octets}
 use Rattle.tm_inner.specs.Sending.{encoded, spread}
 
--- where a longer list's due is that of its front and then `rest`, `rest` is what is due beyond
+-- where a longer list's due is that of its prefix and then `rest`, `rest` is what is due beyond
 pub further-is : (due : List ℕ → List ℕ) (given piece rest : List ℕ) → due (given ++ piece) ≡ due given ++ rest → further due given piece ≡ rest
 further-is due given piece rest more = ap (drop (length (due given))) more ∙ drop-append_seam (due given) rest
 

@@ -10,7 +10,7 @@ use Rattle.tm_viterbi.specs.declared.decoder.FeedError.TheVariants.{Stopped, Tak
 use Rattle.tm_windows.specs.Windows.{AreFirstIn}
 use Rattle.tm_inner.specs.declared.inner_decoder.InnerDecoder.{InnerDecoder}
 use Rattle.tm_inner.specs.declared.receiver.InnerEnd.{InnerEnd}
-use Rattle.tm_inner.specs.Inner.{inner_bits, slips_told}
+use Rattle.tm_inner.specs.Inner.{inner_bits, reported_slips}
 use Rattle.tm_inner.specs.InnerDecoding.{has_stopped_in, windows_in, StandsIn}
 use Rattle.tm_inner.specs.Phase.{IsChosen, IsChosenSoFar}
 use Rattle.tm_inner.specs.Receiving.{Hands, HandsPrefix, InnerReceiving, StandsFor}
@@ -74,7 +74,7 @@ pub record Finishes (before now : InnerReceiving) (taker : TakerCall (Handed Win
       × ((given : List ℕ) (done : List (Handed WindowBlock)) → StandsFor before given done
       → AreHanded before.config given (done ++ last) end.leftover
       × (end.bits ≡ length (inner_bits before.config given (items_of (done ++ last))))
-      × (end.slips ≡ slips_told before.config (items_of (done ++ last)))))
+      × (end.slips ≡ reported_slips before.config (items_of (done ++ last)))))
   pub prefix : IsErrOf result Taker → (tried : List (Handed WindowBlock)) × taker.broke tried
       × ((given : List ℕ) (done : List (Handed WindowBlock)) → StandsFor before given done
       → AreHandedPrefix before.config given (done ++ tried))

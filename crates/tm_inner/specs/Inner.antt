@@ -34,8 +34,8 @@ windows_of c rate = record {
 
 -- before how many of the windows of these blocks octets were dropped; None where the phase is not
 -- followed
-abbrev pub slips_told : Configuration → List WindowBlock → Option ℕ
-slips_told c blocks = if c.follow then Some (slips_of blocks) else None
+abbrev pub reported_slips : Configuration → List WindowBlock → Option ℕ
+reported_slips c blocks = if c.follow then Some (slips_of blocks) else None
 
 -- a soft octet as one of which 0 is the surest 0 and 255 the surest 1; in the form i8 these are
 -- -128 and 127, in two's complement

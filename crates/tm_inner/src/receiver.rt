@@ -11,7 +11,7 @@ ghost use Rattle.tm_viterbi.specs.WindowBlock.{WindowBlock};
 ghost use Rattle.tm_viterbi.specs.Clean.{kept_bits};
 ghost use Rattle.tm_viterbi.specs.WindowSizes.{stream_bound};
 ghost use Rattle.tm_windows.specs.Followed.{slips_of};
-ghost use Rattle.tm_inner.specs.Inner.{AreInnerBlocks, inner_bits, nearest_bit, plain_bits, plain_count, slips_told};
+ghost use Rattle.tm_inner.specs.Inner.{AreInnerBlocks, inner_bits, nearest_bit, plain_bits, plain_count, reported_slips};
 ghost use Rattle.tm_inner.specs.Phase.{IsChosen, IsChosenSoFar, phase_octets, skip_of, skipped_at};
 ghost use Rattle.tm_inner.specs.InnerDecoding.{HasWorkers};
 ghost use Rattle.tm_inner.specs.Receiving.{HasCountedAll, IsCount, StandsFor};
@@ -264,7 +264,7 @@ impl InnerReceiver {
             × ((given : List ℕ) (done : List (Handed WindowBlock)) → StandsFor self.old given done
             → AreHanded self.old.config given (done ++ last) end.leftover
             × (end.bits ≡ length (inner_bits self.old.config given (items_of (done ++ last))))
-            × (end.slips ≡ slips_told self.old.config (items_of (done ++ last))))) }
+            × (end.slips ≡ reported_slips self.old.config (items_of (done ++ last))))) }
         ensures prefix { IsErrOf result FeedError.Taker
             → (tried : List (Handed WindowBlock))
             × HandedPart (on_handed B.took_phase B.took) (on_handed B.broke_phase B.broke) blocks.old tried blocks.new
@@ -376,11 +376,12 @@ fn ended(config: &Config, phased: &Phased, count: u64, leftover: u8) -> InnerEnd
     ensures counts { (given : List ℕ) (blocks : List WindowBlock) (left : ℕ) → length given ≡ count
         → length given < stream_bound → AreInnerBlocks config.now (skip_of phased.now.chosen) given blocks left
         → HasCountedAll phased.now.decoder blocks
-        → (result.bits ≡ length (inner_bits config.now given blocks)) × (result.slips ≡ slips_told config.now blocks) }
+        → (result.bits ≡ length (inner_bits config.now given blocks))
+        × (result.slips ≡ reported_slips config.now blocks) }
 {
     InnerEnd {
         bits: bits_received(config, phased, count),
-        slips: slips_told(config, phased),
+        slips: reported_slips(config, phased),
         leftover,
     }
 }
@@ -400,9 +401,9 @@ fn bits_received(config: &Config, phased: &Phased, count: u64) -> u64
 }
 
 // Before how many windows octets were dropped, where the symbol phase is followed.
-fn slips_told(config: &Config, phased: &Phased) -> Option<u64>
+fn reported_slips(config: &Config, phased: &Phased) -> Option<u64>
     ensures { (blocks : List WindowBlock) → HasCountedAll phased.now.decoder blocks
-        → result ≡ slips_told config.now blocks }
+        → result ≡ reported_slips config.now blocks }
 {
     if config.values().follow {
         Some(phased.slips())

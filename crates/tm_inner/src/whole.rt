@@ -5,7 +5,7 @@ ghost use Rattle.tm_base.specs.Takers.{HandedOver, HandedPart};
 ghost use Rattle.tm_base.specs.Outside.{Rose};
 ghost use Rattle.tm_viterbi.specs.WindowBlock.{WindowBlock};
 ghost use Rattle.tm_viterbi.specs.WindowSizes.{stream_bound};
-ghost use Rattle.tm_inner.specs.Inner.{inner_bits, slips_told};
+ghost use Rattle.tm_inner.specs.Inner.{inner_bits, reported_slips};
 ghost use Rattle.tm_inner.specs.Handing.{AreHanded, AreHandedPrefix};
 
 use crate::receiver::{InnerEnd, InnerReceiver};
@@ -29,7 +29,7 @@ pub fn inner_all<B: BlockTaker>(
         × HandedOver (on_handed B.took_phase B.took) blocks.old all blocks.new
         × (length octets.now < stream_bound → AreHanded config.now octets.now all end.leftover
         × (end.bits ≡ length (inner_bits config.now octets.now (items_of all)))
-        × (end.slips ≡ slips_told config.now (items_of all)))) }
+        × (end.slips ≡ reported_slips config.now (items_of all)))) }
     ensures prefix { IsErrOf result AllError.Taker
         → (tried : List (Handed WindowBlock)) × HandedPart (on_handed B.took_phase B.took)
         (on_handed B.broke_phase B.broke) blocks.old tried blocks.new

@@ -56,26 +56,26 @@ fn repeated(alloc: Global, pair: (u8, u8), count: usize) -> Result<Vec<u8>, Allo
     Ok(octets)
 }
 
-// What a row tells of a block.
+// What a row says of a block.
 #[derive(Clone, Copy, Debug, PartialEq, Eq)]
-struct Told {
+struct Expected {
     steps: u32,
     kept: u32,
     metric: u64,
 }
 
-fn row(steps: u32, kept: u32, metric: u64) -> Told {
-    Told {
+fn row(steps: u32, kept: u32, metric: u64) -> Expected {
+    Expected {
         steps,
         kept,
         metric,
     }
 }
 
-fn check_told(rt: &impl Abort, found: &[Kept], wanted: &[Told]) {
+fn check_expected(rt: &impl Abort, found: &[Kept], wanted: &[Expected]) {
     assert_eq!(rt; found.len(), wanted.len());
-    for (block, told) in found.iter().zip(wanted) {
-        assert_eq!(rt; row(block.steps, block.kept, block.metric), *told);
+    for (block, expected) in found.iter().zip(wanted) {
+        assert_eq!(rt; row(block.steps, block.kept, block.metric), *expected);
     }
 }
 
@@ -206,24 +206,24 @@ fn check_decoded(
     alloc: Global,
     link: Link,
     octets: &[u8],
-    wanted: &[Told],
+    wanted: &[Expected],
     wanted_left: u8,
 ) -> Result<(), Fail> {
     let (blocks, left) = decoded(rt, alloc, link, octets, Cuts::Even(4096))?;
-    check_told(rt, blocks.kept(), wanted);
+    check_expected(rt, blocks.kept(), wanted);
     assert_eq!(rt; left, wanted_left);
     let (blocks, left) = decoded_at_once(rt, alloc, link, octets)?;
-    check_told(rt, blocks.kept(), wanted);
+    check_expected(rt, blocks.kept(), wanted);
     assert_eq!(rt; left, wanted_left);
     Ok(())
 }
 
-// Octets, and what comes of them: of each block what is told of a block, and of how many octets are left over.
+// Octets, and what comes of them: of each block what is said of a block, and of how many octets are left over.
 #[derive(Clone, Copy)]
 struct Case<'a> {
     link: Link,
     octets: &'a [u8],
-    blocks: &'a [Told],
+    blocks: &'a [Expected],
     left: u8,
 }
 
@@ -256,7 +256,7 @@ static SHORT: [Case; 6] = [
     Case {
         link: DEFAULT,
         octets: &[0x80, 0x00],
-        blocks: &[Told {
+        blocks: &[Expected {
             steps: 1,
             kept: 1,
             metric: 127,
@@ -266,7 +266,7 @@ static SHORT: [Case; 6] = [
     Case {
         link: DEFAULT,
         octets: &[0x00, 0x00],
-        blocks: &[Told {
+        blocks: &[Expected {
             steps: 1,
             kept: 1,
             metric: 255,
@@ -276,7 +276,7 @@ static SHORT: [Case; 6] = [
     Case {
         link: DEFAULT,
         octets: &[0x00, 0xFF, 0x00],
-        blocks: &[Told {
+        blocks: &[Expected {
             steps: 1,
             kept: 1,
             metric: 0,
@@ -286,7 +286,7 @@ static SHORT: [Case; 6] = [
     Case {
         link: PUNCTURED,
         octets: &[0; 4],
-        blocks: &[Told {
+        blocks: &[Expected {
             steps: 2,
             kept: 2,
             metric: 0,
@@ -296,7 +296,7 @@ static SHORT: [Case; 6] = [
     Case {
         link: ANY,
         octets: &[0x00, 0x00],
-        blocks: &[Told {
+        blocks: &[Expected {
             steps: 1,
             kept: 1,
             metric: 0,

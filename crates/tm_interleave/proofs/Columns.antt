@@ -126,6 +126,6 @@ take-column depth size i k block below whole within =
     ∙ take-suc (column depth i block) k 0 (omega (arith, length-column depth size i block below whole))
     ∙ ap (λ x. take k (column depth i block) ++ x ∷ []) (get_or-column depth i block k 0 some ∙ ap (λ n. get_or block n 0) place)
 
--- lists whose fronts of their whole length are the same are the same
+-- lists whose prefixes of their whole length are the same are the same
 pub same_whole : (k : ℕ) (xs ys : List ℕ) → length xs ≡ k → length ys ≡ k → take k xs ≡ take k ys → xs ≡ ys
 same_whole k xs ys long as_long same = sym (take-length xs) ∙ ap (λ n. take n xs) long ∙ same ∙ ap (λ n. take n ys) (sym as_long) ∙ take-length ys

@@ -5,7 +5,7 @@ use Rattle.tm_conv.specs.Path.{next_register}
 use Rattle.tm_path_cert.specs.declared.verdicts.Verdict.{Verdict}
 use Rattle.tm_path_cert.specs.declared.verdicts.Verdict.TheVariants.{Yes, No, Sum}
 use Rattle.tm_path_cert.specs.Claim.{Claim, is_start, edge_cost, path_cost}
-use Rattle.tm_path_cert.specs.Tests.{KeepsAt, HoldsAt, Holds, AllHold, IsFirstWrong, Pass, column_at, last_of}
+use Rattle.tm_path_cert.specs.Tests.{IsLowEnough, HoldsAt, Holds, AllHold, IsFirstWrong, Pass, column_at, last_of}
 use Rattle.tm_path_cert.specs.Checking.{IsVerdict}
 
 abbrev Decided : Type 0 → Type 0
@@ -66,7 +66,7 @@ decide_where P Q (inr none) (inr fails) = inl (λ p. absurd (none p))
 decide_true : (b : Bool) → Decided (IsTrue b)
 decide_true b = elim (cases_Bool b) [ inl is ↦ inl is | inr not_so ↦ inr (λ is. both_ways b not_so is) ]
 
-decide_keeps : (edge : ℕ → ℕ → ℕ) (before column : List ℕ) (register : ℕ) → Decided (KeepsAt edge before column register)
+decide_keeps : (edge : ℕ → ℕ → ℕ) (before column : List ℕ) (register : ℕ) → Decided (IsLowEnough edge before column register)
 decide_keeps edge before column register =
     let Edge : ℕ → ℕ → Type 0 = λ from bit. next_register from bit ≡ register → get_or column register 0 ≤ get_or before from 0 + edge from bit in
     elim (decide_all (λ from. AllBelow (Edge from) 2) 64 (λ from small. decide_all (Edge from) 2 (λ bit lt. decide_where _ _ (decide_same _ _) (decide_le _ _)))) [

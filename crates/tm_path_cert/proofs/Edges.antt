@@ -3,7 +3,7 @@ use Rattle.std.proofs.Common.{◌≡◌, ℕ, zero, suc, ◌+◌, ◌-◌, ◌*�
 use Rattle.std.proofs.lemmas.Bool.{agree_below_at, cases_eq, eqb-true}
 use Rattle.std.proofs.lemmas.Nat.{le_or_l, le_or_r}
 use Rattle.tm_conv.specs.Path.{c1, c2}
-use Rattle.tm_path_cert.specs.Tests.{KeepsAt}
+use Rattle.tm_path_cert.specs.Tests.{IsLowEnough}
 use Rattle.tm_path_cert.specs.declared.columns.TheConstants.{PAIRS}
 
 -- the two sums of an edge, as one number
@@ -25,8 +25,9 @@ at_pair f w x y z ew ex ey ez (suc zero) (suc (suc d)) cl dl = absurd (omega ari
 at_pair f w x y z ew ex ey ez (suc (suc c)) d cl dl = absurd (omega arith)
 
 -- the registers that edges from 2 * j and 2 * j + 1 lead to are kept
-abbrev pub AreKept : List ℕ → List ℕ → List ℕ → ℕ → Type 0
-AreKept costs before sums j = KeepsAt (by_sums costs) before sums j × KeepsAt (by_sums costs) before sums (j + 32)
+abbrev pub AreLowEnough : List ℕ → List ℕ → List ℕ → ℕ → Type 0
+AreLowEnough costs before sums j =
+    IsLowEnough (by_sums costs) before sums j × IsLowEnough (by_sums costs) before sums (j + 32)
 
 -- ---- the table's entries are the sums of the edges from even registers by bit 0
 
@@ -58,7 +59,7 @@ odd_by_one j lt = omega arith
 
 two_edges : (costs before sums : List ℕ) (j bit register p q : ℕ) → j < 32 → bit < 2 → register ≡ j + 32 * bit → p ≡ pair (2 * j) bit → q ≡ pair (2 * j + 1) bit
     → get_or sums register 0 ≤ get_or before (2 * j) 0 + get_or costs p 0 → get_or sums register 0 ≤ get_or before (2 * j + 1) 0 + get_or costs q 0
-    → KeepsAt (by_sums costs) before sums register
+    → IsLowEnough (by_sums costs) before sums register
 two_edges costs before sums j bit register p q lt small at ep eq by_even by_odd from b from_small b_small same =
     let one : b ≡ bit = omega (arith, same, at) in
     let edge : ℕ → ℕ → ℕ = λ r c. get_or before r 0 + by_sums costs r c in
@@ -75,7 +76,7 @@ two_edges costs before sums j bit register p q lt small at ep eq by_even by_odd 
 pub both_keep : (costs before sums : List ℕ) (j p : ℕ) → j < 32 → p ≡ pair (2 * j) 0
     → (get_or sums j 0 ≤ get_or before (2 * j) 0 + get_or costs p 0) × (get_or sums j 0 ≤ get_or before (2 * j + 1) 0 + get_or costs (3 - p) 0)
     → (get_or sums (j + 32) 0 ≤ get_or before (2 * j) 0 + get_or costs (3 - p) 0) × (get_or sums (j + 32) 0 ≤ get_or before (2 * j + 1) 0 + get_or costs p 0)
-    → AreKept costs before sums j
+    → AreLowEnough costs before sums j
 both_keep costs before sums j p lt is low high = (
   two_edges costs before sums j 0 j p (3 - p) lt (omega arith) (omega arith) is (omega (arith, is, odd_by_none j lt)) low.0 low.1,
   two_edges costs before sums j 1 (j + 32) (3 - p) p lt (omega arith) (omega arith) (omega (arith, is, even_by_one j lt)) (omega (arith, is, odd_by_one j lt)) high.0 high.1,

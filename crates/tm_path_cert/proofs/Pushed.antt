@@ -6,7 +6,7 @@ use Rattle.std.proofs.Math.Seq.{get_or-append_seam}
 use Rattle.tm_conv.specs.Path.{step_size, steps_size, step_symbols}
 use Rattle.tm_conv.specs.Cost.{cost}
 use Rattle.tm_path_cert.specs.Claim.{Claim, step_octets}
-use Rattle.tm_path_cert.specs.Tests.{HoldsAt, KeepsAt, Holds, IsFirstFailing, column_at, last_of, first_place}
+use Rattle.tm_path_cert.specs.Tests.{HoldsAt, IsLowEnough, Holds, IsFirstFailing, column_at, last_of, first_place}
 use Rattle.tm_path_cert.specs.Checking.{Checking, StandsFor, IsFound}
 
 old_at : (columns : List (List ℕ)) (column : List ℕ) (t : ℕ) → t < length columns → column_at (columns ++ column ∷ []) t ≡ column_at columns t
@@ -92,14 +92,14 @@ StandsFor-push before now columns column found ec en el ew test stands =
 -- the test of edges, of the step between the last column and the next
 pub edges_tested : (claim : Claim) (count t place end : ℕ) (last sums octets : List ℕ) (found : Option ℕ) → 0 < count → t ≡ claim.first + (count - 1)
     → place ≡ steps_size claim.rate claim.first (count - 1) → end ≡ place + step_size claim.rate t → octets ≡ take (end - place) (drop place claim.soft)
-    → IsFirstFailing (λ r. KeepsAt (λ from bit. cost (step_symbols claim.rate claim.invert t from bit) octets) last sums r) found
+    → IsFirstFailing (λ r. IsLowEnough (λ from bit. cost (step_symbols claim.rate claim.invert t from bit) octets) last sums r) found
     → IsFirstFailing (λ r. HoldsAt claim count last sums r) found
 edges_tested claim count t place end last sums octets found some at here to is test =
     let k = count - 1 in
     let same : suc k ≡ count = omega (arith, some) in
     let size : end - place ≡ step_size claim.rate (claim.first + k) = omega (arith, to, ap (step_size claim.rate) at) in
     let whole : octets ≡ step_octets claim k = is ∙ ap (λ v. take v (drop place claim.soft)) size ∙ ap (λ v. take (step_size claim.rate (claim.first + k)) (drop v claim.soft)) here in
-    let P : ℕ → Type 0 = λ v. IsFirstFailing (λ r. KeepsAt (λ from bit. cost (step_symbols claim.rate claim.invert v from bit) octets) last sums r) found in
-    let Q : List ℕ → Type 0 = λ v. IsFirstFailing (λ r. KeepsAt (λ from bit. cost (step_symbols claim.rate claim.invert (claim.first + k) from bit) v) last sums r) found in
+    let P : ℕ → Type 0 = λ v. IsFirstFailing (λ r. IsLowEnough (λ from bit. cost (step_symbols claim.rate claim.invert v from bit) octets) last sums r) found in
+    let Q : List ℕ → Type 0 = λ v. IsFirstFailing (λ r. IsLowEnough (λ from bit. cost (step_symbols claim.rate claim.invert (claim.first + k) from bit) v) last sums r) found in
     let R : ℕ → Type 0 = λ v. IsFirstFailing (λ r. HoldsAt claim v last sums r) found in
     subst R same (subst Q whole (subst P at test))

@@ -5,8 +5,8 @@ use Rattle.tm_path_cert.specs.Claim.{Claim, is_start, edge_cost}
 
 -- a register of a column costs no more than it does by any edge from the column before, where
 -- `edge` is what an edge costs
-abbrev pub KeepsAt : (ℕ → ℕ → ℕ) → List ℕ → List ℕ → ℕ → Type 0
-KeepsAt edge before column register =
+abbrev pub IsLowEnough : (ℕ → ℕ → ℕ) → List ℕ → List ℕ → ℕ → Type 0
+IsLowEnough edge before column register =
     (from bit : ℕ) → from < 64 → bit < 2 → next_register from bit ≡ register
     → slice_index column register ≤ slice_index before from + edge from bit
 
@@ -18,7 +18,8 @@ StartsAt starts column register = IsTrue (starts register) → slice_index colum
 -- undercuts it
 abbrev pub HoldsAt : Claim → ℕ → List ℕ → List ℕ → ℕ → Type 0
 HoldsAt claim zero before column register = StartsAt (is_start claim.starts) column register
-HoldsAt claim (suc k) before column register = KeepsAt (edge_cost claim k) before column register
+HoldsAt claim (suc k) before column register =
+    IsLowEnough (edge_cost claim k) before column register
 
 -- the least of the 64 registers at which a test fails, or none
 abbrev pub IsFirstFailing : (ℕ → Type 0) → Option ℕ → Type 0

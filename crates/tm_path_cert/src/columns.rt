@@ -3,7 +3,7 @@ ghost use Rattle.std.specs.Prelude.{◌≡◌, ◌↔◌, ℕ, ◌+◌, ◌*◌,
 ghost use Rattle.tm_conv.specs.Path.{c1, c2, step_symbols};
 ghost use Rattle.tm_conv.specs.Cost.{cost};
 ghost use Rattle.tm_path_cert.specs.Claim as claim;
-ghost use Rattle.tm_path_cert.specs.Tests.{IsFirstFailing, KeepsAt, StartsAt};
+ghost use Rattle.tm_path_cert.specs.Tests.{IsFirstFailing, IsLowEnough, StartsAt};
 
 use crate::steps::Step;
 use crate::verdicts::Starts;
@@ -31,10 +31,10 @@ pub(crate) fn first_start_wrong(starts: Starts, sums: &[u32; 64]) -> Option<u8>
 }
 
 // Whether no edge of a step undercuts the sum of a register.
-fn is_kept(step: &Step<'_>, before: &[u32; 64], sums: &[u32; 64], register: u8) -> bool
+fn is_low_enough(step: &Step<'_>, before: &[u32; 64], sums: &[u32; 64], register: u8) -> bool
     requires { register < 64 }
     ensures { IsTrue result
-        ↔ KeepsAt (λ from bit. cost (step_symbols step.now.rate step.now.invert step.now.t from bit)
+        ↔ IsLowEnough (λ from bit. cost (step_symbols step.now.rate step.now.invert step.now.t from bit)
         step.now.octets.now) before.now sums.now register }
 {
     let even = register % 32 * 2;
@@ -71,10 +71,10 @@ fn margins(near: u32, far: u32, before: &[u32; 64], sums: &[u32; 64], j: usize) 
         | (odd + near).wrapping_sub(high)
 }
 
-// Yes only where no edge undercuts any sum. What an edge costs is at the pair of its two sums.
-fn are_kept(costs: &[u32; 4], before: &[u32; 64], sums: &[u32; 64]) -> bool
+// True only where no edge undercuts any sum. What an edge costs is at the pair of its two sums.
+fn are_low_enough(costs: &[u32; 4], before: &[u32; 64], sums: &[u32; 64]) -> bool
     ensures { IsTrue result → (register : ℕ) → register < 64
-        → KeepsAt (λ from bit. slice_index costs.now (2 * c1 from bit + c2 from bit)) before.now sums.now register }
+        → IsLowEnough (λ from bit. slice_index costs.now (2 * c1 from bit + c2 from bit)) before.now sums.now register }
 {
     let mut all = 0;
     for k in 0..8usize {
@@ -89,16 +89,16 @@ fn are_kept(costs: &[u32; 4], before: &[u32; 64], sums: &[u32; 64]) -> bool
 
 // The least register whose sum an edge of a step undercuts.
 pub(crate) fn first_undercut(step: &Step<'_>, before: &[u32; 64], sums: &[u32; 64]) -> Option<u8>
-    ensures { IsFirstFailing (λ register. KeepsAt (λ from bit. cost
+    ensures { IsFirstFailing (λ register. IsLowEnough (λ from bit. cost
         (step_symbols step.now.rate step.now.invert step.now.t from bit) step.now.octets.now) before.now sums.now
         register) result }
 {
     // Mostly no edge does, and that is seen at less cost than where.
-    if are_kept(&step.costs(), before, sums) {
+    if are_low_enough(&step.costs(), before, sums) {
         return None;
     }
     for register in 0..64u8 {
-        if !is_kept(step, before, sums, register) {
+        if !is_low_enough(step, before, sums, register) {
             return Some(register);
         }
     }

@@ -9,7 +9,7 @@ use Rattle.tm_config.specs.Accepted.{IsAccepted}
 use Rattle.tm_config.specs.Configuration.{Configuration}
 use Rattle.tm_windows.specs.declared.choosing.Chosen.{Chosen}
 use Rattle.tm_viterbi.specs.WindowBlock.{WindowBlock}
-use Rattle.tm_inner.specs.Inner.{AreInnerBlocks, AreInnerDue, inner_bits, slips_told}
+use Rattle.tm_inner.specs.Inner.{AreInnerBlocks, AreInnerDue, inner_bits, reported_slips}
 use Rattle.tm_inner.specs.declared.receiver.InnerEnd.{InnerEnd}
 use Rattle.tm_inner.specs.Phase.{with_phase, skip_of}
 use Rattle.tm_inner.specs.Receiving.{InnerReceiving, StandsFor}
@@ -149,7 +149,7 @@ module _ (receiver : InnerReceiving) (packing packed : Packing) (end : InnerEnd)
     (h : GathersLast receiver packing packed end) where
   -- the line after the bits
   end-is : (c : Configuration) (octets : List ℕ) (handed : List (Handed WindowBlock)) (windows : ℕ)
-      → windows ≡ length (items_of handed) → end.bits ≡ length (bits_of_handed c octets handed) → end.slips ≡ slips_told c (items_of handed)
+      → windows ≡ length (items_of handed) → end.bits ≡ length (bits_of_handed c octets handed) → end.slips ≡ reported_slips c (items_of handed)
       → bits_end_text end.slips windows end.bits end.leftover ≡ end_line c octets handed end.leftover
   end-is c octets handed windows is counted slips = λ i. bits_end_text (slips i) (is i) (counted i) end.leftover
 

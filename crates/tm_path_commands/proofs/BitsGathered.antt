@@ -15,7 +15,7 @@ use Rattle.tm_driver.specs.Lines.{phase_text}
 use Rattle.tm_windows.specs.declared.choosing.Chosen.{Chosen}
 use Rattle.tm_viterbi.specs.Clean.{kept_bits}
 use Rattle.tm_viterbi.specs.WindowBlock.{WindowBlock}
-use Rattle.tm_inner.specs.Inner.{BlocksAt, DueAt, plain_bits, bits_at, inner_bits, slips_told, soft_value, AreInnerBlocks}
+use Rattle.tm_inner.specs.Inner.{BlocksAt, DueAt, plain_bits, bits_at, inner_bits, reported_slips, soft_value, AreInnerBlocks}
 use Rattle.tm_inner.specs.declared.receiver.InnerEnd.{InnerEnd}
 use Rattle.tm_inner.specs.Phase.{IsChosenBy, IsSettled, with_phase, needed_at, phase_octets, skip_of, skipped_at}
 use Rattle.tm_inner.specs.Receiving.{InnerReceiving, StandsFor}
@@ -398,7 +398,7 @@ pub gathers-last : (receiver : InnerReceiving) (packing packed final : Packing) 
     → ((given : List ℕ) (done : List (Handed WindowBlock)) → StandsFor receiver given done
     → AreHanded receiver.config given (done ++ last) end.leftover
     × (end.bits ≡ length (inner_bits receiver.config given (items_of (done ++ last))))
-    × (end.slips ≡ slips_told receiver.config (items_of (done ++ last))))
+    × (end.slips ≡ reported_slips receiver.config (items_of (done ++ last))))
     → GathersLast receiver packing final end
 gathers-last receiver packing packed final end last handed adds ends = record {
   last = last;
@@ -408,7 +408,7 @@ gathers-last receiver packing packed final end last handed adds ends = record {
       let left = end.leftover in
       let there = subst (λ (k : Configuration). AreHanded k octets (done ++ last) left
       × (end.bits ≡ length (inner_bits k octets (items_of (done ++ last))))
-      × (end.slips ≡ slips_told k (items_of (done ++ last)))) p.config
+      × (end.slips ≡ reported_slips k (items_of (done ++ last)))) p.config
       (ends octets done p.stands.0) in
       let t = there.0 in
       let most = handed-last-few c octets done last left due t in

@@ -61,7 +61,7 @@ from-rate P rate c k is p = subst (λ (r : Option Rate). ReadAt P r c) is p
 
 -- ---- how it ends
 
--- where two sinks stop, each has taken a front
+-- where two sinks stop, each has taken a prefix
 stops-prefix : (before noted_before next after more rest : List ℕ) (taken taken_now noted noted_now : Option (List ℕ)) → StopsAt before noted_before next after taken taken_now noted noted_now
     → WrotePrefix taken taken_now (before ++ (next ++ more)) × WrotePrefix noted noted_now (noted_before ++ (after ++ rest))
 stops-prefix before noted_before next after more rest taken taken_now noted noted_now (inl p) = (

@@ -14,7 +14,7 @@ use Rattle.tm_conv.specs.Columns.{last_certified}
 use Rattle.tm_windows.specs.declared.choosing.Chosen.{Chosen}
 use Rattle.tm_viterbi.specs.WindowBlock.{WindowBlock}
 use Rattle.tm_viterbi.specs.WindowSizes.{stream_bound}
-use Rattle.tm_inner.specs.Inner.{inner_bits, slips_told}
+use Rattle.tm_inner.specs.Inner.{inner_bits, reported_slips}
 use Rattle.tm_inner.specs.Handing.{AreHanded, AreHandedDue}
 use Rattle.tm_inner.specs.Receiving.{InnerReceiving, StandsFor}
 use Rattle.tm_inner.specs.declared.receiver.InnerEnd.{InnerEnd}
@@ -45,7 +45,7 @@ bits_of_handed c octets handed = inner_bits c octets (items_of handed)
 -- windows, the bits, and the octets after the last step
 abbrev pub end_line : Configuration → List ℕ → List (Handed WindowBlock) → ℕ → List ℕ
 end_line c octets handed left =
-    bits_end_text (slips_told c (items_of handed)) (length (items_of handed))
+    bits_end_text (reported_slips c (items_of handed)) (length (items_of handed))
     (length (bits_of_handed c octets handed)) left
 
 -- all bits of the octets, and what is said of them
@@ -190,7 +190,7 @@ pub record HoldsAll (c : Configuration) (packing : Packing) (written : List Bool
   pub bits : written ++ packing.bits ≡ bits_of_handed c octets handed ++ fill
   pub windows : packing.windows ≡ length (items_of handed)
   pub counted : end.bits ≡ length (bits_of_handed c octets handed)
-  pub slips : end.slips ≡ slips_told c (items_of handed)
+  pub slips : end.slips ≡ reported_slips c (items_of handed)
 
 -- at the end the receiver hands over the last, and all of it waits
 pub record GathersLast (receiver : InnerReceiving) (packing packing_now : Packing)

@@ -24,7 +24,7 @@ abbrev pub block_text : Tally → WindowBlock → List ℕ
 block_text was block = slip_text block.dropped was.bits
     ++ window_text was.blocks block.steps block.kept block.metric
 
--- the windows and the bits once this one was told, too
+-- the windows and the bits once this one was reported, too
 abbrev pub tally_after : Tally → WindowBlock → Tally
 tally_after was block = record { blocks = was.blocks + 1; bits = was.bits + block.kept }
 

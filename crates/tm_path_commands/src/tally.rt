@@ -1,6 +1,6 @@
-// How far the windows of a trace are told.
+// How far the windows of a trace are reported.
 
-/// The windows that were told, and the bits that they keep, each up to 2^64-1.
+/// The windows that were reported, and the bits that they keep, each up to 2^64-1.
 #[derive(Clone, Copy, Debug, PartialEq, Eq)]
 pub struct Tally {
     pub blocks: u64,

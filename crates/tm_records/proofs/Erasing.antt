@@ -28,7 +28,7 @@ use Rattle.tm_rs_solve.specs.declared.answers.ErasedAnswer.TheVariants.{Fixed as
 use Rattle.tm_records.specs.Batch.{Batch, opened}
 use Rattle.tm_records.specs.declared.coding.Coding.{Coding}
 use Rattle.tm_records.specs.Erased.{coding_of, erased_meaning, erased_text, nearest_text, nearest_lines, is_beyond, record_rest}
-use Rattle.tm_records.specs.Erasing.{Holds, HasSpace, Broke, Stand, HoldsAt, HoldsMore, BreaksMore, ToldAll, BrokeLast, outcome_with}
+use Rattle.tm_records.specs.Erasing.{Holds, HasSpace, Broke, Stand, HoldsAt, HoldsMore, BreaksMore, WroteAll, BrokeLast, outcome_with}
 use Rattle.tm_records.specs.Records.{AreFirstNearest, AreNearest, AreNearestDue, in_batches, left_over, record_count, record_size}
 use Rattle.tm_driver.proofs.Driven.{Shows, StopShows, OutcomeShows, WroteInOrder, ends-driven}
 use Rattle.tm_records.proofs.NearestRecords.{first-append, first-longer, has_rest, nearest_only}
@@ -383,7 +383,7 @@ all-nearest c batch beyond start now octets h more space are = nearest-held c ba
     (subst (λ (x : Coding). AreNearest x batch.octets more) h.coding are)
 
 -- all was told
-pub told-last : (batch after : Batch) (beyond last : Bool) (more : List NearestErased) (rest : ℕ)
+pub wrote-last : (batch after : Batch) (beyond last : Bool) (more : List NearestErased) (rest : ℕ)
     (now later noted noted_now : Option (List ℕ))
     → HasSpace batch → after.coding ≡ batch.coding → after.octets ≡ batch.octets
     → AreNearest batch.coding batch.octets more
@@ -392,8 +392,8 @@ pub told-last : (batch after : Batch) (beyond last : Bool) (more : List NearestE
     × (last ≡ list_any is_beyond more)
     → rest ≡ left_over after.coding after.octets → (o ≡ outcome_by rest) × Wrote noted noted_now (left_over_text rest)
     → outcome ≡ outcome_with o (beyond || last)
-    → ToldAll c octets outcome start later noted noted_now
-told-last batch after beyond last more rest now later noted noted_now space coding same are c start octets h o outcome
+    → WroteAll c octets outcome start later noted noted_now
+wrote-last batch after beyond last more rest now later noted noted_now space coding same are c start octets h o outcome
     short wrote is told ends =
     let known : rest ≡ left_over c octets = rest-held c batch after beyond start now octets rest space h coding same is
     in record {
@@ -500,7 +500,7 @@ module _ (c : Configuration) (taken now noted noted_now : Option (List ℕ)) whe
 
   -- of a whole input
   pub shows-whole : (octets : List ℕ) (outcome : Outcome) (noted' : Option (List ℕ)) → noted' ≡ noted
-      → ToldAll (coding_of c) octets outcome taken now noted' noted_now
+      → WroteAll (coding_of c) octets outcome taken now noted' noted_now
       → Shows (erased_meaning c) octets (taken_by taken now noted noted_now) outcome
   shows-whole octets outcome noted' same t = (
     whole-output octets t.nearest t.are_nearest t.lines
@@ -537,7 +537,7 @@ module _ {F K : Type 0} (at : F → Stand) (notes : F → K) (noted : K → Opti
 
   abbrev Finished : F → F → Outcome → Type 0
   Finished a b outcome = (c : Coding) (start : Option (List ℕ)) (given : List ℕ) → HoldsAt c (at a) start given
-      → ToldAll c given outcome start (at b).taken (noted (notes a)) (noted (notes b))
+      → WroteAll c given outcome start (at b).taken (noted (notes a)) (noted (notes b))
 
   abbrev Failed : F → F → Type 0
   Failed a b = (c : Coding) (start : Option (List ℕ)) (given : List ℕ) → HoldsAt c (at a) start given

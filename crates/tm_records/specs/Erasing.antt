@@ -68,7 +68,7 @@ outcome_with Done true = Bad
 outcome_with outcome beyond = outcome
 
 -- the lines of all whole records were taken, and then on the notes how many octets are left over
-pub record ToldAll (c : Coding) (octets : List ℕ) (outcome : Outcome)
+pub record WroteAll (c : Coding) (octets : List ℕ) (outcome : Outcome)
     (start now noted noted_now : Option (List ℕ)) : Type 0 where
   pub nearest : List NearestErased
   pub are_nearest : AreNearest c octets nearest

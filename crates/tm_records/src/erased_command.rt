@@ -19,7 +19,7 @@ use std::alloc::Global;
 use std::thread::Threads;
 use tm_base::{Failed, NoMemory, Sink, Source};
 use tm_config::{Config, OuterCode};
-use tm_driver::{Ending, Feed, Line, Outcome, Stop, drive, tell_rest};
+use tm_driver::{Ending, Feed, Line, Outcome, Stop, drive, report_rest};
 use tm_rs_code::Params;
 use tm_rs_solve::ErasedAnswer;
 use tm_workers::OpenGate;
@@ -58,7 +58,7 @@ fn is_beyond(answer: ErasedAnswer) -> bool
 }
 
 // Writes a line for each record that was decoded, and answers whether a word is uncorrectable.
-fn tell_records<O: Sink>(records: &Records, out: &mut O) -> Result<bool, Failed>
+fn write_lines<O: Sink>(records: &Records, out: &mut O) -> Result<bool, Failed>
     ensures short { records.now.coding.params.n ≤ LONGEST_WORD }
     ensures ok { IfOk result (λ beyond. Wrote (O.taken out.old) (O.taken out.new)
         (nearest_lines records.now.coding.basis records.now.nearest)
@@ -71,15 +71,15 @@ fn tell_records<O: Sink>(records: &Records, out: &mut O) -> Result<bool, Failed>
     let octets = &mut room[..records.word_length()];
     let mut beyond = false;
     for index in 0..records.count() {
-        let told = records.answer(index, octets);
-        erased_line(out, told, octets)?;
-        beyond = beyond | is_beyond(told);
+        let found = records.answer(index, octets);
+        erased_line(out, found, octets)?;
+        beyond = beyond | is_beyond(found);
     }
     Ok(beyond)
 }
 
 // Decodes the whole records of a batch and writes their lines. Answers whether a word is uncorrectable.
-fn tell_batch<R: Threads + Sync, O: Sink>(
+fn answer_batch<R: Threads + Sync, O: Sink>(
     rt: &R,
     records: &mut Records,
     out: &mut O,
@@ -96,7 +96,7 @@ fn tell_batch<R: Threads + Sync, O: Sink>(
     ensures cause { HasCause (O.faults out.old) (O.faults out.new) (O.is_last out.new) result }
 {
     records.decode(rt, &OpenGate);
-    tell_records(records, out)
+    write_lines(records, out)
 }
 
 // Writes the lines of a batch that is full, and empties it.
@@ -119,7 +119,7 @@ fn end_full<R: Threads + Sync, O: Sink>(
     if !records.is_full() {
         return Ok(beyond);
     }
-    let last = tell_batch(rt, records, out)?;
+    let last = answer_batch(rt, records, out)?;
     records.clear();
     Ok(beyond | last)
 }
@@ -178,7 +178,7 @@ impl<'a, 'b, 'c, 'd, R: Threads + Sync, O: Sink, N: Sink> Feed
     ghost use Rattle.tm_driver.specs.Courses.{SinksWent, sink_call};
     ghost use Rattle.tm_driver.specs.declared.ending.Stop.TheVariants.{SinkFault};
     ghost use Rattle.tm_records.specs.declared.coding.Coding.{Coding};
-    ghost use Rattle.tm_records.specs.Erasing.{BreaksMore, Broke, BrokeLast, HasSpace, Holds, HoldsMore, ToldAll, stand};
+    ghost use Rattle.tm_records.specs.Erasing.{BreaksMore, Broke, BrokeLast, HasSpace, Holds, HoldsMore, WroteAll, stand};
     ghost use Rattle.tm_driver.proofs.TwoSinks.{fault-after};
 
     ghost fed = { λ a b octets. HasSpace b.records.now × (b.notes.now ≡ a.notes.now)
@@ -190,7 +190,7 @@ impl<'a, 'b, 'c, 'd, R: Threads + Sync, O: Sink, N: Sink> Feed
 
     ghost finished = { λ a b outcome. (c : Coding) (start : Option (List ℕ)) (given : List ℕ)
         → Holds c a.records.now a.beyond start (O.taken a.out.now) given
-        → ToldAll c given outcome start (O.taken b.out.now) (N.taken a.notes.now) (N.taken b.notes.now) };
+        → WroteAll c given outcome start (O.taken b.out.now) (N.taken a.notes.now) (N.taken b.notes.now) };
 
     ghost failed = { λ a b. (c : Coding) (start : Option (List ℕ)) (given : List ℕ)
         → Holds c a.records.now a.beyond start (O.taken a.out.now) given
@@ -244,8 +244,8 @@ impl<'a, 'b, 'c, 'd, R: Threads + Sync, O: Sink, N: Sink> Feed
     }
 
     fn finish(&mut self) -> Result<Outcome, Failed> {
-        let last = tell_batch(self.rt, self.records, self.out)?;
-        let outcome = tell_rest(self.notes, self.records.left_over() as u32)?;
+        let last = answer_batch(self.rt, self.records, self.out)?;
+        let outcome = report_rest(self.notes, self.records.left_over() as u32)?;
         Ok(outcome_with(outcome, self.beyond | last))
     }
 }

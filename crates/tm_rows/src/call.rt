@@ -25,7 +25,7 @@ impl Outcome {
             && self.notes.octets() == row.notes.as_slice()
     }
 
-    fn told(&self, alloc: Global) -> Result<String> {
+    fn shown(&self, alloc: Global) -> Result<String> {
         let status = self.status;
         let reads = self.reads;
         let out = hex::encode(alloc, self.out.octets())?;
@@ -48,7 +48,7 @@ pub fn difference(
     if let Some(line) = &row.through {
         let first = call(rt, alloc, line.as_str(), input, cut, &Faults::default())?;
         if first.status != 0 || !first.notes.octets().is_empty() {
-            return Ok(Some(first.told(alloc)?));
+            return Ok(Some(first.shown(alloc)?));
         }
         input = first.out.octets().to_vec(alloc)?;
     }
@@ -56,7 +56,7 @@ pub fn difference(
     if outcome.is_wanted(row) {
         return Ok(None);
     }
-    Ok(Some(outcome.told(alloc)?))
+    Ok(Some(outcome.shown(alloc)?))
 }
 
 fn call(

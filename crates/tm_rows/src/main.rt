@@ -27,9 +27,9 @@ fn main(rt: HostRuntime) -> Result<()> {
     for row in &table.rows {
         for cut in row.cuts() {
             calls = calls.saturating_add(1);
-            if let Some(told) = difference(&rt, alloc, row, *cut)? {
+            if let Some(shown) = difference(&rt, alloc, row, *cut)? {
                 differ = differ.saturating_add(1);
-                println!(rt; "{}, cut {cut}\n  {told}", row.name)?;
+                println!(rt; "{}, cut {cut}\n  {shown}", row.name)?;
             }
         }
     }

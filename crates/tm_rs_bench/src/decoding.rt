@@ -13,7 +13,7 @@ use tm_rs_solve::{
 
 /// How many words became codewords, and how many of their symbols were wrong.
 #[derive(Drop)]
-pub struct Told {
+pub struct Outcome {
     pub fixed: u32,
     pub symbols: u32,
 }
@@ -70,18 +70,18 @@ fn decode_one<L: Ledger>(
 }
 
 /// Decodes the words of a job; none where there is no such code.
-pub fn decode<L: Ledger>(blank: Blank, job: &Job) -> Told
+pub fn decode<L: Ledger>(blank: Blank, job: &Job) -> Outcome
     requires name { blank.name ≡ L.name }
     requires parts { blank.parts ≡ L.parts }
     requires share { 0 < blank.parts }
 {
     let mut steps = Steps::<L>::open(blank);
-    let mut told = Told {
+    let mut outcome = Outcome {
         fixed: 0,
         symbols: 0,
     };
     let Ok(params) = Params::new(job.e, 255) else {
-        return told;
+        return outcome;
     };
     let clean = codeword(&params);
     for n in 0..job.words {
@@ -106,9 +106,9 @@ pub fn decode<L: Ledger>(blank: Blank, job: &Job) -> Told
             &mut steps,
         );
         if let Some(symbols) = answer {
-            told.fixed = told.fixed.wrapping_add(1);
-            told.symbols = told.symbols.wrapping_add(symbols);
+            outcome.fixed = outcome.fixed.wrapping_add(1);
+            outcome.symbols = outcome.symbols.wrapping_add(symbols);
         }
     }
-    told
+    outcome
 }

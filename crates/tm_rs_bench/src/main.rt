@@ -23,9 +23,9 @@ fn main(rt: HostRuntime) -> io::Result<()> {
     let Some(job) = read(words.as_slice()) else {
         return println!(rt; "words: fast|plain|none 16|8 WRONG ERASED COUNT");
     };
-    let told = decode::<Brand>(Blank::new(1), &job);
+    let outcome = decode::<Brand>(Blank::new(1), &job);
     println!(rt;
         "{} of {} words are codewords, {} symbols were wrong",
-        told.fixed, job.words, told.symbols
+        outcome.fixed, job.words, outcome.symbols
     )
 }

@@ -7,7 +7,7 @@ use Rattle.tm_base.specs.Bits.{low_bits}
 use Rattle.tm_sync.specs.declared.found.Found.{Found}
 use Rattle.tm_sync.specs.declared.found.Before.{Before}
 use Rattle.tm_sync.specs.Bits.{marker_bits}
-use Rattle.tm_sync.specs.Places.{Rules, wrong_bits, match_of, is_way, are_verified, verified, way_of, settled_by, before_next, places}
+use Rattle.tm_sync.specs.Places.{Rules, wrong_bits, match_of, matches_in, are_verified, verified, place_polarity, settled_by, before_next, places}
 use Rattle.tm_sync.specs.Marked.{Entry, joined, HasNoMarker, MayBridge, place_by_marker, place_of, places_of, AreEntries, IsMarked, clean_entries, clean_places}
 use Rattle.tm_sync.proofs.Numbers.{length-marker_bits}
 use Rattle.tm_sync.proofs.Steps.{match_of-append, are_verified-zero, are_verified-more, places_from-unsettled}
@@ -57,8 +57,8 @@ verified-sent rules (suc count) block (block' ∷ blocks) sized fewer =
     ap (drop (32 + rules.block_bits)) (sym (append_assoc marker_bits block (sent (block' ∷ blocks))))
     ∙ drop_at (marker_bits ++ block) (sent (block' ∷ blocks)) (32 + rules.block_bits) (length-append marker_bits block ∙ omega arith) in
     are_verified-more rules false count (sent (block ∷ block' ∷ blocks)) (omega arith)
-    ∙ (λ i. is_way (match_of rules (next i)) false && are_verified rules false count (next i))
-    ∙ (λ i. is_way (match-sent rules block' blocks i) false && verified-sent rules count block' blocks sized.1 (omega arith) i)
+    ∙ (λ i. matches_in (match_of rules (next i)) false && are_verified rules false count (next i))
+    ∙ (λ i. matches_in (match-sent rules block' blocks i) false && verified-sent rules count block' blocks sized.1 (omega arith) i)
 
 nothing : (rules : Rules) (before : Option Before) (bits : List Bool) → HasNoMarker rules before [] bits
 nothing rules before bits q below = absurd (omega arith)
@@ -68,11 +68,11 @@ abbrev AreEnough : Rules → Option Before → List (List Bool) → Type 0
 AreEnough rules None blocks = (blocks ≡ []) ⊎ (rules.verify < length blocks)
 AreEnough rules (Some before) blocks = Unit {0}
 
-way-sent : (rules : Rules) (before : Option Before) (block : List Bool) (blocks : List (List Bool)) → AreSized rules (block ∷ blocks) → AreEnough rules before (block ∷ blocks)
-    → way_of rules before (sent (block ∷ blocks)) ≡ match_of rules marker_bits
-way-sent rules (Some before) block blocks sized enough = match-sent rules block blocks ∙ sym (marker-matches rules)
-way-sent rules None block blocks sized (inl none) = let no : (block ∷ blocks) ≡ [] = none in absurd (cc)
-way-sent rules None block blocks sized (inr many) =
+polarity-sent : (rules : Rules) (before : Option Before) (block : List Bool) (blocks : List (List Bool)) → AreSized rules (block ∷ blocks) → AreEnough rules before (block ∷ blocks)
+    → place_polarity rules before (sent (block ∷ blocks)) ≡ match_of rules marker_bits
+polarity-sent rules (Some before) block blocks sized enough = match-sent rules block blocks ∙ sym (marker-matches rules)
+polarity-sent rules None block blocks sized (inl none) = let no : (block ∷ blocks) ≡ [] = none in absurd (cc)
+polarity-sent rules None block blocks sized (inr many) =
     ap (verified rules (sent (block ∷ blocks))) (match-sent rules block blocks)
     ∙ ap (λ c. cond c (Some false) None) (verified-sent rules rules.verify block blocks sized (omega arith))
     ∙ sym (marker-matches rules)
@@ -87,7 +87,7 @@ are_entries rules at before (block ∷ blocks) sized enough =
         gap = nothing rules before (joined (e ∷ clean_entries blocks) []);
         waits = tt;
         bridged = subst (λ (w : Option Bool). MayBridge rules before e w) (sym (marker-matches rules)) tt;
-        verified = way-sent rules before block blocks sized enough;
+        verified = polarity-sent rules before block blocks sized enough;
       },
       are_entries rules ((place_of rules at before e).place + 32 + rules.block_bits) (Some (before_next before (place_of rules at before e))) blocks sized.1 tt,
     )

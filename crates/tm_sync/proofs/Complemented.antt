@@ -6,7 +6,7 @@ use Rattle.std.proofs.lemmas.Bool.Decides.{nat_tests}
 use Rattle.tm_sync.specs.declared.found.Found.{Found}
 use Rattle.tm_sync.specs.declared.found.Before.{Before}
 use Rattle.tm_sync.specs.Bits.{flip, complement, in_polarity, difference, differences, marker_bits}
-use Rattle.tm_sync.specs.Places.{Rules, wrong_bits, match_of, is_way, are_verified, verified, way_of, before_next, found_at, place_by, place_at, places_from, places, complemented_place}
+use Rattle.tm_sync.specs.Places.{Rules, wrong_bits, match_of, matches_in, are_verified, verified, place_polarity, before_next, found_at, place_by, place_at, places_from, places, complemented_place}
 use Rattle.tm_sync.proofs.Steps.{places_from-nil, places_from-miss, places_from-one, places_from-inside, place_at-room, place_at-short, are_verified-zero, are_verified-more, are_verified-past}
 use Rattle.tm_sync.proofs.Matches.{wrong-both}
 use Rattle.tm_sync.proofs.Longer.{Seen, none, some, seen}
@@ -68,8 +68,8 @@ match-complemented rules bits either few long =
 turn : Before → Before
 turn before = record { inverted = flip before.inverted; bridged = before.bridged }
 
-place_by-complemented : (rules : Rules) (at : ℕ) (before : Option Before) (bits : List Bool) (way : Option Bool)
-    → place_by rules at (option_map turn before) (complement bits) (option_map flip way) ≡ option_map complemented_place (place_by rules at before bits way)
+place_by-complemented : (rules : Rules) (at : ℕ) (before : Option Before) (bits : List Bool) (polarity : Option Bool)
+    → place_by rules at (option_map turn before) (complement bits) (option_map flip polarity) ≡ option_map complemented_place (place_by rules at before bits polarity)
 unfolding turn
 place_by-complemented rules at before bits (Some inverted) =
     λ i. Some (record { place = at; distance = (wrong-complemented (flip inverted) bits ∙ ap (λ (v : Bool). wrong_bits v bits) (flip-twice inverted)) i; bridged = false; inverted = flip inverted })
@@ -91,12 +91,12 @@ place_by-complemented rules at (Some before) bits None = go (nat_lt before.bridg
     go true = λ i. Some (record { place = at; distance = same i; bridged = true; inverted = flip before.inverted })
     go false = refl
 
-is_way-complemented : (way : Option Bool) (inverted : Bool) → is_way (option_map flip way) (flip inverted) ≡ is_way way inverted
-is_way-complemented None inverted = refl
-is_way-complemented (Some true) true = refl
-is_way-complemented (Some true) false = refl
-is_way-complemented (Some false) true = refl
-is_way-complemented (Some false) false = refl
+matches_in-complemented : (polarity : Option Bool) (inverted : Bool) → matches_in (option_map flip polarity) (flip inverted) ≡ matches_in polarity inverted
+matches_in-complemented None inverted = refl
+matches_in-complemented (Some true) true = refl
+matches_in-complemented (Some true) false = refl
+matches_in-complemented (Some false) true = refl
+matches_in-complemented (Some false) false = refl
 
 are_verified-complemented : (rules : Rules) (inverted : Bool) (count : ℕ) (bits : List Bool) → rules.either ≡ true → rules.tolerance ≤ 15
     → are_verified rules (flip inverted) count (complement bits) ≡ are_verified rules inverted count bits
@@ -114,23 +114,25 @@ are_verified-complemented rules inverted (suc count) bits either few =
         are_verified-past rules (flip inverted) count (complement bits) (omega (arith, length-complement bits)) ∙ sym (are_verified-past rules inverted count bits past)
     go more (inr room) =
         let left = length-drop (32 + rules.block_bits) bits in
-        let way = match-complemented rules (drop (32 + rules.block_bits) bits) either few (omega arith) in
+        let polarity = match-complemented rules (drop (32 + rules.block_bits) bits) either few (omega arith) in
         are_verified-more rules (flip inverted) count (complement bits) (omega (arith, length-complement bits))
-        ∙ (λ i. is_way (match_of rules (next i)) (flip inverted) && are_verified rules (flip inverted) count (next i))
-        ∙ (λ i. is_way (way i) (flip inverted) && more i)
-        ∙ ap (λ c. c && are_verified rules inverted count (drop (32 + rules.block_bits) bits)) (is_way-complemented (match_of rules (drop (32 + rules.block_bits) bits)) inverted)
+        ∙ (λ i. matches_in (match_of rules (next i)) (flip inverted) && are_verified rules
+            (flip inverted) count (next i))
+        ∙ (λ i. matches_in (polarity i) (flip inverted) && more i)
+        ∙ ap (λ c. c && are_verified rules inverted count (drop (32 + rules.block_bits) bits)) (matches_in-complemented (match_of rules (drop (32 + rules.block_bits) bits)) inverted)
         ∙ sym (are_verified-more rules inverted count bits room)
 
-way_of-complemented : (rules : Rules) (before : Option Before) (bits : List Bool) → rules.either ≡ true → rules.tolerance ≤ 15 → 32 ≤ length bits
-    → way_of rules (option_map turn before) (complement bits) ≡ option_map flip (way_of rules before bits)
-way_of-complemented rules (Some before) bits either few long = match-complemented rules bits either few long
-way_of-complemented rules None bits either few long = ap (verified rules (complement bits)) (match-complemented rules bits either few long) ∙ go (match_of rules bits)
+place_polarity-complemented : (rules : Rules) (before : Option Before) (bits : List Bool) → rules.either ≡ true → rules.tolerance ≤ 15 → 32 ≤ length bits
+    → place_polarity rules (option_map turn before) (complement bits)
+        ≡ option_map flip (place_polarity rules before bits)
+place_polarity-complemented rules (Some before) bits either few long = match-complemented rules bits either few long
+place_polarity-complemented rules None bits either few long = ap (verified rules (complement bits)) (match-complemented rules bits either few long) ∙ go (match_of rules bits)
   where
     choose : (inverted : Bool) (c : Bool) → cond c (Some (flip inverted)) None ≡ option_map flip (cond c (Some inverted) None)
     choose inverted true = refl
     choose inverted false = refl
 
-    go : (way : Option Bool) → verified rules (complement bits) (option_map flip way) ≡ option_map flip (verified rules bits way)
+    go : (polarity : Option Bool) → verified rules (complement bits) (option_map flip polarity) ≡ option_map flip (verified rules bits polarity)
     go None = refl
     go (Some inverted) =
         ap (λ c. cond c (Some (flip inverted)) None) (are_verified-complemented rules inverted rules.verify bits either few)
@@ -146,8 +148,8 @@ place_at-complemented rules at before bits either few = go (cases_lt (length bit
         ∙ ap (option_map complemented_place) (sym (place_at-short rules at before bits short))
     go (inr room) =
         place_at-room rules at (option_map turn before) (complement bits) (omega (arith, length-complement bits))
-        ∙ ap (place_by rules at (option_map turn before) (complement bits)) (way_of-complemented rules before bits either few (omega arith))
-        ∙ place_by-complemented rules at before bits (way_of rules before bits)
+        ∙ ap (place_by rules at (option_map turn before) (complement bits)) (place_polarity-complemented rules before bits either few (omega arith))
+        ∙ place_by-complemented rules at before bits (place_polarity rules before bits)
         ∙ ap (option_map complemented_place) (sym (place_at-room rules at before bits room))
 
 after-complemented : (before : Option Before) (f : Found) → Some (before_next (option_map turn before) (complemented_place f)) ≡ option_map turn (Some (before_next before f))

@@ -3,7 +3,7 @@ use Rattle.std.proofs.Common.{◌≡◌, ℕ, suc, ◌+◌, ◌-◌, ◌≤◌, 
 use Rattle.std.proofs.lemmas.List.{length-take-le, take_at, drop-drop, drop-append-le}
 use Rattle.tm_sync.specs.declared.found.Found.{Found}
 use Rattle.tm_sync.specs.declared.found.Before.{Before}
-use Rattle.tm_sync.specs.Places.{Rules, way_of, before_next, place_at, places_from, places}
+use Rattle.tm_sync.specs.Places.{Rules, place_polarity, before_next, place_at, places_from, places}
 use Rattle.tm_sync.specs.Searching.{end_of, before_past}
 use Rattle.tm_sync.proofs.Steps.{places_from-nil, places_from-skip, places_from-one, places_from-miss, place_at-room}
 use Rattle.tm_sync.proofs.Longer.{Seen, none, some, seen, place_at-stands, EndBefore, places-append, places-end}
@@ -30,7 +30,7 @@ first-matched rules at (b ∷ bits) f found e = go (λ e. first-matched rules (a
     matched : (g : Found) → place_at rules at None (b ∷ bits) ≡ Some g → g.bridged ≡ false
     matched g h =
         let s = place_at-stands rules at None (b ∷ bits) g h in
-        not-bridged-here rules at (b ∷ bits) (way_of rules None (b ∷ bits)) g (sym (place_at-room rules at None (b ∷ bits) s.room) ∙ h)
+        not-bridged-here rules at (b ∷ bits) (place_polarity rules None (b ∷ bits)) g (sym (place_at-room rules at None (b ∷ bits) s.room) ∙ h)
 
     go : (places_from rules (at + 1) 0 None bits ≡ f ∷ found → f.bridged ≡ false) → Seen (place_at rules at None (b ∷ bits)) → f.bridged ≡ false
     go next (none h) = next (sym (places_from-miss rules at None b bits h) ∙ e)

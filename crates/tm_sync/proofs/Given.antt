@@ -10,13 +10,13 @@ use Rattle.tm_base.specs.Bits.{number_of}
 use Rattle.tm_sync.specs.declared.found.Found.{Found}
 use Rattle.tm_sync.specs.declared.found.Before.{Before}
 use Rattle.tm_sync.specs.declared.found.Awaited.{Awaited}
-use Rattle.tm_sync.specs.Places.{Rules, before_next, wrong_bits, match_of, is_way, are_verified, verified, way_of, verify_bits, found_at, place_at, place_by, places, places_from}
+use Rattle.tm_sync.specs.Places.{Rules, before_next, wrong_bits, match_of, matches_in, are_verified, verified, place_polarity, verify_bits, found_at, place_at, place_by, places, places_from}
 use Rattle.tm_sync.specs.Searching.{Counts, Searching, StandsFor, Remembers, Recalls, IsRun, IsRecent, awaited_at, begun_of, first_place, from_of, place_ahead, inside_ahead, inside_by, inside_of, is_pending, is_right_after, waiting_of, end_of, before_past}
 use Rattle.tm_sync.proofs.Numbers.{value_from, number-value}
 use Rattle.tm_sync.proofs.Sliding.{byte-number, word-push}
-use Rattle.tm_sync.proofs.Steps.{places_from-short, places_from-hit, wrong_bits-append, match_of-append, is_way-is, are_verified-more, way_of-far, place_at-room}
+use Rattle.tm_sync.proofs.Steps.{places_from-short, places_from-hit, wrong_bits-append, match_of-append, matches_in-is, are_verified-more, place_polarity-far, place_at-room}
 use Rattle.tm_sync.proofs.Longer.{Seen, none, some, seen, place_by-place}
-use Rattle.tm_sync.proofs.FirstPlaces.{here, hit, first_place-nil, first_place-short, first_place-stays, first_place-right, first_place-settles, first_place-unmatched, first_place-waits, first_place-start, first_place-room, telling-marker, places_from-ahead, places_from-none, places_from-none_ahead, places_from-whole, places_from-unfinished, not-bridged-here, after-matched}
+use Rattle.tm_sync.proofs.FirstPlaces.{here, hit, first_place-nil, first_place-short, first_place-stays, first_place-right, first_place-settles, first_place-unmatched, first_place-waits, first_place-start, first_place-room, deciding-marker, places_from-ahead, places_from-none, places_from-none_ahead, places_from-whole, places_from-unfinished, not-bridged-here, after-matched}
 use Rattle.tm_sync.proofs.Recent.{recent-inside, recent-from, last-32, word-last}
 use Rattle.tm_sync.proofs.Looks.{none-or}
 use Rattle.tm_sync.proofs.Ends.{end_after, end_after-is, end_after-append, end-there, first-stays, places-after}
@@ -294,19 +294,19 @@ recent-start s s' room room' b bits found h was start kept =
     subst (IsRecent room' (bits ++ b ∷ [])) (sym start)
     (kept.recent s.start (subst (λ (o : Option Awaited). IsRecent room bits (from_of s o)) was h.recent))
 
--- what the search keeps of a place that is told: its codeblock is not whole, or it was verified
-abbrev IsTold : Searching → List Bool → Option Found → Type 0
-IsTold s bits None = s.after ≡ 0
-IsTold s bits (Some f) = (f.place + 32 + s.after ≡ s.pushed)
+-- what the search keeps of a place that is reported: its codeblock is not whole, or it was verified
+abbrev IsReported : Searching → List Bool → Option Found → Type 0
+IsReported s bits None = s.after ≡ 0
+IsReported s bits (Some f) = (f.place + 32 + s.after ≡ s.pushed)
     × ((s.after ≤ s.rules.block_bits) ⊎ ((s.after ≡ verify_bits s.rules) × (are_verified s.rules f.inverted s.rules.verify (drop f.place bits) ≡ true)))
 
 -- no place was awaited, and now the search awaits that which there is, or none
-told : (s s' : Searching) (room room' : List ℕ) (b : Bool) (bits : List Bool) (found : List Found) (h : Parts s room bits found) → Grows s s' b → Remembers room room' bits b
+reported : (s s' : Searching) (room room' : List ℕ) (b : Bool) (bits : List Bool) (found : List Found) (h : Parts s room bits found) → Grows s s' b → Remembers room room' bits b
     → s.awaited ≡ None → (o : Option Found) → first_place s.rules (length h.prefix) s.before (h.rest ++ b ∷ []) ≡ o → s'.awaited ≡ option_map (awaited_at s.before) o
-    → IsTold s' (bits ++ b ∷ []) o → StandsFor s' room' (bits ++ b ∷ []) found
-told s s' room room' b bits found h g kept was None ahead awaited fresh =
+    → IsReported s' (bits ++ b ∷ []) o → StandsFor s' room' (bits ++ b ∷ []) found
+reported s s' room room' b bits found h g kept was None ahead awaited fresh =
     grown s s' room room' b bits found h g kept.sized None ahead awaited tt fresh tt (recent-start s s' room room' b bits found h was g.start kept)
-told s s' room room' b bits found h g kept was (Some f) ahead awaited (ends, run) =
+reported s s' room room' b bits found h g kept was (Some f) ahead awaited (ends, run) =
     let start = first_place-start s.rules (length h.prefix) s.before (h.rest ++ b ∷ []) f ahead in
     let same = g.start in
     let at = h.start_is in
@@ -417,7 +417,7 @@ awaited-free rules at before bits = go (seen (here rules at None bits))
     go (none e) = ap (option_map (awaited_at None)) e ∙ ap (option_map (awaited_at before)) (sym e)
     go (some f e) =
         ap (option_map (awaited_at None)) e
-        ∙ (λ i. Some (record { found = f; next = after-matched before f (not-bridged-here rules at bits (way_of rules None bits) f e) i }))
+        ∙ (λ i. Some (record { found = f; next = after-matched before f (not-bridged-here rules at bits (place_polarity rules None bits) f e) i }))
         ∙ ap (option_map (awaited_at before)) (sym e)
 
 -- a place that is searched for is verified in its polarity
@@ -430,7 +430,7 @@ here-verified rules at bits f e = go (match_of rules bits) e
         ap (λ (g : Found). are_verified rules g.inverted rules.verify bits) (sym same) ∙ is
     one inverted false is e = absurd (cc)
 
-    go : (way : Option Bool) → place_by rules at None bits (verified rules bits way) ≡ Some f → are_verified rules f.inverted rules.verify bits ≡ true
+    go : (polarity : Option Bool) → place_by rules at None bits (verified rules bits polarity) ≡ Some f → are_verified rules f.inverted rules.verify bits ≡ true
     go None e = absurd (cc)
     go (Some inverted) e = one inverted (are_verified rules inverted rules.verify bits) refl e
 
@@ -438,24 +438,24 @@ pub right-least : (n : ℕ) (before : Option Before) → is_right_after n before
 right-least n None is = absurd (cc)
 right-least n (Some before) is = grind (arith, nat_tests)
 
--- ---- a bit tells a place
-told-zero : (s : Searching) (bits : List Bool) (rules : Rules) (at : ℕ) (before : Option Before) (l : List Bool) (way : Option Bool) → s.after ≡ 0 → s.pushed ≡ at + 32
-    → IsTold s bits (place_by rules at before l way)
-told-zero s bits rules at before l way fresh pushed = go (seen (place_by rules at before l way))
+-- ---- a bit decides a place
+reported-zero : (s : Searching) (bits : List Bool) (rules : Rules) (at : ℕ) (before : Option Before) (l : List Bool) (polarity : Option Bool) → s.after ≡ 0 → s.pushed ≡ at + 32
+    → IsReported s bits (place_by rules at before l polarity)
+reported-zero s bits rules at before l polarity fresh pushed = go (seen (place_by rules at before l polarity))
   where
-    go : Seen (place_by rules at before l way) → IsTold s bits (place_by rules at before l way)
-    go (none e) = subst (IsTold s bits) (sym e) fresh
+    go : Seen (place_by rules at before l polarity) → IsReported s bits (place_by rules at before l polarity)
+    go (none e) = subst (IsReported s bits) (sym e) fresh
     go (some f e) =
-        let place : f.place ≡ at = place_by-place rules at before l way f e in
+        let place : f.place ≡ at = place_by-place rules at before l polarity f e in
         let ends : f.place + 32 + s.after ≡ s.pushed = omega arith in
         let few : s.after ≤ s.rules.block_bits = omega arith in
-        subst (IsTold s bits) (sym e) (ends, inl few)
+        subst (IsReported s bits) (sym e) (ends, inl few)
 
-pub told_right : (s now : Searching) (room room' : List ℕ) (b : Bool) (a : Option Awaited) (bits : List Bool) (found : List Found) → Counts s now b → Remembers room room' bits b
+pub reported_right : (s now : Searching) (room room' : List ℕ) (b : Bool) (a : Option Awaited) (bits : List Bool) (found : List Found) → Counts s now b → Remembers room room' bits b
     → s.awaited ≡ None → is_right_after (now.pushed - now.start) now.before ≡ true
     → ((l : List Bool) → length l ≡ 32 → now.word ≡ number_of l → a ≡ option_map (awaited_at now.before) (place_by now.rules (now.pushed - 32) now.before l (match_of now.rules l)))
     → StandsFor s room bits found → StandsFor (record now { awaited = a; after = 0 }) room' (bits ++ b ∷ []) found
-told_right s now room room' b a bits found c kept was right looks stood =
+reported_right s now room room' b a bits found c kept was right looks stood =
     let h = parts_of s room bits found stood in
     let s' : Searching = record now { awaited = a; after = 0 } in
     let g : Grows s s' b = grows s now s' b c refl refl refl refl refl in
@@ -474,8 +474,8 @@ told_right s now room room' b a bits found c kept was right looks stood =
     ∙ ap (λ v. number_of v % 2 ^ 32) (ap (λ v. v ++ b ∷ []) h.parts ∙ append_assoc h.prefix h.rest (b ∷ []))) in
     let is : a ≡ option_map (awaited_at s.before) (place_by s.rules (length h.prefix) s.before l (match_of s.rules l)) =
     looks l size word ∙ (λ i. option_map (awaited_at (c.before i)) (place_by (c.rules i) (place i) (c.before i) l (match_of (c.rules i) l))) in
-    told s s' room room' b bits found h g kept was (place_by s.rules (length h.prefix) s.before l (match_of s.rules l)) r.1 is
-    (told-zero s' (bits ++ b ∷ []) s.rules (length h.prefix) s.before l (match_of s.rules l) refl (omega arith))
+    reported s s' room room' b bits found h g kept was (place_by s.rules (length h.prefix) s.before l (match_of s.rules l)) r.1 is
+    (reported-zero s' (bits ++ b ∷ []) s.rules (length h.prefix) s.before l (match_of s.rules l) refl (omega arith))
 
 -- too few bits follow the last codeblock to be a marker
 pub push_short : (s s' : Searching) (room room' : List ℕ) (more : List Bool) → s.awaited ≡ None
@@ -490,7 +490,7 @@ push_short s s' room room' more was rules pushed start before stays after few si
     let h = parts_of s room bits found stood in
     let many = after-is s room bits found h in
     let long = length-append h.rest more in
-    let enough = telling-marker s.rules s.before in
+    let enough = deciding-marker s.rules s.before in
     gone_on s s' room room' more bits found h rules pushed start before
     (word ∙ ap (λ n. n % 2 ^ 32) (number-value (bits ++ more))) size None
     (first_place-short s.rules (length h.prefix) s.before (h.rest ++ more) (omega arith))
@@ -510,10 +510,10 @@ short-bit s now room room' b bits found c kept was few stood =
     (g.word ∙ word-push s.word b bits h.word_is
     ∙ ap (λ n. n % 2 ^ 32) (sym (number-value (bits ++ b ∷ [])))) (kept.recent s.start) stood
 
-pub told_waits : (s now : Searching) (room room' : List ℕ) (b : Bool) (bits : List Bool) (found : List Found) → Counts s now b → Remembers room room' bits b
+pub reported_waits : (s now : Searching) (room room' : List ℕ) (b : Bool) (bits : List Bool) (found : List Found) → Counts s now b → Remembers room room' bits b
     → s.awaited ≡ None → is_right_after (now.pushed - now.start) now.before ≡ false → now.pushed - now.start < 32 + verify_bits now.rules
     → StandsFor s room bits found → StandsFor (record now { awaited = None; after = 0 }) room' (bits ++ b ∷ []) found
-told_waits s now room room' b bits found c kept was right few stood =
+reported_waits s now room room' b bits found c kept was right few stood =
     let h = parts_of s room bits found stood in
     let s' : Searching = record now { awaited = None; after = 0 } in
     let pushed = c.pushed in
@@ -522,15 +522,15 @@ told_waits s now room room' b bits found c kept was right few stood =
     let since : now.pushed - now.start ≡ length h.rest + 1 = omega arith in
     let lag : verify_bits now.rules ≡ verify_bits s.rules = ap verify_bits c.rules in
     let less : length h.rest + 1 < 32 + verify_bits s.rules = omega arith in
-    told s s' room room' b bits found h (grows s now s' b c refl refl refl refl refl) kept was None
+    reported s s' room room' b bits found h (grows s now s' b c refl refl refl refl refl) kept was None
     (waits-is s room bits found h b was ((λ i. is_right_after (sym since i) (sym c.before i)) ∙ right) (omega arith) (λ _. less)) refl refl
 
-pub told_verified : (s now : Searching) (room room' : List ℕ) (b : Bool) (a : Option Awaited) (n : ℕ) (bits : List Bool) (found : List Found) → Counts s now b → Remembers room room' bits b
+pub reported_verified : (s now : Searching) (room room' : List ℕ) (b : Bool) (a : Option Awaited) (n : ℕ) (bits : List Bool) (found : List Found) → Counts s now b → Remembers room room' bits b
     → s.awaited ≡ None → is_right_after (now.pushed - now.start) now.before ≡ false → 32 + verify_bits now.rules ≤ now.pushed - now.start → IfSome a (λ _. n ≡ verify_bits now.rules) → IfNone a (n ≡ 0)
     → ((from : ℕ) → Recalls now room' (bits ++ b ∷ []) from → from + (32 + verify_bits now.rules) ≤ length (bits ++ b ∷ [])
     → a ≡ option_map (awaited_at None) (here now.rules (prefix_of now.rules (bits ++ b ∷ [])) None (back_of now.rules (bits ++ b ∷ []))))
     → StandsFor s room bits found → StandsFor (record now { awaited = a; after = n }) room' (bits ++ b ∷ []) found
-told_verified s now room room' b a n bits found c kept was right enough taken waits looks stood =
+reported_verified s now room room' b a n bits found c kept was right enough taken waits looks stood =
     let h = parts_of s room bits found stood in
     let s' : Searching = record now { awaited = a; after = n } in
     let g : Grows s s' b = grows s now s' b c refl refl refl refl refl in
@@ -555,28 +555,28 @@ told_verified s now room room' b a n bits found c kept was right enough taken wa
     }) (omega arith)
     ∙ (λ i. option_map (awaited_at None) (here (c.rules i) (prefix_of (c.rules i) all) None (back_of (c.rules i) all)))
     ∙ awaited-free s.rules (prefix_of s.rules all) s.before (back_of s.rules all) in
-    told s s' room room' b bits found h g kept was (here s.rules (prefix_of s.rules all) None (back_of s.rules all)) v.2 is
+    reported s s' room room' b bits found h g kept was (here s.rules (prefix_of s.rules all) None (back_of s.rules all)) v.2 is
     (go (seen (here s.rules (prefix_of s.rules all) None (back_of s.rules all))) is count room_for)
   where
     go : Seen (here s.rules (prefix_of s.rules (bits ++ b ∷ [])) None (back_of s.rules (bits ++ b ∷ [])))
         → a ≡ option_map (awaited_at s.before) (here s.rules (prefix_of s.rules (bits ++ b ∷ [])) None (back_of s.rules (bits ++ b ∷ [])))
         → now.pushed ≡ length (bits ++ b ∷ []) → 32 + verify_bits s.rules ≤ length (bits ++ b ∷ [])
-        → IsTold (record now { awaited = a; after = n }) (bits ++ b ∷ []) (here s.rules (prefix_of s.rules (bits ++ b ∷ [])) None (back_of s.rules (bits ++ b ∷ [])))
+        → IsReported (record now { awaited = a; after = n }) (bits ++ b ∷ []) (here s.rules (prefix_of s.rules (bits ++ b ∷ [])) None (back_of s.rules (bits ++ b ∷ [])))
     go (none e) is count room_for =
         let free : a ≡ None = is ∙ ap (option_map (awaited_at s.before)) e in
-        subst (IsTold (record now { awaited = a; after = n }) (bits ++ b ∷ [])) (sym e) (subst (λ (o : Option Awaited). IfNone o (n ≡ 0)) free waits)
+        subst (IsReported (record now { awaited = a; after = n }) (bits ++ b ∷ [])) (sym e) (subst (λ (o : Option Awaited). IfNone o (n ≡ 0)) free waits)
     go (some f e) is count room_for =
         let there : a ≡ Some (awaited_at s.before f) = is ∙ ap (option_map (awaited_at s.before)) e in
         let lag : verify_bits now.rules ≡ verify_bits s.rules = ap verify_bits c.rules in
         let since : n ≡ verify_bits now.rules = subst (λ (o : Option Awaited). IfSome o (λ _. n ≡ verify_bits now.rules)) there taken in
         let place : f.place ≡ prefix_of s.rules (bits ++ b ∷ []) =
         place_by-place s.rules (prefix_of s.rules (bits ++ b ∷ [])) None (back_of s.rules (bits ++ b ∷ []))
-        (way_of s.rules None (back_of s.rules (bits ++ b ∷ []))) f e in
+        (place_polarity s.rules None (back_of s.rules (bits ++ b ∷ []))) f e in
         let ends : f.place + 32 + n ≡ now.pushed = omega arith in
         let held : are_verified now.rules f.inverted now.rules.verify (drop f.place (bits ++ b ∷ [])) ≡ true =
         (λ i. are_verified (c.rules i) f.inverted ((c.rules i).verify) (drop (place i) (bits ++ b ∷ [])))
         ∙ here-verified s.rules (prefix_of s.rules (bits ++ b ∷ [])) (back_of s.rules (bits ++ b ∷ [])) f e in
-        subst (IsTold (record now { awaited = a; after = n }) (bits ++ b ∷ [])) (sym e) (ends, inr (since, held))
+        subst (IsReported (record now { awaited = a; after = n }) (bits ++ b ∷ [])) (sym e) (ends, inr (since, held))
 
 -- the last 32 bits match in no way, and none is bridged there
 pub push_far : (s s' : Searching) (room room' : List ℕ) (b : Bool) (bits : List Bool) (found : List Found) → Grows s s' b → Remembers room room' bits b
@@ -589,7 +589,7 @@ push_far s s' room room' b bits found g kept was free same enough far stood =
     let start = g.start in
     let many = after-is s room bits found h in
     let long : 32 < length h.rest + 1 = omega arith in
-    told s s' room room' b bits found h g kept was None (go h long (cases_lt (length h.rest + 1) (32 + verify_bits s.rules))) free (same ∙ subst (Fresh s) was h.fresh)
+    reported s s' room room' b bits found h g kept was None (go h long (cases_lt (length h.rest + 1) (32 + verify_bits s.rules))) free (same ∙ subst (Fresh s) was h.fresh)
   where
     right : (n : ℕ) (before : Option Before) → 32 < n → is_right_after n before ≡ false
     right n None more = refl
@@ -609,9 +609,9 @@ push_far s s' room room' b bits found g kept was free same enough far stood =
         let no : match_of s.rules (drop (verify_bits s.rules) (back_of s.rules all)) ≡ None =
         ap (match_of s.rules) (drop-drop (verify_bits s.rules) (prefix_of s.rules all) all ∙ ap (λ k. drop k all) last)
         ∙ far (drop (length all - 32) all) (omega arith) (word-last s'.word all (omega arith) word) in
-        v.2 ∙ ap (place_by s.rules (prefix_of s.rules all) None (back_of s.rules all)) (way_of-far s.rules (back_of s.rules all) no)
+        v.2 ∙ ap (place_by s.rules (prefix_of s.rules all) None (back_of s.rules all)) (place_polarity-far s.rules (back_of s.rules all) no)
 
--- ---- places are told
+-- ---- places are reported
 pub stands_first : (s : Searching) (room : List ℕ) → length room ≡ verify_bits s.rules → s.pushed ≡ 0 → s.start ≡ 0 → s.word ≡ 0 → s.before ≡ None → s.awaited ≡ None → s.after ≡ 0
     → StandsFor s room [] []
 stands_first s room size pushed start word before free fresh = stands_of s room [] [] record {
@@ -644,9 +644,9 @@ places-now : (s : Searching) (room : List ℕ) (bits : List Bool) (found : List 
 places-now s room bits found h =
     ap (places s.rules) (sym (append-nil bits)) ∙ places-on s room bits [] found h ∙ ap (λ l. found ++ places_from s.rules (length h.prefix) 0 s.before l) (append-nil h.rest)
 
--- nothing waits, so all places were told
-pub told_all : (s : Searching) (room : List ℕ) → is_pending s ≡ false → (bits : List Bool) (found : List Found) → StandsFor s room bits found → places s.rules bits ≡ found
-told_all s room free bits found stood =
+-- nothing waits, so all places were reported
+pub reported_all : (s : Searching) (room : List ℕ) → is_pending s ≡ false → (bits : List Bool) (found : List Found) → StandsFor s room bits found → places s.rules bits ≡ found
+reported_all s room free bits found stood =
     let h = parts_of s room bits found stood in
     places-now s room bits found h ∙ ap (λ fs. found ++ fs) (go h (first_place s.rules (length h.prefix) s.before h.rest) refl) ∙ append-nil found
   where
@@ -659,9 +659,9 @@ told_all s room free bits found stood =
         places_from-unfinished s.rules (length h.prefix) s.before h.rest f e (omega (arith, h.pushed_is, ap length h.parts, length-append h.prefix h.rest))
 
 -- how many places there may be with further bits
-pub told-few : (s : Searching) (room : List ℕ) (bits more : List Bool) (found : List Found) → StandsFor s room bits found
+pub reported-few : (s : Searching) (room : List ℕ) (bits more : List Bool) (found : List Found) → StandsFor s room bits found
     → length (places s.rules (bits ++ more)) * (32 + s.rules.block_bits) ≤ length found * (32 + s.rules.block_bits) + begun_of s + length more
-told-few s room bits more found stood =
+reported-few s room bits more found stood =
     let h = parts_of s room bits found stood in
     let further = places_from s.rules (length h.prefix) 0 s.before (h.rest ++ more) in
     let all : length (places s.rules (bits ++ more)) ≡ length found + length further = ap length (places-on s room bits more found h) ∙ length-append found further in
@@ -743,10 +743,10 @@ rest-run rules inverted zero at before bits size match held = go (cases_lt (leng
         (λ next. rest-short rules (at + 32 + rules.block_bits) next (drop (32 + rules.block_bits) bits) (omega arith))
 rest-run rules inverted (suc count) at before bits size match held =
     let left = length-drop (32 + rules.block_bits) bits in
-    let both = and-both (is_way (match_of rules (drop (32 + rules.block_bits) bits)) inverted) (are_verified rules inverted count (drop (32 + rules.block_bits) bits))
+    let both = and-both (matches_in (match_of rules (drop (32 + rules.block_bits) bits)) inverted) (are_verified rules inverted count (drop (32 + rules.block_bits) bits))
     (sym (are_verified-more rules inverted count bits (omega arith)) ∙ held) in
     rest-more rules inverted at before bits (omega arith) match
-    (λ next. rest-run rules inverted count (at + 32 + rules.block_bits) next (drop (32 + rules.block_bits) bits) (omega arith) (is_way-is (match_of rules (drop (32 + rules.block_bits) bits)) inverted both.0) both.1)
+    (λ next. rest-run rules inverted count (at + 32 + rules.block_bits) next (drop (32 + rules.block_bits) bits) (omega arith) (matches_in-is (match_of rules (drop (32 + rules.block_bits) bits)) inverted both.0) both.1)
 
 -- the bits after the codeblock of the place awaited, where it is whole: none, or a marker that matches as its own, and so on
 record Left (s : Searching) (bits : List Bool) (m : Awaited) : Type 0 where
@@ -774,12 +774,12 @@ left-of s bits m full ends run =
         let there : m.found.place + u ≡ m.found.place + 32 + s.rules.block_bits = omega arith in
         let next : drop u (drop m.found.place bits) ≡ drop (m.found.place + 32 + s.rules.block_bits) bits = drop-drop u m.found.place bits ∙ ap (λ n. drop n bits) there in
         let since = length-drop m.found.place bits in
-        let both = and-both (is_way (match_of s.rules (drop u (drop m.found.place bits))) m.found.inverted) (are_verified s.rules m.found.inverted more (drop u (drop m.found.place bits)))
+        let both = and-both (matches_in (match_of s.rules (drop u (drop m.found.place bits))) m.found.inverted) (are_verified s.rules m.found.inverted more (drop u (drop m.found.place bits)))
         (sym (are_verified-more s.rules m.found.inverted more (drop m.found.place bits) (omega arith)) ∙ held) in
-        inr (more, omega arith, ap (match_of s.rules) (sym next) ∙ is_way-is (match_of s.rules (drop u (drop m.found.place bits))) m.found.inverted both.0, ap (are_verified s.rules m.found.inverted more) (sym next) ∙ both.1)
+        inr (more, omega arith, ap (match_of s.rules) (sym next) ∙ matches_in-is (match_of s.rules (drop u (drop m.found.place bits))) m.found.inverted both.0, ap (are_verified s.rules m.found.inverted more) (sym next) ∙ both.1)
 
 -- the place that waits, and those after it
-record Told (s : Searching) (bits : List Bool) (found : List Found) (m : Awaited) : Type 0 where
+record Reported (s : Searching) (bits : List Bool) (found : List Found) (m : Awaited) : Type 0 where
   full : s.rules.block_bits ≤ s.after
   ends : m.found.place + 32 + s.after ≡ length bits
   rest : List Found
@@ -789,8 +789,8 @@ record Told (s : Searching) (bits : List Bool) (found : List Found) (m : Awaited
   left : Left s bits m
   next : before_next (before_past None found) m.found ≡ m.next
 
-told-of : (s : Searching) (room : List ℕ) (bits : List Bool) (found : List Found) (h : Parts s room bits found) (m : Awaited) → s.awaited ≡ Some m → is_pending s ≡ true → Told s bits found m
-told-of s room bits found h m was pending =
+reported-of : (s : Searching) (room : List ℕ) (bits : List Bool) (found : List Found) (h : Parts s room bits found) (m : Awaited) → s.awaited ≡ Some m → is_pending s ≡ true → Reported s bits found m
+reported-of s room bits found h m was pending =
     let a = ahead-is s room bits found h m was in
     let f = a.0 in
     let found_is : f ≡ m.found = ap (λ (v : Awaited). v.found) a.2 in
@@ -838,7 +838,7 @@ told-of s room bits found h m was pending =
         go (inr (count, size, match, held)) =
             rest-run s.rules m.found.inverted count (m.found.place + 32 + s.rules.block_bits) m.next (drop (m.found.place + 32 + s.rules.block_bits) bits) size match held
 
--- the search tells the place that waits
+-- the search reports the place that waits
 pub record Tells (s s' : Searching) (m : Awaited) : Type 0 where
   pub awaited_was : s.awaited ≡ Some m
   pub rules : s'.rules ≡ s.rules
@@ -865,31 +865,31 @@ pub inside-is : (s : Searching) (m : Awaited) → s.awaited ≡ Some m → unwra
 inside-is s m was = ap (λ (o : Option Awaited). unwrap_or (option_map (λ _. s.after) o) 0) was
 
 -- its codeblock lies in the bits
-pub told-fits : (s : Searching) (room : List ℕ) (m : Awaited) (bits : List Bool) (found : List Found) → s.awaited ≡ Some m → is_pending s ≡ true → StandsFor s room bits found
+pub reported-fits : (s : Searching) (room : List ℕ) (m : Awaited) (bits : List Bool) (found : List Found) → s.awaited ≡ Some m → is_pending s ≡ true → StandsFor s room bits found
     → m.found.place + 32 + s.rules.block_bits ≤ s.pushed
-told-fits s room m bits found was pending stood =
+reported-fits s room m bits found was pending stood =
     let h = parts_of s room bits found stood in
     let full = whole s m was pending in
     let after : m.found.place + 32 + s.after ≡ s.pushed = subst (Ends s) was h.after_is in
     omega arith
 
--- what the clause of a place that is told says
+-- what the clause of a place that is reported says
 abbrev Gives : Searching → Searching → List ℕ → List Bool → List Found → Found → Type 0
 Gives s s' room bits found f = StandsFor s' room bits (found ++ f ∷ [])
     × ((rest : List Found) × (places s.rules bits ≡ found ++ f ∷ rest) × (length rest ≡ waiting_of s'))
     × (f.place + 32 + unwrap_or (inside_of s) 0 ≡ length bits)
 
--- where the search follows the codeblock that is told, and awaits the place ahead
-gives : (s s' : Searching) (room : List ℕ) (m : Awaited) (bits : List Bool) (found : List Found) (h : Parts s room bits found) (told : Told s bits found m) → Tells s s' m
+-- where the search follows the codeblock that is reported, and awaits the place ahead
+gives : (s s' : Searching) (room : List ℕ) (m : Awaited) (bits : List Bool) (found : List Found) (h : Parts s room bits found) (reported : Reported s bits found m) → Tells s s' m
     → s'.awaited ≡ option_map (awaited_at s'.before) (first_place s'.rules (m.found.place + 32 + s.rules.block_bits) s'.before (drop (m.found.place + 32 + s.rules.block_bits) bits))
-    → Ends s' s'.awaited → Fresh s' s'.awaited → IsRun s' bits s'.awaited → IsRecent room bits (from_of s' s'.awaited) → length told.rest ≡ waiting_of s'
+    → Ends s' s'.awaited → Fresh s' s'.awaited → IsRun s' bits s'.awaited → IsRecent room bits (from_of s' s'.awaited) → length reported.rest ≡ waiting_of s'
     → Gives s s' room bits found m.found
-gives s s' room m bits found h told t awaited ends fresh run recent many =
+gives s s' room m bits found h reported t awaited ends fresh run recent many =
     let e : ℕ = m.found.place + 32 + s.rules.block_bits in
-    let left = told.left.size in
-    let place = told.ends in
-    let full = told.full in
-    let tells : places s.rules bits ≡ (found ++ m.found ∷ []) ++ told.rest = told.tells ∙ sym (append_assoc found (m.found ∷ []) told.rest) in
+    let left = reported.left.size in
+    let place = reported.ends in
+    let full = reported.full in
+    let tells : places s.rules bits ≡ (found ++ m.found ∷ []) ++ reported.rest = reported.tells ∙ sym (append_assoc found (m.found ∷ []) reported.rest) in
     let since = length-drop e bits in
     let size : length (take e bits) ≡ e = length-take-le e bits (omega arith) in
     let inside : unwrap_or (inside_of s) 0 ≡ s.after = inside-is s m t.awaited_was in (
@@ -898,11 +898,11 @@ gives s s' room m bits found h told t awaited ends fresh run recent many =
         rest = drop e bits;
         parts = sym (take-append-drop e bits);
         found_first = ap (λ r. take (length (found ++ m.found ∷ [])) (places r bits)) t.rules ∙ ap (take (length (found ++ m.found ∷ []))) tells
-            ∙ take_at (found ++ m.found ∷ []) told.rest (length (found ++ m.found ∷ [])) refl;
+            ∙ take_at (found ++ m.found ∷ []) reported.rest (length (found ++ m.found ∷ [])) refl;
         ends = ap (λ r. end_of r (found ++ m.found ∷ [])) t.rules ∙ end-last s.rules found m.found ∙ sym size;
         start_is = t.start ∙ sym size;
         pushed_is = t.pushed ∙ h.pushed_is;
-        before_is = t.before ∙ ap Some (sym told.next) ∙ sym (before-last found m.found None);
+        before_is = t.before ∙ ap Some (sym reported.next) ∙ sym (before-last found m.found None);
         word_is = t.word ∙ h.word_is;
         awaited_is = awaited ∙ ap (λ n. option_map (awaited_at s'.before) (first_place s'.rules n s'.before (drop e bits))) (sym size);
         after_is = ends;
@@ -911,32 +911,32 @@ gives s s' room m bits found h told t awaited ends fresh run recent many =
         sized = h.sized ∙ ap verify_bits (sym t.rules);
         recent = recent;
       },
-      (told.rest, told.tells, many),
-      ap (λ n. m.found.place + 32 + n) inside ∙ told.ends,
+      (reported.rest, reported.tells, many),
+      ap (λ n. m.found.place + 32 + n) inside ∙ reported.ends,
     )
 
 -- no codeblock follows it
-pub told_last : (s s' : Searching) (room : List ℕ) (m : Awaited) → is_pending s ≡ true → Tells s s' m → s.after - s.rules.block_bits < 32 → s'.awaited ≡ None → s'.after ≡ 0
+pub reported_last : (s s' : Searching) (room : List ℕ) (m : Awaited) → is_pending s ≡ true → Tells s s' m → s.after - s.rules.block_bits < 32 → s'.awaited ≡ None → s'.after ≡ 0
     → (bits : List Bool) (found : List Found) → StandsFor s room bits found → Gives s s' room bits found m.found
-told_last s s' room m pending t short free fresh bits found stood =
+reported_last s s' room m pending t short free fresh bits found stood =
     let h = parts_of s room bits found stood in
-    let told = told-of s room bits found h m t.awaited_was pending in
-    let size = told.left.size in
+    let reported = reported-of s room bits found h m t.awaited_was pending in
+    let size = reported.left.size in
     let left : List Bool = drop (m.found.place + 32 + s.rules.block_bits) bits in
-    let none_left : length left ≡ 0 = empty told.left in
+    let none_left : length left ≡ 0 = empty reported.left in
     let nothing : left ≡ [] = nil_from_length left none_left in
     let start = t.start in
     let pushed = t.pushed in
     let given = h.pushed_is in
-    let ends = told.ends in
+    let ends = reported.ends in
     let zero_left : s.after - s.rules.block_bits ≡ 0 = omega arith in
     let from : from_of s' s'.awaited ≡ s'.start = ap (from_of s') free in
-    gives s s' room m bits found h told t
+    gives s s' room m bits found h reported t
     (free ∙ ap (option_map (awaited_at s'.before)) (sym (ap (first_place s'.rules (m.found.place + 32 + s.rules.block_bits) s'.before) nothing
     ∙ first_place-nil s'.rules (m.found.place + 32 + s.rules.block_bits) s'.before)))
     (subst (Ends s') (sym free) tt) (subst (Fresh s') (sym free) fresh) (subst (IsRun s' bits) (sym free) tt)
     (λ i low within held. absurd (omega arith))
-    (told.many ∙ div-less (s.after - s.rules.block_bits) (32 + s.rules.block_bits) (omega arith)
+    (reported.many ∙ div-less (s.after - s.rules.block_bits) (32 + s.rules.block_bits) (omega arith)
     ∙ sym (ap (λ (o : Option Awaited). option_map_or (λ count. (count + 32) / (32 + s'.rules.block_bits)) (option_map (λ _. s'.after) o) 0) free))
   where
     empty : Left s bits m → length (drop (m.found.place + 32 + s.rules.block_bits) bits) ≡ 0
@@ -951,10 +951,10 @@ told_last s s' room m pending t short free fresh bits found stood =
         go size (inl none_left) = none_left
         go size (inr (count, size', match, held)) = absurd (omega arith)
 
--- where further markers verified the place that is told, the room holds what was given from its first bit on
-pub told-recent : (s : Searching) (room : List ℕ) (count : ℕ) (bits : List Bool) (found rest : List Found) (f : Found) → inside_of s ≡ Some count → s.rules.block_bits < count
+-- where further markers verified the place that is reported, the room holds what was given from its first bit on
+pub reported-recent : (s : Searching) (room : List ℕ) (count : ℕ) (bits : List Bool) (found rest : List Found) (f : Found) → inside_of s ≡ Some count → s.rules.block_bits < count
     → StandsFor s room bits found → places s.rules bits ≡ found ++ f ∷ rest → IsRecent room bits f.place
-told-recent s room count bits found rest f is more stood tells = go s.awaited refl
+reported-recent s room count bits found rest f is more stood tells = go s.awaited refl
   where
     go : (o : Option Awaited) → s.awaited ≡ o → IsRecent room bits f.place
     go None e = let no : None ≡ Some count = ap (option_map (λ _. s.after)) (sym e) ∙ is in absurd (cc)
@@ -964,8 +964,8 @@ told-recent s room count bits found rest f is more stood tells = go s.awaited re
         let over : nat_le s.after s.rules.block_bits ≡ false = grind (arith, nat_tests) in
         let full : nat_le s.rules.block_bits s.after ≡ true = grind (arith, nat_tests) in
         let pending : is_pending s ≡ true = ap (λ (o : Option Awaited). option_map_or (λ count. nat_le s.rules.block_bits count) (option_map (λ _. s.after) o) false) e ∙ full in
-        let told = told-of s room bits found (parts_of s room bits found stood) m e pending in
-        let lists : f ∷ rest ≡ m.found ∷ told.rest = append_cancel_left found (f ∷ rest) (m.found ∷ told.rest) (sym tells ∙ told.tells) in
+        let reported = reported-of s room bits found (parts_of s room bits found stood) m e pending in
+        let lists : f ∷ rest ≡ m.found ∷ reported.rest = append_cancel_left found (f ∷ rest) (m.found ∷ reported.rest) (sym tells ∙ reported.tells) in
         let this : f ≡ m.found = cc in
         let from : from_of s s.awaited ≡ f.place =
         ap (from_of s) e ∙ ap (λ c. cond c s.pushed m.found.place) over ∙ ap (λ (g : Found). g.place) (sym this) in
@@ -981,30 +981,30 @@ most-after zero size after more most full left = absurd (omega arith)
 most-after (suc count) size after more most full left = omega arith
 
 -- codeblocks follow it that were verified with it
-pub told_next : (s s' : Searching) (room : List ℕ) (m a : Awaited) (word : ℕ) → is_pending s ≡ true → Tells s s' m → s.after ≤ inside_by s.rules.verify s.rules.block_bits
+pub reported_next : (s s' : Searching) (room : List ℕ) (m a : Awaited) (word : ℕ) → is_pending s ≡ true → Tells s s' m → s.after ≤ inside_by s.rules.verify s.rules.block_bits
     → 32 ≤ s.after - s.rules.block_bits → s'.awaited ≡ Some a → s'.after ≡ s.after - s.rules.block_bits - 32 → (bits : List Bool) (found : List Found)
     → ((from : ℕ) → Recalls s room bits from → (s'.after ≡ 0) ⊎ ((32 ≤ s'.after) × (s'.after ≤ verify_bits s.rules)) → from + 32 + s'.after ≤ length bits
     → word ≡ number_of (take 32 (drop (length bits - (32 + s'.after)) bits)))
     → ((l : List Bool) → length l ≡ 32 → word ≡ number_of l → a ≡ awaited_at s'.before (found_at s'.start false m.found.inverted l))
     → StandsFor s room bits found → Gives s s' room bits found m.found
-told_next s s' room m a word pending t most long awaits after bits found words matches stood =
+reported_next s s' room m a word pending t most long awaits after bits found words matches stood =
     let h = parts_of s room bits found stood in
-    let told = told-of s room bits found h m t.awaited_was pending in
-    go h told told.left.size told.left.run
+    let reported = reported-of s room bits found h m t.awaited_was pending in
+    go h reported reported.left.size reported.left.run
   where
-    go : Parts s room bits found → Told s bits found m → length (drop (m.found.place + 32 + s.rules.block_bits) bits) ≡ s.after - s.rules.block_bits
+    go : Parts s room bits found → Reported s bits found m → length (drop (m.found.place + 32 + s.rules.block_bits) bits) ≡ s.after - s.rules.block_bits
         → (length (drop (m.found.place + 32 + s.rules.block_bits) bits) ≡ 0)
         ⊎ ((count : ℕ) × (length (drop (m.found.place + 32 + s.rules.block_bits) bits) ≡ count * (32 + s.rules.block_bits) + 32)
         × (match_of s.rules (drop (m.found.place + 32 + s.rules.block_bits) bits) ≡ Some m.found.inverted)
         × (are_verified s.rules m.found.inverted count (drop (m.found.place + 32 + s.rules.block_bits) bits) ≡ true))
         → Gives s s' room bits found m.found
-    go h told size (inl none_left) = absurd (omega arith)
-    go h told size (inr (count, size', match, held)) =
+    go h reported size (inl none_left) = absurd (omega arith)
+    go h reported size (inr (count, size', match, held)) =
         let e : ℕ = m.found.place + 32 + s.rules.block_bits in
         let left : List Bool = drop e bits in
         let l : List Bool = take 32 left in
-        let full = told.full in
-        let ends = told.ends in
+        let full = reported.full in
+        let ends = reported.ends in
         let pushed = t.pushed in
         let given = h.pushed_is in
         let start = t.start in
@@ -1028,21 +1028,21 @@ told_next s s' room m a word pending t most long awaits after bits found words m
         ∙ first-here s.rules e m.next left (found_at e false m.found.inverted left) (omega arith) (ap (place_by s.rules e (Some m.next) left) match)
         ∙ (λ i. Some (record { place = sym t.start i; distance = same i; bridged = false; inverted = m.found.inverted })) in
         let place : a.found.place ≡ s'.start = ap (λ (v : Awaited). v.found.place) a_is in
-        let way : a.found.inverted ≡ m.found.inverted = ap (λ (v : Awaited). v.found.inverted) a_is in
+        let polarity : a.found.inverted ≡ m.found.inverted = ap (λ (v : Awaited). v.found.inverted) a_is in
         let at : a.found.place ≡ e = place ∙ t.start in
         let ends' : a.found.place + 32 + s'.after ≡ s'.pushed = omega arith in
         let run : IsRun s' bits (Some a) = inr (
           count,
           since ∙ ap (λ (r : Rules). count * (32 + r.block_bits)) (sym t.rules),
-          (λ i. are_verified (t.rules i) (way i) count (drop (at i) bits)) ∙ held,
+          (λ i. are_verified (t.rules i) (polarity i) count (drop (at i) bits)) ∙ held,
         ) in
         let later : m.found.place ≤ a.found.place = omega arith in
         let there' : m.found.place ≤ s'.pushed = omega arith in
-        gives s s' room m bits found h told t
+        gives s s' room m bits found h reported t
         (awaits ∙ ap Some a_is ∙ ap (option_map (awaited_at s'.before)) (sym ahead))
         (subst (Ends s') (sym awaits) ends') (subst (Fresh s') (sym awaits) tt) (subst (IsRun s' bits) (sym awaits) run)
         (subst (λ (o : Option Awaited). IsRecent room bits (from_of s' o)) (sym awaits) (recent-from s' a room bits m.found.place there' later recent))
-        (told.many ∙ ap (λ n. n / (32 + s.rules.block_bits)) (omega arith)
+        (reported.many ∙ ap (λ n. n / (32 + s.rules.block_bits)) (omega arith)
         ∙ ap (λ (r : Rules). (s'.after + 32) / (32 + r.block_bits)) (sym t.rules)
         ∙ sym (ap (λ (o : Option Awaited). option_map_or (λ count. (count + 32) / (32 + s'.rules.block_bits)) (option_map (λ _. s'.after) o) 0) awaits))
 
@@ -1063,14 +1063,14 @@ left-pending s room pending bits found stood = go s.awaited refl
     go : (o : Option Awaited) → s.awaited ≡ o → (s.after - s.rules.block_bits) % (32 + s.rules.block_bits) ≡ length bits - end_of s.rules (places s.rules bits)
     go None e = let no : false ≡ true = sym (ap (λ (o : Option Awaited). option_map_or (λ count. nat_le s.rules.block_bits count) (option_map (λ _. s.after) o) false) e) ∙ pending in absurd (cc)
     go (Some m) e =
-        let told = told-of s room bits found (parts_of s room bits found stood) m e pending in
-        let full = told.full in
-        let ends = told.ends in
-        let last = told.last in
+        let reported = reported-of s room bits found (parts_of s room bits found stood) m e pending in
+        let full = reported.full in
+        let ends = reported.ends in
+        let last = reported.last in
         let rows = div-add-mod' (s.after - s.rules.block_bits) (32 + s.rules.block_bits) in
-        let many = ap (λ n. n * (32 + s.rules.block_bits)) told.many in
-        let end : end_of s.rules (places s.rules bits) ≡ m.found.place + 32 + s.rules.block_bits + length told.rest * (32 + s.rules.block_bits) =
-        ap (end_of s.rules) told.tells ∙ sym (end_after-is s.rules (found ++ m.found ∷ told.rest)) ∙ end_after-append s.rules 0 found (m.found ∷ told.rest) ∙ told.last in
+        let many = ap (λ n. n * (32 + s.rules.block_bits)) reported.many in
+        let end : end_of s.rules (places s.rules bits) ≡ m.found.place + 32 + s.rules.block_bits + length reported.rest * (32 + s.rules.block_bits) =
+        ap (end_of s.rules) reported.tells ∙ sym (end_after-is s.rules (found ++ m.found ∷ reported.rest)) ∙ end_after-append s.rules 0 found (m.found ∷ reported.rest) ∙ reported.last in
         omega arith
 
 -- else those after the last codeblock found
@@ -1079,7 +1079,7 @@ pub left-after : (s : Searching) (room : List ℕ) → is_pending s ≡ false �
 left-after s room free bits found stood =
     let h = parts_of s room bits found stood in
     let since = after-is s room bits found h in
-    (h.pushed_is, omega arith, h.start_is ∙ sym h.ends ∙ ap (end_of s.rules) (sym (told_all s room free bits found stood)))
+    (h.pushed_is, omega arith, h.start_is ∙ sym h.ends ∙ ap (end_of s.rules) (sym (reported_all s room free bits found stood)))
 
 -- no more bits follow a marker than verify its place, or than a codeblock has
 pub most_after : (s other : Searching) → other ≡ s → other.after ≤ inside_by other.rules.verify other.rules.block_bits → s.after ≤ inside_by s.rules.verify s.rules.block_bits

@@ -4,12 +4,12 @@ use Rattle.std.specs.List.{AllByRecursion}
 use Rattle.std.proofs.lemmas.Bool.{cases_lt}
 use Rattle.tm_sync.specs.declared.found.Found.{Found}
 use Rattle.tm_sync.specs.declared.found.Before.{Before}
-use Rattle.tm_sync.specs.Places.{Rules, way_of, settled_by, before_next, found_at, place_by, place_at, places_from, places}
-use Rattle.tm_sync.proofs.Steps.{places_from-nil, places_from-short, places_from-one, places_from-miss, places_from-inside, places_from-unsettled, settled-room, settled-tells, settled-few, way_of-append, wrong_bits-append, place_at-room, place_at-short}
+use Rattle.tm_sync.specs.Places.{Rules, place_polarity, settled_by, before_next, found_at, place_by, place_at, places_from, places}
+use Rattle.tm_sync.proofs.Steps.{places_from-nil, places_from-short, places_from-one, places_from-miss, places_from-inside, places_from-unsettled, settled-room, settled-tells, settled-few, place_polarity-append, wrong_bits-append, place_at-room, place_at-short}
 
 -- what stands at a place with room for its codeblock stays, whatever comes after
-pub place_by-append : (rules : Rules) (at : ℕ) (before : Option Before) (bits more : List Bool) (way : Option Bool) → 32 ≤ length bits
-    → place_by rules at before (bits ++ more) way ≡ place_by rules at before bits way
+pub place_by-append : (rules : Rules) (at : ℕ) (before : Option Before) (bits more : List Bool) (polarity : Option Bool) → 32 ≤ length bits
+    → place_by rules at before (bits ++ more) polarity ≡ place_by rules at before bits polarity
 place_by-append rules at before bits more (Some inverted) long = λ i. Some (record { place = at; distance = wrong_bits-append inverted bits more long i; bridged = false; inverted = inverted })
 place_by-append rules at None bits more None long = refl
 place_by-append rules at (Some before) bits more None long =
@@ -26,13 +26,14 @@ place_at-append rules at None bits more room =
     let whole = settled-room rules in
     let tells = settled-tells rules in
     place_at-room rules at None (bits ++ more) (omega (arith, length-append bits more))
-    ∙ ap (place_by rules at None (bits ++ more)) (way_of-append rules None bits more (omega arith))
-    ∙ place_by-append rules at None bits more (way_of rules None bits) (omega arith)
+    ∙ ap (place_by rules at None (bits ++ more)) (place_polarity-append rules None bits more (omega arith))
+    ∙ place_by-append rules at None bits more (place_polarity rules None bits) (omega arith)
     ∙ sym (place_at-room rules at None bits (omega arith))
 place_at-append rules at (Some before) bits more room =
     place_at-room rules at (Some before) (bits ++ more) (omega (arith, length-append bits more))
-    ∙ ap (place_by rules at (Some before) (bits ++ more)) (way_of-append rules (Some before) bits more (omega arith))
-    ∙ place_by-append rules at (Some before) bits more (way_of rules (Some before) bits) (omega arith)
+    ∙ ap (place_by rules at (Some before) (bits ++ more))
+    (place_polarity-append rules (Some before) bits more (omega arith))
+    ∙ place_by-append rules at (Some before) bits more (place_polarity rules (Some before) bits) (omega arith)
     ∙ sym (place_at-room rules at (Some before) bits room)
 
 -- whether a place is there, with the equation
@@ -50,7 +51,7 @@ pub record Stands (rules : Rules) (at : ℕ) (bits : List Bool) (f : Found) : Ty
   pub place : f.place ≡ at
   pub room : 32 + rules.block_bits ≤ length bits
 
-pub place_by-place : (rules : Rules) (at : ℕ) (before : Option Before) (bits : List Bool) (way : Option Bool) (f : Found) → place_by rules at before bits way ≡ Some f → f.place ≡ at
+pub place_by-place : (rules : Rules) (at : ℕ) (before : Option Before) (bits : List Bool) (polarity : Option Bool) (f : Found) → place_by rules at before bits polarity ≡ Some f → f.place ≡ at
 place_by-place rules at before bits (Some inverted) f e = let is : found_at at false inverted bits ≡ f = cc in ap (λ (g : Found). g.place) (sym is)
 place_by-place rules at None bits None f e = absurd (cc)
 place_by-place rules at (Some before) bits None f e = go (nat_lt before.bridged rules.fly) e
@@ -64,7 +65,7 @@ place_at-stands rules at before bits f e = go (cases_lt (length bits) (32 + rule
   where
     go : (length bits < 32 + rules.block_bits) ⊎ (32 + rules.block_bits ≤ length bits) → Stands rules at bits f
     go (inl short) = let no : None ≡ Some f = sym (place_at-short rules at before bits short) ∙ e in absurd (cc)
-    go (inr room) = record { place = place_by-place rules at before bits (way_of rules before bits) f (sym (place_at-room rules at before bits room) ∙ e); room = room }
+    go (inr room) = record { place = place_by-place rules at before bits (place_polarity rules before bits) f (sym (place_at-room rules at before bits room) ∙ e); room = room }
 
 later : (at : ℕ) (fs : List Found) → AllByRecursion (λ f. at + 1 ≤ f.place) fs → AllByRecursion (λ f. at ≤ f.place) fs
 later at [] all = tt
@@ -236,7 +237,7 @@ places-few rules bits more count short =
     ] in
     omega (arith, all, few)
 
--- ---- what follows the places of a front
+-- ---- what follows the places of a prefix
 drop-prefix : (prefix rest : List Found) → drop (length prefix) (prefix ++ rest) ≡ rest
 drop-prefix [] rest = refl
 drop-prefix (f ∷ prefix) rest = drop-prefix prefix rest

@@ -7,7 +7,7 @@ use Rattle.std.proofs.lemmas.Bool.Decides.{nat_tests}
 use Rattle.std.proofs.lemmas.List.{drop-drop, length-take-le, take-append-drop, take_all, take_more, get_or-drop}
 use Rattle.tm_base.specs.Bits.{number_of}
 use Rattle.tm_sync.specs.declared.found.Awaited.{Awaited}
-use Rattle.tm_sync.specs.Places.{Rules, match_of, is_way, are_verified, verified, verify_bits, found_at, place_by}
+use Rattle.tm_sync.specs.Places.{Rules, match_of, matches_in, are_verified, verified, verify_bits, found_at, place_by}
 use Rattle.tm_sync.specs.Searching.{Searching, Recalls, awaited_at}
 use Rattle.tm_sync.proofs.Numbers.{value_from, value-lt, number-value}
 use Rattle.tm_sync.proofs.Sliding.{byte-number, word-push}
@@ -79,11 +79,11 @@ lag-or rules lag is = subst (λ (n : ℕ). (n ≡ 0) ⊎ ((32 ≤ n) × (n ≤ v
 
 -- ---- whether further markers verify a place
 -- whether a match is in this polarity, as a test says
-pub way-test : (way inverted c : Bool) → beq way inverted ≡ c → is_way (Some way) inverted ≡ c
-way-test true true c is = is
-way-test true false c is = is
-way-test false true c is = is
-way-test false false c is = is
+pub polarity-test : (polarity inverted c : Bool) → beq polarity inverted ≡ c → matches_in (Some polarity) inverted ≡ c
+polarity-test true true c is = is
+polarity-test true false c is = is
+polarity-test false true c is = is
+polarity-test false false c is = is
 
 pub match-word : (rules : Rules) (bits : List Bool) → 32 ≤ length bits → match_of rules (take 32 bits) ≡ match_of rules bits
 match-word rules bits long =
@@ -93,7 +93,7 @@ match-word rules bits long =
 -- the next of them is so many codeblocks with their markers nearer to the last 32 bits
 pub verified-step : (rules : Rules) (inverted : Bool) (left : ℕ) (bits : List Bool) → 0 < left → left * (32 + rules.block_bits) + 32 ≤ length bits
     → are_verified rules inverted left (drop (length bits - (32 + left * (32 + rules.block_bits))) bits)
-    ≡ (is_way (match_of rules (drop (length bits - (32 + (left - 1) * (32 + rules.block_bits))) bits)) inverted
+    ≡ (matches_in (match_of rules (drop (length bits - (32 + (left - 1) * (32 + rules.block_bits))) bits)) inverted
     && are_verified rules inverted (left - 1) (drop (length bits - (32 + (left - 1) * (32 + rules.block_bits))) bits))
 verified-step rules inverted zero bits any room = absurd (omega arith)
 verified-step rules inverted (suc left) bits any room =
@@ -104,8 +104,8 @@ verified-step rules inverted (suc left) bits any room =
     let there : at + u ≡ length bits - (32 + left * u) = omega arith in
     let next : drop u (drop at bits) ≡ drop (length bits - (32 + left * u)) bits = drop-drop u at bits ∙ ap (λ n. drop n bits) there in
     are_verified-more rules inverted left (drop at bits) (omega arith)
-    ∙ (λ i. is_way (match_of rules (next i)) inverted && are_verified rules inverted left (next i))
-    ∙ ap (λ (n : ℕ). is_way (match_of rules (drop (length bits - (32 + n * u)) bits)) inverted && are_verified rules inverted n (drop (length bits - (32 + n * u)) bits)) one
+    ∙ (λ i. matches_in (match_of rules (next i)) inverted && are_verified rules inverted left (next i))
+    ∙ ap (λ (n : ℕ). matches_in (match_of rules (drop (length bits - (32 + n * u)) bits)) inverted && are_verified rules inverted n (drop (length bits - (32 + n * u)) bits)) one
 
 -- ---- the place that they verify
 -- a place that further markers verify, or none
@@ -123,16 +123,17 @@ kept-here rules at bits o long is =
     size : length (take 32 bits) ≡ 32
     size = length-take-le 32 bits long
 
-    same : (way : Option Bool) → place_by rules at None (take 32 bits) way ≡ place_by rules at None bits way
-    same way =
+    same : (polarity : Option Bool)
+        → place_by rules at None (take 32 bits) polarity ≡ place_by rules at None bits polarity
+    same polarity =
         let long = size in
-        sym (ap (λ l. place_by rules at None l way) (sym (take-append-drop 32 bits)) ∙ place_by-append rules at None (take 32 bits) (drop 32 bits) way (omega arith))
+        sym (ap (λ l. place_by rules at None l polarity) (sym (take-append-drop 32 bits)) ∙ place_by-append rules at None (take 32 bits) (drop 32 bits) polarity (omega arith))
 
     choose : (inverted c : Bool) → cond c (Some (awaited_at None (found_at at false inverted bits))) None ≡ option_map (awaited_at None) (place_by rules at None bits (cond c (Some inverted) None))
     choose inverted true = refl
     choose inverted false = refl
 
-    go : (way : Option Bool) → kept rules bits (option_map (awaited_at None) (place_by rules at None bits way)) ≡ option_map (awaited_at None) (place_by rules at None bits (verified rules bits way))
+    go : (polarity : Option Bool) → kept rules bits (option_map (awaited_at None) (place_by rules at None bits polarity)) ≡ option_map (awaited_at None) (place_by rules at None bits (verified rules bits polarity))
     go None = refl
     go (Some inverted) = choose inverted (are_verified rules inverted rules.verify bits)
 

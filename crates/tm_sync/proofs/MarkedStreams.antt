@@ -4,7 +4,7 @@ use Rattle.std.proofs.lemmas.List.{append-nil, drop_at}
 use Rattle.std.proofs.lemmas.Bool.{cases_lt}
 use Rattle.std.proofs.lemmas.Bool.Decides.{nat_tests}
 use Rattle.tm_sync.specs.declared.found.Before.{Before}
-use Rattle.tm_sync.specs.Places.{Rules, wrong_bits, match_of, way_of, before_next, found_at, place_by, place_at, places_from, places}
+use Rattle.tm_sync.specs.Places.{Rules, wrong_bits, match_of, place_polarity, before_next, found_at, place_by, place_at, places_from, places}
 use Rattle.tm_sync.proofs.Steps.{places_from-nil, places_from-miss, places_from-hit, wrong_bits-append, place_at-room, place_at-short, ready-none}
 use Rattle.tm_sync.specs.Marked.{Entry, joined, ready, HasNoMarker, MayGap, MayBridge, place_by_marker, place_of, places_of, AreEntries, IsMarked}
 
@@ -14,7 +14,7 @@ none_at : (rules : Rules) (at : ℕ) (before : Option Before) (b : Bool) (bits g
 none_at rules at before b bits gap none waits = go (cases_lt (length (b ∷ bits)) (32 + rules.block_bits)) before waits (λ room. none 0 (omega arith) (omega arith))
   where
     go : (length (b ∷ bits) < 32 + rules.block_bits) ⊎ (32 + rules.block_bits ≤ length (b ∷ bits)) → (before : Option Before) → MayGap rules before (b ∷ gap) (b ∷ bits)
-        → (32 + rules.block_bits ≤ length (b ∷ bits) → way_of rules before (b ∷ bits) ≡ None) → place_at rules at before (b ∷ bits) ≡ None
+        → (32 + rules.block_bits ≤ length (b ∷ bits) → place_polarity rules before (b ∷ bits) ≡ None) → place_at rules at before (b ∷ bits) ≡ None
     go (inl short) before waits here = place_at-short rules at before (b ∷ bits) short
     go (inr room) None waits here = place_at-room rules at None (b ∷ bits) room ∙ ap (place_by rules at None (b ∷ bits)) (here room)
     go (inr room) (Some before) (inl enough) here =
@@ -31,7 +31,7 @@ places_from-gap rules at before [] rest none waits = ap (λ n. places_from rules
 places_from-gap rules at before (b ∷ gap) rest none waits =
     places_from-miss rules at before b (gap ++ rest) (none_at rules at before b (gap ++ rest) gap none waits)
     ∙ places_from-gap rules (at + 1) None gap rest
-    (λ q below room. ap (λ before. way_of rules before (drop q (gap ++ rest))) (ready-none (take q gap)) ∙ none (suc q) (omega arith) (omega arith)) (unguarded gap)
+    (λ q below room. ap (λ before. place_polarity rules before (drop q (gap ++ rest))) (ready-none (take q gap)) ∙ none (suc q) (omega arith) (omega arith)) (unguarded gap)
     ∙ (λ i. places_from rules (far i) 0 (ready-none gap i) rest)
   where
     far : at + 1 + length gap ≡ at + length (b ∷ gap)
@@ -43,7 +43,7 @@ places_from-gap rules at before (b ∷ gap) rest none waits =
 
 -- the place that an entry's marker and block are
 place_of-is : (rules : Rules) (at : ℕ) (before : Option Before) (e : Entry) (rest : List Bool) → length e.marker ≡ 32 → length e.block ≡ rules.block_bits
-    → MayBridge rules before e (match_of rules e.marker) → way_of rules (ready e.gap before) (e.marker ++ (e.block ++ rest)) ≡ match_of rules e.marker
+    → MayBridge rules before e (match_of rules e.marker) → place_polarity rules (ready e.gap before) (e.marker ++ (e.block ++ rest)) ≡ match_of rules e.marker
     → place_at rules (at + length e.gap) (ready e.gap before) (e.marker ++ (e.block ++ rest)) ≡ Some (place_of rules at before e)
 place_of-is rules at before e rest long size may verified =
     place_at-room rules (at + length e.gap) (ready e.gap before) (e.marker ++ (e.block ++ rest)) (omega (arith, length-append e.marker (e.block ++ rest), length-append e.block rest))
@@ -53,8 +53,8 @@ place_of-is rules at before e rest long size may verified =
     same : (inverted : Bool) → wrong_bits inverted (e.marker ++ (e.block ++ rest)) ≡ wrong_bits inverted e.marker
     same inverted = wrong_bits-append inverted e.marker (e.block ++ rest) (omega arith)
 
-    go : (before : Option Before) (gap : List Bool) (way : Option Bool) → MayBridge rules before (record e { gap = gap }) way
-        → place_by rules (at + length e.gap) (ready gap before) (e.marker ++ (e.block ++ rest)) way ≡ Some (place_by_marker (at + length e.gap) before e way)
+    go : (before : Option Before) (gap : List Bool) (polarity : Option Bool) → MayBridge rules before (record e { gap = gap }) polarity
+        → place_by rules (at + length e.gap) (ready gap before) (e.marker ++ (e.block ++ rest)) polarity ≡ Some (place_by_marker (at + length e.gap) before e polarity)
     go before gap (Some inverted) may = λ i. Some (record { place = at + length e.gap; distance = same inverted i; bridged = false; inverted = inverted })
     go None gap None may = absurd may.1
     go (Some before) [] None may =
@@ -63,7 +63,7 @@ place_of-is rules at before e rest long size may verified =
         ∙ (λ i. Some (record { place = at + length e.gap; distance = same before.inverted i; bridged = true; inverted = before.inverted }))
     go (Some before) (b ∷ gap) None may = let no : (b ∷ gap) ≡ [] = may.0 in absurd (cc)
 
-place_is : (at : ℕ) (before : Option Before) (e : Entry) (way : Option Bool) → (place_by_marker at before e way).place ≡ at
+place_is : (at : ℕ) (before : Option Before) (e : Entry) (polarity : Option Bool) → (place_by_marker at before e polarity).place ≡ at
 place_is at before e (Some inverted) = refl
 place_is at None e None = refl
 place_is at (Some before) e None = refl
@@ -77,10 +77,10 @@ after-ready : (rules : Rules) (at : ℕ) (before : Option Before) (e : Entry) �
     → before_next (ready e.gap before) (place_of rules at before e) ≡ before_next before (place_of rules at before e)
 after-ready rules at before e may = go before e.gap (match_of rules e.marker) may
   where
-    go : (before : Option Before) (gap : List Bool) (way : Option Bool) → MayBridge rules before (record e { gap = gap }) way
-        → before_next (ready gap before) (place_by_marker (at + length e.gap) before e way) ≡ before_next before (place_by_marker (at + length e.gap) before e way)
-    go before [] way may = refl
-    go None (b ∷ gap) way may = refl
+    go : (before : Option Before) (gap : List Bool) (polarity : Option Bool) → MayBridge rules before (record e { gap = gap }) polarity
+        → before_next (ready gap before) (place_by_marker (at + length e.gap) before e polarity) ≡ before_next before (place_by_marker (at + length e.gap) before e polarity)
+    go before [] polarity may = refl
+    go None (b ∷ gap) polarity may = refl
     go (Some before) (b ∷ gap) (Some inverted) may = refl
     go (Some before) (b ∷ gap) None may = let no : (b ∷ gap) ≡ [] = may.0 in absurd (cc)
 
@@ -97,8 +97,8 @@ places_of-are rules at before (e ∷ entries) last (one, more) =
     let f = place_of rules at before e in
     let rest = joined entries last in
     let split : e.marker ++ (e.block ++ rest) ≡ (e.marker ++ e.block) ++ rest = sym (append_assoc e.marker e.block rest) in
-    let verified : way_of rules (ready e.gap before) (e.marker ++ (e.block ++ rest)) ≡ match_of rules e.marker =
-    ap (way_of rules (ready e.gap before)) (sym (drop_at e.gap (e.marker ++ (e.block ++ rest)) (length e.gap) refl)) ∙ one.verified in
+    let verified : place_polarity rules (ready e.gap before) (e.marker ++ (e.block ++ rest)) ≡ match_of rules e.marker =
+    ap (place_polarity rules (ready e.gap before)) (sym (drop_at e.gap (e.marker ++ (e.block ++ rest)) (length e.gap) refl)) ∙ one.verified in
     let here : place_at rules (at + length e.gap) (ready e.gap before) ((e.marker ++ e.block) ++ rest) ≡ Some f =
     ap (place_at rules (at + length e.gap) (ready e.gap before)) (sym split) ∙ place_of-is rules at before e rest one.marker one.block one.bridged verified in
     let ends : at + length e.gap + 32 + rules.block_bits ≡ f.place + 32 + rules.block_bits = ap (λ n. n + 32 + rules.block_bits) (sym (place_of-place rules at before e)) in

@@ -7,8 +7,8 @@ use Rattle.std.proofs.lemmas.Bool.Decides.{nat_tests}
 use Rattle.tm_sync.specs.declared.found.Found.{Found}
 use Rattle.tm_sync.specs.Bits.{differences, in_polarity, marker_bits}
 use Rattle.tm_sync.specs.declared.found.Before.{Before}
-use Rattle.tm_sync.specs.Places.{Rules, wrong_bits, match_of, is_way, are_verified, verified, way_of, verify_bits, settled_by, before_next, place_by, place_at, places_from}
-use Rattle.tm_sync.specs.Searching.{telling_bits}
+use Rattle.tm_sync.specs.Places.{Rules, wrong_bits, match_of, matches_in, are_verified, verified, place_polarity, verify_bits, settled_by, before_next, place_by, place_at, places_from}
+use Rattle.tm_sync.specs.Searching.{deciding_bits}
 use Rattle.tm_sync.specs.Marked.{ready}
 
 pub places_from-nil : (rules : Rules) (at skip : ℕ) (before : Option Before) → places_from rules at skip before [] ≡ []
@@ -65,17 +65,17 @@ match_of-append rules bits more long =
     λ i. cond (nat_le (up i) rules.tolerance) (Some false) (cond (rules.either && nat_le (down i) rules.tolerance) (Some true) None)
 
 pub place_at-room : (rules : Rules) (at : ℕ) (before : Option Before) (bits : List Bool) → 32 + rules.block_bits ≤ length bits
-    → place_at rules at before bits ≡ place_by rules at before bits (way_of rules before bits)
+    → place_at rules at before bits ≡ place_by rules at before bits (place_polarity rules before bits)
 unfolding place_at
 place_at-room rules at before bits room =
     let test : nat_le (32 + rules.block_bits) (length bits) ≡ true = grind (arith, nat_tests) in
-    ap (λ c. cond c (place_by rules at before bits (way_of rules before bits)) None) test
+    ap (λ c. cond c (place_by rules at before bits (place_polarity rules before bits)) None) test
 
 pub place_at-short : (rules : Rules) (at : ℕ) (before : Option Before) (bits : List Bool) → length bits < 32 + rules.block_bits → place_at rules at before bits ≡ None
 unfolding place_at
 place_at-short rules at before bits short =
     let test : nat_le (32 + rules.block_bits) (length bits) ≡ false = grind (arith, nat_tests) in
-    ap (λ c. cond c (place_by rules at before bits (way_of rules before bits)) None) test
+    ap (λ c. cond c (place_by rules at before bits (place_polarity rules before bits)) None) test
 
 -- where no codeblock has room, there is no place
 pub places_from-short : (rules : Rules) (at : ℕ) (before : Option Before) (bits : List Bool) → length bits < 32 + rules.block_bits → places_from rules at 0 before bits ≡ []
@@ -91,10 +91,10 @@ places_from-inside rules at skip before b bits = refl
 -- ---- the markers that verify a place
 are_verified-one : (rules : Rules) (inverted : Bool) (count : ℕ) (bits : List Bool) (long : Bool) → nat_le 32 (length (drop (32 + rules.block_bits) bits)) ≡ long
     → are_verified rules inverted (suc count) bits
-    ≡ (long && (is_way (match_of rules (drop (32 + rules.block_bits) bits)) inverted && are_verified rules inverted count (drop (32 + rules.block_bits) bits)))
+    ≡ (long && (matches_in (match_of rules (drop (32 + rules.block_bits) bits)) inverted && are_verified rules inverted count (drop (32 + rules.block_bits) bits)))
 unfolding are_verified
 are_verified-one rules inverted count bits long e =
-    ap (λ c. c && (is_way (match_of rules (drop (32 + rules.block_bits) bits)) inverted && are_verified rules inverted count (drop (32 + rules.block_bits) bits))) e
+    ap (λ c. c && (matches_in (match_of rules (drop (32 + rules.block_bits) bits)) inverted && are_verified rules inverted count (drop (32 + rules.block_bits) bits))) e
 
 pub are_verified-zero : (rules : Rules) (inverted : Bool) (bits : List Bool) → are_verified rules inverted 0 bits ≡ true
 unfolding are_verified
@@ -103,7 +103,7 @@ are_verified-zero rules inverted bits = refl
 -- the next marker is there, and then those after it
 pub are_verified-more : (rules : Rules) (inverted : Bool) (count : ℕ) (bits : List Bool) → 32 + (32 + rules.block_bits) ≤ length bits
     → are_verified rules inverted (suc count) bits
-    ≡ (is_way (match_of rules (drop (32 + rules.block_bits) bits)) inverted && are_verified rules inverted count (drop (32 + rules.block_bits) bits))
+    ≡ (matches_in (match_of rules (drop (32 + rules.block_bits) bits)) inverted && are_verified rules inverted count (drop (32 + rules.block_bits) bits))
 are_verified-more rules inverted count bits room =
     let there = length-drop (32 + rules.block_bits) bits in
     are_verified-one rules inverted count bits true (grind (arith, nat_tests))
@@ -124,8 +124,8 @@ are_verified-append rules inverted (suc count) bits more long =
     let next : drop u (bits ++ more) ≡ drop u bits ++ more = drop-append-le u bits more (omega arith) in
     let left = length-drop u bits in
     are_verified-more rules inverted count (bits ++ more) (omega (arith, length-append bits more))
-    ∙ (λ i. is_way (match_of rules (next i)) inverted && are_verified rules inverted count (next i))
-    ∙ (λ i. is_way (match_of-append rules (drop u bits) more (omega arith) i) inverted && are_verified-append rules inverted count (drop u bits) more (omega arith) i)
+    ∙ (λ i. matches_in (match_of rules (next i)) inverted && are_verified rules inverted count (next i))
+    ∙ (λ i. matches_in (match_of-append rules (drop u bits) more (omega arith) i) inverted && are_verified-append rules inverted count (drop u bits) more (omega arith) i)
     ∙ sym (are_verified-more rules inverted count bits whole)
 
 and-false : (b : Bool) → (b && false) ≡ false
@@ -144,8 +144,8 @@ are_verified-short rules inverted (suc count) bits few =
     go next (inr room) =
         let left = length-drop (32 + rules.block_bits) bits in
         are_verified-more rules inverted (suc count) bits room
-        ∙ ap (λ c. is_way (match_of rules (drop (32 + rules.block_bits) bits)) inverted && c) (next (omega arith))
-        ∙ and-false (is_way (match_of rules (drop (32 + rules.block_bits) bits)) inverted)
+        ∙ ap (λ c. matches_in (match_of rules (drop (32 + rules.block_bits) bits)) inverted && c) (next (omega arith))
+        ∙ and-false (matches_in (match_of rules (drop (32 + rules.block_bits) bits)) inverted)
 
 pub are_verified-far : (rules : Rules) (inverted : Bool) (count : ℕ) (bits : List Bool) → match_of rules (drop (suc count * (32 + rules.block_bits)) bits) ≡ None → are_verified rules inverted (suc count) bits ≡ false
 are_verified-far rules inverted zero bits far = go (cases_lt (length bits) (32 + (32 + rules.block_bits)))
@@ -155,7 +155,7 @@ are_verified-far rules inverted zero bits far = go (cases_lt (length bits) (32 +
     go (inr room) =
         let one : suc zero * (32 + rules.block_bits) ≡ 32 + rules.block_bits = omega arith in
         are_verified-more rules inverted zero bits room
-        ∙ ap (λ w. is_way w inverted && are_verified rules inverted zero (drop (32 + rules.block_bits) bits)) (ap (λ n. match_of rules (drop n bits)) (sym one) ∙ far)
+        ∙ ap (λ w. matches_in w inverted && are_verified rules inverted zero (drop (32 + rules.block_bits) bits)) (ap (λ n. match_of rules (drop n bits)) (sym one) ∙ far)
 are_verified-far rules inverted (suc count) bits far =
     let split : 32 + rules.block_bits + suc count * (32 + rules.block_bits) ≡ suc (suc count) * (32 + rules.block_bits) = omega arith in
     go (are_verified-far rules inverted count (drop (32 + rules.block_bits) bits)
@@ -167,53 +167,54 @@ are_verified-far rules inverted (suc count) bits far =
     go next (inl past) = are_verified-past rules inverted (suc count) bits past
     go next (inr room) =
         are_verified-more rules inverted (suc count) bits room
-        ∙ ap (λ c. is_way (match_of rules (drop (32 + rules.block_bits) bits)) inverted && c) next
-        ∙ and-false (is_way (match_of rules (drop (32 + rules.block_bits) bits)) inverted)
+        ∙ ap (λ c. matches_in (match_of rules (drop (32 + rules.block_bits) bits)) inverted && c) next
+        ∙ and-false (matches_in (match_of rules (drop (32 + rules.block_bits) bits)) inverted)
 
 -- a match in one polarity is in no other
-pub is_way-same : (inverted : Bool) → is_way (Some inverted) inverted ≡ true
-is_way-same true = refl
-is_way-same false = refl
+pub matches_in-same : (inverted : Bool) → matches_in (Some inverted) inverted ≡ true
+matches_in-same true = refl
+matches_in-same false = refl
 
-pub is_way-is : (way : Option Bool) (inverted : Bool) → is_way way inverted ≡ true → way ≡ Some inverted
-is_way-is None inverted e = absurd (cc)
-is_way-is (Some true) true e = refl
-is_way-is (Some true) false e = absurd (cc)
-is_way-is (Some false) true e = absurd (cc)
-is_way-is (Some false) false e = refl
+pub matches_in-is : (polarity : Option Bool) (inverted : Bool) → matches_in polarity inverted ≡ true
+    → polarity ≡ Some inverted
+matches_in-is None inverted e = absurd (cc)
+matches_in-is (Some true) true e = refl
+matches_in-is (Some true) false e = absurd (cc)
+matches_in-is (Some false) true e = absurd (cc)
+matches_in-is (Some false) false e = refl
 
 -- ---- the polarity in which a place stands
-verified-by : (rules : Rules) (bits : List Bool) (way : Option Bool) (fits : Bool) → ((inverted : Bool) → are_verified rules inverted rules.verify bits ≡ fits)
-    → verified rules bits way ≡ (cond fits way None)
+verified-by : (rules : Rules) (bits : List Bool) (polarity : Option Bool) (fits : Bool) → ((inverted : Bool) → are_verified rules inverted rules.verify bits ≡ fits)
+    → verified rules bits polarity ≡ (cond fits polarity None)
 verified-by rules bits None true each = refl
 verified-by rules bits None false each = refl
 verified-by rules bits (Some inverted) true each = ap (λ c. cond c (Some inverted) None) (each inverted)
 verified-by rules bits (Some inverted) false each = ap (λ c. cond c (Some inverted) None) (each inverted)
 
 -- where no further markers are asked for, it is that in which the first 32 bits match
-pub way_of-zero : (rules : Rules) (before : Option Before) (bits : List Bool) → rules.verify ≡ 0 → way_of rules before bits ≡ match_of rules bits
-way_of-zero rules (Some before) bits none = refl
-way_of-zero rules None bits none =
+pub place_polarity-zero : (rules : Rules) (before : Option Before) (bits : List Bool) → rules.verify ≡ 0 → place_polarity rules before bits ≡ match_of rules bits
+place_polarity-zero rules (Some before) bits none = refl
+place_polarity-zero rules None bits none =
     verified-by rules bits (match_of rules bits) true (λ inverted. ap (λ n. are_verified rules inverted n bits) none ∙ are_verified-zero rules inverted bits)
 
--- where the bits that tell it are there, it is the same whatever comes after
-pub way_of-append : (rules : Rules) (before : Option Before) (bits more : List Bool) → telling_bits rules before ≤ length bits → way_of rules before (bits ++ more) ≡ way_of rules before bits
-way_of-append rules (Some before) bits more long = match_of-append rules bits more long
-way_of-append rules None bits more long =
+-- where the bits that decide it are there, it is the same whatever comes after
+pub place_polarity-append : (rules : Rules) (before : Option Before) (bits more : List Bool) → deciding_bits rules before ≤ length bits → place_polarity rules before (bits ++ more) ≡ place_polarity rules before bits
+place_polarity-append rules (Some before) bits more long = match_of-append rules bits more long
+place_polarity-append rules None bits more long =
     ap (verified rules (bits ++ more)) (match_of-append rules bits more (omega arith)) ∙ go (match_of rules bits)
   where
-    go : (way : Option Bool) → verified rules (bits ++ more) way ≡ verified rules bits way
+    go : (polarity : Option Bool) → verified rules (bits ++ more) polarity ≡ verified rules bits polarity
     go None = refl
     go (Some inverted) = ap (λ c. cond c (Some inverted) None) (are_verified-append rules inverted rules.verify bits more (omega arith))
 
 -- where the last marker that is to verify it matches in no way, it is none
-pub way_of-far : (rules : Rules) (bits : List Bool) → match_of rules (drop (verify_bits rules) bits) ≡ None → way_of rules None bits ≡ None
-way_of-far rules bits far = go rules.verify refl
+pub place_polarity-far : (rules : Rules) (bits : List Bool) → match_of rules (drop (verify_bits rules) bits) ≡ None → place_polarity rules None bits ≡ None
+place_polarity-far rules bits far = go rules.verify refl
   where
-    go : (count : ℕ) → rules.verify ≡ count → way_of rules None bits ≡ None
+    go : (count : ℕ) → rules.verify ≡ count → place_polarity rules None bits ≡ None
     go zero e =
         let none : verify_bits rules ≡ 0 = ap (λ n. n * (32 + rules.block_bits)) e ∙ omega arith in
-        way_of-zero rules None bits e ∙ ap (λ n. match_of rules (drop n bits)) (sym none) ∙ far
+        place_polarity-zero rules None bits e ∙ ap (λ n. match_of rules (drop n bits)) (sym none) ∙ far
     go (suc count) e =
         verified-by rules bits (match_of rules bits) false
         (λ inverted. ap (λ n. are_verified rules inverted n bits) e
@@ -258,7 +259,7 @@ places_from-unsettled rules at [] few = places_from-nil rules at 0 None
 places_from-unsettled rules at (b ∷ bits) few =
     places_from-miss rules at None b bits (place_at-unsettled rules at (b ∷ bits) few) ∙ places_from-unsettled rules (at + 1) bits (omega arith)
 
--- where no codeblock ends right before the bits, none ends right before those after a front
+-- where no codeblock ends right before the bits, none ends right before those after a prefix
 pub ready-none : (prefix : List Bool) → ready prefix None ≡ None
 ready-none [] = refl
 ready-none (b ∷ prefix) = refl

@@ -3,7 +3,7 @@ use Rattle.std.specs.Prelude.{◌≡◌, ℕ, ◌+◌, ◌≤◌, ◌<◌, Bool,
 use Rattle.tm_sync.specs.declared.found.Found.{Found}
 use Rattle.tm_sync.specs.declared.found.Before.{Before}
 use Rattle.tm_sync.specs.Bits.{marker_bits}
-use Rattle.tm_sync.specs.Places.{Rules, match_of, way_of, before_next, found_at}
+use Rattle.tm_sync.specs.Places.{Rules, match_of, place_polarity, before_next, found_at}
 
 -- what came of one marked codeblock that was sent: bits that are no part of it, its marker part and
 -- its block part
@@ -28,7 +28,7 @@ ready (b ∷ gap) before = None
 abbrev pub HasNoMarker : Rules → Option Before → List Bool → List Bool → Type 0
 HasNoMarker rules before gap bits = (q : ℕ) → q < length gap
     → q + 32 + rules.block_bits ≤ length bits
-    → way_of rules (ready (take q gap) before) (drop q bits) ≡ None
+    → place_polarity rules (ready (take q gap) before) (drop q bits) ≡ None
 
 -- a gap directly follows a codeblock only where no place may be bridged there, or no codeblock
 -- has room
@@ -71,7 +71,7 @@ pub record IsEntry (rules : Rules) (before : Option Before) (e : Entry)
   pub waits : MayGap rules before e.gap bits
   pub bridged : MayBridge rules before e (match_of rules e.marker)
   -- where no codeblock ends right before its marker part, further markers verify a match of it
-  pub verified : way_of rules (ready e.gap before) (drop (length e.gap) bits)
+  pub verified : place_polarity rules (ready e.gap before) (drop (length e.gap) bits)
       ≡ match_of rules e.marker
 
 -- entries after `at` bits, and a last gap

@@ -31,10 +31,10 @@ match_of rules bits =
     else (if rules.either && nat_le (wrong_bits true bits) rules.tolerance then Some true else None)
 
 -- whether a match is in this polarity
-abbrev pub is_way : Option Bool → Bool → Bool
-is_way None inverted = false
-is_way (Some true) inverted = inverted
-is_way (Some false) inverted = flip inverted
+abbrev pub matches_in : Option Bool → Bool → Bool
+matches_in None inverted = false
+matches_in (Some true) inverted = inverted
+matches_in (Some false) inverted = flip inverted
 
 -- after each of so many codeblocks with their markers stand 32 bits more, and they match in this
 -- polarity
@@ -42,7 +42,7 @@ unfoldable pub are_verified : Rules → Bool → ℕ → List Bool → Bool
 are_verified rules inverted zero bits = true
 are_verified rules inverted (suc count) bits =
     let next = drop (32 + rules.block_bits) bits in
-    nat_le 32 (length next) && (is_way (match_of rules next) inverted
+    nat_le 32 (length next) && (matches_in (match_of rules next) inverted
     && are_verified rules inverted count next)
 
 -- a match, where the markers after it verify it
@@ -53,9 +53,9 @@ verified rules bits (Some inverted) = if are_verified rules inverted rules.verif
 
 -- The polarity in which a place stands at the start of the bits: that in which the first 32 match.
 -- Where no codeblock ends right before them, further markers must verify it.
-abbrev pub way_of : Rules → Option Before → List Bool → Option Bool
-way_of rules None bits = verified rules bits (match_of rules bits)
-way_of rules (Some before) bits = match_of rules bits
+abbrev pub place_polarity : Rules → Option Before → List Bool → Option Bool
+place_polarity rules None bits = verified rules bits (match_of rules bits)
+place_polarity rules (Some before) bits = match_of rules bits
 
 -- the bits from a place up to the last marker that verifies it
 abbrev pub verify_bits : Rules → ℕ
@@ -75,9 +75,9 @@ found_at at bridged inverted bits = record {
   inverted = inverted;
 }
 
--- The place that the first 32 bits are, as they match in this way. Where they match in no way,
--- right after a codeblock, and fewer than `fly` places in a row were bridged, theirs is bridged:
--- it is taken all the same, in the polarity of the place before.
+-- The place that the first 32 bits are, as they match in this polarity. Where they match in no way,
+-- right after a codeblock, and fewer than `fly` places in a row were bridged, theirs is bridged: it
+-- is taken all the same, in the polarity of the place before.
 abbrev pub place_by : Rules → ℕ → Option Before → List Bool → Option Bool → Option Found
 place_by rules at before bits (Some inverted) = Some (found_at at false inverted bits)
 place_by rules at (Some before) bits None = if nat_lt before.bridged rules.fly
@@ -88,7 +88,7 @@ place_by rules at None bits None = None
 -- codeblock
 unfoldable pub place_at : Rules → ℕ → Option Before → List Bool → Option Found
 place_at rules at before bits = if nat_le (32 + rules.block_bits) (length bits)
-    then place_by rules at before bits (way_of rules before bits) else None
+    then place_by rules at before bits (place_polarity rules before bits) else None
 
 -- what stands before the first bit after a place's codeblock
 abbrev pub before_next : Option Before → Found → Before

@@ -6,7 +6,7 @@ use Rattle.tm_base.specs.Bits.{bit_number, number_of}
 use Rattle.tm_sync.specs.declared.found.Found.{Found}
 use Rattle.tm_sync.specs.declared.found.Before.{Before}
 use Rattle.tm_sync.specs.declared.found.Awaited.{Awaited}
-use Rattle.tm_sync.specs.Places.{Rules, are_verified, way_of, verify_bits, place_by, before_next, places}
+use Rattle.tm_sync.specs.Places.{Rules, are_verified, place_polarity, verify_bits, place_by, before_next, places}
 
 -- what contracts see of a search
 pub record Searching : Type 0 where
@@ -31,7 +31,7 @@ abbrev pub is_pending : Searching → Bool
 is_pending s = option_map_or (λ count. nat_le s.rules.block_bits count) (inside_of s) false
 
 -- how many of the bits given may be part of the marker or the codeblock of the next place: those
--- from that marker on, or else fewer than tell whether a place stands at their start
+-- from that marker on, or else fewer than decide whether a place stands at their start
 abbrev pub begun_of : Searching → ℕ
 begun_of s = option_map_or (λ count. 32 + count) (inside_of s) (31 + verify_bits s.rules)
 
@@ -48,9 +48,9 @@ abbrev pub inside_next : Rules → ℕ → Option ℕ
 inside_next rules count =
     if nat_le (32 + rules.block_bits) count then Some (count - (32 + rules.block_bits)) else None
 
--- a place that is told anew has no bits after its marker, or those by which it is verified
-abbrev pub IsNewlyTold : Searching → Type 0
-IsNewlyTold s = (unwrap_or (inside_of s) 0 ≡ 0) ⊎ (inside_of s ≡ Some (verify_bits s.rules))
+-- a place that was just found has no bits after its marker, or those by which it is verified
+abbrev pub IsNewlyFound : Searching → Type 0
+IsNewlyFound s = (unwrap_or (inside_of s) 0 ≡ 0) ⊎ (inside_of s ≡ Some (verify_bits s.rules))
 
 -- how many codeblocks are whole and were not given
 abbrev pub waiting_of : Searching → ℕ
@@ -68,18 +68,18 @@ abbrev pub before_past : Option Before → List Found → Option Before
 before_past before [] = before
 before_past before (f ∷ found) = before_past (Some (before_next before f)) found
 
--- the bits that tell whether a place stands at their start
-abbrev pub telling_bits : Rules → Option Before → ℕ
-telling_bits rules None = 32 + verify_bits rules
-telling_bits rules (Some before) = 32
+-- the bits that decide whether a place stands at their start
+abbrev pub deciding_bits : Rules → Option Before → ℕ
+deciding_bits rules None = 32 + verify_bits rules
+deciding_bits rules (Some before) = 32
 
 -- the first place in the bits after `at` others whose 32 bits are there, with those that verify
 -- it, whether or not its codeblock is
 unfoldable pub first_place : Rules → ℕ → Option Before → List Bool → Option Found
 first_place rules at before [] = None
 first_place rules at before (b ∷ bits) =
-    if nat_le (telling_bits rules before) (length (b ∷ bits))
-    then option_or (place_by rules at before (b ∷ bits) (way_of rules before (b ∷ bits)))
+    if nat_le (deciding_bits rules before) (length (b ∷ bits))
+    then option_or (place_by rules at before (b ∷ bits) (place_polarity rules before (b ∷ bits)))
     (first_place rules (at + 1) None bits)
     else None
 

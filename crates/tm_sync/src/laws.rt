@@ -4,7 +4,7 @@ ghost use Rattle.std.specs.List.{AllByRecursion};
 ghost use Rattle.tm_base.specs.Marker.{most_tolerance};
 ghost use Rattle.tm_sync.specs.declared.found.Before.{Before};
 ghost use Rattle.tm_sync.specs.Bits.{complement};
-ghost use Rattle.tm_sync.specs.Places.{Rules, wrong_bits, match_of, way_of, settled_by, places, complemented_place};
+ghost use Rattle.tm_sync.specs.Places.{Rules, wrong_bits, match_of, place_polarity, settled_by, places, complemented_place};
 ghost use Rattle.tm_sync.specs.Marked.{Entry, IsMarked, joined, places_of, clean_entries, clean_places};
 
 /// With a tolerance of at most 8 no 32 bits match both upright and inverted.
@@ -68,5 +68,5 @@ pub fn few_places_law()
 /// Where no further markers are to verify a place, it stands where the first 32 bits match.
 pub fn no_verify_law()
     ensures { (rules : Rules) (before : Option Before) (bits : List Bool) → rules.verify ≡ 0
-        → way_of rules before bits ≡ match_of rules bits }
+        → place_polarity rules before bits ≡ match_of rules bits }
 {}

@@ -5,9 +5,9 @@ ghost use Rattle.tm_base.specs.Bits.{number_of, bits_of, bits_of_octet};
 ghost use Rattle.tm_base.specs.Marker.{most_tolerance};
 ghost use Rattle.tm_sync.specs.declared.found.Found.{Found};
 ghost use Rattle.tm_sync.specs.declared.found.Before.{Before};
-ghost use Rattle.tm_sync.specs.Places.{Rules, wrong_bits, match_of, are_verified, way_of, verify_bits, found_at, place_by, places};
+ghost use Rattle.tm_sync.specs.Places.{Rules, wrong_bits, match_of, are_verified, place_polarity, verify_bits, found_at, place_by, places};
 ghost use Rattle.tm_sync.specs.Paused.{is_resumable, resumed};
-ghost use Rattle.tm_sync.specs.Searching.{Counts, IsNewlyTold, Recalls, Remembers, Searching, StandsFor, awaited_at, far_count, end_of, inside_ahead, inside_by, inside_next, inside_of, is_pending, is_right_after, most_inside, waiting_of};
+ghost use Rattle.tm_sync.specs.Searching.{Counts, IsNewlyFound, Recalls, Remembers, Searching, StandsFor, awaited_at, far_count, end_of, inside_ahead, inside_by, inside_next, inside_of, is_pending, is_right_after, most_inside, waiting_of};
 ghost use Rattle.tm_sync.specs.Bits.{bits_bound};
 
 use crate::found::{Awaited, Before, Found, Paused};
@@ -169,7 +169,7 @@ impl Search {
         requires { is_pending self.old ≡ false }
         ensures rules { self.new.rules ≡ self.old.rules }
         ensures more { IfSome (inside_of self.old) (λ count. inside_of self.new ≡ Some (count + 1)) }
-        ensures first { IfNone (inside_of self.old) (IsNewlyTold self.new) }
+        ensures first { IfNone (inside_of self.old) (IsNewlyFound self.new) }
         ensures within { unwrap_or (inside_of self.new) 0 ≤ most_inside self.new.rules }
         ensures size { length room.new ≡ length room.old }
         ensures stands { (bits : List Bool) (found : List Found) → length bits < bits_bound
@@ -246,8 +246,8 @@ impl Search {
         }
     }
 
-    // Takes an octet at once where none of its bits tells a place: they are too few after a codeblock, or with each of
-    // them the last 32 bits match in no way. Answers whether it did.
+    // Takes an octet at once where no place is found with any of its bits: they are too few after a codeblock, or with
+    // each of them the last 32 bits match in no way. Answers whether it did.
     fn pass_octet(&mut self, octet: u8) -> bool
         requires free { inside_of self.old ≡ None }
         requires alone { self.old.rules.verify ≡ 0 }
@@ -287,7 +287,7 @@ impl Search {
         requires { is_pending self.old ≡ false }
         ensures rules { self.new.rules ≡ self.old.rules }
         ensures more { IfSome (inside_of self.old) (λ count. inside_of self.new ≡ Some (count + 1)) }
-        ensures first { IfNone (inside_of self.old) (IsNewlyTold self.new) }
+        ensures first { IfNone (inside_of self.old) (IsNewlyFound self.new) }
         ensures within { unwrap_or (inside_of self.new) 0 ≤ most_inside self.new.rules }
         ensures stands { (s : Searching) (was : List ℕ) (bit : Bool) (bits : List Bool) (found : List Found)
             → length bits < bits_bound → Counts s self.old bit → Remembers was room.now bits bit
@@ -301,7 +301,7 @@ impl Search {
         if since < 32 {
             return;
         }
-        let (awaited, after) = self.place_told(room);
+        let (awaited, after) = self.place_found(room);
         self.awaited = awaited;
         self.after = after;
         self.far = far_while(
@@ -313,10 +313,10 @@ impl Search {
         );
     }
 
-    // The place that the last bit, which is counted and in the last 32 bits, tells, and the bits after its marker,
-    // where none was awaited.
+    // The place that is found with the last bit, which is counted and in the last 32 bits, and the bits after its
+    // marker, where none was awaited.
     #[inline(never)]
-    fn place_told(&self, room: &[u8]) -> (Option<Awaited>, u64)
+    fn place_found(&self, room: &[u8]) -> (Option<Awaited>, u64)
         ensures first { (result.1 ≡ 0) ⊎ (result.1 ≡ verify_bits self.now.rules) }
         ensures fresh { IfNone result.0 (result.1 ≡ 0) }
         ensures stands { (s : Searching) (was : List ℕ) (bit : Bool) (bits : List Bool) (found : List Found)
@@ -354,7 +354,7 @@ impl Search {
         ensures { (bits : List Bool) (from : ℕ) → Recalls self.now room.now bits from → from + 32 + lag ≤ length bits
             → result ≡ option_map (awaited_at None) (place_by self.now.rules (length bits - (32 + lag)) None
             (drop (length bits - (32 + lag)) bits)
-            (way_of self.now.rules None (drop (length bits - (32 + lag)) bits))) }
+            (place_polarity self.now.rules None (drop (length bits - (32 + lag)) bits))) }
     {
         let word = self.word_at(room, lag);
         let place = self.pushed.wrapping_sub(32 + lag);
@@ -376,7 +376,7 @@ impl Search {
             left -= 1;
             let word = self.word_at(room, verified_by(left, self.block_bits));
             match polarity_of(wrong_count(word), self.tolerance, self.either) {
-                Some(way) if way == inverted => {}
+                Some(polarity) if polarity == inverted => {}
                 _ => return false,
             }
         }

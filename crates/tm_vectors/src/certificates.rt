@@ -117,7 +117,7 @@ fn turn_bit(octets: &mut [u8], place: usize) {
 // window, and each 97th of the columns. What is wanted is what `bench/certificates.py` says, which reads certificates
 // by their rules alone.
 #[test]
-fn changes_are_told(rt: HostRuntime) -> Result<(), Fail> {
+fn changes_are_reported(rt: HostRuntime) -> Result<(), Fail> {
     let alloc = rt.alloc();
     let soft = drawn(alloc, 301)?;
     let line = "tmchan check --keep 64 --ahead 3";

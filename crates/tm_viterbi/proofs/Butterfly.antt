@@ -4,7 +4,7 @@ use Rattle.std.proofs.lemmas.List.{get_or_append_left, get_or-append_right}
 use Rattle.std.proofs.lemmas.Bool.{cases_lt}
 use Rattle.std.proofs.lemmas.Nat.Bits.{bit_at_cat_low, bit_at_cat_high}
 use Rattle.tm_conv.specs.Path.{c1, c2}
-use Rattle.tm_viterbi.specs.Column.{first_way, second_way, sum_via, IsEach, IsNextSums, AreSurvivors}
+use Rattle.tm_viterbi.specs.Column.{first_metric, second_metric, sum_via, IsEach, IsNextSums, AreSurvivors}
 
 -- the two pairs of symbols of a butterfly: over the low and the high register, by 0 and by 1
 pair_one : (i : ℕ) → i < 32 → 2 * c1 (2 * i) 1 + c2 (2 * i) 1 ≡ 2 * c1 (2 * i + 1) 0 + c2 (2 * i + 1) 0
@@ -20,14 +20,14 @@ pub record AreLanes (sums costs even odd near far : List ℕ) : Type 0 where
   pub nears : IsEach near (λ i. get_or costs (2 * c1 (2 * i) 0 + c2 (2 * i) 0) 0)
   pub fars : IsEach far (λ i. get_or costs (2 * c1 (2 * i + 1) 0 + c2 (2 * i + 1) 0) 0)
 
--- the ways into register s, in lane i
-pub record AreWays (sums costs : List ℕ) (s one other : ℕ) : Type 0 where
-  pub first : first_way sums costs s ≡ one
-  pub second : second_way sums costs s ≡ other
+-- the path metrics into register s, in lane i
+pub record AreMetrics (sums costs : List ℕ) (s one other : ℕ) : Type 0 where
+  pub first : first_metric sums costs s ≡ one
+  pub second : second_metric sums costs s ≡ other
 
-pub low_ways : (sums costs even odd near far : List ℕ) → AreLanes sums costs even odd near far → (s : ℕ) → s < 32
-    → AreWays sums costs s (get_or even s 0 + get_or near s 0) (get_or odd s 0 + get_or far s 0)
-low_ways sums costs even odd near far h s lt =
+pub low_metrics : (sums costs even odd near far : List ℕ) → AreLanes sums costs even odd near far → (s : ℕ) → s < 32
+    → AreMetrics sums costs s (get_or even s 0 + get_or near s 0) (get_or odd s 0 + get_or far s 0)
+low_metrics sums costs even odd near far h s lt =
     let q : s / 32 ≡ 0 = omega arith in
     let m : s % 32 ≡ s = omega arith in
     let F : ℕ → ℕ → ℕ = λ i b. sum_via sums costs (2 * i) b in
@@ -37,10 +37,10 @@ low_ways sums costs even odd near far h s lt =
       second = ap (λ v. G v (s / 32)) m ∙ ap (λ v. G s v) q ∙ omega (arith, h.odds.each s lt, h.fars.each s lt);
     }
 
-pub high_ways : (sums costs even odd near far : List ℕ) → AreLanes sums costs even odd near far → (s i : ℕ) → i < 32
+pub high_metrics : (sums costs even odd near far : List ℕ) → AreLanes sums costs even odd near far → (s i : ℕ) → i < 32
     → s ≡ 32 + i
-    → AreWays sums costs s (get_or even i 0 + get_or far i 0) (get_or odd i 0 + get_or near i 0)
-high_ways sums costs even odd near far h s i lt e =
+    → AreMetrics sums costs s (get_or even i 0 + get_or far i 0) (get_or odd i 0 + get_or near i 0)
+high_metrics sums costs even odd near far h s i lt e =
     let q : s / 32 ≡ 1 = omega arith in
     let m : s % 32 ≡ i = omega arith in
     let F : ℕ → ℕ → ℕ = λ i b. sum_via sums costs (2 * i) b in
@@ -54,7 +54,7 @@ high_ways sums costs even odd near far h s i lt e =
           ∙ omega (arith, h.odds.each i lt, h.nears.each i lt);
     }
 
--- the lesser of two ways, and which of them it is, where both are written otherwise
+-- the lesser of two path metrics, and which of them it is, where both are written otherwise
 least_of : (first second one other : ℕ) → first ≡ one → second ≡ other → min one other ≡ min first second
 least_of first second one other f s = ap (λ v. min v other) (sym f) ∙ ap (λ v. min first v) (sym s)
 
@@ -68,14 +68,14 @@ pub IsNextSums-from_lanes : (sums costs even odd near far low high : List ℕ) �
     → IsNextSums sums costs (low ++ high)
 IsNextSums-from_lanes sums costs even odd near far low high h lows highs s lt =
     elim (cases_lt s 32) [
-      | inl l ↦ (let w = low_ways sums costs even odd near far h s l in
+      | inl l ↦ (let w = low_metrics sums costs even odd near far h s l in
           get_or_append_left low high 0 s (omega (arith, lows.long)) ∙ lows.each s l
-          ∙ least_of (first_way sums costs s) (second_way sums costs s) _ _ w.first w.second)
+          ∙ least_of (first_metric sums costs s) (second_metric sums costs s) _ _ w.first w.second)
       | inr g ↦ (let i = s - 32 in
           let il : i < 32 = omega arith in
-          let w = high_ways sums costs even odd near far h s i il (omega arith) in
+          let w = high_metrics sums costs even odd near far h s i il (omega arith) in
           get_or-append_right low high 32 s 0 lows.long g ∙ highs.each i il
-          ∙ least_of (first_way sums costs s) (second_way sums costs s) _ _ w.first w.second)
+          ∙ least_of (first_metric sums costs s) (second_metric sums costs s) _ _ w.first w.second)
     ]
 
 pub AreSurvivors-from_lanes : (sums costs even odd near far : List ℕ) (low high : ℕ)
@@ -90,22 +90,22 @@ AreSurvivors-from_lanes sums costs even odd near far low high h lows highs ll hl
     let whole : low + high * 2 ^ 32 % 2 ^ 64 ≡ high * 2 ^ 32 + low = omega arith in
     ap (λ v. v / 2 ^ s % 2) whole ∙
     elim (cases_lt s 32) as (λ _. (high * 2 ^ 32 + low) / 2 ^ s % 2 ≡ cond
-    (ltb (second_way sums costs s) (first_way sums costs s)) 1 0) [
-      | inl l ↦ (let w = low_ways sums costs even odd near far h s l in
+    (ltb (second_metric sums costs s) (first_metric sums costs s)) 1 0) [
+      | inl l ↦ (let w = low_metrics sums costs even odd near far h s l in
           bit_at_cat_low high 32 low s l ∙ lows s l
-          ∙ survivor_of (first_way sums costs s) (second_way sums costs s) _ _ w.first w.second)
+          ∙ survivor_of (first_metric sums costs s) (second_metric sums costs s) _ _ w.first w.second)
       | inr g ↦ (let i = s - 32 in
           let il : i < 32 = omega arith in
-          let w = high_ways sums costs even odd near far h s i il (omega arith) in
+          let w = high_metrics sums costs even odd near far h s i il (omega arith) in
           bit_at_cat_high high 32 low s ll g ∙ highs i il
-          ∙ survivor_of (first_way sums costs s) (second_way sums costs s) _ _ w.first w.second)
+          ∙ survivor_of (first_metric sums costs s) (second_metric sums costs s) _ _ w.first w.second)
     ]
 
 -- the same of the sums themselves
-pub low_way : (sums costs : List ℕ) (s : ℕ) → s < 32
-    → AreWays sums costs s (get_or sums (2 * s) 0 + get_or costs (2 * c1 (2 * s) 0 + c2 (2 * s) 0) 0)
+pub low_metric : (sums costs : List ℕ) (s : ℕ) → s < 32
+    → AreMetrics sums costs s (get_or sums (2 * s) 0 + get_or costs (2 * c1 (2 * s) 0 + c2 (2 * s) 0) 0)
     (get_or sums (2 * s + 1) 0 + get_or costs (2 * c1 (2 * s + 1) 0 + c2 (2 * s + 1) 0) 0)
-low_way sums costs s lt =
+low_metric sums costs s lt =
     let q : s / 32 ≡ 0 = omega arith in
     let m : s % 32 ≡ s = omega arith in
     let F : ℕ → ℕ → ℕ = λ i b. sum_via sums costs (2 * i) b in
@@ -115,10 +115,10 @@ low_way sums costs s lt =
       second = ap (λ v. G v (s / 32)) m ∙ ap (λ v. G s v) q;
     }
 
-pub high_way : (sums costs : List ℕ) (i : ℕ) → i < 32
-    → AreWays sums costs (32 + i) (get_or sums (2 * i) 0 + get_or costs (2 * c1 (2 * i + 1) 0 + c2 (2 * i + 1) 0) 0)
+pub high_metric : (sums costs : List ℕ) (i : ℕ) → i < 32
+    → AreMetrics sums costs (32 + i) (get_or sums (2 * i) 0 + get_or costs (2 * c1 (2 * i + 1) 0 + c2 (2 * i + 1) 0) 0)
     (get_or sums (2 * i + 1) 0 + get_or costs (2 * c1 (2 * i) 0 + c2 (2 * i) 0) 0)
-high_way sums costs i lt =
+high_metric sums costs i lt =
     let q : (32 + i) / 32 ≡ 1 = omega arith in
     let m : (32 + i) % 32 ≡ i = omega arith in
     let F : ℕ → ℕ → ℕ = λ i b. sum_via sums costs (2 * i) b in

@@ -10,7 +10,7 @@ use Rattle.tm_conv.specs.declared.rates.Rate.{Rate}
 use Rattle.tm_conv.specs.declared.rates.Rate.TheVariants.{R12}
 use Rattle.tm_conv.specs.Path.{c1, c2, step_size, steps_size}
 use Rattle.tm_viterbi.specs.Walk.{AreBest}
-use Rattle.tm_viterbi.specs.Column.{IsNextSums, first_way, second_way}
+use Rattle.tm_viterbi.specs.Column.{IsNextSums, first_metric, second_metric}
 use Rattle.tm_viterbi.specs.Totals.{total_of, StepsTo, AreCosts, AreAtMost}
 use Rattle.tm_viterbi.proofs.Walk.{AreBest-more, AreBest-none}
 use Rattle.tm_viterbi.proofs.Totals.{Grows-total_of}
@@ -27,13 +27,13 @@ Carries-none rate invert t sums = record {
       subst (λ (v : List ℕ). P v (i + 0)) (sym (append-nil before)) (subst (λ (n : ℕ). P before n) same best);
 }
 
-pub Carries-more : (rate : Rate) (invert : Bool) (t column : ℕ) (octets piece sums middle next survivors : List ℕ)
+pub Carries-more : (rate : Rate) (invert : Bool) (t survivor : ℕ) (octets piece sums middle next survivors : List ℕ)
     → Carries rate invert t octets sums middle survivors → length piece ≡ step_size rate (t + length survivors)
-    → StepsTo rate invert (t + length survivors) piece middle next column
-    → Carries rate invert t (octets ++ piece) sums next (survivors ++ column ∷ [])
-Carries-more rate invert t column octets piece sums middle next survivors h len step =
+    → StepsTo rate invert (t + length survivors) piece middle next survivor
+    → Carries rate invert t (octets ++ piece) sums next (survivors ++ survivor ∷ [])
+Carries-more rate invert t survivor octets piece sums middle next survivors h len step =
     let n = length survivors in
-    let long : length (survivors ++ column ∷ []) ≡ n + 1 = length-append survivors (column ∷ []) ∙ omega arith in
+    let long : length (survivors ++ survivor ∷ []) ≡ n + 1 = length-append survivors (survivor ∷ []) ∙ omega arith in
     record {
       size = length-append octets piece ∙ omega (arith, h.size, len, steps_size-more rate t n)
           ∙ sym (ap (steps_size rate t) long);
@@ -46,17 +46,17 @@ Carries-more rate invert t column octets piece sums middle next survivors h len 
           subst (λ (v : ℕ). AreCosts rate invert v piece step.costs) there step.are_costs in
           let grows = Grows-total_of rate invert first (i + n) firsts (before ++ octets) piece step.costs size costs in
           let so : AreBest (total_of rate invert first firsts ((before ++ octets) ++ piece)) (i + n + 1) next
-          (column ∷ (reverse survivors ++ past))
-          = AreBest-more _ _ (i + n) column middle step.costs next
+          (survivor ∷ (reverse survivors ++ past))
+          = AreBest-more _ _ (i + n) survivor middle step.costs next
           (reverse survivors ++ past) grows step.are_sums step.are_survivors
           (h.carries first i firsts before past e l best) in
-          let count : i + n + 1 ≡ i + length (survivors ++ column ∷ []) = omega (arith, long) in
-          let rows : column ∷ (reverse survivors ++ past) ≡ reverse (survivors ++ column ∷ []) ++ past =
-          sym (ap (λ (v : List ℕ). v ++ past) (reverse-append survivors (column ∷ []))) in
+          let count : i + n + 1 ≡ i + length (survivors ++ survivor ∷ []) = omega (arith, long) in
+          let rows : survivor ∷ (reverse survivors ++ past) ≡ reverse (survivors ++ survivor ∷ []) ++ past =
+          sym (ap (λ (v : List ℕ). v ++ past) (reverse-append survivors (survivor ∷ []))) in
           let P : List ℕ → ℕ → List ℕ → Type 0 = λ v k w. AreBest (total_of rate invert first firsts v) k next w in
-          subst (λ (w : List ℕ). P (before ++ (octets ++ piece)) (i + length (survivors ++ column ∷ [])) w) rows
-          (subst (λ (k : ℕ). P (before ++ (octets ++ piece)) k (column ∷ (reverse survivors ++ past))) count
-          (subst (λ (v : List ℕ). P v (i + n + 1) (column ∷ (reverse survivors ++ past)))
+          subst (λ (w : List ℕ). P (before ++ (octets ++ piece)) (i + length (survivors ++ survivor ∷ [])) w) rows
+          (subst (λ (k : ℕ). P (before ++ (octets ++ piece)) k (survivor ∷ (reverse survivors ++ past))) count
+          (subst (λ (v : List ℕ). P v (i + n + 1) (survivor ∷ (reverse survivors ++ past)))
           (append_assoc before octets piece) so));
     }
 
@@ -104,11 +104,11 @@ get_or-lifted base (x ∷ xs) zero lt = refl
 get_or-lifted base (x ∷ xs) (suc i) lt = get_or-lifted base xs i (omega arith)
 
 first_lifted : (base : ℕ) (sums costs : List ℕ) (s : ℕ) → length sums ≡ 64 → s < 64
-    → first_way (lifted base sums) costs s ≡ base + first_way sums costs s
+    → first_metric (lifted base sums) costs s ≡ base + first_metric sums costs s
 first_lifted base sums costs s long lt = omega (arith, get_or-lifted base sums (2 * (s % 32)) (omega arith))
 
 second_lifted : (base : ℕ) (sums costs : List ℕ) (s : ℕ) → length sums ≡ 64 → s < 64
-    → second_way (lifted base sums) costs s ≡ base + second_way sums costs s
+    → second_metric (lifted base sums) costs s ≡ base + second_metric sums costs s
 second_lifted base sums costs s long lt = omega (arith, get_or-lifted base sums (2 * (s % 32) + 1) (omega arith))
 
 lesser_lifted : (base a b c d n m : ℕ) → a ≡ base + c → b ≡ base + d → n ≡ base + m → m ≡ min c d → n ≡ min a b
@@ -117,21 +117,21 @@ lesser_lifted base a b c d n m ea eb en em = omega arith
 less_lifted : (base a b c d : ℕ) → a ≡ base + c → b ≡ base + d → ◌≡◌ {A = ℕ} (cond (ltb d c) 1 0) (cond (ltb b a) 1 0)
 less_lifted base a b c d ea eb = grind (arith, nat_tests)
 
-pub StepsTo-lifted : (rate : Rate) (invert : Bool) (t base column : ℕ) (octets sums next : List ℕ) → length sums ≡ 64
+pub StepsTo-lifted : (rate : Rate) (invert : Bool) (t base survivor : ℕ) (octets sums next : List ℕ) → length sums ≡ 64
     → length next ≡ 64
-    → StepsTo rate invert t octets sums next column
-    → StepsTo rate invert t octets (lifted base sums) (lifted base next) column
-StepsTo-lifted rate invert t base column octets sums next ls ln h = record {
+    → StepsTo rate invert t octets sums next survivor
+    → StepsTo rate invert t octets (lifted base sums) (lifted base next) survivor
+StepsTo-lifted rate invert t base survivor octets sums next ls ln h = record {
   costs = h.costs;
   are_costs = h.are_costs;
   are_sums = λ s lt.
-      lesser_lifted base (first_way (lifted base sums) h.costs s) (second_way (lifted base sums) h.costs s)
-      (first_way sums h.costs s) (second_way sums h.costs s) (get_or (lifted base next) s 0) (get_or next s 0)
+      lesser_lifted base (first_metric (lifted base sums) h.costs s) (second_metric (lifted base sums) h.costs s)
+      (first_metric sums h.costs s) (second_metric sums h.costs s) (get_or (lifted base next) s 0) (get_or next s 0)
       (first_lifted base sums h.costs s ls lt) (second_lifted base sums h.costs s ls lt)
       (get_or-lifted base next s (omega arith)) (h.are_sums s lt);
   are_survivors = λ s lt. h.are_survivors s lt
-      ∙ less_lifted base (first_way (lifted base sums) h.costs s) (second_way (lifted base sums) h.costs s)
-      (first_way sums h.costs s) (second_way sums h.costs s)
+      ∙ less_lifted base (first_metric (lifted base sums) h.costs s) (second_metric (lifted base sums) h.costs s)
+      (first_metric sums h.costs s) (second_metric sums h.costs s)
       (first_lifted base sums h.costs s ls lt) (second_lifted base sums h.costs s ls lt);
 }
 
@@ -146,26 +146,27 @@ at_most_next sums costs next most h bound small s lt =
           (2 * c1 (2 * (s % 32)) (s / 32) + c2 (2 * (s % 32)) (s / 32)) (omega arith),
     )
 
--- one step more of a loop over octets and columns
-pub carried_on : (rate : Rate) (invert : Bool) (t at len i column : ℕ) (soft piece first middle next survivors : List ℕ)
+-- one step more of a loop over octets and survivors
+pub carried_on : (rate : Rate) (invert : Bool) (t at len i survivor : ℕ)
+    (soft piece first middle next survivors : List ℕ)
     → at + len ≤ length soft → len ≡ step_size rate (t + i) → piece ≡ take len (drop at soft) → i < length survivors
-    → StepsTo rate invert (t + i) piece middle next column
+    → StepsTo rate invert (t + i) piece middle next survivor
     → Carries rate invert t (take at soft) first middle (take i survivors)
-    → Carries rate invert t (take (at + len) soft) first next (take (i + 1) (set survivors i column))
-carried_on rate invert t at len i column soft piece first middle next survivors room size is lt step h =
+    → Carries rate invert t (take (at + len) soft) first next (take (i + 1) (set survivors i survivor))
+carried_on rate invert t at len i survivor soft piece first middle next survivors room size is lt step h =
     let count : length (take i survivors) ≡ i = length-take-le i survivors (omega arith) in
     let long : length piece ≡ len = ap length is
     ∙ length-take-le len (drop at soft) (omega (arith, length-drop at soft)) in
     let fits : length piece ≡ step_size rate (t + length (take i survivors)) = long ∙ size
     ∙ ap (λ (n : ℕ). step_size rate (t + n)) (sym count) in
-    let so : Carries rate invert t (take at soft ++ piece) first next (take i survivors ++ column ∷ []) =
-    Carries-more rate invert t column (take at soft) piece first middle next (take i survivors) h fits
-    (subst (λ (n : ℕ). StepsTo rate invert (t + n) piece middle next column) (sym count) step) in
+    let so : Carries rate invert t (take at soft ++ piece) first next (take i survivors ++ survivor ∷ []) =
+    Carries-more rate invert t survivor (take at soft) piece first middle next (take i survivors) h fits
+    (subst (λ (n : ℕ). StepsTo rate invert (t + n) piece middle next survivor) (sym count) step) in
     let octets : take at soft ++ piece ≡ take (at + len) soft = ap (λ (v : List ℕ). take at soft ++ v) is
     ∙ sym (take-add at len soft) in
     subst (λ (w : List ℕ). Carries rate invert t (take (at + len) soft) first next w)
-    (sym (take_more_set survivors i column lt))
-    (subst (λ (v : List ℕ). Carries rate invert t v first next (take i survivors ++ column ∷ [])) octets so)
+    (sym (take_more_set survivors i survivor lt))
+    (subst (λ (v : List ℕ). Carries rate invert t v first next (take i survivors ++ survivor ∷ [])) octets so)
 
 pub lifted_is : (base : ℕ) (xs ys : List ℕ) → length xs ≡ 64 → length ys ≡ 64
     → ((s : ℕ) → s < 64 → base + get_or xs s 0 ≡ get_or ys s 0) → lifted base xs ≡ ys
@@ -182,10 +183,10 @@ one_step rate t =
     ∙ ap (λ (v : ℕ). v + step_size rate (t + 0)) (steps_size-zero rate t) ∙ ap (λ (v : ℕ). 0 + step_size rate v) f
     ∙ omega arith
 
-pub single_set : (survivors : List ℕ) (column : ℕ) → length survivors ≡ 1 → set survivors 0 column ≡ column ∷ []
-single_set [] column e = absurd (omega arith)
-single_set (x ∷ []) column e = refl
-single_set (x ∷ y ∷ ys) column e = absurd (omega arith)
+pub single_set : (survivors : List ℕ) (survivor : ℕ) → length survivors ≡ 1 → set survivors 0 survivor ≡ survivor ∷ []
+single_set [] survivor e = absurd (omega arith)
+single_set (x ∷ []) survivor e = refl
+single_set (x ∷ y ∷ ys) survivor e = absurd (omega arith)
 
 pub four_set : (survivors : List ℕ) (a b c d : ℕ) → length survivors ≡ 4
     → set (set (set (set survivors 0 a) 1 b) 2 c) 3 d ≡ a ∷ b ∷ c ∷ d ∷ []
@@ -196,13 +197,13 @@ four_set (w ∷ x ∷ y ∷ []) a b c d long = absurd (omega arith)
 four_set (w ∷ x ∷ y ∷ z ∷ []) a b c d long = refl
 four_set (v ∷ w ∷ x ∷ y ∷ z ∷ zs) a b c d long = absurd (omega arith)
 
-pub Carries-one : (rate : Rate) (invert : Bool) (t column : ℕ) (piece sums next : List ℕ)
-    → length piece ≡ step_size rate t → StepsTo rate invert t piece sums next column
-    → Carries rate invert t piece sums next (column ∷ [])
-Carries-one rate invert t column piece sums next len step =
+pub Carries-one : (rate : Rate) (invert : Bool) (t survivor : ℕ) (piece sums next : List ℕ)
+    → length piece ≡ step_size rate t → StepsTo rate invert t piece sums next survivor
+    → Carries rate invert t piece sums next (survivor ∷ [])
+Carries-one rate invert t survivor piece sums next len step =
     let f : t ≡ t + 0 = omega arith in
-    Carries-more rate invert t column [] piece sums sums next [] (Carries-none rate invert t sums)
-    (len ∙ ap (step_size rate) f) (subst (λ (v : ℕ). StepsTo rate invert v piece sums next column) f step)
+    Carries-more rate invert t survivor [] piece sums sums next [] (Carries-none rate invert t sums)
+    (len ∙ ap (step_size rate) f) (subst (λ (v : ℕ). StepsTo rate invert v piece sums next survivor) f step)
 
 -- the octets of some more steps are there
 pub rest_fits : (rate : Rate) (t at done n k : ℕ) (soft : List ℕ) → length soft ≡ steps_size rate t k

@@ -1,4 +1,4 @@
--- A window's columns, some steps on.
+-- A window's survivors, some steps on.
 use Rattle.std.proofs.Common.{◌≡◌, ℕ, ◌+◌, ◌≤◌, ◌∙◌, sym, ap, subst, refl, arith, length, take, List, ◌++◌, Bool}
 use Rattle.std.proofs.lemmas.List.{reverse-append}
 use Rattle.std.proofs.lemmas.Slice.{take-put_mid}

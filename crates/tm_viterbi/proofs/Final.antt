@@ -1,4 +1,4 @@
--- The best candidate, from the sums and columns at the end.
+-- The best candidate, from the sums and survivors at the end.
 use Rattle.std.proofs.Common.{◌≡◌, ℕ, ◌+◌, ◌*◌, ◌^◌, ◌<◌, ◌≤◌, inl, inr, ◌∙◌, sym, ap, subst, arith, length, List, [], ◌∷◌, ◌++◌, suc, refl, Bool, true, false, cond, get_or, slice_index, IsTrue}
 use Rattle.std.specs.List.{All}
 use Rattle.std.proofs.lemmas.List.{length-reverse, reverse-reverse}

@@ -5,9 +5,9 @@ use Rattle.std.proofs.lemmas.List.{get_or-map, length-map, get_or_append_left, g
 use Rattle.std.proofs.lemmas.Nat.Bits.{bit_at_cat_low, bit_at_cat_high}
 use Rattle.std.proofs.lemmas.Simd.{swz_l, SwzOk, SwzOk-from_below, Each1-from_get_or, length-swz_l, get_or-swz_l_below}
 use Rattle.tm_conv.specs.Path.{c1, c2}
-use Rattle.tm_viterbi.specs.Column.{IsEach, IsHalf, first_way, second_way}
+use Rattle.tm_viterbi.specs.Column.{IsEach, IsHalf, first_metric, second_metric}
 use Rattle.tm_viterbi.proofs.Vectors.{follows, follows_at}
-use Rattle.tm_viterbi.proofs.Butterfly.{AreWays, low_way, high_way}
+use Rattle.tm_viterbi.proofs.Butterfly.{AreMetrics, low_metric, high_metric}
 
 -- lanes taken from xs by a table of places
 pub IsHalf-from_table : (xs places : List ℕ) (f : ℕ → ℕ) → length places ≡ 16 → follows f 0 places ≡ true
@@ -32,42 +32,42 @@ near_at i = 2 * c1 (2 * i) 0 + c2 (2 * i) 0
 abbrev pub far_at : ℕ → ℕ
 far_at i = 2 * c1 (2 * i + 1) 0 + c2 (2 * i + 1) 0
 
-abbrev near_fronts : List ℕ
-near_fronts = 0 ∷ 1 ∷ 0 ∷ 1 ∷ 3 ∷ 2 ∷ 3 ∷ 2 ∷ 3 ∷ 2 ∷ 3 ∷ 2 ∷ 0 ∷ 1 ∷ 0 ∷ 1 ∷ []
+abbrev near_firsts : List ℕ
+near_firsts = 0 ∷ 1 ∷ 0 ∷ 1 ∷ 3 ∷ 2 ∷ 3 ∷ 2 ∷ 3 ∷ 2 ∷ 3 ∷ 2 ∷ 0 ∷ 1 ∷ 0 ∷ 1 ∷ []
 
-abbrev far_fronts : List ℕ
-far_fronts = 3 ∷ 2 ∷ 3 ∷ 2 ∷ 0 ∷ 1 ∷ 0 ∷ 1 ∷ 0 ∷ 1 ∷ 0 ∷ 1 ∷ 3 ∷ 2 ∷ 3 ∷ 2 ∷ []
+abbrev far_firsts : List ℕ
+far_firsts = 3 ∷ 2 ∷ 3 ∷ 2 ∷ 0 ∷ 1 ∷ 0 ∷ 1 ∷ 0 ∷ 1 ∷ 0 ∷ 1 ∷ 3 ∷ 2 ∷ 3 ∷ 2 ∷ []
 
-abbrev near_backs : List ℕ
-near_backs = 2 ∷ 3 ∷ 2 ∷ 3 ∷ 1 ∷ 0 ∷ 1 ∷ 0 ∷ 1 ∷ 0 ∷ 1 ∷ 0 ∷ 2 ∷ 3 ∷ 2 ∷ 3 ∷ []
+abbrev near_seconds : List ℕ
+near_seconds = 2 ∷ 3 ∷ 2 ∷ 3 ∷ 1 ∷ 0 ∷ 1 ∷ 0 ∷ 1 ∷ 0 ∷ 1 ∷ 0 ∷ 2 ∷ 3 ∷ 2 ∷ 3 ∷ []
 
-abbrev far_backs : List ℕ
-far_backs = 1 ∷ 0 ∷ 1 ∷ 0 ∷ 2 ∷ 3 ∷ 2 ∷ 3 ∷ 2 ∷ 3 ∷ 2 ∷ 3 ∷ 1 ∷ 0 ∷ 1 ∷ 0 ∷ []
+abbrev far_seconds : List ℕ
+far_seconds = 1 ∷ 0 ∷ 1 ∷ 0 ∷ 2 ∷ 3 ∷ 2 ∷ 3 ∷ 2 ∷ 3 ∷ 2 ∷ 3 ∷ 1 ∷ 0 ∷ 1 ∷ 0 ∷ []
 
-pub near_front_lanes : (xs : List ℕ) → length xs ≡ 4
-    → IsHalf (map (λ k. get_or (xs ++ xs) k 0) near_fronts) (λ i. get_or xs (near_at i) 0)
+pub near_first_lanes : (xs : List ℕ) → length xs ≡ 4
+    → IsHalf (map (λ k. get_or (xs ++ xs) k 0) near_firsts) (λ i. get_or xs (near_at i) 0)
 unfolding follows
-near_front_lanes xs long =
-    of_first xs _ near_at (IsHalf-from_table (xs ++ xs) near_fronts near_at refl refl) (λ i lt. omega arith)
+near_first_lanes xs long =
+    of_first xs _ near_at (IsHalf-from_table (xs ++ xs) near_firsts near_at refl refl) (λ i lt. omega arith)
 
-pub far_front_lanes : (xs : List ℕ) → length xs ≡ 4
-    → IsHalf (map (λ k. get_or (xs ++ xs) k 0) far_fronts) (λ i. get_or xs (far_at i) 0)
+pub far_first_lanes : (xs : List ℕ) → length xs ≡ 4
+    → IsHalf (map (λ k. get_or (xs ++ xs) k 0) far_firsts) (λ i. get_or xs (far_at i) 0)
 unfolding follows
-far_front_lanes xs long =
-    of_first xs _ far_at (IsHalf-from_table (xs ++ xs) far_fronts far_at refl refl) (λ i lt. omega arith)
+far_first_lanes xs long =
+    of_first xs _ far_at (IsHalf-from_table (xs ++ xs) far_firsts far_at refl refl) (λ i lt. omega arith)
 
-pub near_back_lanes : (xs : List ℕ) → length xs ≡ 4
-    → IsHalf (map (λ k. get_or (xs ++ xs) k 0) near_backs) (λ i. get_or xs (near_at (16 + i)) 0)
+pub near_second_lanes : (xs : List ℕ) → length xs ≡ 4
+    → IsHalf (map (λ k. get_or (xs ++ xs) k 0) near_seconds) (λ i. get_or xs (near_at (16 + i)) 0)
 unfolding follows
-near_back_lanes xs long =
-    of_first xs _ (λ i. near_at (16 + i)) (IsHalf-from_table (xs ++ xs) near_backs (λ i. near_at (16 + i)) refl refl)
+near_second_lanes xs long =
+    of_first xs _ (λ i. near_at (16 + i)) (IsHalf-from_table (xs ++ xs) near_seconds (λ i. near_at (16 + i)) refl refl)
     (λ i lt. omega arith)
 
-pub far_back_lanes : (xs : List ℕ) → length xs ≡ 4
-    → IsHalf (map (λ k. get_or (xs ++ xs) k 0) far_backs) (λ i. get_or xs (far_at (16 + i)) 0)
+pub far_second_lanes : (xs : List ℕ) → length xs ≡ 4
+    → IsHalf (map (λ k. get_or (xs ++ xs) k 0) far_seconds) (λ i. get_or xs (far_at (16 + i)) 0)
 unfolding follows
-far_back_lanes xs long =
-    of_first xs _ (λ i. far_at (16 + i)) (IsHalf-from_table (xs ++ xs) far_backs (λ i. far_at (16 + i)) refl refl)
+far_second_lanes xs long =
+    of_first xs _ (λ i. far_at (16 + i)) (IsHalf-from_table (xs ++ xs) far_seconds (λ i. far_at (16 + i)) refl refl)
     (λ i lt. omega arith)
 
 -- ---- lanes sorted in each eight
@@ -153,18 +153,18 @@ pub record AreHalves (sums costs even odd near far : List ℕ) (from : ℕ) : Ty
   pub fars : IsHalf far (λ i. get_or costs (far_at (from + i)) 0)
 
 -- the halves of the list
-pub front_lanes : (low high lanes : List ℕ) (p q : ℕ → ℕ) → length low ≡ 32 → ((i : ℕ) → i < 16 → p i < 32)
+pub first_lanes : (low high lanes : List ℕ) (p q : ℕ → ℕ) → length low ≡ 32 → ((i : ℕ) → i < 16 → p i < 32)
     → ((i : ℕ) → i < 16 → p i ≡ q i)
     → IsHalf lanes (λ i. get_or low (p i) 0) → IsHalf lanes (λ i. get_or (low ++ high) (q i) 0)
-front_lanes low high lanes p q long small is h = record {
+first_lanes low high lanes p q long small is h = record {
   long = h.long;
   each = λ i lt. h.each i lt ∙ sym (get_or_append_left low high 0 (p i) (omega (arith, small i lt)))
       ∙ ap (λ v. get_or (low ++ high) v 0) (is i lt);
 }
 
-pub back_lanes : (low high lanes : List ℕ) (p q : ℕ → ℕ) → length low ≡ 32 → ((i : ℕ) → i < 16 → q i ≡ 32 + p i)
+pub second_lanes : (low high lanes : List ℕ) (p q : ℕ → ℕ) → length low ≡ 32 → ((i : ℕ) → i < 16 → q i ≡ 32 + p i)
     → IsHalf lanes (λ i. get_or high (p i) 0) → IsHalf lanes (λ i. get_or (low ++ high) (q i) 0)
-back_lanes low high lanes p q long is h = record {
+second_lanes low high lanes p q long is h = record {
   long = h.long;
   each = λ i lt.
       let there : p i ≡ q i - 32 = omega (arith, is i lt) in
@@ -172,34 +172,34 @@ back_lanes low high lanes p q long is h = record {
       ∙ sym (get_or-append_right low high 32 (q i) 0 long (omega (arith, is i lt)));
 }
 
-pub front_halves : (low high costs even odd near far : List ℕ) → length low ≡ 32
+pub first_halves : (low high costs even odd near far : List ℕ) → length low ≡ 32
     → IsHalf even (λ i. get_or low (2 * i) 0) → IsHalf odd (λ i. get_or low (2 * i + 1) 0)
     → IsHalf near (λ i. get_or costs (near_at i) 0) → IsHalf far (λ i. get_or costs (far_at i) 0)
     → AreHalves (low ++ high) costs even odd near far 0
-front_halves low high costs even odd near far long a b n f =
+first_halves low high costs even odd near far long a b n f =
     let zeros : (i : ℕ) → i ≡ 0 + i = λ i. omega arith in
     record {
-      evens = front_lanes low high even (λ i. 2 * i) (λ i. 2 * (0 + i)) long (λ i lt. omega arith)
+      evens = first_lanes low high even (λ i. 2 * i) (λ i. 2 * (0 + i)) long (λ i lt. omega arith)
           (λ i lt. omega arith) a;
-      odds = front_lanes low high odd (λ i. 2 * i + 1) (λ i. 2 * (0 + i) + 1) long (λ i lt. omega arith)
+      odds = first_lanes low high odd (λ i. 2 * i + 1) (λ i. 2 * (0 + i) + 1) long (λ i lt. omega arith)
           (λ i lt. omega arith) b;
       nears = record { long = n.long; each = λ i lt. n.each i lt ∙ ap (λ v. get_or costs (near_at v) 0) (zeros i) };
       fars = record { long = f.long; each = λ i lt. f.each i lt ∙ ap (λ v. get_or costs (far_at v) 0) (zeros i) };
     }
 
-pub back_halves : (low high costs even odd near far : List ℕ) → length low ≡ 32
+pub second_halves : (low high costs even odd near far : List ℕ) → length low ≡ 32
     → IsHalf even (λ i. get_or high (2 * i) 0) → IsHalf odd (λ i. get_or high (2 * i + 1) 0)
     → IsHalf near (λ i. get_or costs (near_at (16 + i)) 0) → IsHalf far (λ i. get_or costs (far_at (16 + i)) 0)
     → AreHalves (low ++ high) costs even odd near far 16
-back_halves low high costs even odd near far long a b n f =
+second_halves low high costs even odd near far long a b n f =
     record {
-      evens = back_lanes low high even (λ i. 2 * i) (λ i. 2 * (16 + i)) long (λ i lt. omega arith) a;
-      odds = back_lanes low high odd (λ i. 2 * i + 1) (λ i. 2 * (16 + i) + 1) long (λ i lt. omega arith) b;
+      evens = second_lanes low high even (λ i. 2 * i) (λ i. 2 * (16 + i)) long (λ i lt. omega arith) a;
+      odds = second_lanes low high odd (λ i. 2 * i + 1) (λ i. 2 * (16 + i) + 1) long (λ i lt. omega arith) b;
       nears = n;
       fars = f;
     }
 
--- the ways fit, lane by lane
+-- the path metrics fit, lane by lane
 half_fits : (sums costs lanes more : List ℕ) (p k : ℕ → ℕ)
     → ((s j : ℕ) → s < 64 → j < 4 → get_or sums s 0 + get_or costs j 0 < 2 ^ 16)
     → IsHalf lanes (λ i. get_or sums (p i) 0) → IsHalf more (λ i. get_or costs (k i) 0) → ((i : ℕ) → i < 16 → p i < 64)
@@ -233,76 +233,77 @@ fit sums costs even odd near far from all small h =
           (λ i. far_at (from + i)) all h.odds h.fars odds fars;
     }
 
-lesser_way : (sums costs : List ℕ) (s one other a b x y m : ℕ) → AreWays sums costs s (a + x) (b + y)
+lesser_metric : (sums costs : List ℕ) (s one other a b x y m : ℕ) → AreMetrics sums costs s (a + x) (b + y)
     → m ≡ min (one) (other) → one ≡ a + x → other ≡ b + y
-    → m ≡ min (first_way sums costs s) (second_way sums costs s)
-lesser_way sums costs s one other a b x y m w e f g =
-    e ∙ ap (λ v. min v other) (f ∙ sym w.first) ∙ ap (λ v. min (first_way sums costs s) v) (g ∙ sym w.second)
+    → m ≡ min (first_metric sums costs s) (second_metric sums costs s)
+lesser_metric sums costs s one other a b x y m w e f g =
+    e ∙ ap (λ v. min v other) (f ∙ sym w.first) ∙ ap (λ v. min (first_metric sums costs s) v) (g ∙ sym w.second)
 
-less_way : (sums costs : List ℕ) (s one other a b x y m : ℕ) → AreWays sums costs s (a + x) (b + y)
+less_metric : (sums costs : List ℕ) (s one other a b x y m : ℕ) → AreMetrics sums costs s (a + x) (b + y)
     → m ≡ cond (ltb other one) 1 0 → one ≡ a + x → other ≡ b + y
-    → m ≡ cond (ltb (second_way sums costs s) (first_way sums costs s)) 1 0
-less_way sums costs s one other a b x y m w e f g =
+    → m ≡ cond (ltb (second_metric sums costs s) (first_metric sums costs s)) 1 0
+less_metric sums costs s one other a b x y m w e f g =
     e ∙ ap (λ v. cond (ltb other v) 1 0) (f ∙ sym w.first)
-    ∙ ap (λ v. cond (ltb v (first_way sums costs s)) 1 0) (g ∙ sym w.second)
+    ∙ ap (λ v. cond (ltb v (first_metric sums costs s)) 1 0) (g ∙ sym w.second)
 
--- the sum of a way, lane by lane
-way : (sums costs lanes more : List ℕ) (p k : ℕ → ℕ) → IsHalf lanes (λ i. get_or sums (p i) 0)
+-- a path metric, lane by lane
+lane_metric : (sums costs lanes more : List ℕ) (p k : ℕ → ℕ) → IsHalf lanes (λ i. get_or sums (p i) 0)
     → IsHalf more (λ i. get_or costs (k i) 0)
     → (i : ℕ) → i < 16 → get_or lanes i 0 + get_or more i 0 ≡ get_or sums (p i) 0 + get_or costs (k i) 0
-way sums costs lanes more p k a b i lt = omega (arith, a.each i lt, b.each i lt)
+lane_metric sums costs lanes more p k a b i lt = omega (arith, a.each i lt, b.each i lt)
 
 -- what a half's lesser sums and survivor bits are
 pub low_sums : (sums costs even odd near far low : List ℕ) (from : ℕ) → AreHalves sums costs even odd near far from
     → from < 17
     → IsHalf low (λ i. min (get_or even i 0 + get_or near i 0) (get_or odd i 0 + get_or far i 0))
-    → (i : ℕ) → i < 16 → get_or low i 0 ≡ min (first_way sums costs (from + i)) (second_way sums costs (from + i))
+    → (i : ℕ) → i < 16 → get_or low i 0 ≡ min (first_metric sums costs (from + i)) (second_metric sums costs (from + i))
 low_sums sums costs even odd near far low from h small lows i lt =
-    lesser_way sums costs (from + i) _ _ _ _ _ _ _ (low_way sums costs (from + i) (omega arith)) (lows.each i lt)
-    (way sums costs even near (λ i. 2 * (from + i)) (λ i. near_at (from + i)) h.evens h.nears i lt)
-    (way sums costs odd far (λ i. 2 * (from + i) + 1) (λ i. far_at (from + i)) h.odds h.fars i lt)
+    lesser_metric sums costs (from + i) _ _ _ _ _ _ _ (low_metric sums costs (from + i) (omega arith)) (lows.each i lt)
+    (lane_metric sums costs even near (λ i. 2 * (from + i)) (λ i. near_at (from + i)) h.evens h.nears i lt)
+    (lane_metric sums costs odd far (λ i. 2 * (from + i) + 1) (λ i. far_at (from + i)) h.odds h.fars i lt)
 
 pub high_sums : (sums costs even odd near far high : List ℕ) (from : ℕ) → AreHalves sums costs even odd near far from
     → from < 17
     → IsHalf high (λ i. min (get_or even i 0 + get_or far i 0) (get_or odd i 0 + get_or near i 0))
-    → (i : ℕ) → i < 16 → get_or high i 0 ≡ min (first_way sums costs (32 + (from + i)))
-    (second_way sums costs (32 + (from + i)))
+    → (i : ℕ) → i < 16 → get_or high i 0 ≡ min (first_metric sums costs (32 + (from + i)))
+    (second_metric sums costs (32 + (from + i)))
 high_sums sums costs even odd near far high from h small highs i lt =
-    lesser_way sums costs (32 + (from + i)) _ _ _ _ _ _ _ (high_way sums costs (from + i) (omega arith))
+    lesser_metric sums costs (32 + (from + i)) _ _ _ _ _ _ _ (high_metric sums costs (from + i) (omega arith))
     (highs.each i lt)
-    (way sums costs even far (λ i. 2 * (from + i)) (λ i. far_at (from + i)) h.evens h.fars i lt)
-    (way sums costs odd near (λ i. 2 * (from + i) + 1) (λ i. near_at (from + i)) h.odds h.nears i lt)
+    (lane_metric sums costs even far (λ i. 2 * (from + i)) (λ i. far_at (from + i)) h.evens h.fars i lt)
+    (lane_metric sums costs odd near (λ i. 2 * (from + i) + 1) (λ i. near_at (from + i)) h.odds h.nears i lt)
 
 pub low_bits : (sums costs even odd near far : List ℕ) (from bits : ℕ) → AreHalves sums costs even odd near far from
     → from < 17
     → ((i : ℕ) → i < 16 → bits / 2 ^ i % 2 ≡ cond
     (ltb (get_or odd i 0 + get_or far i 0) (get_or even i 0 + get_or near i 0)) 1 0)
     → (i : ℕ) → i < 16 → bits / 2 ^ i % 2 ≡ cond
-    (ltb (second_way sums costs (from + i)) (first_way sums costs (from + i))) 1 0
+    (ltb (second_metric sums costs (from + i)) (first_metric sums costs (from + i))) 1 0
 low_bits sums costs even odd near far from bits h small lows i lt =
-    less_way sums costs (from + i) _ _ _ _ _ _ _ (low_way sums costs (from + i) (omega arith)) (lows i lt)
-    (way sums costs even near (λ i. 2 * (from + i)) (λ i. near_at (from + i)) h.evens h.nears i lt)
-    (way sums costs odd far (λ i. 2 * (from + i) + 1) (λ i. far_at (from + i)) h.odds h.fars i lt)
+    less_metric sums costs (from + i) _ _ _ _ _ _ _ (low_metric sums costs (from + i) (omega arith)) (lows i lt)
+    (lane_metric sums costs even near (λ i. 2 * (from + i)) (λ i. near_at (from + i)) h.evens h.nears i lt)
+    (lane_metric sums costs odd far (λ i. 2 * (from + i) + 1) (λ i. far_at (from + i)) h.odds h.fars i lt)
 
 pub high_bits : (sums costs even odd near far : List ℕ) (from bits : ℕ) → AreHalves sums costs even odd near far from
     → from < 17
     → ((i : ℕ) → i < 16 → bits / 2 ^ i % 2 ≡ cond
     (ltb (get_or odd i 0 + get_or near i 0) (get_or even i 0 + get_or far i 0)) 1 0)
     → (i : ℕ) → i < 16 → bits / 2 ^ i % 2 ≡ cond
-    (ltb (second_way sums costs (32 + (from + i))) (first_way sums costs (32 + (from + i)))) 1 0
+    (ltb (second_metric sums costs (32 + (from + i))) (first_metric sums costs (32 + (from + i)))) 1 0
 high_bits sums costs even odd near far from bits h small highs i lt =
-    less_way sums costs (32 + (from + i)) _ _ _ _ _ _ _ (high_way sums costs (from + i) (omega arith)) (highs i lt)
-    (way sums costs even far (λ i. 2 * (from + i)) (λ i. far_at (from + i)) h.evens h.fars i lt)
-    (way sums costs odd near (λ i. 2 * (from + i) + 1) (λ i. near_at (from + i)) h.odds h.nears i lt)
+    less_metric sums costs (32 + (from + i)) _ _ _ _ _ _ _
+        (high_metric sums costs (from + i) (omega arith)) (highs i lt)
+    (lane_metric sums costs even far (λ i. 2 * (from + i)) (λ i. far_at (from + i)) h.evens h.fars i lt)
+    (lane_metric sums costs odd near (λ i. 2 * (from + i) + 1) (λ i. near_at (from + i)) h.odds h.nears i lt)
 
 -- two halves, and two of those
 joined_at : (a b : List ℕ) (f : ℕ → ℕ) → length a ≡ 16 → ((i : ℕ) → i < 16 → get_or a i 0 ≡ f i)
     → ((i : ℕ) → i < 16 → get_or b i 0 ≡ f (16 + i)) → (i : ℕ) → i < 32 → get_or (a ++ b) i 0 ≡ f i
-joined_at a b f long fronts backs i lt =
+joined_at a b f long firsts seconds i lt =
     elim (cases_lt i 16) as (λ _. get_or (a ++ b) i 0 ≡ f i) [
-      | inl l ↦ get_or_append_left a b 0 i (omega arith) ∙ fronts i l
+      | inl l ↦ get_or_append_left a b 0 i (omega arith) ∙ firsts i l
       | inr g ↦ (let same : 16 + (i - 16) ≡ i = omega arith in
-          get_or-append_right a b 16 i 0 long g ∙ backs (i - 16) (omega arith) ∙ ap f same)
+          get_or-append_right a b 16 i 0 long g ∙ seconds (i - 16) (omega arith) ∙ ap f same)
     ]
 
 pub four_sums : (a b c d : List ℕ) (f : ℕ → ℕ) → length a ≡ 16 → length b ≡ 16 → length c ≡ 16

@@ -1,4 +1,4 @@
--- Columns walked back eight at a time.
+-- Survivors walked back eight steps at a time.
 use Rattle.std.proofs.Common.{◌≡◌, ℕ, ◌+◌, ◌-◌, ◌*◌, ◌/◌, ◌%◌, ◌^◌, ◌<◌, ◌≤◌, ◌∙◌, sym, ap, subst, refl, arith, suc, zero, length, get_or, take, drop, List, [], ◌∷◌, ◌++◌, Bool, true, false, ◌&&◌, eqb, append_assoc, inl, inr}
 use Rattle.std.proofs.lemmas.Bool.{eqb-true, cases_lt, and_parts, agree_below, agree_below_at}
 use Rattle.std.proofs.lemmas.List.{reverse-append, reverse-reverse, drop_at, drop-drop, length-take-le}
@@ -87,7 +87,7 @@ is_in (c ∷ survivors) h =
     is_in_more (history survivors (2 * h + d)) h d (doubled survivors) (bit_small (c / 2 ^ (h % 64)))
     (is_in survivors (2 * h + d))
 
--- the bits of eight columns
+-- the bits of eight steps
 at_size_2 : (number h : ℕ) → IsIn number h 2 → h % 64 / 32 ≡ number / 64 % 2
 at_size_2 number h e = omega (arith, e.is, e.small)
 

@@ -1,4 +1,4 @@
--- The best path to each register, one column on.
+-- The best path to each register, one step on.
 use Rattle.std.proofs.Common.{◌≡◌, ℕ, ◌+◌, ◌*◌, ◌/◌, ◌%◌, ◌^◌, ◌<◌, ◌≤◌, ◌⊎◌, ◌∙◌, inl, inr, min, sym, ap, subst, cond, ltb, arith, length, get_or, List, [], ◌∷◌, zero, suc, refl}
 use Rattle.std.proofs.lemmas.Bool.{cases_lt}
 use Rattle.std.specs.List.{All}
@@ -8,7 +8,7 @@ use Rattle.std.proofs.lemmas.List.Elements.{All-head, All-tail, All-cons, All-ni
 use Rattle.tm_viterbi.proofs.Survivors.{choice_second, choice_first}
 use Rattle.tm_conv.specs.Path.{next_register, c1, c2}
 use Rattle.tm_viterbi.specs.Walk.{register_back, rank, IsPathTo, IsNoWorse, IsBestTo, before, past_of, start_of, AreBest}
-use Rattle.tm_viterbi.specs.Column.{first_way, second_way, IsNextSums, AreSurvivors}
+use Rattle.tm_viterbi.specs.Column.{first_metric, second_metric, IsNextSums, AreSurvivors}
 
 pub register_back_lt : (r : ℕ) (past : List ℕ) → r < 64 → All (λ b. b < 2) past → register_back r past < 64
 register_back_lt r [] lt each = lt
@@ -170,27 +170,27 @@ second_best total more n s edge lt grows x y r q past other a b less =
 abbrev pub edge_cost : List ℕ → ℕ → ℕ → ℕ
 edge_cost costs p b = get_or costs (2 * c1 p b + c2 p b) 0
 
-pub AreBest-more : (total more : ℕ → List ℕ → ℕ) (n column : ℕ) (sums costs next survivors : List ℕ)
+pub AreBest-more : (total more : ℕ → List ℕ → ℕ) (n survivor : ℕ) (sums costs next survivors : List ℕ)
     → Grows total more n (edge_cost costs)
-    → IsNextSums sums costs next → AreSurvivors sums costs column
-    → AreBest total n sums survivors → AreBest more (n + 1) next (column ∷ survivors)
-AreBest-more total more n column sums costs next survivors grows is_next survive best s lt =
+    → IsNextSums sums costs next → AreSurvivors sums costs survivor
+    → AreBest total n sums survivors → AreBest more (n + 1) next (survivor ∷ survivors)
+AreBest-more total more n survivor sums costs next survivors grows is_next survive best s lt =
     let p0 = 2 * (s % 32) in
     let p1 = 2 * (s % 32) + 1 in
-    let first : ℕ = first_way sums costs s in
-    let second : ℕ = second_way sums costs s in
+    let first : ℕ = first_metric sums costs s in
+    let second : ℕ = second_metric sums costs s in
     let a : IsBestTo total n p0 (get_or sums p0 0) (start_of survivors p0) (past_of survivors p0) = best p0 (omega arith) in
     let b : IsBestTo total n p1 (get_or sums p1 0) (start_of survivors p1) (past_of survivors p1) = best p1 (omega arith) in
     let P : ℕ → ℕ → Type 0 = λ v w. IsBestTo more (n + 1) s v (start_of survivors w) ((s / 32) ∷ past_of survivors w) in
-    let goes : (v w : ℕ) → get_or next s 0 ≡ v → before column s ≡ w → P v w → P (get_or next s 0) (before column s)
-    = λ v w e f h. subst (λ (z : ℕ). P z (before column s)) (sym e) (subst (λ (z : ℕ). P v z) (sym f) h) in
-    let chosen : column / 2 ^ s % 2 ≡ cond (ltb second first) 1 0 = survive s lt in
+    let goes : (v w : ℕ) → get_or next s 0 ≡ v → before survivor s ≡ w → P v w → P (get_or next s 0) (before survivor s)
+    = λ v w e f h. subst (λ (z : ℕ). P z (before survivor s)) (sym e) (subst (λ (z : ℕ). P v z) (sym f) h) in
+    let chosen : survivor / 2 ^ s % 2 ≡ cond (ltb second first) 1 0 = survive s lt in
     let least : get_or next s 0 ≡ min first second = is_next s lt in
-    elim (cases_lt second first) as (λ _. P (get_or next s 0) (before column s)) [
-      | inl h ↦ (let one : column / 2 ^ s % 2 ≡ 1 = chosen ∙ choice_second first second first second refl refl h in
+    elim (cases_lt second first) as (λ _. P (get_or next s 0) (before survivor s)) [
+      | inl h ↦ (let one : survivor / 2 ^ s % 2 ≡ 1 = chosen ∙ choice_second first second first second refl refl h in
           goes second p1 (omega (arith, least, h)) (omega (arith, one))
           (second_best total more n s (edge_cost costs) lt grows _ _ _ _ _ _ a b h))
-      | inr h ↦ (let none : column / 2 ^ s % 2 ≡ 0 = chosen ∙ choice_first first second first second refl refl h in
+      | inr h ↦ (let none : survivor / 2 ^ s % 2 ≡ 0 = chosen ∙ choice_first first second first second refl refl h in
           goes first p0 (omega (arith, least, h)) (omega (arith, none))
           (first_best total more n s (edge_cost costs) lt grows _ _ _ _ _ _ a b h))
     ]
@@ -210,7 +210,7 @@ AreBest-none total sums same s lt = record {
   best = λ q other path. none_best total s (get_or sums s 0) q other (same s lt) path;
 }
 
--- what columns keep is a path, whatever the sums
+-- what survivors keep is a path, whatever the sums
 before_lt : (c s : ℕ) → s < 64 → before c s < 64
 before_lt c s lt = omega arith
 

@@ -5,7 +5,7 @@ use Rattle.tm_conv.specs.Path.{steps_size}
 use Rattle.tm_viterbi.specs.Walk.{AreBest}
 use Rattle.tm_viterbi.specs.Totals.{total_of}
 
--- the octets of some steps from step t, which bring sums to next and leave these columns:
+-- the octets of some steps from step t, which bring sums to next and leave these survivors:
 -- whatever came before, what was best stays best
 pub record Carries (rate : Rate) (invert : Bool) (t : ℕ)
     (octets sums next survivors : List ℕ) : Type 0 where

@@ -6,23 +6,23 @@ use Rattle.tm_conv.specs.Path.{c1, c2}
 abbrev pub sum_via : List ℕ → List ℕ → ℕ → ℕ → ℕ
 sum_via sums costs p b = slice_index sums p + slice_index costs (2 * c1 p b + c2 p b)
 
--- the path metrics of the two branches into register s
-abbrev pub first_way : List ℕ → List ℕ → ℕ → ℕ
-first_way sums costs s = sum_via sums costs (2 * (s % 32)) (s / 32)
+-- the path metrics by the two branches into register s
+abbrev pub first_metric : List ℕ → List ℕ → ℕ → ℕ
+first_metric sums costs s = sum_via sums costs (2 * (s % 32)) (s / 32)
 
-abbrev pub second_way : List ℕ → List ℕ → ℕ → ℕ
-second_way sums costs s = sum_via sums costs (2 * (s % 32) + 1) (s / 32)
+abbrev pub second_metric : List ℕ → List ℕ → ℕ → ℕ
+second_metric sums costs s = sum_via sums costs (2 * (s % 32) + 1) (s / 32)
 
 -- the lesser of the two at each register
 abbrev pub IsNextSums : List ℕ → List ℕ → List ℕ → Type 0
 IsNextSums sums costs next = (s : ℕ) → s < 64
-    → slice_index next s ≡ min (first_way sums costs s) (second_way sums costs s)
+    → slice_index next s ≡ min (first_metric sums costs s) (second_metric sums costs s)
 
 -- bit s is 1 exactly where the second is strictly less
 abbrev pub AreSurvivors : List ℕ → List ℕ → ℕ → Type 0
 AreSurvivors sums costs bits =
     (s : ℕ) → s < 64
-    → bits / 2 ^ s % 2 ≡ (if nat_lt (second_way sums costs s) (first_way sums costs s) then 1
+    → bits / 2 ^ s % 2 ≡ (if nat_lt (second_metric sums costs s) (first_metric sums costs s) then 1
     else 0)
 
 -- 32 lanes, and what each is

@@ -17,7 +17,7 @@ abbrev pub AreCosts : Rate → Bool → ℕ → List ℕ → List ℕ → Type 0
 AreCosts rate invert t octets costs = (c d : ℕ) → c < 2 → d < 2
     → slice_index costs (2 * c + d) ≡ cost (sent rate invert t c d) octets
 
--- the column before any step
+-- the path metrics before any step
 abbrev pub AreFirsts : (ℕ → Bool) → List ℕ → Type 0
 AreFirsts starts firsts = (register : ℕ) → register < 64
     → slice_index firsts register ≡ first_cost starts register
@@ -30,11 +30,11 @@ pub record IsFirstLeast (sums : List ℕ) (s : ℕ) : Type 0 where
 
 -- one step from path metrics to the next ones, which leaves these survivors
 pub record StepsTo (rate : Rate) (invert : Bool) (t : ℕ) (octets sums next : List ℕ)
-    (column : ℕ) : Type 0 where
+    (survivor : ℕ) : Type 0 where
   pub costs : List ℕ
   pub are_costs : AreCosts rate invert t octets costs
   pub are_sums : IsNextSums sums costs next
-  pub are_survivors : AreSurvivors sums costs column
+  pub are_survivors : AreSurvivors sums costs survivor
 
 abbrev pub AreAtMost : ℕ → List ℕ → Type 0
 AreAtMost most sums = (s : ℕ) → s < 64 → slice_index sums s ≤ most

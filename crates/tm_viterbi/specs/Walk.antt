@@ -32,11 +32,11 @@ pub record IsBestTo (total : ℕ → List ℕ → ℕ) (n s sum r : ℕ) (past :
   pub best : (q : ℕ) (other : List ℕ) → IsPathTo n s q other
       → IsNoWorse sum (rank r past) (total q other) (rank q other)
 
--- the register before s, by a column of survivor bits
+-- the register before s, by the survivors of a step
 abbrev pub before : ℕ → ℕ → ℕ
-before column s = 2 * (s % 32) + column / 2 ^ s % 2
+before survivor s = 2 * (s % 32) + survivor / 2 ^ s % 2
 
--- the path that columns keep for register s, the newest column first
+-- the path that survivors keep for register s, the newest first
 abbrev pub past_of : List ℕ → ℕ → List ℕ
 past_of [] s = []
 past_of (c ∷ survivors) s = (s / 32) ∷ past_of survivors (before c s)
@@ -45,18 +45,19 @@ abbrev pub start_of : List ℕ → ℕ → ℕ
 start_of [] s = s
 start_of (c ∷ survivors) s = start_of survivors (before c s)
 
--- the number whose low six bits are a register, after steps back through columns, the newest first:
--- each puts the survivor bit after it
+-- the number whose low six bits are a register, after steps back through survivors, the newest
+-- first: each puts the survivor bit after it
 abbrev pub history : List ℕ → ℕ → ℕ
 history [] h = h
 history (c ∷ survivors) h = history survivors (2 * h + c / 2 ^ (h % 64) % 2)
 
--- there is a bit for each column of survivors, and the path ends at this register
+-- there is a bit for the survivors of each step, and the path ends at this register
 pub record CanTrace (survivors bits : List ℕ) (last : ℕ) : Type 0 where
   pub size : length bits ≡ length survivors
   pub register : last < 64
 
--- the bits, the oldest first, and the first register of the path that the columns keep for the last
+-- the bits, the oldest first, and the first register of the path that the survivors keep for the
+-- last
 pub record IsTraced (survivors : List ℕ) (last : ℕ) (traced : List ℕ) (first : ℕ) : Type 0 where
   pub bits : traced ≡ reverse (past_of (reverse survivors) last)
   pub start : first ≡ start_of (reverse survivors) last

@@ -4,7 +4,7 @@ ghost use Rattle.tm_conv.specs.Path.{c1, c2};
 ghost use Rattle.tm_viterbi.specs.Column.{IsEach, sum_via, IsNextSums, AreSurvivors};
 
 // The two sums c1 and c2 of a step from register r by bit b, as 2 * c1 + c2: the index of its branch metric.
-fn pair(r: usize, b: usize) -> usize
+fn branch_index(r: usize, b: usize) -> usize
     requires register { r < 64 }
     requires bit { b < 2 }
     ensures value { result ≡ 2 * c1 r b + c2 r b }
@@ -16,13 +16,13 @@ fn pair(r: usize, b: usize) -> usize
 }
 
 // The path metric of the path to a register through register p before it, by bit b: that of p, and the branch metric.
-fn way(sums: &[u32; 64], costs: &[u32; 4], p: usize, b: usize) -> u32
+fn path_metric(sums: &[u32; 64], costs: &[u32; 4], p: usize, b: usize) -> u32
     requires fit { (s k : ℕ) → s < 64 → k < 4 → slice_index sums.now s + slice_index costs.now k < 2 ^ 32 }
     requires register { p < 64 }
     requires bit { b < 2 }
     ensures { result ≡ sum_via sums.now costs.now p b }
 {
-    sums[p] + costs[pair(p, b)]
+    sums[p] + costs[branch_index(p, b)]
 }
 
 /// The path metrics after `sums`, by the four branch metrics of a step, at index 2 * first + second.
@@ -34,8 +34,8 @@ pub fn plain_column(sums: &[u32; 64], costs: &[u32; 4], next: &mut [u32; 64]) ->
 {
     let mut survivors = 0u64;
     for s in 0..64usize {
-        let first = way(sums, costs, 2 * (s % 32), s / 32);
-        let second = way(sums, costs, 2 * (s % 32) + 1, s / 32);
+        let first = path_metric(sums, costs, 2 * (s % 32), s / 32);
+        let second = path_metric(sums, costs, 2 * (s % 32) + 1, s / 32);
         next[s] = first.min(second);
         if second < first {
             survivors |= 1 << s;

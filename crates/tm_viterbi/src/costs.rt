@@ -41,7 +41,7 @@ fn c2_costs(is_sent: bool, invert: bool, octets: &[u8]) -> (u16, u16)
     }
 }
 
-// The branch metrics of step t, at index 2 * c1 + c2. They are summed by lanes, so that the lanes of a column are
+// The branch metrics of step t, at index 2 * c1 + c2. They are summed by lanes, so that the lanes of all branches are
 // shuffled from them and not set one at a time.
 pub(crate) fn step_costs(rate: Rate, invert: bool, t: u64, octets: &[u8]) -> Simd<u16, 4>
     requires { length octets.now ≡ step_size rate t }

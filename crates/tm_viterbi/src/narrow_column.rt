@@ -6,15 +6,15 @@ ghost use Rattle.tm_viterbi.specs.Column.{IsHalf, AreSortedPlaces, IsNextSums, A
 
 use std::simd::prelude::*;
 
-// The pair 2 * c1 + c2 by bit 0 from register 2 * i (near) and from register 2 * i + 1 (far), i below 16 (front) and
-// from 16 on (back). By bit 1 the two change places.
-const NEAR_FRONT: [usize; 16] = [0, 1, 0, 1, 3, 2, 3, 2, 3, 2, 3, 2, 0, 1, 0, 1];
+// Which branch metric, at 2 * c1 + c2, is that of the branch by bit 0 from register 2 * i (near) and from the one after
+// it (far), i below 16 (first) and from 16 on (second). By bit 1 the two change places.
+const NEAR_FIRST: [usize; 16] = [0, 1, 0, 1, 3, 2, 3, 2, 3, 2, 3, 2, 0, 1, 0, 1];
 
-const FAR_FRONT: [usize; 16] = [3, 2, 3, 2, 0, 1, 0, 1, 0, 1, 0, 1, 3, 2, 3, 2];
+const FAR_FIRST: [usize; 16] = [3, 2, 3, 2, 0, 1, 0, 1, 0, 1, 0, 1, 3, 2, 3, 2];
 
-const NEAR_BACK: [usize; 16] = [2, 3, 2, 3, 1, 0, 1, 0, 1, 0, 1, 0, 2, 3, 2, 3];
+const NEAR_SECOND: [usize; 16] = [2, 3, 2, 3, 1, 0, 1, 0, 1, 0, 1, 0, 2, 3, 2, 3];
 
-const FAR_BACK: [usize; 16] = [1, 0, 1, 0, 2, 3, 2, 3, 2, 3, 2, 3, 1, 0, 1, 0];
+const FAR_SECOND: [usize; 16] = [1, 0, 1, 0, 2, 3, 2, 3, 2, 3, 2, 3, 1, 0, 1, 0];
 
 // In each eight lanes, those at even places first.
 const SORTED: [u16; 32] = [
@@ -33,19 +33,19 @@ const WHOLE: [usize; 32] = [
 ];
 
 // The branch metrics by bit 0 from registers 2 * i and from registers 2 * i + 1, i below 16.
-fn front_costs(costs: Simd<u16, 4>) -> (Simd<u16, 16>, Simd<u16, 16>)
+fn first_half_costs(costs: Simd<u16, 4>) -> (Simd<u16, 16>, Simd<u16, 16>)
     ensures near { IsHalf result.0 (λ i. slice_index costs (2 * c1 (2 * i) 0 + c2 (2 * i) 0)) }
     ensures far { IsHalf result.1 (λ i. slice_index costs (2 * c1 (2 * i + 1) 0 + c2 (2 * i + 1) 0)) }
 {
-    (costs.swizzle(NEAR_FRONT), costs.swizzle(FAR_FRONT))
+    (costs.swizzle(NEAR_FIRST), costs.swizzle(FAR_FIRST))
 }
 
 // The same from the registers after those.
-fn back_costs(costs: Simd<u16, 4>) -> (Simd<u16, 16>, Simd<u16, 16>)
+fn second_half_costs(costs: Simd<u16, 4>) -> (Simd<u16, 16>, Simd<u16, 16>)
     ensures near { IsHalf result.0 (λ i. slice_index costs (2 * c1 (2 * (16 + i)) 0 + c2 (2 * (16 + i)) 0)) }
     ensures far { IsHalf result.1 (λ i. slice_index costs (2 * c1 (2 * (16 + i) + 1) 0 + c2 (2 * (16 + i) + 1) 0)) }
 {
-    (costs.swizzle(NEAR_BACK), costs.swizzle(FAR_BACK))
+    (costs.swizzle(NEAR_SECOND), costs.swizzle(FAR_SECOND))
 }
 
 // `SORTED`, to which a 0 is added that the compiler can't know. So it looks lanes up there, by one instruction for
@@ -91,11 +91,11 @@ fn lesser(
 }
 
 // Sixteen lanes, and sixteen more.
-fn joined(front: Simd<u16, 16>, back: Simd<u16, 16>) -> Simd<u16, 32>
-    requires { (length front ≡ 16) × (length back ≡ 16) }
-    ensures { result ≡ front ++ back }
+fn joined(first: Simd<u16, 16>, second: Simd<u16, 16>) -> Simd<u16, 32>
+    requires { (length first ≡ 16) × (length second ≡ 16) }
+    ensures { result ≡ first ++ second }
 {
-    front.shuffle(back, WHOLE)
+    first.shuffle(second, WHOLE)
 }
 
 // The next path metrics, those of registers below 32 and those of the others, and the survivors. The order
@@ -112,19 +112,19 @@ pub(crate) fn narrow_column(
     ensures survivors { AreSurvivors (low ++ high) costs result.2 }
     ensures long { (length result.0 ≡ 32) × (length result.1 ≡ 32) }
 {
-    let (even_front, odd_front) = evens_and_odds(low, places);
-    let (even_back, odd_back) = evens_and_odds(high, places);
-    let (near_front, far_front) = front_costs(costs);
-    let (low_front, kept_low_front) = lesser(even_front, near_front, odd_front, far_front);
-    let (high_front, kept_high_front) = lesser(even_front, far_front, odd_front, near_front);
-    let (near_back, far_back) = back_costs(costs);
-    let (low_back, kept_low_back) = lesser(even_back, near_back, odd_back, far_back);
-    let (high_back, kept_high_back) = lesser(even_back, far_back, odd_back, near_back);
-    let next_low = joined(low_front, low_back);
-    let next_high = joined(high_front, high_back);
-    let kept = kept_low_front
-        + (kept_low_back << 16)
-        + (kept_high_front << 32)
-        + (kept_high_back << 48);
-    (next_low, next_high, !kept)
+    let (even_first, odd_first) = evens_and_odds(low, places);
+    let (even_second, odd_second) = evens_and_odds(high, places);
+    let (near_first, far_first) = first_half_costs(costs);
+    let (low_first, low_first_bits) = lesser(even_first, near_first, odd_first, far_first);
+    let (high_first, high_first_bits) = lesser(even_first, far_first, odd_first, near_first);
+    let (near_second, far_second) = second_half_costs(costs);
+    let (low_second, low_second_bits) = lesser(even_second, near_second, odd_second, far_second);
+    let (high_second, high_second_bits) = lesser(even_second, far_second, odd_second, near_second);
+    let next_low = joined(low_first, low_second);
+    let next_high = joined(high_first, high_second);
+    let bits = low_first_bits
+        + (low_second_bits << 16)
+        + (high_first_bits << 32)
+        + (high_second_bits << 48);
+    (next_low, next_high, !bits)
 }

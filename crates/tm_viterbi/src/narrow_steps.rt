@@ -32,7 +32,7 @@ fn narrow_step(
     narrow_column(low, high, step_costs(rate, invert, t, octets), places)
 }
 
-// As many steps as there are columns: the path metrics after them, by halves, and how many octets they took.
+// As many steps as there are survivors: the path metrics after them, by halves, and how many octets they took.
 #[inline(always)]
 fn narrow_run(
     rate: Rate,
@@ -61,7 +61,7 @@ fn narrow_run(
     for i in 0..survivors.len() {
         let now = t + i as u64;
         let end = at + step_len(rate, now);
-        let (next_low, next_high, column) = narrow_step(
+        let (next_low, next_high, survivor) = narrow_step(
             rate,
             invert,
             now,
@@ -70,7 +70,7 @@ fn narrow_run(
             high,
             places,
         );
-        survivors[i] = column;
+        survivors[i] = survivor;
         low = next_low;
         high = next_high;
         at = end;

@@ -30,9 +30,9 @@ pub(crate) fn step(
 {
     let costs = wide_costs(step_costs(rate, invert, t, octets));
     let mut next = [0u32; 64];
-    let column = lane_column(sums, &costs, &mut next);
+    let survivor = lane_column(sums, &costs, &mut next);
     *sums = next;
-    column
+    survivor
 }
 
 // At most 120 steps in sixteen bits: metrics that are at most 4,096 above the least, and grow by at most 510 a step, are

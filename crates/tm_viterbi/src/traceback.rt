@@ -9,11 +9,11 @@ use eight_bits::EIGHT_BITS;
 
 // One step back. The low six bits of `history` are a register, those above them belong to later steps. The register's
 // survivor bit is put after them, and so the low six bits are the register before.
-fn step_back(history: u64, column: u64) -> u64
+fn step_back(history: u64, survivor: u64) -> u64
     requires { history < 2 ^ 32 }
-    ensures { result ≡ 2 * history + column / 2 ^ (history % 64) % 2 }
+    ensures { result ≡ 2 * history + survivor / 2 ^ (history % 64) % 2 }
 {
-    2 * history + (column >> (history % 64)) % 2
+    2 * history + (survivor >> (history % 64)) % 2
 }
 
 // Eight steps back: in the low six bits the register before them, and above it their bits, that of the last step on
@@ -34,7 +34,7 @@ fn eight_steps_back(survivors: &[u64], register: usize) -> u64
     step_back(first, survivors[0])
 }
 
-// The traceback through eight columns.
+// The traceback through eight steps.
 fn trace_eight(survivors: &[u64], register: usize, bits: &mut [u8]) -> usize
     requires size { length survivors.now ≡ 8 }
     requires room { length bits.old ≡ 8 }
@@ -49,7 +49,7 @@ fn trace_eight(survivors: &[u64], register: usize, bits: &mut [u8]) -> usize
     (walked % 64) as usize
 }
 
-// The traceback column by column.
+// The traceback step by step.
 fn trace_each(survivors: &[u64], register: usize, bits: &mut [u8]) -> usize
     requires { CanTrace survivors.now bits.old register }
     ensures { IsTraced survivors.now register bits.new result }
@@ -64,8 +64,8 @@ fn trace_each(survivors: &[u64], register: usize, bits: &mut [u8]) -> usize
     s
 }
 
-// The traceback: writes the bits of the path that columns of survivors keep for `register`, at which it ends, and
-// answers the register from which it starts.
+// The traceback: writes the bits of the path that survivors keep for `register`, at which it ends, and answers the
+// register from which it starts.
 pub(crate) fn trace_back(survivors: &[u64], register: usize, bits: &mut [u8]) -> usize
     requires { CanTrace survivors.now bits.old register }
     ensures { IsTraced survivors.now register bits.new result }

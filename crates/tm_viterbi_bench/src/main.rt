@@ -108,7 +108,7 @@ fn rate_of(word: &str) -> Rate {
 }
 
 // The number that the first word is, whether the second is `noisy`, and the rate that the third is.
-fn asked(words: &[String]) -> (u32, bool, Rate) {
+fn parsed(words: &[String]) -> (u32, bool, Rate) {
     let rounds = match words.get(1) {
         Some(word) => word.parse::<u32>().unwrap_or(0),
         None => 0,
@@ -127,7 +127,7 @@ fn asked(words: &[String]) -> (u32, bool, Rate) {
 fn main(rt: HostRuntime) -> io::Result<ExitCode> {
     let alloc = rt.alloc();
     let words: Vec<String> = env::args(&rt)?.collect(alloc)?;
-    let (rounds, is_noisy, rate) = asked(&words);
+    let (rounds, is_noisy, rate) = parsed(&words);
     let octets = soft_symbols(alloc, rate, is_noisy)?;
     let mut sum = Sum {
         blocks: 0,

@@ -90,11 +90,11 @@ whole_again m held rest =
     sym (append_assoc (take m held) (drop m held) rest) ∙ ap (λ (o : List ℕ). o ++ rest) (take-append-drop m held)
 
 -- windows that the first of the octets held close, whatever comes after them
-pub closed_front : (s : WindowShape) (starts : Option ℕ) (t m : ℕ) (held rest : List ℕ) (blocks : List WindowBlock) (to : Place)
+pub closed_prefix : (s : WindowShape) (starts : Option ℕ) (t m : ℕ) (held rest : List ℕ) (blocks : List WindowBlock) (to : Place)
     → ClosedWith s (place_of starts t (take m held)) blocks to
     → ClosedWith s (place_of starts t (held ++ rest)) blocks (more_octets to (drop m held ++ rest))
 unfolding more_octets
-closed_front s starts t m held rest blocks to h =
+closed_prefix s starts t m held rest blocks to h =
     subst (λ (o : List ℕ). ClosedWith s (place_of starts t o) blocks (more_octets to (drop m held ++ rest))) (whole_again m held rest)
     (Closed-append s.rate s.invert s.keep s.ahead (place_of starts t (take m held)) to blocks (drop m held ++ rest) h)
 
@@ -106,14 +106,14 @@ pub closed_now : (s : WindowShape) (starts next : Option ℕ) (t m count : ℕ) 
 unfolding more_octets
 closed_now s starts next t m count held left rest more within inside left_is h =
     let size : ℕ = steps_size s.rate t (count * s.keep) in
-    let front = take m held in
+    let prefix = take m held in
     let back = drop m held ++ rest in
-    let octets : drop size front ++ back ≡ left ++ rest
-    = sym (drop-append-le size front back (omega (arith, within, length-take-le m held inside)))
+    let octets : drop size prefix ++ back ≡ left ++ rest
+    = sym (drop-append-le size prefix back (omega (arith, within, length-take-le m held inside)))
     ∙ ap (drop size) (whole_again m held rest) ∙ drop-append-le size held rest (omega (arith, within, inside))
     ∙ ap (λ (o : List ℕ). o ++ rest) (sym left_is) in
     subst (λ (o : List ℕ). ClosedWith s (place_of starts t (held ++ rest)) more (place_of next (t + count * s.keep) o)) octets
-    (closed_front s starts t m held rest more (after_windows s t front count next) h)
+    (closed_prefix s starts t m held rest more (after_windows s t prefix count next) h)
 
 -- ---- room
 

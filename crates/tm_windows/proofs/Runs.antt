@@ -30,8 +30,8 @@ room_of s t n j now at octets en eat lt room =
     let le = steps_size-le s.rate t (j * s.keep + steps) (n * s.keep + s.ahead + 1) within in
     let add = steps_size-add s.rate t (j * s.keep) steps in
     let same : steps_size s.rate now steps ≡ steps_size s.rate (t + j * s.keep) steps = ap (λ (u : ℕ). steps_size s.rate u steps) en in
-    let front = steps_size-le s.rate now s.keep steps (omega arith) in
-    record { room = omega (arith, length-drop at octets, eat, le, add, room, same); next = omega (arith, eat, le, add, room, same, front) }
+    let first_part = steps_size-le s.rate now s.keep steps (omega arith) in
+    record { room = omega (arith, length-drop at octets, eat, le, add, room, same); next = omega (arith, eat, le, add, room, same, first_part) }
 
 -- one window further
 pub further : (s : WindowShape) (t j now at size : ℕ) → now ≡ t + j * s.keep → at ≡ steps_size s.rate t (j * s.keep) → size ≡ steps_size s.rate now s.keep
@@ -77,22 +77,24 @@ those_left s t octets j n candidates c are k d from less =
     (sym (get_or-set_other candidates j k c d (λ e. omega (arith, e, from)))) (are k d (omega (arith, from)) less)
 
 -- ---- two parts, side by side
-pub All-front : (P : Candidate → Type 0) (all front back : List Candidate) → all ≡ front ++ back → All P all → All P front
-All-front P all front back is h =
+pub All-first_part : (P : Candidate → Type 0) (all first_part other_part : List Candidate) → all ≡ first_part ++ other_part → All P all → All P first_part
+All-first_part P all first_part other_part is h =
     let whole = subst (λ (v : List Candidate). All P v) is h in
-    λ k d lt. subst P (get_or_append_left front back d k lt) (whole k d (omega (arith, lt, length-append front back)))
+    λ k d lt. subst P (get_or_append_left first_part other_part d k lt)
+    (whole k d (omega (arith, lt, length-append first_part other_part)))
 
-pub All-back : (P : Candidate → Type 0) (all front back : List Candidate) → all ≡ front ++ back → All P all → All P back
-All-back P all front back is h =
+pub All-other_part : (P : Candidate → Type 0) (all first_part other_part : List Candidate)
+    → all ≡ first_part ++ other_part → All P all → All P other_part
+All-other_part P all first_part other_part is h =
     let whole = subst (λ (v : List Candidate). All P v) is h in
-    λ k d lt. subst P (get_or-append-add front back k d) (whole (length front + k) d (omega (arith, lt, length-append front back)))
+    λ k d lt. subst P (get_or-append-add first_part other_part k d) (whole (length first_part + k) d (omega (arith, lt, length-append first_part other_part)))
 
 pub record HasParts (s : WindowShape) (t at low high size len : ℕ) : Type 0 where
-  pub front : at + steps_size s.rate t (low * s.keep + s.ahead + 1) ≤ len
+  pub first_part : at + steps_size s.rate t (low * s.keep + s.ahead + 1) ≤ len
   pub within : at + size ≤ len
-  pub back : at + size + steps_size s.rate (t + low * s.keep) (high * s.keep + s.ahead + 1) ≤ len
-  pub few_front : t + low * s.keep < 2 ^ 61
-  pub few_back : t + low * s.keep + high * s.keep < 2 ^ 61
+  pub other_part : at + size + steps_size s.rate (t + low * s.keep) (high * s.keep + s.ahead + 1) ≤ len
+  pub few_first : t + low * s.keep < 2 ^ 61
+  pub few_other : t + low * s.keep + high * s.keep < 2 ^ 61
 
 pub parts_of : (s : WindowShape) (t at low high count size len : ℕ) → low + high ≡ count → size ≡ steps_size s.rate t (low * s.keep)
     → at + steps_size s.rate t (count * s.keep + s.ahead + 1) ≤ len → t + count * s.keep < 2 ^ 61 → HasParts s t at low high size len
@@ -103,27 +105,28 @@ parts_of s t at low high count size len is es room few =
     let add = steps_size-add s.rate t (low * s.keep) (high * s.keep + s.ahead + 1) in
     let le = steps_size-le s.rate t (low * s.keep + s.ahead + 1) (count * s.keep + s.ahead + 1) (omega (arith, sum)) in
     record {
-      front = omega (arith, le, room);
+      first_part = omega (arith, le, room);
       within = omega (arith, es, add, same, room);
-      back = omega (arith, es, add, same, room);
-      few_front = omega (arith, sum, few);
-      few_back = omega (arith, sum, few);
+      other_part = omega (arith, es, add, same, room);
+      few_first = omega (arith, sum, few);
+      few_other = omega (arith, sum, few);
     }
 
-pub joined : (s : WindowShape) (t at low high n later place : ℕ) (octets : List ℕ) (front back : List Candidate) → length front ≡ low → low + high ≡ n
+pub joined : (s : WindowShape) (t at low high n later place : ℕ) (octets : List ℕ) (first_part other_part : List Candidate) → length first_part ≡ low → low + high ≡ n
     → later ≡ t + low * s.keep → place ≡ at + steps_size s.rate t (low * s.keep)
-    → AreCandidates s t (drop at octets) 0 low front → AreCandidates s later (drop place octets) 0 high back → AreCandidates s t (drop at octets) 0 n (front ++ back)
-joined s t at low high n later place octets front back long sum el ep fronts backs k d from less = go (cases_lt k low)
+    → AreCandidates s t (drop at octets) 0 low first_part → AreCandidates s later (drop place octets) 0 high other_part → AreCandidates s t (drop at octets) 0 n (first_part ++ other_part)
+joined s t at low high n later place octets first_part other_part long sum el ep first_parts other_parts k d from less =
+    go (cases_lt k low)
   where
     P : ℕ → List ℕ → Candidate → Type 0
     P u o x = IsCandidate s u o x
 
-    go : (k < low) ⊎ (low ≤ k) → P (t + k * s.keep) (drop (steps_size s.rate t (k * s.keep)) (drop at octets)) (get_or (front ++ back) k d)
+    go : (k < low) ⊎ (low ≤ k) → P (t + k * s.keep) (drop (steps_size s.rate t (k * s.keep)) (drop at octets)) (get_or (first_part ++ other_part) k d)
     go (inl below) = subst (λ (x : Candidate). P (t + k * s.keep) (drop (steps_size s.rate t (k * s.keep)) (drop at octets)) x)
-        (sym (get_or_append_left front back d k (omega (arith, long, below)))) (fronts k d from below)
+        (sym (get_or_append_left first_part other_part d k (omega (arith, long, below)))) (first_parts k d from below)
     go (inr le) =
         let j = k - low in
-        let number : length front + j ≡ k = omega (arith, long, le) in
+        let number : length first_part + j ≡ k = omega (arith, long, le) in
         let steps : k * s.keep ≡ low * s.keep + j * s.keep = ap (λ (m : ℕ). m * s.keep) (let e : k ≡ low + j = omega (arith, le) in e) ∙ add-mul low j s.keep in
         let step : later + j * s.keep ≡ t + k * s.keep = omega (arith, el, steps) in
         let there : steps_size s.rate later (j * s.keep) ≡ steps_size s.rate (t + low * s.keep) (j * s.keep) = ap (λ (u : ℕ). steps_size s.rate u (j * s.keep)) el in
@@ -131,7 +134,7 @@ joined s t at low high n later place octets front back long sum el ep fronts bac
         let taken : place + steps_size s.rate later (j * s.keep) ≡ at + steps_size s.rate t (k * s.keep) = omega (arith, ep, there, whole, steps_size-add s.rate t (low * s.keep) (j * s.keep)) in
         let rest : drop (steps_size s.rate later (j * s.keep)) (drop place octets) ≡ drop (steps_size s.rate t (k * s.keep)) (drop at octets)
         = drop-drop (steps_size s.rate later (j * s.keep)) place octets ∙ ap (λ (m : ℕ). drop m octets) taken ∙ sym (drop-drop (steps_size s.rate t (k * s.keep)) at octets) in
-        let item : get_or back j d ≡ get_or (front ++ back) k d = sym (get_or-append-add front back j d) ∙ ap (λ (m : ℕ). get_or (front ++ back) m d) number in
+        let item : get_or other_part j d ≡ get_or (first_part ++ other_part) k d = sym (get_or-append-add first_part other_part j d) ∙ ap (λ (m : ℕ). get_or (first_part ++ other_part) m d) number in
         subst (λ (x : Candidate). P (t + k * s.keep) (drop (steps_size s.rate t (k * s.keep)) (drop at octets)) x) item
-        (subst (λ (u : ℕ). P u (drop (steps_size s.rate t (k * s.keep)) (drop at octets)) (get_or back j d)) step
-        (subst (λ (o : List ℕ). P (later + j * s.keep) o (get_or back j d)) rest (backs j d (omega arith) (omega (arith, sum, less, le)))))
+        (subst (λ (u : ℕ). P u (drop (steps_size s.rate t (k * s.keep)) (drop at octets)) (get_or other_part j d)) step
+        (subst (λ (o : List ℕ). P (later + j * s.keep) o (get_or other_part j d)) rest (other_parts j d (omega arith) (omega (arith, sum, less, le)))))

@@ -102,9 +102,9 @@ pub(crate) fn decode_evenly<R: Threads + Sync, G: Gate + Sync>(
     let after = t + steps as u64;
     let place = at + steps_len(shape.rate, t, steps);
     let (first, others) = decoders.split_at_mut(1);
-    let (front, back) = candidates.split_at_mut(middle);
+    let (first_part, other_part) = candidates.split_at_mut(middle);
     decode_both(
-        rt, gate, shape, known, octets, first, t, at, front, others, after, place, back,
+        rt, gate, shape, known, octets, first, t, at, first_part, others, after, place, other_part,
     );
 }
 
@@ -119,48 +119,52 @@ fn decode_both<R: Threads + Sync, G: Gate + Sync>(
     first: &mut [WindowDecoder],
     t: u64,
     at: usize,
-    front: &mut [Candidate],
+    first_part: &mut [Candidate],
     others: &mut [WindowDecoder],
     after: u64,
     place: usize,
-    back: &mut [Candidate],
+    other_part: &mut [Candidate],
 )
     requires start { ForSome known (λ starts. ForSome starts (λ register. register < 64)) }
     requires long { length octets.now ≤ most_octets }
     requires first { ((0 < length first.old) × (length first.old ≤ most_workers)) × All (λ d. d ≡ shape) first.old }
-    requires front { HaveRoom (shape.keep + shape.ahead) front.old × (length front.old ≤ 2 ^ 32)
+    requires first_part { HaveRoom (shape.keep + shape.ahead) first_part.old × (length first_part.old ≤ 2 ^ 32)
         × (at ≤ length octets.now)
-        × (at + steps_size shape.rate t (length front.old * shape.keep + shape.ahead + 1) ≤ length octets.now)
-        × (t + length front.old * shape.keep < window_bound) }
+        × (at + steps_size shape.rate t (length first_part.old * shape.keep + shape.ahead + 1) ≤ length octets.now)
+        × (t + length first_part.old * shape.keep < window_bound) }
     requires others { ((0 < length others.old) × (length others.old ≤ most_workers)) × All (λ d. d ≡ shape) others.old }
-    requires back { HaveRoom (shape.keep + shape.ahead) back.old × (length back.old ≤ 2 ^ 32)
+    requires other_part { HaveRoom (shape.keep + shape.ahead) other_part.old × (length other_part.old ≤ 2 ^ 32)
         × (place ≤ length octets.now)
-        × (place + steps_size shape.rate after (length back.old * shape.keep + shape.ahead + 1) ≤ length octets.now)
-        × (after + length back.old * shape.keep < window_bound) }
-    ensures front { AreCandidates shape t (drop at octets.now) 0 (length front.old) front.new
-        × HaveRoom (shape.keep + shape.ahead) front.new × All (λ d. d ≡ shape) first.new }
-    ensures back { AreCandidates shape after (drop place octets.now) 0 (length back.old) back.new
-        × HaveRoom (shape.keep + shape.ahead) back.new × All (λ d. d ≡ shape) others.new }
+        × (place + steps_size shape.rate after (length other_part.old * shape.keep + shape.ahead + 1)
+        ≤ length octets.now)
+        × (after + length other_part.old * shape.keep < window_bound) }
+    ensures first_part { AreCandidates shape t (drop at octets.now) 0 (length first_part.old) first_part.new
+        × HaveRoom (shape.keep + shape.ahead) first_part.new × All (λ d. d ≡ shape) first.new }
+    ensures other_part { AreCandidates shape after (drop place octets.now) 0 (length other_part.old) other_part.new
+        × HaveRoom (shape.keep + shape.ahead) other_part.new × All (λ d. d ≡ shape) others.new }
 {
-    let mut decode_front = ||
+    let mut decode_first = ||
         requires { IsSync R.row × IsSync G.row × ForSome known (λ starts. ForSome starts (λ register. register < 64))
             × (length octets.now ≤ most_octets)
             × ((0 < length first.now) × (length first.now ≤ most_workers)) × All (λ d. d ≡ shape) first.now
-            × HaveRoom (shape.keep + shape.ahead) front.now × (length front.now ≤ 2 ^ 32) × (at ≤ length octets.now)
-            × (at + steps_size shape.rate t (length front.now * shape.keep + shape.ahead + 1) ≤ length octets.now)
-            × (t + length front.now * shape.keep < window_bound) }
-        ensures { AreCandidates shape t (drop at octets.entry.now) 0 (length front.entry.now) front.exit.now
-            × HaveRoom (shape.keep + shape.ahead) front.exit.now × All (λ d. d ≡ shape) first.exit.now }
-    { decode_evenly(rt, gate, shape, first, known, t, octets, at, front) };
-    let mut decode_back = ||
+            × HaveRoom (shape.keep + shape.ahead) first_part.now × (length first_part.now ≤ 2 ^ 32)
+            × (at ≤ length octets.now)
+            × (at + steps_size shape.rate t (length first_part.now * shape.keep + shape.ahead + 1) ≤ length octets.now)
+            × (t + length first_part.now * shape.keep < window_bound) }
+        ensures { AreCandidates shape t (drop at octets.entry.now) 0 (length first_part.entry.now) first_part.exit.now
+            × HaveRoom (shape.keep + shape.ahead) first_part.exit.now × All (λ d. d ≡ shape) first.exit.now }
+    { decode_evenly(rt, gate, shape, first, known, t, octets, at, first_part) };
+    let mut decode_other = ||
         requires { IsSync R.row × IsSync G.row × (length octets.now ≤ most_octets)
             × ((0 < length others.now) × (length others.now ≤ most_workers)) × All (λ d. d ≡ shape) others.now
-            × HaveRoom (shape.keep + shape.ahead) back.now × (length back.now ≤ 2 ^ 32) × (place ≤ length octets.now)
+            × HaveRoom (shape.keep + shape.ahead) other_part.now × (length other_part.now ≤ 2 ^ 32)
+            × (place ≤ length octets.now)
             × (place + steps_size shape.rate after
-            (length back.now * shape.keep + shape.ahead + 1) ≤ length octets.now)
-            × (after + length back.now * shape.keep < window_bound) }
-        ensures { AreCandidates shape after (drop place octets.entry.now) 0 (length back.entry.now) back.exit.now
-            × HaveRoom (shape.keep + shape.ahead) back.exit.now × All (λ d. d ≡ shape) others.exit.now }
-    { decode_evenly(rt, gate, shape, others, None, after, octets, place, back) };
-    join_mut(rt, &mut decode_front, &mut decode_back);
+            (length other_part.now * shape.keep + shape.ahead + 1) ≤ length octets.now)
+            × (after + length other_part.now * shape.keep < window_bound) }
+        ensures { AreCandidates shape after (drop place octets.entry.now) 0
+            (length other_part.entry.now) other_part.exit.now
+            × HaveRoom (shape.keep + shape.ahead) other_part.exit.now × All (λ d. d ≡ shape) others.exit.now }
+    { decode_evenly(rt, gate, shape, others, None, after, octets, place, other_part) };
+    join_mut(rt, &mut decode_first, &mut decode_other);
 }

@@ -7,7 +7,7 @@ use Rattle.atomic_table.specs.Table.{State, Me, step, keeps, stepped, Allows, Sp
 use Rattle.atomic_table.proofs.Lists.{at_set, at_snoc, set_again, set_else, set_here}
 use Rattle.tm_workers.specs.declared.seats.View.{View}
 use Rattle.tm_workers.specs.Numbers.{times, once_below, total}
-use Rattle.tm_workers.specs.Drawing.{view, live_shares, Fits, KeptAt, Rule, drawn_at, Drew, Counted, kept_part, cut_part, both_parts, left_view}
+use Rattle.tm_workers.specs.Drawing.{view, live_shares, Fits, HoldsWhile, Rule, drawn_at, Drew, Counted, remaining_part, cut_part, both_parts, left_view}
 use Rattle.tm_workers.proofs.Sums.{total-set, total-push, total-at, total-one, times-append, once_below-more, once_below-past, once_below-min, pigeons, Tested, hit, miss, tested}
 
 abbrev St : Type 0
@@ -16,16 +16,16 @@ St = State (Unit {0}) View
 abbrev M : Type 0
 M = Me (Unit {0}) View
 
-placed : (n : ℕ) (s : St) (m id : ℕ) (me : M) (w : View) → Rule n s → KeptAt n m (set s.views id w) → Rule n (stepped s 0 m id me.1 w keeps)
+placed : (n : ℕ) (s : St) (m id : ℕ) (me : M) (w : View) → Rule n s → HoldsWhile n m (set s.views id w) → Rule n (stepped s 0 m id me.1 w keeps)
 placed n s m id me w r k =
     let wide = r.0 in
-    (length-set s.words 0 m ∙ wide, subst (λ c. KeptAt n c (set s.views id w)) (sym (get_or-set_same s.words 0 m 0 (omega arith))) k)
+    (length-set s.words 0 m ∙ wide, subst (λ c. HoldsWhile n c (set s.views id w)) (sym (get_or-set_same s.words 0 m 0 (omega arith))) k)
 
 times-one : (x : ℕ) (a : List ℕ) (c : ℕ) → times x (a ++ c ∷ []) ≡ times x a + cond (c == x) 1 0
 times-one x a c = times-append x a (c ∷ []) ∙ omega arith
 
 fits_later : (n c : ℕ) (v : View) → Fits n c v → Fits n (c + 1) v
-fits_later n c v h = record { told = λ e. let was = h.told e in omega arith; knows = h.knows; idle = h.idle }
+fits_later n c v h = record { spent = λ e. let was = h.spent e in omega arith; knows = h.knows; idle = h.idle }
 
 -- all views fit where the new one does
 fits_set : (n c c' id : ℕ) (views : List View) (w : View) → ((j : ℕ) (u : View) → get_elem? views j ≡ some u → Fits n c' u) → Fits n c' w
@@ -33,8 +33,8 @@ fits_set : (n c c' id : ℕ) (views : List View) (w : View) → ((j : ℕ) (u : 
 fits_set n c c' id views w others new j u at =
     ⊎_elim (λ (t : (j ≡ id) × (w ≡ u)). subst (Fits n c') t.1 new) (λ (t : (j ≢ id) × (get_elem? views j ≡ some u)). others j u t.1) (at_set views id j w u at)
 
-drew_below : (n c id : ℕ) (views : List View) (v : View) → KeptAt n c views → get_elem? views id ≡ some v → c < n
-    → 0 < v.shares → v.spent ≡ false → KeptAt n (c + 1) (set views id (view v.limit (v.drawn ++ c ∷ []) v.shares v.spent))
+drew_below : (n c id : ℕ) (views : List View) (v : View) → HoldsWhile n c views → get_elem? views id ≡ some v → c < n
+    → 0 < v.shares → v.spent ≡ false → HoldsWhile n (c + 1) (set views id (view v.limit (v.drawn ++ c ∷ []) v.shares v.spent))
 drew_below n c id views v k at below some_shares free =
     let w = view v.limit (v.drawn ++ c ∷ []) v.shares v.spent in
     let old = k.fits id v at in record {
@@ -45,7 +45,7 @@ drew_below n c id views v k at below some_shares free =
           let more = once_below-more x c n below in
           omega arith;
       fits = fits_set n c (c + 1) id views w (λ j u there. fits_later n c u (k.fits j u there)) record {
-        told = λ e. let no : false ≡ true = sym free ∙ e in absurd (cc);
+        spent = λ e. let no : false ≡ true = sym free ∙ e in absurd (cc);
         knows = old.knows;
         idle = λ none. absurd (omega arith);
       };
@@ -53,8 +53,8 @@ drew_below n c id views v k at below some_shares free =
       never_wraps = let sum = total-set live_shares views id v w at in let was = k.never_wraps in omega arith;
     }
 
-drew_past : (n c id : ℕ) (views : List View) (v : View) → KeptAt n c views → get_elem? views id ≡ some v → n ≤ c
-    → 0 < v.shares → v.spent ≡ false → KeptAt n (c + 1) (set views id (view v.limit v.drawn v.shares true))
+drew_past : (n c id : ℕ) (views : List View) (v : View) → HoldsWhile n c views → get_elem? views id ≡ some v → n ≤ c
+    → 0 < v.shares → v.spent ≡ false → HoldsWhile n (c + 1) (set views id (view v.limit v.drawn v.shares true))
 drew_past n c id views v k at past some_shares free =
     let w = view v.limit v.drawn v.shares true in
     let old = k.fits id v at in record {
@@ -64,7 +64,7 @@ drew_past n c id views v k at past some_shares free =
           let more = once_below-past x c n past in
           omega arith;
       fits = fits_set n c (c + 1) id views w (λ j u there. fits_later n c u (k.fits j u there)) record {
-        told = λ e. omega arith;
+        spent = λ e. omega arith;
         knows = old.knows;
         idle = λ none. absurd (omega arith);
       };
@@ -90,7 +90,8 @@ limit_stays c v = go (nat_lt c v.limit)
     go false = refl
 
 -- no seat has drawn more than n numbers
-few : (n c id : ℕ) (views : List View) (v : View) → KeptAt n c views → get_elem? views id ≡ some v → length v.drawn ≤ n
+few : (n c id : ℕ) (views : List View) (v : View) → HoldsWhile n c views → get_elem? views id ≡ some v
+    → length v.drawn ≤ n
 few n c id views v k at = pigeons n v.drawn (λ x.
     let mine = total-at (λ u. times x u.drawn) views id v at in
     let once = k.each_once x in
@@ -107,7 +108,7 @@ draws n slots id me small some_shares limit free s r _ at fits =
     let k' : c - n + total live_shares s.views ≤ 64 = k.never_wraps in
     let next : c + 1 ≡ (c + 1) % 2 ^ 64 = omega arith in
     let w : View = drawn_at c me.0 in
-    let kept : KeptAt n (c + 1) (set s.views id w) = go c k (tested (nat_lt c me.0.limit)) in (
+    let kept : HoldsWhile n (c + 1) (set s.views id w) = go c k (tested (nat_lt c me.0.limit)) in (
       w,
       keeps,
       tt,
@@ -115,14 +116,14 @@ draws n slots id me small some_shares limit free s r _ at fits =
       (refl, refl, subst (λ m. length w.drawn ≤ m) (sym (limit_stays c me.0 ∙ limit)) (few n (c + 1) id (set s.views id w) w kept (set_here s.views id w (in_range s.views id me.0 at)))),
     )
   where
-    go : (c : ℕ) → KeptAt n c s.views → Tested (nat_lt c me.0.limit) → KeptAt n (c + 1) (set s.views id (drawn_at c me.0))
+    go : (c : ℕ) → HoldsWhile n c s.views → Tested (nat_lt c me.0.limit) → HoldsWhile n (c + 1) (set s.views id (drawn_at c me.0))
     go c k (hit h) =
         let below : c < n = grind (arith, nat_tests) in
-        subst (λ b. KeptAt n (c + 1) (set s.views id (cond b (view me.0.limit (me.0.drawn ++ c ∷ []) me.0.shares me.0.spent) (view me.0.limit me.0.drawn me.0.shares true)))) (sym h)
+        subst (λ b. HoldsWhile n (c + 1) (set s.views id (cond b (view me.0.limit (me.0.drawn ++ c ∷ []) me.0.shares me.0.spent) (view me.0.limit me.0.drawn me.0.shares true)))) (sym h)
         (drew_below n c id s.views me.0 k at below some_shares free)
     go c k (miss h) =
         let past : n ≤ c = grind (arith, nat_tests) in
-        subst (λ b. KeptAt n (c + 1) (set s.views id (cond b (view me.0.limit (me.0.drawn ++ c ∷ []) me.0.shares me.0.spent) (view me.0.limit me.0.drawn me.0.shares true)))) (sym h)
+        subst (λ b. HoldsWhile n (c + 1) (set s.views id (cond b (view me.0.limit (me.0.drawn ++ c ∷ []) me.0.shares me.0.spent) (view me.0.limit me.0.drawn me.0.shares true)))) (sym h)
         (drew_past n c id s.views me.0 k at past some_shares free)
 
 -- a load that counts the shares
@@ -134,16 +135,16 @@ counts n slots id me s r _ at fits =
       me.0,
       keeps,
       tt,
-      placed n s (get_or s.words 0 0) id me me.0 r (subst (KeptAt n (get_or s.words 0 0)) (sym (set_again s.views id me.0 at)) k),
+      placed n s (get_or s.words 0 0) id me me.0 r (subst (HoldsWhile n (get_or s.words 0 0)) (sym (set_again s.views id me.0 at)) k),
       (refl, omega arith),
     )
 
 -- a seat is split
-pub splits : (n id part : ℕ) (v : View) → 0 < part → part < v.shares → Splits (Rule n) id v (kept_part part v) (cut_part part v)
+pub splits : (n id part : ℕ) (v : View) → 0 < part → part < v.shares → Splits (Rule n) id v (remaining_part part v) (cut_part part v)
 splits n id part v some_part fewer s r at =
     let k = r.1 in
     let c : ℕ = get_or s.words 0 0 in
-    let l = kept_part part v in
+    let l = remaining_part part v in
     let o = cut_part part v in
     let mid = set s.views id l in
     let old = k.fits id v at in (
@@ -155,8 +156,8 @@ splits n id part v some_part fewer s r at =
             let was = k.each_once x in
             omega arith;
         fits = λ j u there. ⊎_elim
-            (λ (e : get_elem? mid j ≡ some u). fits_set n c c id s.views l k.fits record { told = old.told; knows = λ h. old.knows (omega arith); idle = λ none. absurd (omega arith) } j u e)
-            (λ (e : o ≡ u). subst (Fits n c) e record { told = old.told; knows = λ h. old.knows (omega arith); idle = λ none. absurd (omega arith) })
+            (λ (e : get_elem? mid j ≡ some u). fits_set n c c id s.views l k.fits record { spent = old.spent; knows = λ h. old.knows (omega arith); idle = λ none. absurd (omega arith) } j u e)
+            (λ (e : o ≡ u). subst (Fits n c) e record { spent = old.spent; knows = λ h. old.knows (omega arith); idle = λ none. absurd (omega arith) })
             (at_snoc mid o u j there);
         shares =
             let sum = total-set (λ u. u.shares) s.views id v l at in
@@ -195,8 +196,8 @@ joins n id other v w some_shares others s r at apart there =
             let was = k.each_once x in
             omega arith;
         fits = fits_set n c c other mid left_view
-            (fits_set n c c id s.views b k.fits record { told = λ e. either_told v.spent w.spent old.told older.told e; knows = λ h. old.knows some_shares; idle = λ none. absurd (omega arith) })
-            record { told = λ e. absurd (cc); knows = λ h. absurd (omega arith); idle = λ none. (refl, refl) };
+            (fits_set n c c id s.views b k.fits record { spent = λ e. either_spent v.spent w.spent old.spent older.spent e; knows = λ h. old.knows some_shares; idle = λ none. absurd (omega arith) })
+            record { spent = λ e. absurd (cc); knows = λ h. absurd (omega arith); idle = λ none. (refl, refl) };
         shares =
             let sum = total-set (λ u. u.shares) s.views id v b at in
             let less = total-set (λ u. u.shares) mid other w left_view there in
@@ -211,9 +212,9 @@ joins n id other v w some_shares others s r at apart there =
       },
     )
   where
-    either_told : (x y : Bool) {T : Type 0} → (x ≡ true → T) → (y ≡ true → T) → (x || y) ≡ true → T
-    either_told true y f g e = f refl
-    either_told false y f g e = g e
+    either_spent : (x y : Bool) {T : Type 0} → (x ≡ true → T) → (y ≡ true → T) → (x || y) ≡ true → T
+    either_spent true y f g e = f refl
+    either_spent false y f g e = g e
 
     live : (x y : Bool) → cond (x || y) 0 (v.shares + w.shares) ≤ cond x 0 v.shares + cond y 0 w.shares
     live true y = omega arith
@@ -230,7 +231,7 @@ closes n id v words xs final whole =
     let same : get_or s.words 0 0 ≡ get_or words 0 0 = ap (λ l. get_or l 0 0) final.2 in (
       (λ x. sym (total-one (λ u. times x u.drawn) (λ u. u.shares) s.views id v (λ j u there none. ap (times x) ((k.fits j u there).idle none).0) at (k.shares ∙ sym whole))
           ∙ k.each_once x ∙ ap (λ c. once_below x (min c n)) same),
-      (λ e. subst (λ c. n ≤ c) same ((k.fits id v at).told e)),
+      (λ e. subst (λ c. n ≤ c) same ((k.fits id v at).spent e)),
     )
 
 pub word_at : (words : List ℕ) (c : ℕ) → get_elem? words 0 ≡ some c → get_or words 0 0 ≡ c

@@ -32,7 +32,7 @@ length-numbers : (xs : List Gf) → length (numbers xs) ≡ length xs
 length-numbers [] = refl
 length-numbers (x ∷ xs) = ap suc (length-numbers xs)
 
--- lists whose fronts and rests are the same
+-- lists whose prefixes and rests are the same
 same_parts : (n : ℕ) (s a b : List Gf) → take n a ≡ take n b → drop n a ≡ drop n s → drop n b ≡ drop n s → a ≡ b
 same_parts n s a b prefix h k = sym (take-append-drop n a) ∙ (λ i. prefix i ++ (h ∙ sym k) i) ∙ take-append-drop n b
 
@@ -64,7 +64,7 @@ one_word code repair w a b bound short h k =
     let only = nearest_only code.e repair (numbers (take n w.symbols)) (found h.answer (numbers (take n a.symbols))) (found k.answer (numbers (take n b.symbols))) bound (short_prefix n w.symbols short) h.nearest k.nearest in
     let same = same_found (take n w.symbols) (take n a.symbols) (take n b.symbols) h.answer k.answer only h.unchanged k.unchanged in
     let symbols = same_parts n w.symbols a.symbols b.symbols same.1 h.after k.after in
-    let answer = h.told ∙ ap Some same.0 ∙ sym k.told in
+    let answer = h.answered ∙ ap Some same.0 ∙ sym k.answered in
     (λ i. record { symbols = symbols i; answer = answer i })
 
 pub one_batch : (code : Code) (repair : ℕ) (words a b : List Word) → repair ≤ code.e → code.n ≤ 255 → EachBecomes (Decodes code repair) words a → EachBecomes (Decodes code repair) words b → a ≡ b
@@ -110,7 +110,7 @@ one_erased_word code repair w a b short flags h k =
     let same = same_found_erased (take n w.symbols) (take n a.symbols) (take n b.symbols) h.answer k.answer only h.unchanged k.unchanged in
     let symbols = same_parts n w.symbols a.symbols b.symbols same.1 h.after k.after in
     let erased = h.erased ∙ sym k.erased in
-    let answer = h.told ∙ ap Some same.0 ∙ sym k.told in
+    let answer = h.answered ∙ ap Some same.0 ∙ sym k.answered in
     (λ i. record { symbols = symbols i; erased = erased i; answer = answer i })
 
 pub one_erased_batch : (code : Code) (repair : ℕ) (words a b : List ErasedWord) → code.n ≤ 255 → All (λ w. length w.erased ≡ length w.symbols) words

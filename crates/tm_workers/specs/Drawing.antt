@@ -7,7 +7,7 @@ use Rattle.tm_workers.specs.declared.seats.View.{View}
 use Rattle.tm_workers.specs.Numbers.{times, once_below, total}
 
 -- a seat that draws below `limit` has drawn these numbers and has these shares; it is spent where
--- it was told that no number is left
+-- it has seen that no number is left
 abbrev pub view : ℕ → List ℕ → ℕ → Bool → View
 view limit drawn shares spent = record {
   limit = limit;
@@ -31,12 +31,12 @@ EachOnce n counter views = (x : ℕ) → total (λ v. times x v.drawn) views
 
 -- a spent seat saw the counter at n; a seat with shares knows n; a seat with none is empty
 pub record Fits (n counter : ℕ) (v : View) : Type 0 where
-  pub told : v.spent ≡ true → n ≤ counter
+  pub spent : v.spent ≡ true → n ≤ counter
   pub knows : 0 < v.shares → v.limit ≡ n
   pub idle : v.shares ≡ 0 → (v.drawn ≡ []) × (v.spent ≡ false)
 
 -- what holds while the counter is at `counter`
-pub record KeptAt (n counter : ℕ) (views : List View) : Type 0 where
+pub record HoldsWhile (n counter : ℕ) (views : List View) : Type 0 where
   pub each_once : EachOnce n counter views
   pub fits : (id : ℕ) (v : View) → get_elem? views id ≡ some v → Fits n counter v
   pub shares : total (λ v. v.shares) views ≡ 64
@@ -44,7 +44,7 @@ pub record KeptAt (n counter : ℕ) (views : List View) : Type 0 where
 
 -- the rule: word 0 is the counter
 abbrev pub Rule : ℕ → State (Unit {0}) View → Type 0
-Rule n s = (length s.words ≡ 1) × KeptAt n (slice_index s.words 0) s.views
+Rule n s = (length s.words ≡ 1) × HoldsWhile n (slice_index s.words 0) s.views
 
 -- the view after a draw that found the counter at `found`
 abbrev pub drawn_at : ℕ → View → View
@@ -57,8 +57,8 @@ Drew step me found me' = (me'.0 ≡ drawn_at found me.0) × (me'.1 ≡ me.1)
     × (length me'.0.drawn ≤ me'.0.limit)
 
 -- a seat after `part` shares were cut off
-abbrev pub kept_part : ℕ → View → View
-kept_part part v = view v.limit v.drawn (v.shares - part) v.spent
+abbrev pub remaining_part : ℕ → View → View
+remaining_part part v = view v.limit v.drawn (v.shares - part) v.spent
 
 -- the new seat
 abbrev pub cut_part : ℕ → View → View

@@ -10,7 +10,7 @@ numbers s = s.place.me.0.drawn
 abbrev pub shares_of : Seat → ℕ
 shares_of s = s.place.me.0.shares
 
--- whether the seat was told that no number is left
+-- whether the seat has seen that no number is left
 abbrev pub is_spent : Seat → Bool
 is_spent s = s.place.me.0.spent
 

@@ -16,7 +16,7 @@ use Rattle.tm_workers.specs.declared.words.ErasedWord.{ErasedWord}
 -- them stay, and the answer stands in the word
 pub record Decodes (code : Code) (repair : ℕ) (w w' : Word) : Type 0 where
   pub answer : Answer
-  pub told : w'.answer ≡ Some answer
+  pub answered : w'.answer ≡ Some answer
   pub nearest : IsNearest code.e repair (numbers (take code.n w.symbols))
       (found answer (numbers (take code.n w'.symbols)))
   pub unchanged : answer ≡ Beyond → take code.n w'.symbols ≡ take code.n w.symbols
@@ -25,7 +25,7 @@ pub record Decodes (code : Code) (repair : ℕ) (w w' : Word) : Type 0 where
 -- the same with erased places, which stay as they were given
 pub record DecodesErased (code : Code) (repair : ℕ) (w w' : ErasedWord) : Type 0 where
   pub answer : ErasedAnswer
-  pub told : w'.answer ≡ Some answer
+  pub answered : w'.answer ≡ Some answer
   pub nearest : IsNearestErased code.e repair (take code.n w.erased)
       (numbers (take code.n w.symbols)) (found_erased answer (numbers (take code.n w'.symbols)))
   pub unchanged : answer ≡ BeyondBoth → take code.n w'.symbols ≡ take code.n w.symbols

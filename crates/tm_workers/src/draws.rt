@@ -73,8 +73,8 @@ fn fill_all<R: Threads + Sync, X: Copy + Send, F: Fn(u32) -> X + Sync>(
             let middle = rooms.len() / 2;
             let after = rooms.len() - middle;
             let mut other = tickets.split(seat, after as u32);
-            let (front, back) = rooms.split_at_mut(middle);
-            fill_both(rt, f, tickets, seat, front, &mut other, back);
+            let (first_half, other_half) = rooms.split_at_mut(middle);
+            fill_both(rt, f, tickets, seat, first_half, &mut other, other_half);
             tickets.join(seat, other);
         }
     }
@@ -88,44 +88,47 @@ fn fill_both<R: Threads + Sync, X: Copy + Send, F: Fn(u32) -> X + Sync>(
     f: &F,
     tickets: &Tickets,
     seat: &mut Seat,
-    front: &mut [Vec<Drawn<X>>],
+    first_half: &mut [Vec<Drawn<X>>],
     other: &mut Seat,
-    back: &mut [Vec<Drawn<X>>],
+    other_half: &mut [Vec<Drawn<X>>],
 )
     requires calls { IsCallableBelow (F.pre f.now) (limit_of tickets.now) }
-    requires seat { IsOf tickets.now seat.old × (numbers seat.old ≡ []) × (length front.old ≤ shares_of seat.old) }
-    requires front { (0 < length front.old) × (length front.old ≤ most_workers)
-        × AreRooms (limit_of tickets.now) front.old }
-    requires other { IsOf tickets.now other.old × (numbers other.old ≡ []) × (length back.old ≤ shares_of other.old) }
-    requires back { (0 < length back.old) × (length back.old ≤ most_workers)
-        × AreRooms (limit_of tickets.now) back.old }
+    requires seat { IsOf tickets.now seat.old × (numbers seat.old ≡ []) × (length first_half.old ≤ shares_of seat.old) }
+    requires first_half { (0 < length first_half.old) × (length first_half.old ≤ most_workers)
+        × AreRooms (limit_of tickets.now) first_half.old }
+    requires other { IsOf tickets.now other.old × (numbers other.old ≡ [])
+        × (length other_half.old ≤ shares_of other.old) }
+    requires other_half { (0 < length other_half.old) × (length other_half.old ≤ most_workers)
+        × AreRooms (limit_of tickets.now) other_half.old }
     ensures seat { IsOf tickets.now seat.new × (is_spent seat.new ≡ true) × (shares_of seat.new ≡ shares_of seat.old) }
-    ensures front { (numbers seat.new ≡ all_numbers front.new)
-        × AllResults (F.post f.now) (limit_of tickets.now) front.new }
+    ensures first_half { (numbers seat.new ≡ all_numbers first_half.new)
+        × AllResults (F.post f.now) (limit_of tickets.now) first_half.new }
     ensures other { IsOf tickets.now other.new × (is_spent other.new ≡ true)
         × (shares_of other.new ≡ shares_of other.old) }
-    ensures back { (numbers other.new ≡ all_numbers back.new)
-        × AllResults (F.post f.now) (limit_of tickets.now) back.new }
+    ensures other_half { (numbers other.new ≡ all_numbers other_half.new)
+        × AllResults (F.post f.now) (limit_of tickets.now) other_half.new }
 {
-    let mut fill_front = ||
+    let mut fill_first = ||
         requires { IsSync R.row × IsSync F.row × IsSend X.row × IsCallableBelow (F.pre f.now) (limit_of tickets.now)
-            × (IsOf tickets.now seat.now × (numbers seat.now ≡ []) × (length front.now ≤ shares_of seat.now))
-            × ((0 < length front.now) × (length front.now ≤ most_workers) × AreRooms (limit_of tickets.now) front.now) }
+            × (IsOf tickets.now seat.now × (numbers seat.now ≡ []) × (length first_half.now ≤ shares_of seat.now))
+            × ((0 < length first_half.now) × (length first_half.now ≤ most_workers)
+            × AreRooms (limit_of tickets.now) first_half.now) }
         ensures { (IsOf tickets.entry.now seat.exit.now × (is_spent seat.exit.now ≡ true)
             × (shares_of seat.exit.now ≡ shares_of seat.entry.now))
-            × ((numbers seat.exit.now ≡ all_numbers front.exit.now)
-            × AllResults (F.post f.entry.now) (limit_of tickets.entry.now) front.exit.now) }
-    { fill_all(rt, f, tickets, seat, front) };
-    let mut fill_back = ||
+            × ((numbers seat.exit.now ≡ all_numbers first_half.exit.now)
+            × AllResults (F.post f.entry.now) (limit_of tickets.entry.now) first_half.exit.now) }
+    { fill_all(rt, f, tickets, seat, first_half) };
+    let mut fill_other = ||
         requires { IsSync R.row × IsSync F.row × IsSend X.row × IsCallableBelow (F.pre f.now) (limit_of tickets.now)
-            × (IsOf tickets.now other.now × (numbers other.now ≡ []) × (length back.now ≤ shares_of other.now))
-            × ((0 < length back.now) × (length back.now ≤ most_workers) × AreRooms (limit_of tickets.now) back.now) }
+            × (IsOf tickets.now other.now × (numbers other.now ≡ []) × (length other_half.now ≤ shares_of other.now))
+            × ((0 < length other_half.now) × (length other_half.now ≤ most_workers)
+            × AreRooms (limit_of tickets.now) other_half.now) }
         ensures { (IsOf tickets.entry.now other.exit.now × (is_spent other.exit.now ≡ true)
             × (shares_of other.exit.now ≡ shares_of other.entry.now))
-            × ((numbers other.exit.now ≡ all_numbers back.exit.now)
-            × AllResults (F.post f.entry.now) (limit_of tickets.entry.now) back.exit.now) }
-    { fill_all(rt, f, tickets, other, back) };
-    join_mut(rt, &mut fill_front, &mut fill_back);
+            × ((numbers other.exit.now ≡ all_numbers other_half.exit.now)
+            × AllResults (F.post f.entry.now) (limit_of tickets.entry.now) other_half.exit.now) }
+    { fill_all(rt, f, tickets, other, other_half) };
+    join_mut(rt, &mut fill_first, &mut fill_other);
 }
 
 // Empty rooms for n results each.
@@ -162,7 +165,7 @@ pub fn call_each<R: Threads + Sync, X: Copy + Send, F: Fn(u32) -> X + Sync>(
     };
     let mut rooms = make_rooms(alloc, workers, n)?;
     fill_all(rt, f, &tickets, &mut seat, rooms.as_mut_slice());
-    // That all numbers were drawn, since each worker was told so, is known from here on.
+    // That all numbers were drawn, since each worker has seen it, is known from here on.
     tickets.close(seat);
     Ok(rooms)
 }

@@ -1,6 +1,6 @@
 // The rule of the tickets' table, and what its steps tell.
 ghost use Rattle.std.specs.Prelude.{◌≡◌, ◌<◌, ℕ, []};
-ghost use Rattle.tm_workers.specs.Drawing.{Rule, Drew, Counted, kept_part, cut_part, both_parts, first_view, left_view};
+ghost use Rattle.tm_workers.specs.Drawing.{Rule, Drew, Counted, remaining_part, cut_part, both_parts, first_view, left_view};
 
 use crate::seats::View;
 use atomic_table::{Join, Play, Seat, Shared, Split, TableRule};
@@ -44,7 +44,7 @@ pub struct Cut<P: Part> {
 }
 
 impl<P: Part> Split<View> for Cut<P> {
-    ghost left = { λ v. kept_part P.part v };
+    ghost left = { λ v. remaining_part P.part v };
 
     ghost right = { λ v. cut_part P.part v };
 }
@@ -69,7 +69,7 @@ pub fn cut_shares<P: Part>(
     requires word { 0 < shared.now.table_id.words }
     requires fewer { (0 < part) × (part < place.old.me.0.shares) }
     ensures same { (place.new.table_id ≡ place.old.table_id) × (place.new.id ≡ place.old.id) }
-    ensures kept { place.new.me ≡ (kept_part part place.old.me.0, place.old.me.1) }
+    ensures kept { place.new.me ≡ (remaining_part part place.old.me.0, place.old.me.1) }
     ensures cut { (result.table_id ≡ place.old.table_id) × (result.me ≡ (cut_part part place.old.me.0, [])) }
 {
     shared.split_seat::<Cut<P>>(place)

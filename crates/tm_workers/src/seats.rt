@@ -11,7 +11,7 @@ pub struct View {
     // The numbers that were drawn, in order.
     pub drawn: LinkedList<u32>,
     pub shares: u32,
-    // Whether it was told that no number is left.
+    // Whether it has seen that no number is left.
     pub spent: bool,
 }
 

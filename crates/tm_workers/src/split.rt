@@ -47,8 +47,10 @@ pub fn split_evenly<R: Threads + Sync, G: Gate + Sync, W: InPlace + Send>(
         return;
     }
     let middle = words.len() * usize::from(workers / 2) / usize::from(workers);
-    let (front, back) = words.split_at_mut(middle);
-    split_both(rt, gate, params, repair, first, workers, front, back);
+    let (first_half, other_half) = words.split_at_mut(middle);
+    split_both(
+        rt, gate, params, repair, first, workers, first_half, other_half,
+    );
 }
 
 // The two parts side by side. It is a function of its own, so that what the closures require is what it is given.
@@ -60,27 +62,27 @@ fn split_both<R: Threads + Sync, G: Gate + Sync, W: InPlace + Send>(
     repair: u8,
     first: u32,
     workers: u8,
-    front: &mut [W],
-    back: &mut [W],
+    first_half: &mut [W],
+    other_half: &mut [W],
 )
     requires bound { repair ≤ params.now.e }
     requires workers { 2 ≤ workers }
-    requires count { first + length front.old + length back.old < 2 ^ 32 }
-    ensures front { EachBecomes (W.becomes params.now repair) front.old front.new }
-    ensures back { EachBecomes (W.becomes params.now repair) back.old back.new }
+    requires count { first + length first_half.old + length other_half.old < 2 ^ 32 }
+    ensures first_half { EachBecomes (W.becomes params.now repair) first_half.old first_half.new }
+    ensures other_half { EachBecomes (W.becomes params.now repair) other_half.old other_half.new }
 {
     let some = workers / 2;
     let others = workers - some;
-    let after = first + front.len() as u32;
-    let mut decode_front = ||
+    let after = first + first_half.len() as u32;
+    let mut decode_first = ||
         requires { IsSync R.row × IsSync G.row × IsSend W.row × (repair ≤ params.now.e)
-            × (first + length front.now < 2 ^ 32) }
-        ensures { EachBecomes (W.becomes params.entry.now repair) front.entry.now front.exit.now }
-    { split_evenly(rt, gate, params, repair, first, some, front) };
-    let mut decode_back = ||
+            × (first + length first_half.now < 2 ^ 32) }
+        ensures { EachBecomes (W.becomes params.entry.now repair) first_half.entry.now first_half.exit.now }
+    { split_evenly(rt, gate, params, repair, first, some, first_half) };
+    let mut decode_other = ||
         requires { IsSync R.row × IsSync G.row × IsSend W.row × (repair ≤ params.now.e)
-            × (after + length back.now < 2 ^ 32) }
-        ensures { EachBecomes (W.becomes params.entry.now repair) back.entry.now back.exit.now }
-    { split_evenly(rt, gate, params, repair, after, others, back) };
-    join_mut(rt, &mut decode_front, &mut decode_back);
+            × (after + length other_half.now < 2 ^ 32) }
+        ensures { EachBecomes (W.becomes params.entry.now repair) other_half.entry.now other_half.exit.now }
+    { split_evenly(rt, gate, params, repair, after, others, other_half) };
+    join_mut(rt, &mut decode_first, &mut decode_other);
 }

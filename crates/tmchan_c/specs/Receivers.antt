@@ -7,7 +7,7 @@ use Rattle.tm_channel.specs.Handing.{AreReceived, AreReceivedDue}
 use Rattle.tm_channel.specs.Items.{ItemValue}
 use Rattle.tm_channel.specs.OctetReceiving.{OctetReceiving}
 use Rattle.tm_inner.specs.Phase.{IsChosen}
-use Rattle.tm_buffers.specs.Items.{Tells}
+use Rattle.tm_buffers.specs.Items.{HasWritten}
 use Rattle.tm_buffers.specs.Receiving.{IsEnough, IsReceiving}
 use Rattle.tm_buffers.specs.declared.items.Report.{Report}
 use Rattle.tmchan_c.specs.Phases.{chosen_of}
@@ -37,7 +37,7 @@ pub record WroteItems (answer : ℤ) (frames : List ℕ) (reports : List Report)
     (items : List ItemValue) : Type 0 where
   pub count : Option ℕ
   pub answers : answer ≡ number_answer None count
-  pub tells : Tells count frames reports items
+  pub written : HasWritten count frames reports items
 
 -- a receiver that was given octets goes on to further ones, and what is due with them was written,
 -- all of it where there is the room that is said
@@ -58,7 +58,7 @@ pub record ReceivesLastInto (c : Configuration) (given : List ℕ)
   pub last : List (Handed ItemValue)
   pub totals : Totals
   pub all : AreReceived c given (done ++ last) totals
-  pub told : sums ≡ totals_state totals
+  pub reported : sums ≡ totals_state totals
   pub wrote : WroteItems answer frames reports (items_of last)
   pub enough : IsEnough c 0 wrote.count frames reports
   pub chosen : IsChosen c given (chosen_of phase)

@@ -123,7 +123,7 @@ pub record FindsInto (was now : SearchState) (room room_now : List ℕ) (at end 
     (bits : List Bool) (place place_now : PlaceState) (answer : ℤ) : Type 0 where
   pub found : Option Found
   pub answers : answer ≡ found_answer found
-  pub tells : place_now ≡ place_after found place
+  pub reported : place_now ≡ place_after found place
   pub first : at ≤ end
   pub within : end ≤ size
   pub all : found ≡ None → end ≡ size

@@ -108,7 +108,7 @@ pub extern "C" fn tmchan_decoder_finish(
     }
 }
 
-/// Tells the symbol phase, where it was chosen so far. Answers 0, or why it is refused.
+/// Reports the symbol phase, where it was chosen so far. Answers 0, or why it is refused.
 #[unsafe(no_mangle)]
 pub extern "C" fn tmchan_decoder_phase(
     alloc: Global,
@@ -117,7 +117,7 @@ pub extern "C" fn tmchan_decoder_phase(
 ) -> i32
     ensures same { handle.new.kept.value ≡ handle.old.kept.value }
     ensures refused { Refuses (closed_refusal (decoder_in handle.old.kept.value)) result (phase.new ≡ phase.old) }
-    ensures told { (c : Configuration) (given : List ℕ) (done : List (Handed WindowBlock))
+    ensures reported { (c : Configuration) (given : List ℕ) (done : List (Handed WindowBlock))
         → IsDecoder handle.old.kept.value c given done
         → (result ≡ pos 0) × IsChosenSoFar c given (chosen_of phase.new) }
 {

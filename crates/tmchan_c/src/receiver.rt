@@ -131,7 +131,7 @@ pub extern "C" fn tmchan_receiver_finish(
     }
 }
 
-/// Tells the symbol phase, where it was chosen so far. Answers 0, or why it is refused.
+/// Reports the symbol phase, where it was chosen so far. Answers 0, or why it is refused.
 #[unsafe(no_mangle)]
 pub extern "C" fn tmchan_receiver_phase(
     alloc: Global,
@@ -140,7 +140,7 @@ pub extern "C" fn tmchan_receiver_phase(
 ) -> i32
     ensures same { handle.new.kept.value ≡ handle.old.kept.value }
     ensures refused { Refuses (closed_refusal (receiver_in handle.old.kept.value)) result (phase.new ≡ phase.old) }
-    ensures told { (c : Configuration) (given : List ℕ) (done : List (Handed ItemValue))
+    ensures reported { (c : Configuration) (given : List ℕ) (done : List (Handed ItemValue))
         → IsReceiver handle.old.kept.value c given done
         → (result ≡ pos 0) × IsChosenSoFar c given (chosen_of phase.new) }
 {
@@ -156,13 +156,13 @@ pub extern "C" fn tmchan_receiver_phase(
     }
 }
 
-/// Tells before how many windows of the inner code octets were dropped so far, of those whose bits were searched: none
-/// where the symbol phase is not followed. Answers 0, or why it is refused.
+/// Reports before how many windows of the inner code octets were dropped so far, of those whose bits were searched:
+/// none where the symbol phase is not followed. Answers 0, or why it is refused.
 #[unsafe(no_mangle)]
 pub extern "C" fn tmchan_receiver_slips(alloc: Global, handle: &mut Handle, count: &mut u64) -> i32
     ensures same { handle.new.kept.value ≡ handle.old.kept.value }
     ensures refused { Refuses (closed_refusal (receiver_in handle.old.kept.value)) result (count.new ≡ count.old) }
-    ensures told { (c : Configuration) (given : List ℕ) (done : List (Handed ItemValue))
+    ensures reported { (c : Configuration) (given : List ℕ) (done : List (Handed ItemValue))
         → IsReceiver handle.old.kept.value c given done
         → (result ≡ pos 0) × AreSlipsSoFar c given count.new }
 {

@@ -115,7 +115,7 @@ pub extern "C" fn tmchan_search_bits(
             let (end, found) = find_in_bits(&mut resumed, room, bits, *at as usize);
             *search = state(&resumed.pause());
             *at = end as u64;
-            tell(found, place)
+            report_place(found, place)
         }
     }
 }
@@ -144,7 +144,7 @@ pub extern "C" fn tmchan_search_octets(
             let (end, found) = find_in_octets(&mut resumed, room, search.block_bits, octets, *at);
             *search = state(&resumed.pause());
             *at = end;
-            tell(found, place)
+            report_place(found, place)
         }
     }
 }
@@ -197,8 +197,8 @@ fn resumed(
     Ok(resumed)
 }
 
-// Tells a place that was found. Answers 1 where one was, and else 0.
-fn tell(found: Option<Found>, place: &mut PlaceState) -> i32
+// Reports a place that was found. Answers 1 where one was, and else 0.
+fn report_place(found: Option<Found>, place: &mut PlaceState) -> i32
     ensures answer { result ≡ found_answer found }
     ensures place { place.new ≡ place_after found place.old }
 {

@@ -11,7 +11,7 @@ returns-in-Err-clause-part g c =
     let item = c.item-item.result in (
       c.loop-i.i + 1,
       was.0 ++ item ∷ [],
-      items-for-more b.config b.kept c.loop-i.i was.0 item (omega arith) was.1 c.item-item.ensures,
+      items-for-more b.config b.stored c.loop-i.i was.0 item (omega arith) was.1 c.item-item.ensures,
       HandedPart-after g.T.ItemTaker.took g.T.ItemTaker.broke c.args.taker.now c.loop-i.taker c.item.new.self was.0 (item ∷ []) was.2
           (HandedPart-first g.T.ItemTaker.took g.T.ItemTaker.broke c.loop-i.taker c.item.new.self item [] c.in-Err.ensures.err),
     )
@@ -24,7 +24,7 @@ loop-i-preserved g c =
       faults = grind (arith, common_steps);
       handed = (
         was.0 ++ item ∷ [],
-        items-for-more b.config b.kept c.loop-i.i was.0 item (omega arith) was.1 c.item-item.ensures,
+        items-for-more b.config b.stored c.loop-i.i was.0 item (omega arith) was.1 c.item-item.ensures,
         HandedOver-push g.T.ItemTaker.took c.args.taker.now c.loop-i.taker c.item.new.self was.0 item was.2 c.in-Ok.ensures.ok,
       );
     }

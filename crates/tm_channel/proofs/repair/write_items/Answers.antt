@@ -2,7 +2,7 @@ use Rattle.std.proofs.Common.{◌∙◌, take, arith}
 use Rattle.std.proofs.Math.Seq.{map-set_same}
 use Rattle.std.proofs.lemmas.List.{get_or-set_other}
 use Rattle.tm_config.specs.Configuration.{codeblock_length}
-use Rattle.tm_channel.specs.Storing.{kept_in}
+use Rattle.tm_channel.specs.Storing.{stored_in}
 use Rattle.tm_channel.proofs.Repaired.{item-more, items-are}
 use Rattle.tm_channel.proofs.repair.write_items.Goals as goal
 
@@ -10,8 +10,8 @@ pub loop-index-preserved : goal.loop-index-preserved
 loop-index-preserved c =
     let config = c.args.config.now in
     let l = c.loop-index in record {
-      kept = map-set_same (kept_in (codeblock_length config)) l.slots l.index c.write_item.new.self _
-          (λ k. record { found = c.write_item.ensures.found k; codeblock = take (codeblock_length config) (c.write_item.ensures.octets k) }) ∙ l.invariant.kept;
+      stored = map-set_same (stored_in (codeblock_length config)) l.slots l.index c.write_item.new.self _
+          (λ k. record { found = c.write_item.ensures.found k; codeblock = take (codeblock_length config) (c.write_item.ensures.octets k) }) ∙ l.invariant.stored;
       rest = λ j slot above. get_or-set_other l.slots l.index j c.write_item.new.self slot (λ e. absurd (omega arith)) ∙ l.invariant.rest j slot (omega arith);
       done = item-more config c.args.slots.now l.slots l.index c.write_item.new.self _ c.loop-index-test.true l.auto.slots (l.invariant.rest l.index _ (omega arith)) c.write_item.ensures.item l.invariant.done;
     }

@@ -8,14 +8,14 @@ use Rattle.tm_driver.specs.declared.ending.Ending.TheVariants.{LeftOver, SourceF
 use Rattle.tm_words.specs.declared.job.Job.{Job}
 use Rattle.tm_cli.specs.Commands.{Command, command_of, meaning_of, reads}
 use Rattle.tm_cli.specs.Commands.Command.{Decode, Check}
-use Rattle.tm_cli.specs.Refusal.{IsAsked}
+use Rattle.tm_cli.specs.Refusal.{AreParsedAs}
 use Rattle.tm_cli.specs.Run.{Answers, Call, HasNoFault, StopsEncoding, call_of}
 use Rattle.tm_cli.specs.declared.refusal.Refusal.{Refusal}
 use Rattle.tm_cli.proofs.Answering.{of-check, of-encode, left-reads, source-reads, status-small, not-told, without-fault, sink-rose, whole-input_told}
 use Rattle.tm_cli.proofs.top.run.Goals as goal
 
 -- words ask for one job
-same-job : (words : List (List ℕ)) (a b : Job) → IsAsked words a → IsAsked words b → a ≡ b
+same-job : (words : List (List ℕ)) (a b : Job) → AreParsedAs words a → AreParsedAs words b → a ≡ b
 same-job words a b p q = let e : Some a ≡ Some b = sym p.read ∙ q.read in cc e
 
 pub returns-in-Ok-clause-answered : goal.returns-in-Ok-clause-answered
@@ -27,29 +27,29 @@ returns-in-Ok-clause-answered g c = λ job asked _.
     let h = c.in-Ok.ensures.answered in
     let ending = c.in-Ok.ending in
     let taken = g.O.Sink.taken c.args.out.now in
-    let now = g.O.Sink.taken c.obey.new.out in
+    let now = g.O.Sink.taken c.dispatch.new.out in
     let noted = g.N.Sink.taken c.args.notes.now in
-    let noted_now = g.N.Sink.taken c.obey.new.notes in
+    let noted_now = g.N.Sink.taken c.dispatch.new.notes in
     let all = taken_by taken now noted noted_now in
     let is = c.status.ensures in
     let out = sink_state taken (g.O.Sink.faults c.args.out.now) in
-    let out_now = sink_state now (g.O.Sink.faults c.obey.new.out) in
+    let out_now = sink_state now (g.O.Sink.faults c.dispatch.new.out) in
     let notes = sink_state noted (g.N.Sink.faults c.args.notes.now) in
-    let notes_now = sink_state noted_now (g.N.Sink.faults c.obey.new.notes) in
+    let notes_now = sink_state noted_now (g.N.Sink.faults c.dispatch.new.notes) in
     let call : Call = call_of
     (source_state (g.S.Source.given c.args.source.now) (g.S.Source.left c.args.source.now) (g.S.Source.ended c.args.source.now) (g.S.Source.faults c.args.source.now))
-    (source_state (g.S.Source.given c.obey.new.source) (g.S.Source.left c.obey.new.source) (g.S.Source.ended c.obey.new.source) (g.S.Source.faults c.obey.new.source))
-    (g.S.Source.is_last c.obey.new.source) out out_now (g.O.Sink.is_last c.obey.new.out) notes notes_now (g.N.Sink.is_last c.obey.new.notes) in
+    (source_state (g.S.Source.given c.dispatch.new.source) (g.S.Source.left c.dispatch.new.source) (g.S.Source.ended c.dispatch.new.source) (g.S.Source.faults c.dispatch.new.source))
+    (g.S.Source.is_last c.dispatch.new.source) out out_now (g.O.Sink.is_last c.dispatch.new.out) notes notes_now (g.N.Sink.is_last c.dispatch.new.notes) in
     let decodes : command ≡ Decode → Ends ending (meaning_of Decode config) config.limit h.0 all = λ asks. subst (λ (k : Command). Ends ending (meaning_of k config) config.limit h.0 all) asks h.1.ends in
     let checks : command ≡ Check → Ends ending (meaning_of Check config) config.limit h.0 all = λ asks. subst (λ (k : Command). Ends ending (meaning_of k config) config.limit h.0 all) asks h.1.ends in
     let no_sink : HasNoFault call → ending ≡ SinkFault → ⊥ = λ none failed.
-    elim (sink-rose ending out out_now (g.O.Sink.is_last c.obey.new.out) notes notes_now (g.N.Sink.is_last c.obey.new.notes) h.1.sinks failed) [
+    elim (sink-rose ending out out_now (g.O.Sink.is_last c.dispatch.new.out) notes notes_now (g.N.Sink.is_last c.dispatch.new.notes) h.1.sinks failed) [
       | inl p ↦ none.out p.0
       | inr p ↦ none.notes p.0
     ] in
     let no_source : HasNoFault call → ending ≡ SourceFault → ⊥ = λ none failed.
     none.source ((h.1.course (source-reads ending command config h.0 all h.1.ends failed)).fault failed) in
-    let at_end : ending ≡ LeftOver → IsAtEnd (g.S.Source.left c.obey.new.source) = λ over.
+    let at_end : ending ≡ LeftOver → IsAtEnd (g.S.Source.left c.dispatch.new.source) = λ over.
     ((h.1.course (left-reads ending command config h.0 all h.1.ends over)).ended (inr (inr over))).1 in
     let answer : Answers c.status.result command config call = record {
       octets = h.0;
@@ -67,7 +67,7 @@ returns-in-Ok-clause-answered g c = λ job asked _.
       by_window = λ asks bad. c.in-Ok.ensures.not_bad (of-check c.in-Command.job asks) bad;
       complete = λ none. subst (λ (s : ℕ). (s ≡ 0) ⊎ (s ≡ 1) ⊎ (s ≡ 6) ⊎ (s ≡ 7)) (sym is) (without-fault ending (no_source none) (no_sink none));
       whole_input = λ input told within whole none. subst (λ (s : ℕ). (s ≡ 0) ⊎ (s ≡ 1)) (sym is)
-          (whole-input_told ending (meaning_of command config) config.limit h.0 input (g.S.Source.left c.obey.new.source) all h.1.ends (sym told ∙ h.1.gave.consumed) at_end within whole
+          (whole-input_told ending (meaning_of command config) config.limit h.0 input (g.S.Source.left c.dispatch.new.source) all h.1.ends (sym told ∙ h.1.gave.consumed) at_end within whole
           (no_source none) (no_sink none));
       clean = λ asks. c.link_law.ensures.clean ending c.status.result config h.0 taken now noted noted_now read.2 is (decodes asks);
       disturbed = λ asks. c.link_law.ensures.disturbed ending c.status.result config h.0 taken now noted noted_now read.2 is (decodes asks);

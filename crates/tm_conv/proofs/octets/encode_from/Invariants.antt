@@ -8,10 +8,10 @@ abbrev pub invariant-loop-octet : goal.invariant-loop-octet
 invariant-loop-octet l = record {
   register : l.register ≡ register_after l.first_register (octet_bits (take l.octet-index l.octets));
   low : l.register < 64;
-  phase : l.phase ≡ (l.first_phase + 8 * l.octet-index) % period l.rate;
-  within : l.phase < period l.rate;
+  position : l.position ≡ (l.first_position + 8 * l.octet-index) % period l.rate;
+  within : l.position < period l.rate;
   count : l.count ≤ 16 * l.octet-index;
   done : take l.count l.out
-      ≡ levels l.fn.low (path l.rate l.invert l.first_phase l.first_register
+      ≡ levels l.fn.low (path l.rate l.invert l.first_position l.first_register
       (octet_bits (take l.octet-index l.octets)));
 }

@@ -2,4 +2,4 @@ use Rattle.tm_inner.proofs.receiver.ended.Goals as goal
 
 pub returns-clause-counts : goal.returns-clause-counts
 returns-clause-counts c = λ given blocks left long few are counted.
-    (c.bits_received.ensures given blocks left long few are counted, c.slips_told.ensures blocks counted)
+    (c.bits_received.ensures given blocks left long few are counted, c.reported_slips.ensures blocks counted)

@@ -2,7 +2,7 @@ use Rattle.std.proofs.Common.{◌≡◌, ◌++◌, ◌∙◌, sym, true, false, 
 use Rattle.tm_base.specs.Handed.{items_of}
 use Rattle.tm_base.proofs.Handing.{HandedOver-append, HandedPart-after}
 use Rattle.tm_config.specs.Configuration.{Configuration}
-use Rattle.tm_inner.specs.Inner.{inner_bits, slips_told}
+use Rattle.tm_inner.specs.Inner.{inner_bits, reported_slips}
 use Rattle.tm_inner.specs.Handing.{AreHanded, AreHandedFirst, AreHandedPrefix}
 use Rattle.tm_inner.proofs.GivenPieces.{taker_alone}
 use Rattle.tm_inner.proofs.HandedPieces.{prefix-first}
@@ -19,7 +19,7 @@ returns-in-Ok-finish-clause-handed g c =
       λ few.
           let stands = (fed.2 [] [] (omega (arith, few)) c.in-Ok.ensures.stands).0 in
           subst (λ (v : Configuration). AreHanded v octets all c.in-Ok-finish.end.leftover × (c.in-Ok-finish.end.bits ≡ length (inner_bits v octets (items_of all)))
-          × (c.in-Ok-finish.end.slips ≡ slips_told v (items_of all)))
+          × (c.in-Ok-finish.end.slips ≡ reported_slips v (items_of all)))
           (c.feed.ensures.config ∙ c.in-Ok.ensures.config) (last.2 octets fed.0 stands),
     )
 

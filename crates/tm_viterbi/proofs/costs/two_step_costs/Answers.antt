@@ -18,11 +18,11 @@ abbrev summed : List ℕ → List ℕ
 summed each = zip2 (λ a b. a + b) (picked each (0 ∷ 1 ∷ 2 ∷ 3 ∷ 4 ∷ 5 ∷ 6 ∷ 7 ∷ []))
     (picked each (8 ∷ 9 ∷ 10 ∷ 11 ∷ 12 ∷ 13 ∷ 14 ∷ 15 ∷ []))
 
-abbrev prefixes : List ℕ → List ℕ → List ℕ
-prefixes octets masks = picked (summed (xored octets masks)) (0 ∷ 1 ∷ 2 ∷ 3 ∷ [])
+abbrev firsts : List ℕ → List ℕ → List ℕ
+firsts octets masks = picked (summed (xored octets masks)) (0 ∷ 1 ∷ 2 ∷ 3 ∷ [])
 
-abbrev backs : List ℕ → List ℕ → List ℕ
-backs octets masks = picked (summed (xored octets masks)) (4 ∷ 5 ∷ 6 ∷ 7 ∷ [])
+abbrev seconds : List ℕ → List ℕ → List ℕ
+seconds octets masks = picked (summed (xored octets masks)) (4 ∷ 5 ∷ 6 ∷ 7 ∷ [])
 
 four : (P : List ℕ → Type 0) (octets : List ℕ) → length octets ≡ 4 → ((k : ℕ) → Fits w8 (get_or octets k 0))
     → ((a b c d : ℕ) → a < 2 ^ 8 → b < 2 ^ 8 → c < 2 ^ 8 → d < 2 ^ 8 → P (a ∷ b ∷ c ∷ d ∷ [])) → P octets
@@ -36,18 +36,18 @@ four P (a ∷ b ∷ c ∷ d ∷ e ∷ es) l fits h =
 
 first_costs : (invert : Bool) (masks octets : List ℕ) (t : ℕ) → masks ≡ two_step_masks invert → length octets ≡ 4
     → ((k : ℕ) → Fits w8 (get_or octets k 0))
-    → AreCosts R12 invert t (take 2 octets) (prefixes octets masks)
+    → AreCosts R12 invert t (take 2 octets) (firsts octets masks)
 first_costs invert masks octets t e l fits =
-    four (λ v. AreCosts R12 invert t (take 2 v) (prefixes v masks)) octets l fits
-    (λ a b c d al bl cl dl. subst (λ (v : List ℕ). AreCosts R12 invert t (a ∷ b ∷ []) (prefixes (a ∷ b ∷ c ∷ d ∷ []) v))
+    four (λ v. AreCosts R12 invert t (take 2 v) (firsts v masks)) octets l fits
+    (λ a b c d al bl cl dl. subst (λ (v : List ℕ). AreCosts R12 invert t (a ∷ b ∷ []) (firsts (a ∷ b ∷ c ∷ d ∷ []) v))
     (sym e) (xored_costs invert t a b al bl))
 
 second_costs : (invert : Bool) (masks octets : List ℕ) (t : ℕ) → masks ≡ two_step_masks invert → length octets ≡ 4
     → ((k : ℕ) → Fits w8 (get_or octets k 0))
-    → AreCosts R12 invert t (drop 2 octets) (backs octets masks)
+    → AreCosts R12 invert t (drop 2 octets) (seconds octets masks)
 second_costs invert masks octets t e l fits =
-    four (λ v. AreCosts R12 invert t (drop 2 v) (backs v masks)) octets l fits
-    (λ a b c d al bl cl dl. subst (λ (v : List ℕ). AreCosts R12 invert t (c ∷ d ∷ []) (backs (a ∷ b ∷ c ∷ d ∷ []) v))
+    four (λ v. AreCosts R12 invert t (drop 2 v) (seconds v masks)) octets l fits
+    (λ a b c d al bl cl dl. subst (λ (v : List ℕ). AreCosts R12 invert t (c ∷ d ∷ []) (seconds (a ∷ b ∷ c ∷ d ∷ []) v))
     (sym e) (xored_costs invert t c d cl dl))
 
 pub returns-clause-first : goal.returns-clause-first

@@ -5,11 +5,11 @@ use Rattle.std.proofs.lemmas.List.{take_at, drop_at, take_all, drop_all, append-
 use Rattle.tm_viterbi.proofs.lanes.store_halves.Goals as goal
 
 stored : (next low high : List ℕ) → length next ≡ 64 → length low ≡ 32 → length high ≡ 32
-    → (let front = put_chunk 0 (take 32 next) low ++ drop 32 next in take 32 front ++ (put_chunk 0 (take 32 (drop 32 front)) high ++ drop 32 (drop 32 front))) ≡ low ++ high
+    → (let begun = put_chunk 0 (take 32 next) low ++ drop 32 next in take 32 begun ++ (put_chunk 0 (take 32 (drop 32 begun)) high ++ drop 32 (drop 32 begun))) ≡ low ++ high
 stored next low high l ll lh =
     let tail = drop 32 next in
     let lt : length tail ≡ 32 = omega (arith, length-drop 32 next) in
-    let put : List ℕ → List ℕ = λ front. take 32 front ++ (put_chunk 0 (take 32 (drop 32 front)) high ++ drop 32 (drop 32 front)) in
+    let put : List ℕ → List ℕ = λ begun. take 32 begun ++ (put_chunk 0 (take 32 (drop 32 begun)) high ++ drop 32 (drop 32 begun)) in
     let a : put_chunk 0 (take 32 next) low ≡ low = put_chunk_whole (take 32 next) low (omega (arith, length-take-le 32 next (omega arith))) in
     let b : put_chunk 0 (take 32 tail) high ≡ high = ap (λ v. put_chunk 0 v high) (take_all 32 tail (omega arith)) ∙ put_chunk_whole tail high (omega arith) in
     ap (λ v. put (v ++ tail)) a

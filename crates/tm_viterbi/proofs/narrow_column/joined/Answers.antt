@@ -3,5 +3,5 @@ use Rattle.std.proofs.lemmas.Simd.{pick_l_whole}
 use Rattle.tm_viterbi.proofs.narrow_column.joined.Goals as goal
 
 pub returns : goal.returns
-returns c = pick_l_whole 0 (c.args.front ++ c.args.back) 32
-    (omega (arith, length-append c.args.front c.args.back, c.requires))
+returns c = pick_l_whole 0 (c.args.first ++ c.args.second) 32
+    (omega (arith, length-append c.args.first c.args.second, c.requires))

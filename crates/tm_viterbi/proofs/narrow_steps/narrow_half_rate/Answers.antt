@@ -70,7 +70,7 @@ loop-i-preserved c =
           (c.loop-i.invariant.carries base) block);
     }
 
--- the octets and the columns that are left
+-- the octets and the survivors that are left
 pub slice_bounds-narrow_run-count : goal.slice_bounds-narrow_run-count
 slice_bounds-narrow_run-count c =
     let fits : 2 * c.loop-i.i ≤ length c.args.soft.now =

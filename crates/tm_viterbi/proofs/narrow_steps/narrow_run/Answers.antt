@@ -37,8 +37,8 @@ slice_bounds-narrow_step-end c =
     (omega arith) c.loop-i.invariant.place c.step_len.ensures c.requires.size in
     search rules
 
-pub narrow_step-column-requires-clause-room : goal.narrow_step-column-requires-clause-room
-narrow_step-column-requires-clause-room c s lt =
+pub narrow_step-survivor-requires-clause-room : goal.narrow_step-survivor-requires-clause-room
+narrow_step-survivor-requires-clause-room c s lt =
     omega (arith, c.loop-i.invariant.bounded (2 ^ 16 - 1 - 510 * length c.args.survivors.now) c.requires.room s lt)
 
 pub loop-i-preserved : goal.loop-i-preserved
@@ -50,8 +50,8 @@ loop-i-preserved c =
     = room c.args.rate c.args.t c.loop-i.i (length c.args.survivors.now) at len _
     (omega arith) c.loop-i.invariant.place c.step_len.ensures c.requires.size in
     let same : at + len - at ≡ len = omega arith in
-    let low = c.narrow_step-column.result.0 in
-    let high = c.narrow_step-column.result.1 in
+    let low = c.narrow_step-survivor.result.0 in
+    let high = c.narrow_step-survivor.result.1 in
     let ls : length (c.loop-i.low ++ c.loop-i.high) ≡ 64 =
     omega (
       arith,
@@ -60,7 +60,7 @@ loop-i-preserved c =
       c.loop-i.invariant.long_low,
       c.loop-i.invariant.long_high,
     ) in
-    let ln : length (low ++ high) ≡ 64 = omega (arith, length-append low high, c.narrow_step-column.ensures.long) in
+    let ln : length (low ++ high) ≡ 64 = omega (arith, length-append low high, c.narrow_step-survivor.ensures.long) in
     record {
       place = omega (
         arith,
@@ -72,19 +72,19 @@ loop-i-preserved c =
       bounded = λ m h s lt.
           omega (
             arith,
-            c.narrow_step-column.ensures.bounded (m + 510 * c.loop-i.i)
+            c.narrow_step-survivor.ensures.bounded (m + 510 * c.loop-i.i)
                 (c.loop-i.invariant.bounded m h) s lt,
           );
-      long_low = c.narrow_step-column.ensures.long.0;
-      long_high = c.narrow_step-column.ensures.long.1;
+      long_low = c.narrow_step-survivor.ensures.long.0;
+      long_high = c.narrow_step-survivor.ensures.long.1;
       carries = λ base.
-          carried_on c.args.rate c.args.invert c.args.t at len c.loop-i.i c.narrow_step-column.result.2 soft _
+          carried_on c.args.rate c.args.invert c.args.t at len c.loop-i.i c.narrow_step-survivor.result.2 soft _
           (lifted base (c.args.first_low ++ c.args.first_high))
           (lifted base (c.loop-i.low ++ c.loop-i.high))
           (lifted base (low ++ high)) c.loop-i.survivors fits c.step_len.ensures
           (ap (λ (v : ℕ). take v (drop at soft)) same) (omega arith)
-          (StepsTo-lifted c.args.rate c.args.invert (c.args.t + c.loop-i.i) base c.narrow_step-column.result.2 _
-          (c.loop-i.low ++ c.loop-i.high) (low ++ high) ls ln c.narrow_step-column.ensures.steps)
+          (StepsTo-lifted c.args.rate c.args.invert (c.args.t + c.loop-i.i) base c.narrow_step-survivor.result.2 _
+          (c.loop-i.low ++ c.loop-i.high) (low ++ high) ls ln c.narrow_step-survivor.ensures.steps)
           (c.loop-i.invariant.carries base);
     }
 

@@ -15,7 +15,7 @@ loop-done-init c = record {
   carries = Carries-none c.args.rate c.args.invert c.args.t c.args.sums.now;
 }
 
--- as many columns are lent as there are steps in the block
+-- as many survivors are lent as there are steps in the block
 lent : (n done : ℕ) (survivors : List ℕ) → done + n ≤ length survivors → length (take (n + done - done) (drop done survivors)) ≡ n
 lent n done survivors le = length-take-le (n + done - done) (drop done survivors) (omega (arith, length-drop done survivors)) ∙ omega arith
 

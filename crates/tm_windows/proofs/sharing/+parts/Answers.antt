@@ -4,7 +4,7 @@ use Rattle.std.proofs.lemmas.List.Elements.{All-append}
 use Rattle.tm_conv.specs.Path.{steps_size}
 use Rattle.tm_viterbi.specs.declared.window_decoder.WindowShape.{WindowShape}
 use Rattle.tm_windows.specs.declared.candidate.Candidate.{Candidate}
-use Rattle.tm_windows.proofs.Runs.{parts_of, joined, All-front, All-back}
+use Rattle.tm_windows.proofs.Runs.{parts_of, joined, All-first_part, All-other_part}
 use Rattle.tm_windows.proofs.sharing.+parts.Goals as goal
 
 pub decode_evenly-overflow_add-place : goal.decode_evenly-overflow_add-place
@@ -15,61 +15,63 @@ decode_evenly-overflow_add-place g t c =
     let parts = parts_of c.args.shape c.args.t c.args.at low (n - low) n c.steps_len.result (length c.args.octets.now) (omega (arith, le)) c.steps_len.ensures c.requires.room c.requires.few in
     record { fits = omega (arith, parts.within, c.requires.long.1) }
 
-pub decode_evenly-decode_both-requires-clause-front : goal.decode_evenly-decode_both-requires-clause-front
-decode_evenly-decode_both-requires-clause-front g t c κs within =
+pub decode_evenly-decode_both-requires-clause-first_part : goal.decode_evenly-decode_both-requires-clause-first_part
+decode_evenly-decode_both-requires-clause-first_part g t c κs within =
     let s = c.args.shape in
-    let cut = c.split_at_mut-front in
-    let front = cut.result.0.now in
-    let back = cut.result.1.now in
+    let cut = c.split_at_mut-first_part in
+    let first_part = cut.result.0.now in
+    let other_part = cut.result.1.now in
     let all = c.args.candidates.now in
-    let sum : length front + length back ≡ length all = omega (arith, ap length cut.ensures.value, length-append front back) in
+    let sum : length first_part + length other_part ≡ length all = omega (arith, ap length cut.ensures.value, length-append first_part other_part) in
     let size = c.steps_len.ensures ∙ ap (λ (m : ℕ). steps_size s.rate c.args.t (m * s.keep)) (sym cut.ensures.front_len) in
-    let parts = parts_of s c.args.t c.args.at (length front) (length back) (length all) c.steps_len.result (length c.args.octets.now) sum size c.requires.room c.requires.few in (
-      All-front (λ (x : Candidate). vec_len x.bits ≡ s.keep + s.ahead) all front back cut.ensures.value c.requires.bits,
+    let parts = parts_of s c.args.t c.args.at (length first_part) (length other_part) (length all) c.steps_len.result (length c.args.octets.now) sum size c.requires.room c.requires.few in (
+      All-first_part (λ (x : Candidate). vec_len x.bits ≡ s.keep + s.ahead) all first_part other_part
+          cut.ensures.value c.requires.bits,
       omega (arith, sum, c.requires.long.0),
       c.requires.within,
-      parts.front,
-      parts.few_front,
+      parts.first_part,
+      parts.few_first,
     )
 
-pub decode_evenly-decode_both-requires-clause-back : goal.decode_evenly-decode_both-requires-clause-back
-decode_evenly-decode_both-requires-clause-back g t c κs within =
+pub decode_evenly-decode_both-requires-clause-other_part : goal.decode_evenly-decode_both-requires-clause-other_part
+decode_evenly-decode_both-requires-clause-other_part g t c κs within =
     let s = c.args.shape in
-    let cut = c.split_at_mut-front in
-    let front = cut.result.0.now in
-    let back = cut.result.1.now in
+    let cut = c.split_at_mut-first_part in
+    let first_part = cut.result.0.now in
+    let other_part = cut.result.1.now in
     let all = c.args.candidates.now in
-    let sum : length front + length back ≡ length all = omega (arith, ap length cut.ensures.value, length-append front back) in
+    let sum : length first_part + length other_part ≡ length all = omega (arith, ap length cut.ensures.value, length-append first_part other_part) in
     let size = c.steps_len.ensures ∙ ap (λ (m : ℕ). steps_size s.rate c.args.t (m * s.keep)) (sym cut.ensures.front_len) in
-    let parts = parts_of s c.args.t c.args.at (length front) (length back) (length all) c.steps_len.result (length c.args.octets.now) sum size c.requires.room c.requires.few in
+    let parts = parts_of s c.args.t c.args.at (length first_part) (length other_part) (length all) c.steps_len.result (length c.args.octets.now) sum size c.requires.room c.requires.few in
     let steps = ap (λ (m : ℕ). m * s.keep) cut.ensures.front_len in
-    let later = ap (λ (m : ℕ). steps_size s.rate (c.args.t + m) (length back * s.keep + s.ahead + 1)) steps in (
-      All-back (λ (x : Candidate). vec_len x.bits ≡ s.keep + s.ahead) all front back cut.ensures.value c.requires.bits,
+    let later = ap (λ (m : ℕ). steps_size s.rate (c.args.t + m) (length other_part * s.keep + s.ahead + 1)) steps in (
+      All-other_part (λ (x : Candidate). vec_len x.bits ≡ s.keep + s.ahead) all first_part other_part
+          cut.ensures.value c.requires.bits,
       omega (arith, sum, c.requires.long.0),
       parts.within,
-      omega (arith, parts.back, later),
-      omega (arith, parts.few_back, steps),
+      omega (arith, parts.other_part, later),
+      omega (arith, parts.few_other, steps),
     )
 
 pub decode_evenly-returns-clause-candidates : goal.decode_evenly-returns-clause-candidates
 decode_evenly-returns-clause-candidates g t c =
     let s = c.args.shape in
     let both = c.decode_both.ensures in
-    let cut = c.split_at_mut-front in
-    let front = cut.result.0.now in
-    let back = cut.result.1.now in
-    let sum : length front + length back ≡ length c.args.candidates.now = omega (arith, ap length cut.ensures.value, length-append front back) in
+    let cut = c.split_at_mut-first_part in
+    let first_part = cut.result.0.now in
+    let other_part = cut.result.1.now in
+    let sum : length first_part + length other_part ≡ length c.args.candidates.now = omega (arith, ap length cut.ensures.value, length-append first_part other_part) in
     let size = c.steps_len.ensures ∙ ap (λ (m : ℕ). steps_size s.rate c.args.t (m * s.keep)) (sym cut.ensures.front_len) in
-    joined s c.args.t c.args.at (length front) (length back) (length c.args.candidates.now) _ _ c.args.octets.now c.decode_both.new.front c.decode_both.new.back c.decode_both.auto.front sum
-    (ap (λ (m : ℕ). c.args.t + m * s.keep) (sym cut.ensures.front_len)) (ap (λ (m : ℕ). c.args.at + m) size) both.front.0 both.back.0
+    joined s c.args.t c.args.at (length first_part) (length other_part) (length c.args.candidates.now) _ _ c.args.octets.now c.decode_both.new.first_part c.decode_both.new.other_part c.decode_both.auto.first_part sum
+    (ap (λ (m : ℕ). c.args.t + m * s.keep) (sym cut.ensures.front_len)) (ap (λ (m : ℕ). c.args.at + m) size) both.first_part.0 both.other_part.0
 
 pub decode_evenly-returns-clause-bits : goal.decode_evenly-returns-clause-bits
 decode_evenly-returns-clause-bits g t c =
     let s = c.args.shape in
     let both = c.decode_both.ensures in
-    All-append (λ (x : Candidate). vec_len x.bits ≡ s.keep + s.ahead) c.decode_both.new.front c.decode_both.new.back both.front.1 both.back.1
+    All-append (λ (x : Candidate). vec_len x.bits ≡ s.keep + s.ahead) c.decode_both.new.first_part c.decode_both.new.other_part both.first_part.1 both.other_part.1
 
 pub decode_evenly-returns-clause-shape : goal.decode_evenly-returns-clause-shape
 decode_evenly-returns-clause-shape g t c =
     let both = c.decode_both.ensures in
-    All-append (λ (d : WindowShape). d ≡ c.args.shape) c.decode_both.new.first c.decode_both.new.others both.front.2 both.back.2
+    All-append (λ (d : WindowShape). d ≡ c.args.shape) c.decode_both.new.first c.decode_both.new.others both.first_part.2 both.other_part.2

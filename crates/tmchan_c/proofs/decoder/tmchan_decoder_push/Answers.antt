@@ -19,9 +19,9 @@ returns-clause-pushed c = λ config given done is few room.
       | in-Decoder w ↦
           let held : c.args.handle.now.kept.value ≡ Some (Decoder w.in-Decoder.decoder) = search rules in
           let now : c.put.new.handle.kept.value ≡ Some (Decoder w.feed.new.self) = search rules in
-          let told : to_z w64 c.match-deref_mut.answer-bits ≡ number_answer None w.feed.result = search rules in
+          let reported : to_z w64 c.match-deref_mut.answer-bits ≡ number_answer None w.feed.result = search rules in
           let same : c.put.result ≡ to_z w64 (of_z w64 c.put.result) = search rules in
-          let answers : to_z w64 (of_z w64 c.put.result) ≡ number_answer None w.feed.result = sym same ∙ c.put.ensures.answer ∙ told in
+          let answers : to_z w64 (of_z w64 c.put.result) ≡ number_answer None w.feed.result = sym same ∙ c.put.ensures.answer ∙ reported in
           let decoder = subst (λ (o : Option Stream). IsDecoder o config given done) held is in
           let there = w.feed.ensures.decoded given done few decoder.1
           (subst (λ (k : Configuration). has_room (bits_room k (length octets)) (length c.args.bits.now) ≡ true) (sym decoder.0) room) in

@@ -21,8 +21,8 @@ returns-in-Receiver-clause-finished c = λ config given done is.
         last = there.last;
         totals = c.finish-count.new.totals;
         all = subst (λ (k : Configuration). AreReceived k given (done ++ there.last) c.finish-count.new.totals) receiver.0 there.all;
-        told = c.totals_state.ensures;
-        wrote = record { count = c.finish-count.result; answers = answers; tells = there.tells };
+        reported = c.totals_state.ensures;
+        wrote = record { count = c.finish-count.result; answers = answers; written = there.written };
         enough = λ most more room. there.enough most more (search rules);
         chosen = subst (λ (k : Configuration). IsChosen k given (chosen_of c.phase_state.result)) receiver.0 chosen;
       },

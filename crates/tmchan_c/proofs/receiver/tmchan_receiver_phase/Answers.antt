@@ -7,8 +7,8 @@ use Rattle.tmchan_c.specs.declared.stream.Stream.{Stream}
 use Rattle.tmchan_c.specs.declared.stream.Stream.TheVariants.{Receiver}
 use Rattle.tmchan_c.proofs.receiver.tmchan_receiver_phase.Goals as goal
 
-pub returns-in-Receiver-clause-told : goal.returns-in-Receiver-clause-told
-returns-in-Receiver-clause-told c = λ config given done is.
+pub returns-in-Receiver-clause-reported : goal.returns-in-Receiver-clause-reported
+returns-in-Receiver-clause-reported c = λ config given done is.
     let held : c.args.handle.now.kept.value ≡ Some (Receiver c.in-Receiver.receiver) = search rules in
     let receiver = subst (λ (o : Option Stream). IsReceiver o config given done) held is in
     let so_far = subst (λ (k : Configuration). IsChosenSoFar k given c.chosen.result) receiver.0

@@ -19,9 +19,9 @@ returns-clause-pushed c = λ config given is room.
       | in-Sender w ↦
           let held : c.args.handle.now.kept.value ≡ Some (Sender w.in-Sender.sender) = search rules in
           let now : c.put.new.handle.kept.value ≡ Some (Sender w.push.new.self) = search rules in
-          let told : to_z w64 c.match-deref_mut.answer-bits ≡ number_answer None w.push.result = search rules in
+          let reported : to_z w64 c.match-deref_mut.answer-bits ≡ number_answer None w.push.result = search rules in
           let same : c.put.result ≡ to_z w64 (of_z w64 c.put.result) = search rules in
-          let answers : to_z w64 (of_z w64 c.put.result) ≡ number_answer None w.push.result = sym same ∙ c.put.ensures.answer ∙ told in
+          let answers : to_z w64 (of_z w64 c.put.result) ≡ number_answer None w.push.result = sym same ∙ c.put.ensures.answer ∙ reported in
           let sender = subst (λ (o : Option Stream). IsSender o config given) held is in
           let there = w.push.ensures.pushed given sender.1
           (subst (λ (k : Configuration). has_room (symbols_room k (length octets)) (length c.args.symbols.now) ≡ true) (sym sender.0) room) in

@@ -5,7 +5,7 @@ use Rattle.tm_channel.specs.Handing.{AreReceivedDue}
 use Rattle.tm_channel.specs.Most.{AreFew}
 use Rattle.tm_buffers.specs.Items.{Collected, collected}
 use Rattle.tm_buffers.specs.declared.items.BufferItems.{BufferItems}
-use Rattle.tm_buffers.proofs.ItemsWithPhase.{All, enough, handled, tells}
+use Rattle.tm_buffers.proofs.ItemsWithPhase.{All, enough, handled, has-written}
 use Rattle.tm_buffers.proofs.receiving.BufferReceiver.feed.Goals as goal
 use Rattle.tm_buffers.proofs.receiving.BufferReceiver.feed.Goals.{in-Ok, in-Err}
 
@@ -26,8 +26,8 @@ returns-clause-received c = λ given done few is.
           let on : now.has_stopped ≡ false = search rules in
           let due = subst (λ (r : OctetReceiving). AreReceivedDue r.config (given ++ c.args.octets.now) (done ++ h.0)) c.self.view_is there.1 in
           let all_new = subst (λ (a : Collected). All a (collected taker) (items_of h.0)) c.over-taker.ensures.none took.all in
-          let written = tells c.args.frames.now c.args.reports.now taker (items_of h.0) all_new in
+          let written = has-written c.args.frames.now c.args.reports.now taker (items_of h.0) all_new in
           let few_items = subst (λ (r : OctetReceiving). AreFew r.config (length c.args.octets.now) (items_of h.0)) c.self.view_is (h.3 given done few stood) in
-          record { more = h.0; receiving = record { going = on; stands = there.0 }; due = due; tells = search rules; enough = enough c.args.self.now.config (length c.args.octets.now) _ _ _ (items_of h.0) few_items (search rules) }
+          record { more = h.0; receiving = record { going = on; stands = there.0 }; due = due; written = search rules; enough = enough c.args.self.now.config (length c.args.octets.now) _ _ _ (items_of h.0) few_items (search rules) }
       | in-Err w ↦ absurd (search rules)
     ]

@@ -7,7 +7,7 @@ use Rattle.tm_inner.specs.Phase.{IsChosen}
 use Rattle.tm_channel.specs.Most.{AreFew}
 use Rattle.tm_buffers.specs.Items.{Collected, collected}
 use Rattle.tm_buffers.specs.declared.items.BufferItems.{BufferItems}
-use Rattle.tm_buffers.proofs.ItemsWithPhase.{All, enough, handled, tells}
+use Rattle.tm_buffers.proofs.ItemsWithPhase.{All, enough, handled, has-written}
 use Rattle.tm_buffers.proofs.receiving.BufferReceiver.finish.Goals as goal
 use Rattle.tm_buffers.proofs.receiving.BufferReceiver.finish.Goals.{in-Ok, in-Err}
 
@@ -27,8 +27,8 @@ returns-clause-received c = λ given done is.
           let all = subst (λ (r : OctetReceiving). AreReceived r.config given (done ++ h.0) w.in-Ok.received) c.self.view_is there in
           let chosen = subst (λ (r : OctetReceiving). IsChosen r.config given c.finish_in_order-ended.new.self.stages.inner.phased.chosen) c.self.view_is (w.in-Ok.ensures.chosen given done stood going) in
           let all_new = subst (λ (a : Collected). All a (collected taker) (items_of h.0)) c.over-taker.ensures.none took.all in
-          let written = tells c.args.frames.now c.args.reports.now taker (items_of h.0) all_new in
+          let written = has-written c.args.frames.now c.args.reports.now taker (items_of h.0) all_new in
           let few_items = subst (λ (r : OctetReceiving). AreFew r.config 0 (items_of h.0)) c.self.view_is (h.3 given done stood) in
-          record { last = h.0; all = subst (λ (t : Totals). AreReceived c.args.self.now.config given (done ++ h.0) t) (sym w.totals-is) all; tells = search rules; enough = enough c.args.self.now.config 0 _ _ _ (items_of h.0) few_items (search rules); chosen = chosen }
+          record { last = h.0; all = subst (λ (t : Totals). AreReceived c.args.self.now.config given (done ++ h.0) t) (sym w.totals-is) all; written = search rules; enough = enough c.args.self.now.config 0 _ _ _ (items_of h.0) few_items (search rules); chosen = chosen }
       | in-Err w ↦ absurd (search rules)
     ]

@@ -24,7 +24,7 @@ loop-self-preserved g c =
     let before : BitReceiving = record { search = c.loop-self.self.search; room = c.loop-self.self.room.items; batch = c.loop-self.self.batch } in
     let middle : BitReceiving = record { search = c.keep_whole.new.self.search; room = c.keep_whole.new.self.room.items; batch = c.keep_whole.new.self.batch } in
     let now : BitReceiving = record { search = c.hand_full.new.self.search; room = c.hand_full.new.self.room.items; batch = c.hand_full.new.self.batch } in
-    let kept = c.keep_whole.ensures.kept c.loop-self-test.true in
+    let stored = c.keep_whole.ensures.stored c.loop-self-test.true in
     let some = c.in-Ok.ensures.all in record {
       agree = agree-same middle.search now.search middle.room now.room middle.batch now.batch c.hand_full.ensures.search c.hand_full.ensures.room c.hand_full.ensures.config
           c.hand_full.ensures.part c.keep_whole.ensures.agree;
@@ -34,8 +34,8 @@ loop-self-preserved g c =
       settling = (
         i.settling.0 ++ some.0,
         HandedOver-append took c.args.taker.now c.loop-self.taker c.hand_full.new.taker i.settling.0 some.0 i.settling.1 some.2,
-        λ bits more short h. settling-turn start before middle now kept.0 some.0 i.config c.keep_whole.ensures.config c.hand_full.ensures.search c.hand_full.ensures.room
-            c.hand_full.ensures.config c.hand_full.ensures.part kept.1 some.1 bits (bits ++ more) i.settling.0 short (i.settling.2 bits more short h),
+        λ bits more short h. settling-turn start before middle now stored.0 some.0 i.config c.keep_whole.ensures.config c.hand_full.ensures.search c.hand_full.ensures.room
+            c.hand_full.ensures.config c.hand_full.ensures.part stored.1 some.1 bits (bits ++ more) i.settling.0 short (i.settling.2 bits more short h),
       );
     }
 
@@ -57,11 +57,11 @@ returns-in-Err-clause-broke g c =
     let start : BitReceiving = record { search = c.args.self.now.search; room = c.args.self.now.room.items; batch = c.args.self.now.batch } in
     let before : BitReceiving = record { search = c.loop-self.self.search; room = c.loop-self.self.room.items; batch = c.loop-self.self.batch } in
     let middle : BitReceiving = record { search = c.keep_whole.new.self.search; room = c.keep_whole.new.self.room.items; batch = c.keep_whole.new.self.batch } in
-    let kept = c.keep_whole.ensures.kept c.loop-self-test.true in
+    let stored = c.keep_whole.ensures.stored c.loop-self-test.true in
     let some = c.in-Err.ensures.broke in (
       i.settling.0 ++ some.1,
       HandedPart-after g.T.ItemTaker.took g.T.ItemTaker.broke c.args.taker.now c.loop-self.taker c.hand_full.new.taker i.settling.0 some.1 i.settling.1 some.4,
-      λ bits more short h. settling-broke start before middle kept.0 some.0 some.1 i.config c.keep_whole.ensures.config kept.1 some.3 some.2 bits more i.settling.0 short
+      λ bits more short h. settling-broke start before middle stored.0 some.0 some.1 i.config c.keep_whole.ensures.config stored.1 some.3 some.2 bits more i.settling.0 short
           (i.settling.2 bits more short h),
     )
 

@@ -10,7 +10,7 @@ use Rattle.tm_channel.proofs.bit_receiver.BitReceiver.keep_all.Given as goal
 abbrev pub invariant-loop-self : goal.invariant-loop-self
 invariant-loop-self g l = record {
   agree : Agree l.self.search l.self.room.items l.self.batch;
-  few : length l.self.batch.kept < l.self.batch.config.batch;
+  few : length l.self.batch.stored < l.self.batch.config.batch;
   config : l.self.batch.config ≡ l.initial.self.batch.config;
   faults : g.T.ItemTaker.faults l.taker ≡ g.T.ItemTaker.faults l.initial.taker;
   settling : (items : List ItemValue) × HandedOver g.T.ItemTaker.took l.initial.taker items l.taker

@@ -3,8 +3,8 @@ use Rattle.tm_config.specs.Configuration.{Configuration, codeblock_length}
 use Rattle.tm_sync.specs.declared.found.Found.{Found}
 use Rattle.tm_sync.specs.Places.{places}
 use Rattle.tm_sync.specs.Searching.{Searching, StandsFor, waiting_of}
-use Rattle.tm_channel.specs.Receiving.{Agree, kept_of}
-use Rattle.tm_channel.proofs.Stepping.{Told, agree-next, agree-ready, agree-same, complete-size, keeps-told, none-told, one-more, recall-needs, waiting-less}
+use Rattle.tm_channel.specs.Receiving.{Agree, stored_of}
+use Rattle.tm_channel.proofs.Stepping.{Reported, agree-next, agree-ready, agree-same, complete-size, keeps-reported, none-reported, one-more, recall-needs, waiting-less}
 use Rattle.tm_channel.proofs.bit_receiver.BitReceiver.keep_whole.Goals as goal
 
 -- ---- none is whole
@@ -21,9 +21,9 @@ returns-in-None-clause-ready c = λ none.
     c.in-None.ensures.free c.requires.few
 
 pub returns-in-None-clause-none : goal.returns-in-None-clause-none
-returns-in-None-clause-none c = λ none handed bits told h.
+returns-in-None-clause-none c = λ none handed bits reported h.
     let was = c.args.self.now in
-    none-told was.search c.next.new.self was.room.items was.batch handed bits told c.requires.agree.same c.in-None.ensures.unchanged
+    none-reported was.search c.next.new.self was.room.items was.batch handed bits reported c.requires.agree.same c.in-None.ensures.unchanged
     (subst (λ (room : List ℕ). (l : List Bool) (found : List Found) → StandsFor was.search room l found → places was.search.rules l ≡ found)
     c.as_slice.ensures.value c.in-None.ensures.none) h
 
@@ -39,7 +39,7 @@ complete-requires-clause-none c =
 
 pub keep-requires-clause-room : goal.keep-requires-clause-room
 keep-requires-clause-room c =
-    omega (arith, ap length c.complete.ensures.kept, ap (λ (k : Configuration). k.batch) c.complete.ensures.config, c.requires.few)
+    omega (arith, ap length c.complete.ensures.stored, ap (λ (k : Configuration). k.batch) c.complete.ensures.config, c.requires.few)
 
 pub keep-requires-clause-whole : goal.keep-requires-clause-whole
 keep-requires-clause-whole c =
@@ -60,8 +60,8 @@ pub returns-in-Some-clause-most : goal.returns-in-Some-clause-most
 returns-in-Some-clause-most c =
     omega (
       arith,
-      one-more c.complete.new.self.batch.kept c.keep.new.self.kept _ c.keep.ensures.kept,
-      ap length c.complete.ensures.kept,
+      one-more c.complete.new.self.batch.stored c.keep.new.self.stored _ c.keep.ensures.stored,
+      ap length c.complete.ensures.stored,
       ap (λ (k : Configuration). k.batch) c.complete.ensures.config,
       ap (λ (k : Configuration). k.batch) c.keep.ensures.config,
       c.requires.few,
@@ -80,17 +80,17 @@ returns-in-Some-clause-ready c = λ none. absurd (cc)
 pub returns-in-Some-clause-none : goal.returns-in-Some-clause-none
 returns-in-Some-clause-none c = λ none. absurd (cc)
 
-pub returns-in-Some-clause-kept : goal.returns-in-Some-clause-kept
-returns-in-Some-clause-kept c = λ one.
+pub returns-in-Some-clause-stored : goal.returns-in-Some-clause-stored
+returns-in-Some-clause-stored c = λ one.
     let was = c.args.self.now in
     let whole = c.in-Some.ensures.whole in
     let f = c.in-Some.found in
     let part = c.complete.new.self.batch.part in
-    let tell : Told was.search c.next.new.self was.room.items f =
-    subst (λ (room : List ℕ). Told was.search c.next.new.self room f) c.as_slice.ensures.value c.in-Some.ensures.some in (
+    let tell : Reported was.search c.next.new.self was.room.items f =
+    subst (λ (room : List ℕ). Reported was.search c.next.new.self room f) c.as_slice.ensures.value c.in-Some.ensures.some in (
       f,
-      λ handed bits told few h. keeps-told was.search c.next.new.self c.complete.new.self.search was.room.items c.complete.new.self.room.items was.batch c.keep.new.self part whole.0 f
-          handed bits told c.requires.agree whole.1 whole.2 tell c.complete.ensures.part c.complete.ensures.search c.complete.ensures.room
+      λ handed bits reported few h. keeps-reported was.search c.next.new.self c.complete.new.self.search was.room.items c.complete.new.self.room.items was.batch c.keep.new.self part whole.0 f
+          handed bits reported c.requires.agree whole.1 whole.2 tell c.complete.ensures.part c.complete.ensures.search c.complete.ensures.room
           (c.keep.ensures.config ∙ c.complete.ensures.config) c.keep.ensures.part
-          (c.keep.ensures.kept ∙ (λ i. c.complete.ensures.kept i ++ kept_of (c.complete.ensures.config i) f part ∷ [])) few h,
+          (c.keep.ensures.stored ∙ (λ i. c.complete.ensures.stored i ++ stored_of (c.complete.ensures.config i) f part ∷ [])) few h,
     )

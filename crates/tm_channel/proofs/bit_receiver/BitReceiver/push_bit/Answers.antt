@@ -51,7 +51,7 @@ returns-clause-holds c = λ handed bits few h.
           stands-inside was.search now was.room.items c.push_bit-2.new.room was.batch middle.batch handed bits (c.args.bit ∷ [])
           (ap (λ (r : BitReceiver). r.batch.config) w.self-is ∙ w.push_bit.ensures.config)
           (ap (λ (r : BitReceiver). r.batch.part) w.self-is ∙ w.push_bit.ensures.part)
-          (ap (λ (r : BitReceiver). r.batch.kept) w.self-is ∙ w.push_bit.ensures.kept)
+          (ap (λ (r : BitReceiver). r.batch.stored) w.self-is ∙ w.push_bit.ensures.stored)
           (λ found stood. c.push_bit-2.ensures.stands bits found (omega (arith, few, length-append bits (c.args.bit ∷ [])))
           (subst (λ (v : Searching). StandsFor v c.as_mut_slice.result.now bits found) (sym (ap (λ (r : BitReceiver). r.search) w.self-is))
           (subst (λ (l : List ℕ). StandsFor was.search l bits found) (sym slice) stood))) h
@@ -62,7 +62,7 @@ returns-clause-holds c = λ handed bits few h.
           (ap (λ (r : BitReceiver). r.batch.config) w.self-is)
           (ap (λ (r : BitReceiver). length r.batch.part) w.self-is ∙ c.requires.ready.long
           ∙ ap (λ (o : Option ℕ). unwrap_or o 0) (sym c.inside.ensures.count ∙ w.in-None.is))
-          (ap (λ (r : BitReceiver). r.batch.kept) w.self-is)
+          (ap (λ (r : BitReceiver). r.batch.stored) w.self-is)
           (λ found stood. c.push_bit-2.ensures.stands bits found (omega (arith, few, length-append bits (c.args.bit ∷ [])))
           (subst (λ (v : Searching). StandsFor v c.as_mut_slice.result.now bits found) (sym (ap (λ (r : BitReceiver). r.search) w.self-is))
           (subst (λ (l : List ℕ). StandsFor was.search l bits found) (sym slice) stood))) h

@@ -27,5 +27,5 @@ returns-clause-holds c = λ handed bits few h.
     let room = c.args.self.now.room.items in
     stands-begun c.args.self.now.search c.push_octet.new.self room room c.args.self.now.batch c.begin.new.self handed bits
     (low_bits (8 - count) (c.args.octet / 2 ^ count)) (bits_of_octet c.args.octet)
-    c.begin.ensures.config (octet-ends count c.args.octet (begins c).1 ∙ ap (λ l. low_bits (8 - count) (c.args.octet / 2 ^ count) ++ l) (sym (begins c).0)) c.begin.ensures.kept
+    c.begin.ensures.config (octet-ends count c.args.octet (begins c).1 ∙ ap (λ l. low_bits (8 - count) (c.args.octet / 2 ^ count) ++ l) (sym (begins c).0)) c.begin.ensures.stored
     (λ found stood. c.push_octet.ensures.stands room bits found (omega (arith, length-append bits (bits_of_octet c.args.octet), length-low_bits 8 c.args.octet)) stood) h

@@ -15,5 +15,5 @@ returns-clause-holds c = λ handed bits few h.
     let room = c.args.self.now.room.items in
     stands-inside c.args.self.now.search c.push_octets-2.new.self room room c.args.self.now.batch c.push_octets.new.self handed
     bits (bits_of c.args.octets.now)
-    c.push_octets.ensures.config c.push_octets.ensures.part c.push_octets.ensures.kept
+    c.push_octets.ensures.config c.push_octets.ensures.part c.push_octets.ensures.stored
     (λ found stood. c.push_octets-2.ensures.stands room bits found (omega (arith, length-append bits (bits_of c.args.octets.now), length-bits_of c.args.octets.now)) stood) h

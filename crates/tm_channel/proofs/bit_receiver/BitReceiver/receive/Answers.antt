@@ -21,7 +21,7 @@ loop-at-init g c =
 pub keep_all-requires-clause-few : goal.keep_all-requires-clause-few
 keep_all-requires-clause-few g c =
     let ready = c.loop-at.invariant.ready in
-    omega (arith, ready.few, ap length c.push-at.ensures.kept, ap (λ (k : Configuration). k.batch) c.push-at.ensures.config)
+    omega (arith, ready.few, ap length c.push-at.ensures.stored, ap (λ (k : Configuration). k.batch) c.push-at.ensures.config)
 
 pub loop-at-preserved : goal.loop-at-preserved
 loop-at-preserved g c =

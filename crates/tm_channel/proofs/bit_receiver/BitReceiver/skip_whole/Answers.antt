@@ -11,7 +11,7 @@ loop-self-preserved c =
     record {
       agree = agree-same now.search now.search now.room.items now.room.items now.batch c.clear.new.self refl refl c.clear.ensures.config c.clear.ensures.part
           c.keep_whole.ensures.agree;
-      few = omega (arith, i.few, ap length c.clear.ensures.kept, ap (λ (k : Configuration). k.batch) config);
+      few = omega (arith, i.few, ap length c.clear.ensures.stored, ap (λ (k : Configuration). k.batch) config);
       config = config ∙ i.config;
     }
 

@@ -6,7 +6,7 @@ use Rattle.tm_channel.proofs.bit_receiver.BitReceiver.skip_whole.Given as goal
 abbrev pub invariant-loop-self : goal.invariant-loop-self
 invariant-loop-self l = record {
   agree : Agree l.self.search l.self.room.items l.self.batch;
-  few : length l.self.batch.kept < l.self.batch.config.batch;
+  few : length l.self.batch.stored < l.self.batch.config.batch;
   config : l.self.batch.config ≡ l.initial.self.batch.config;
 }
 

@@ -9,7 +9,7 @@ use Rattle.tm_channel.proofs.Steps.{frames-held, frames-whole, frames-whole_pref
 use Rattle.tm_channel.proofs.sender.Sender.send_piece.Given.{Over}
 use Rattle.tm_channel.proofs.sender.Sender.send_piece.Goals as goal
 
--- the frame's front, once the piece follows what was held
+-- the frame's prefix, once the piece follows what was held
 prefix-is : (count : ℕ) (frame piece new : List ℕ) → new ≡ piece → count ≤ length frame → take (count + length piece) (put_mid count ((count + length piece) - count) frame new) ≡ take count frame ++ piece
 prefix-is count frame piece new is within =
     take-put_mid count ((count + length piece) - count) frame new (count + length piece) (ap (λ (l : List ℕ). count + length l) (sym is)) within ∙ ap (λ (l : List ℕ). take count frame ++ l) is

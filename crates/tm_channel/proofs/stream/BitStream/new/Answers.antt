@@ -4,5 +4,5 @@ use Rattle.tm_channel.proofs.stream.BitStream.new.Goals as goal
 
 pub returns-clause-stands : goal.returns-clause-stands
 returns-clause-stands c =
-    stands-new c.args.batch.config (StandsFor c.args.search c.args.room.items) c.args.batch.part c.args.batch.kept
-    c.requires.stands c.requires.part c.requires.kept
+    stands-new c.args.batch.config (StandsFor c.args.search c.args.room.items) c.args.batch.part c.args.batch.stored
+    c.requires.stands c.requires.part c.requires.stored

@@ -11,11 +11,11 @@ returns-clause-stands c = λ given stood.
       rate = c.self.inside.rate;
       invert = c.self.inside.invert;
       register = c.self.inside.register;
-      phase =
-          c.self.inside.phase;
+      position =
+          c.self.inside.position;
     } in
     StandsFor-octets before _ given c.args.octets.now refl c.encode_octets-count.ensures.register.0
-    c.encode_octets-count.ensures.phase.0
+    c.encode_octets-count.ensures.position.0
     (subst (λ e. StandsFor e given) (sym c.self.view_is) stood)
 
 pub returns-clause-sent : goal.returns-clause-sent
@@ -27,8 +27,8 @@ returns-clause-sent c = λ given.
       rate = c.self.inside.rate;
       invert = c.self.inside.invert;
       register = c.self.inside.register;
-      phase =
-          c.self.inside.phase;
+      position =
+          c.self.inside.position;
     } in
     let P : Encoding → Type 0 = λ e. StandsFor e given
     → levels c.args.low (sent_for e.rate e.invert (given ++ bits_of octets)) ≡ levels c.args.low

@@ -6,7 +6,7 @@ use Rattle.tm_viterbi.specs.WindowBlock.{WindowBlock}
 use Rattle.tm_viterbi.specs.declared.decoder.FeedError.{FeedError}
 use Rattle.tm_viterbi.specs.declared.decoder.FeedError.TheVariants.{Taker}
 use Rattle.tm_inner.specs.declared.receiver.InnerEnd.{InnerEnd}
-use Rattle.tm_inner.specs.Inner.{inner_bits, slips_told}
+use Rattle.tm_inner.specs.Inner.{inner_bits, reported_slips}
 use Rattle.tm_inner.specs.Phase.{IsChosen, phase_octets}
 use Rattle.tm_inner.specs.Receiving.{InnerReceiving, StandsFor, PhasesFor}
 use Rattle.tm_inner.specs.Handing.{AreHanded, AreHandedPrefix}
@@ -29,7 +29,7 @@ returns-clause-handed g c =
     let Said : InnerReceiving → Result InnerEnd FeedError → Type 0 = λ r result. IfOk result (λ end. (last : List (Handed WindowBlock)) × over c.args.blocks.now last c.end.new.blocks
     × ((given : List ℕ) (done : List (Handed WindowBlock)) → StandsFor r given done
     → AreHanded r.config given (done ++ last) end.leftover × (end.bits ≡ length (inner_bits r.config given (items_of (done ++ last))))
-    × (end.slips ≡ slips_told r.config (items_of (done ++ last))))) in
+    × (end.slips ≡ reported_slips r.config (items_of (done ++ last))))) in
     subst (λ (r : InnerReceiving). Said r c.match-end.result) c.self.view_is (elim c.match-end.branch as (λ _. Said before c.match-end.result) [
       | in-Ok w ↦ (
           let h = w.in-Ok.ensures.handed in

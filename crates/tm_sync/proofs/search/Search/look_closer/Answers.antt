@@ -31,5 +31,5 @@ returns-then-since-lt32-clause-stands c = λ s was bit bits found few count kept
 pub returns-clause-stands : goal.returns-clause-stands
 returns-clause-stands c = λ s was bit bits found few count kept h.
     let free = sym count.awaited ∙ ap (λ (v : Searching). v.awaited) (sym c.self.view_is) ∙ none_awaited c.self.inside.awaited (sym c.is_some.ensures ∙ c.if-is_some.false) in
-    subst (λ (v : Searching). StandsFor (record v { awaited = c.place_told-awaited.result.0; after = c.place_told-awaited.result.1 }) c.args.room.now (bits ++ bit ∷ []) found) (sym c.self.view_is)
-    (c.place_told-awaited.ensures.stands s was bit bits found few count kept free h)
+    subst (λ (v : Searching). StandsFor (record v { awaited = c.place_found-awaited.result.0; after = c.place_found-awaited.result.1 }) c.args.room.now (bits ++ bit ∷ []) found) (sym c.self.view_is)
+    (c.place_found-awaited.ensures.stands s was bit bits found few count kept free h)

@@ -2,11 +2,11 @@ use Rattle.std.proofs.Common.{◌≡◌, ℕ, ◌≤◌, ◌-◌, ◌⊎◌, ◌
 use Rattle.std.specs.Option.{option_map}
 use Rattle.tm_sync.specs.Places.{Rules, verify_bits}
 use Rattle.tm_sync.specs.Searching.{Searching, is_pending}
-use Rattle.tm_sync.proofs.Given.{told_last, told_next, told_all, told-fits, most_after, recalls-same, whole-once}
+use Rattle.tm_sync.proofs.Given.{reported_last, reported_next, reported_all, reported-fits, most_after, recalls-same, whole-once}
 use Rattle.tm_sync.proofs.search.Search.next.Goals as goal
 
 pub returns-then-not-pending-clause-none : goal.returns-then-not-pending-clause-none
-returns-then-not-pending-clause-none c bits found h = told_all c.args.self.now c.args.room.now (sym c.pending.ensures ∙ c.if-not-pending.true) bits found h
+returns-then-not-pending-clause-none c bits found h = reported_all c.args.self.now c.args.room.now (sym c.pending.ensures ∙ c.if-not-pending.true) bits found h
 
 pub returns-then-left-lt32-clause-once : goal.returns-then-left-lt32-clause-once
 returns-then-left-lt32-clause-once c = λ alone.
@@ -38,11 +38,11 @@ returns-then-left-lt32-clause-some c bits found h =
     let m = c.in-Some.awaited in
     let pending : is_pending s ≡ true = sym c.pending.ensures ∙ c.if-not-pending.false in
     let was : s.awaited ≡ Some m = ap (λ (v : Searching). v.awaited) (sym view) ∙ c.in-Some.is in
-    let fits = told-fits s c.args.room.now m bits found was pending h in
+    let fits = reported-fits s c.args.room.now m bits found was pending h in
     let pushed : c.self.inside.pushed ≡ s.pushed = ap (λ (v : Searching). v.pushed) view in
     let after : c.self.inside.after ≡ s.after = ap (λ (v : Searching). v.after) view in
     let block : c.from-block.result ≡ s.rules.block_bits = c.from-block.ensures ∙ ap (λ (v : Searching). v.rules.block_bits) view in
-    told_last s _ c.args.room.now m pending record {
+    reported_last s _ c.args.room.now m pending record {
       awaited_was = was;
       rules = ap (λ (v : Searching). v.rules) view;
       word = ap (λ (v : Searching). v.word) view;
@@ -59,14 +59,14 @@ returns-else-left-lt32-clause-some c bits found h =
     let m = c.in-Some.awaited in
     let pending : is_pending s ≡ true = sym c.pending.ensures ∙ c.if-not-pending.false in
     let was : s.awaited ≡ Some m = ap (λ (v : Searching). v.awaited) (sym view) ∙ c.in-Some.is in
-    let fits = told-fits s room m bits found was pending h in
+    let fits = reported-fits s room m bits found was pending h in
     let rules = ap (λ (v : Searching). v.rules) view in
     let word = ap (λ (v : Searching). v.word) view in
     let pushed : c.self.inside.pushed ≡ s.pushed = ap (λ (v : Searching). v.pushed) view in
     let after : c.self.inside.after ≡ s.after = ap (λ (v : Searching). v.after) view in
     let block : c.from-block.result ≡ s.rules.block_bits = c.from-block.ensures ∙ ap (λ (v : Searching). v.rules.block_bits) view in
     let since : ℕ = c.self.inside.after - c.from-block.result - 32 in
-    told_next s _ room m c.matched.result c.word_at-word.result pending record {
+    reported_next s _ room m c.matched.result c.word_at-word.result pending record {
       awaited_was = was;
       rules = rules;
       word = word;

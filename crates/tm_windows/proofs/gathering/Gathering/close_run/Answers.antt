@@ -10,7 +10,7 @@ use Rattle.tm_windows.specs.Followed.{AreUndropped, first_spot}
 use Rattle.tm_windows.specs.Gathered.{settings_of, windows_of, HoldsRun, Reaches, IsAt}
 use Rattle.tm_windows.specs.declared.gathering.Gathering.{Gathering}
 use Rattle.tm_windows.proofs.FollowedRuns.{place_of, RunsTo, runs-to, at-undecided, all-undropped, kept-append, slips-append, closed-kept, closed-slips}
-use Rattle.tm_windows.proofs.Gatherings.{closed_front, closed_now, few_closed}
+use Rattle.tm_windows.proofs.Gatherings.{closed_prefix, closed_now, few_closed}
 use Rattle.tm_windows.proofs.gathering.Gathering.close_run.Goals as goal
 
 -- how many octets have the windows, and how many those of their kept steps
@@ -36,26 +36,26 @@ is_cut g count m size some room is size_is =
     }
 
 -- closed windows of the first of the octets that are held, as the call that closes them tells it
-told : (s s' : WindowShape) (starts : Option ℕ) (t : ℕ) (slice front : List ℕ) (blocks : List WindowBlock) (to : WindowShape → List ℕ → Place)
-    → s' ≡ s → slice ≡ front → ClosedWith s' (place_of starts t slice) blocks (to s' slice) → ClosedWith s (place_of starts t front) blocks (to s front)
-told s s' starts t slice front blocks to es eo h =
+told : (s s' : WindowShape) (starts : Option ℕ) (t : ℕ) (slice prefix : List ℕ) (blocks : List WindowBlock) (to : WindowShape → List ℕ → Place)
+    → s' ≡ s → slice ≡ prefix → ClosedWith s' (place_of starts t slice) blocks (to s' slice) → ClosedWith s (place_of starts t prefix) blocks (to s prefix)
+told s s' starts t slice prefix blocks to es eo h =
     subst (λ (o : List ℕ). ClosedWith s (place_of starts t o) blocks (to s o)) eo
     (subst (λ (v : WindowShape). ClosedWith v (place_of starts t slice) blocks (to v slice)) es h)
 
 -- the blocks of these windows, after those before
-runs : (g : Gathering) (count m : ℕ) (all rest : List ℕ) (done blocks : List WindowBlock) (front to : Place) → g.dropped ≡ Some 0
+runs : (g : Gathering) (count m : ℕ) (all rest : List ℕ) (done blocks : List WindowBlock) (prefix to : Place) → g.dropped ≡ Some 0
     → 0 < count → HoldsRun g count → m ≡ steps_size g.shape.rate g.t (count * g.shape.keep + g.shape.ahead + 1)
     → AreUndropped (windows_of g) g.t g.held.octets count → Reaches g all rest done
-    → ClosedWith g.shape (place_of g.starts g.t (take m g.held.octets)) blocks front
+    → ClosedWith g.shape (place_of g.starts g.t (take m g.held.octets)) blocks prefix
     → ClosedWith g.shape (place_of g.starts g.t (g.held.octets ++ rest)) blocks to
     → RunsTo (windows_of g) (first_spot (windows_of g) all) (done ++ blocks) (place_of g.starts g.t (g.held.octets ++ rest)) to
-runs g count m all rest done blocks front to undropped some room is still r fronts here =
+runs g count m all rest done blocks prefix to undropped some room is still r prefixes here =
     let w = windows_of g in
     let held = g.held.octets in
     let at = place_of g.starts g.t (held ++ rest) in
     let cut = is_cut g count m (steps_size g.shape.rate g.t (count * g.shape.keep)) some room is refl in
-    let few = few_closed (settings_of g) (place_of g.starts g.t (take m held)) front count blocks (omega (arith, g.sizes.0))
-    (length-take-le m held cut.inside ∙ is) fronts in
+    let few = few_closed (settings_of g) (place_of g.starts g.t (take m held)) prefix count blocks (omega (arith, g.sizes.0))
+    (length-take-le m held cut.inside ∙ is) prefixes in
     runs-to w (first_spot w all) r.to done blocks at to r.closed (subst (λ (o : Option ℕ). IsAt w r.to o at) undropped r.at) here
     (all-undropped w g.t count (length blocks) held rest few (omega (arith, cut.inside, cut.within)) still)
 
@@ -71,8 +71,8 @@ returns-in-Ok g c =
     let next = c.in-Ok.next in
     let left = c.drop_front.new.self.octets in
     let cut = is_cut s count m size run.some run.room c.steps_len-size.ensures c.steps_len.ensures in
-    let front = take m s.held.octets in
-    let fronts = told s.shape s.workers.shape s.starts s.t (take m c.as_slice.result.now) front ok.0
+    let prefix = take m s.held.octets in
+    let prefixes = told s.shape s.workers.shape s.starts s.t (take m c.as_slice.result.now) prefix ok.0
     (λ v o. after_windows v s.t o count next) s.workers_shape (ap (take m) c.as_slice.ensures.octets) ok.2 in
     let rest_is : length left + size ≡ length s.held.octets = omega (
       arith,
@@ -89,9 +89,9 @@ returns-in-Ok g c =
             let at = place_of s.starts s.t (s.held.octets ++ rest) in
             let to = place_of next (s.t + count * s.shape.keep) (left ++ rest) in
             let here = closed_now s.shape s.starts next s.t m count s.held.octets left rest ok.0 (omega (arith, cut.within, c.steps_len.ensures)) cut.inside
-            (c.drop_front.ensures.octets ∙ ap (λ (n : ℕ). drop n s.held.octets) c.steps_len.ensures) fronts in
-            let there = runs s count m all rest done ok.0 (after_windows s.shape s.t front count next) to c.requires.undropped run.some run.room
-            c.steps_len-size.ensures run.undropped r fronts here in
+            (c.drop_front.ensures.octets ∙ ap (λ (n : ℕ). drop n s.held.octets) c.steps_len.ensures) prefixes in
+            let there = runs s count m all rest done ok.0 (after_windows s.shape s.t prefix count next) to c.requires.undropped run.some run.room
+            c.steps_len-size.ensures run.undropped r prefixes here in
             record {
               to = there.to;
               closed = there.closed;
@@ -116,7 +116,7 @@ returns-in-Err g c =
     let run = c.count_run-count.ensures in
     let m = c.steps_len-size.result in
     let err = c.in-Err.ensures.closed.err in
-    let fronts = told s.shape s.workers.shape s.starts s.t (take m c.as_slice.result.now) (take m s.held.octets) err.0
+    let prefixes = told s.shape s.workers.shape s.starts s.t (take m c.as_slice.result.now) (take m s.held.octets) err.0
     (λ v o. err.2) s.workers_shape (ap (take m) c.as_slice.ensures.octets) err.3 in
     let none = ap length c.clear.ensures.octets in
     let least = steps_size-least s.shape.rate s.t (s.shape.keep + s.shape.ahead + 1) in
@@ -126,9 +126,9 @@ returns-in-Err g c =
         err.0,
         err.1,
         λ all rest done r.
-            let here = closed_front s.shape s.starts s.t m s.held.octets rest err.0 err.2 fronts in
+            let here = closed_prefix s.shape s.starts s.t m s.held.octets rest err.0 err.2 prefixes in
             let there = runs s count m all rest done err.0 err.2 _ c.requires.undropped run.some run.room
-            c.steps_len-size.ensures run.undropped r fronts here in
+            c.steps_len-size.ensures run.undropped r prefixes here in
             (there.to, there.closed),
       );
       left_open = (omega (arith, none, least), λ undecided. absurd (let known = sym c.requires.undropped ∙ undecided in cc));

@@ -5,9 +5,9 @@ use Rattle.tm_sync.specs.declared.found.Awaited.{Awaited}
 use Rattle.tm_sync.specs.Places.{match_of, place_by, verify_bits}
 use Rattle.tm_sync.specs.Searching.{Searching, StandsFor, Counts, Remembers, awaited_at, is_right_after}
 use Rattle.tm_sync.proofs.FirstPlaces.{here}
-use Rattle.tm_sync.proofs.Given.{start-there, right-least, told_right, told_waits, told_verified}
-use Rattle.tm_sync.proofs.search.Search.place_told.Goals.{After-right_after, After-place_verified}
-use Rattle.tm_sync.proofs.search.Search.place_told.Goals as goal
+use Rattle.tm_sync.proofs.Given.{start-there, right-least, reported_right, reported_waits, reported_verified}
+use Rattle.tm_sync.proofs.search.Search.place_found.Goals.{After-right_after, After-place_verified}
+use Rattle.tm_sync.proofs.search.Search.place_found.Goals as goal
 
 -- what the test before says
 tested : (c : After-right_after) (s : Searching) (was : List ℕ) (bit : Bool) (bits : List Bool) (found : List Found) → Counts s c.args.self.now bit → StandsFor s was bits found
@@ -37,7 +37,7 @@ returns-then-right_after-clause-stands c = λ s was bit bits found few count kep
     let pushed : c.self.inside.pushed ≡ now.pushed = ap (λ (v : Searching). v.pushed) view in
     let before = ap (λ (v : Searching). v.before) view in
     let place : (c.self.inside.pushed + (2 ^ 64 - 32)) % 2 ^ 64 ≡ now.pushed - 32 = omega arith in
-    told_right s now was c.args.room.now bit c.place_of.result bits found count kept free right
+    reported_right s now was c.args.room.now bit c.place_of.result bits found count kept free right
     (λ l size word. c.place_of.ensures now.rules l (ap (λ (v : Searching). v.rules.tolerance) (sym view)) (ap (λ (v : Searching). v.rules.fly) (sym view))
     (ap (λ (v : Searching). v.rules.either) (sym view)) size (ap (λ (v : Searching). v.word) view ∙ word)
     ∙ (λ i. option_map (awaited_at (before i)) (place_by now.rules (place i) (before i) l (match_of now.rules l)))) h
@@ -48,7 +48,7 @@ returns-then-since-lag-clause-stands c = λ s was bit bits found few count kept 
     let t = tested (goal.at.returns-then-since-lag-clause-stands c).After-right_after s was bit bits found count h in
     let since = t.2 in
     let lag : c.verified_by-lag.result ≡ verify_bits now.rules = c.verified_by-lag.ensures.value ∙ ap (λ (v : Searching). verify_bits v.rules) c.self.view_is in
-    told_waits s now was c.args.room.now bit bits found count kept free (sym t.3 ∙ c.if-right_after.false) (omega (arith, c.if-since-lag.true)) h
+    reported_waits s now was c.args.room.now bit bits found count kept free (sym t.3 ∙ c.if-right_after.false) (omega (arith, c.if-since-lag.true)) h
 
 -- the place that further markers verify, or none
 looked : (c : After-place_verified) (n : ℕ)
@@ -59,7 +59,7 @@ looked : (c : After-place_verified) (n : ℕ)
 looked c n since right taken waits s was bit bits found count kept free h =
     let now = c.args.self.now in
     let lag : c.verified_by-lag.result ≡ verify_bits now.rules = c.verified_by-lag.ensures.value ∙ ap (λ (v : Searching). verify_bits v.rules) c.self.view_is in
-    told_verified s now was c.args.room.now bit c.place_verified.result n bits found count kept free (sym right ∙ c.if-right_after.false) (omega (arith, c.if-since-lag.false))
+    reported_verified s now was c.args.room.now bit c.place_verified.result n bits found count kept free (sym right ∙ c.if-right_after.false) (omega (arith, c.if-since-lag.false))
     (subst (λ (k : ℕ). IfSome c.place_verified.result (λ _. n ≡ k)) lag taken) waits
     (λ from r room. c.place_verified.ensures (bits ++ bit ∷ []) from r (omega arith)
     ∙ ap (λ k. option_map (awaited_at None) (here now.rules (length (bits ++ bit ∷ []) - (32 + k)) None (drop (length (bits ++ bit ∷ []) - (32 + k)) (bits ++ bit ∷ [])))) lag) h

@@ -19,7 +19,7 @@ use tm_words::{Job, JobKind};
 
 /// Does what a command asks for, and answers how it ended. Where there is not enough memory, nothing is read or
 /// written.
-pub fn obey<R: Threads + Sync, S: Source, O: Sink, N: Sink>(
+pub fn dispatch<R: Threads + Sync, S: Source, O: Sink, N: Sink>(
     rt: &R,
     alloc: Global,
     job: &Job,

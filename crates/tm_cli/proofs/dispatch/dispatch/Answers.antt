@@ -5,7 +5,7 @@ use Rattle.tm_words.specs.declared.commands.JobKind.{JobKind}
 use Rattle.tm_cli.specs.Commands.{command_by}
 use Rattle.tm_cli.specs.Commands.Command.{Encode, Decode, Report, Trace, Word, Soak, Erased, Certify, Check, Bits}
 use Rattle.tm_cli.proofs.Answering.{erased-coded, check-rate, as-command, without-notes, without-input}
-use Rattle.tm_cli.proofs.obey.obey.Goals as goal
+use Rattle.tm_cli.proofs.dispatch.dispatch.Goals as goal
 
 pub returns-in-Encode-clause-answered : goal.returns-in-Encode-clause-answered
 returns-in-Encode-clause-answered g c = as-command {E = NoMemory} (Ok c.encode.result) _ Encode c.args.config.now _ _ _ (ap (λ (k : JobKind). command_by k c.args.job.now) c.in-Encode.is) c.encode.ensures.answered

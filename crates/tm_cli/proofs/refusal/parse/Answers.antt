@@ -6,7 +6,7 @@ use Rattle.tm_cli.specs.Refusal.{refusal_of}
 use Rattle.tm_cli.specs.declared.refusal.Refusal.{Refusal}
 use Rattle.tm_cli.specs.declared.refusal.Refusal.TheVariants.{Words}
 use Rattle.tm_cli.proofs.Words.{command-refused, words-refused}
-use Rattle.tm_cli.proofs.refusal.ask.Goals as goal
+use Rattle.tm_cli.proofs.refusal.parse.Goals as goal
 
 pub returns-in-Err-Words-clause-refused : goal.returns-in-Err-Words-clause-refused
 returns-in-Err-Words-clause-refused c = λ why same.

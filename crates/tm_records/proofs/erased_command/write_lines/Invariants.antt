@@ -2,7 +2,7 @@ use Rattle.std.proofs.Common.{◌≡◌, take}
 use Rattle.std.specs.List.{list_any}
 use Rattle.tm_base.specs.Written.{Wrote}
 use Rattle.tm_records.specs.Erased.{is_beyond, nearest_lines}
-use Rattle.tm_records.proofs.erased_command.tell_records.Given as goal
+use Rattle.tm_records.proofs.erased_command.write_lines.Given as goal
 
 abbrev pub invariant-loop-index : goal.invariant-loop-index
 invariant-loop-index g l = record {

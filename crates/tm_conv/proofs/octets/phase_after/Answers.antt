@@ -1,6 +1,0 @@
-use Rattle.std.proofs.Common.{◌+◌, ◌∙◌, ap, get_or, ℕ}
-use Rattle.tm_conv.specs.declared.octets.TheConstants.{NEXT}
-use Rattle.tm_conv.proofs.octets.phase_after.Goals as goal
-
-pub returns : goal.returns
-returns c = ap (λ (k : ℕ). get_or NEXT (c.first_row.result + k) 0) c.from.ensures ∙ c.first_row.ensures.next c.args.phase c.requires
