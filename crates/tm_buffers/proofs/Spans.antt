@@ -6,7 +6,7 @@ use Rattle.tm_base.specs.Bits.{bits_of, bits_of_octet, low_bits}
 use Rattle.tm_base.proofs.Packing.{bits_of-drop, bits_of-take, length-low_bits}
 use Rattle.tm_sync.specs.declared.found.Found.{Found}
 use Rattle.tm_sync.specs.Places.{Rules, places}
-use Rattle.tm_sync.specs.Searching.{Searching, StandsFor, inside_of, is_pending, waiting_of}
+use Rattle.tm_sync.specs.Searching.{Searching, SearchStandsFor, inside_of, is_pending, waiting_of}
 use Rattle.tm_sync.proofs.Sliding.{bit_of}
 use Rattle.tm_buffers.specs.Searching.{Finds, bits_in, span}
 
@@ -85,21 +85,21 @@ taken-more P from at to given items more first second is =
 -- ---- one place after another
 
 pub finds-next : (was now : Searching) (room : List ℕ) (place : Option Found) → now.rules ≡ was.rules → IfNone place (now ≡ was)
-    → IfNone place ((bits : List Bool) (found : List Found) → StandsFor was room bits found → places was.rules bits ≡ found)
-    → IfSome place (λ f. (bits : List Bool) (found : List Found) → StandsFor was room bits found
-    → StandsFor now room bits (found ++ f ∷ [])
+    → IfNone place ((bits : List Bool) (found : List Found) → SearchStandsFor was room bits found → places was.rules bits ≡ found)
+    → IfSome place (λ f. (bits : List Bool) (found : List Found) → SearchStandsFor was room bits found
+    → SearchStandsFor now room bits (found ++ f ∷ [])
     × ((rest : List Found) × (places was.rules bits ≡ found ++ f ∷ rest) × (length rest ≡ waiting_of now))
     × (f.place + 32 + unwrap_or (inside_of was) 0 ≡ length bits))
-    → (bits : List Bool) (found : List Found) → StandsFor was room bits found → Finds now room bits found place
+    → (bits : List Bool) (found : List Found) → SearchStandsFor was room bits found → Finds now room bits found place
 finds-next was now room None rules same none some bits found stands =
-    (subst (λ (s : Searching). StandsFor s room bits found) (sym same) stands, subst (λ (r : Rules). places r bits ≡ found) (sym rules) (none bits found stands))
+    (subst (λ (s : Searching). SearchStandsFor s room bits found) (sym same) stands, subst (λ (r : Rules). places r bits ≡ found) (sym rules) (none bits found stands))
 finds-next was now room (Some f) rules same none some bits found stands =
     let there = some bits found stands in
     let left = there.1 in
     (there.0, (left.0, subst (λ (r : Rules). places r bits ≡ found ++ f ∷ left.0) (sym rules) left.1, left.2))
 
 -- no place was found
-pub not-found : (search : Searching) (room : List ℕ) (bits : List Bool) (found : List Found) (place : Option Found) → place ≡ None → Finds search room bits found place → StandsFor search room bits found
+pub not-found : (search : Searching) (room : List ℕ) (bits : List Bool) (found : List Found) (place : Option Found) → place ≡ None → Finds search room bits found place → SearchStandsFor search room bits found
 not-found search room bits found place none finds = (subst (Finds search room bits found) none finds).0
 
 -- so none waits

@@ -4,7 +4,7 @@ use Rattle.tm_base.specs.Handed.{Handed, items_of}
 use Rattle.tm_config.specs.Configuration.{Configuration}
 use Rattle.tm_inner.specs.Handing.{AreHanded, AreHandedDue}
 use Rattle.tm_inner.specs.Phase.{IsChosen}
-use Rattle.tm_inner.specs.Receiving.{InnerReceiving, StandsFor}
+use Rattle.tm_inner.specs.Receiving.{InnerReceiving, InnerReceiverStandsFor}
 use Rattle.tm_viterbi.specs.Clean.{kept_bits}
 use Rattle.tm_viterbi.specs.WindowBlock.{WindowBlock}
 use Rattle.tm_buffers.specs.Buffer.{Fills, most_taken}
@@ -27,7 +27,7 @@ pub record KeepsBits (size : ℕ) (bits : List ℕ) (block : WindowBlock) (size_
 pub record IsDecoding (decoder : InnerReceiving) (given : List ℕ)
     (done : List (Handed WindowBlock)) : Type 0 where
   pub going : decoder.has_stopped ≡ false
-  pub stands : StandsFor decoder given done
+  pub stands : InnerReceiverStandsFor decoder given done
   pub due : AreHandedDue decoder.config given done
 
 -- given further octets, a decoder goes on, and the bits that its further blocks keep were written

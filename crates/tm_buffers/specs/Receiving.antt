@@ -6,7 +6,7 @@ use Rattle.tm_channel.specs.Handing.{AreReceived, AreReceivedDue}
 use Rattle.tm_config.specs.Configuration.{Configuration}
 use Rattle.tm_channel.specs.Items.{ItemValue}
 use Rattle.tm_channel.specs.Most.{most_items}
-use Rattle.tm_channel.specs.OctetReceiving.{OctetReceiving, StandsFor}
+use Rattle.tm_channel.specs.OctetReceiving.{OctetReceiving, ReceiverStandsFor}
 use Rattle.tm_inner.specs.Phase.{IsChosen}
 use Rattle.tm_buffers.specs.Items.{HasWritten}
 use Rattle.tm_buffers.specs.Buffer.{most_taken}
@@ -32,7 +32,7 @@ IsEnough c octets count frames reports = (most : ℕ) → octets ≤ most
 pub record IsReceiving (receiver : OctetReceiving) (given : List ℕ)
     (done : List (Handed ItemValue)) : Type 0 where
   pub going : receiver.has_stopped ≡ false
-  pub stands : StandsFor receiver given done
+  pub stands : ReceiverStandsFor receiver given done
 
 -- given further octets, a receiver goes on, and what is due with them was written, all of it where
 -- there is the room that is said

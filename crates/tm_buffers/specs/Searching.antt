@@ -2,7 +2,7 @@
 use Rattle.std.specs.Prelude.{◌≡◌, ℕ, ◌-◌, ◌==◌, Bool, not, List, [], ◌∷◌, ◌++◌, length, map, take, drop, Option, Some, None}
 use Rattle.tm_sync.specs.declared.found.Found.{Found}
 use Rattle.tm_sync.specs.Places.{places}
-use Rattle.tm_sync.specs.Searching.{Searching, StandsFor, waiting_of}
+use Rattle.tm_sync.specs.Searching.{Searching, SearchStandsFor, waiting_of}
 
 -- bits that are passed as numbers, 0 and others
 abbrev pub bits_in : List ℕ → List Bool
@@ -16,8 +16,8 @@ span from to items = take (to - from) (drop from items)
 -- found these places and no others; or these and one more, after which the places are left that
 -- came with the same bit.
 abbrev pub Finds : Searching → List ℕ → List Bool → List Found → Option Found → Type 0
-Finds search room bits found None = StandsFor search room bits found
+Finds search room bits found None = SearchStandsFor search room bits found
     × (places search.rules bits ≡ found)
-Finds search room bits found (Some f) = StandsFor search room bits (found ++ f ∷ [])
+Finds search room bits found (Some f) = SearchStandsFor search room bits (found ++ f ∷ [])
     × ((rest : List Found) × (places search.rules bits ≡ found ++ f ∷ rest)
     × (length rest ≡ waiting_of search))

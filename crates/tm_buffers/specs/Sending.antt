@@ -3,7 +3,7 @@ use Rattle.std.specs.Prelude.{◌≡◌, ℕ, ◌+◌, ◌*◌, ◌/◌, nat_le,
 use Rattle.std.specs.Option.{is_some}
 use Rattle.tm_base.specs.Bits.{AreOctets}
 use Rattle.tm_config.specs.Configuration.{Configuration, codeblock_length}
-use Rattle.tm_channel.specs.Sending.{Sending, StandsFor}
+use Rattle.tm_channel.specs.Sending.{Sending, SenderStandsFor}
 use Rattle.tm_buffers.specs.Buffer.{most_taken}
 
 -- how many symbols an octet comes to at most: two for each of its bits, or with no inner code
@@ -23,4 +23,4 @@ symbols_room c count = if nat_le count most_taken
 pub record IsSending (sender : Sending) (given : List ℕ) : Type 0 where
   pub octets : AreOctets given
   pub going : sender.inner.has_failed ≡ false
-  pub stands : StandsFor sender given
+  pub stands : SenderStandsFor sender given

@@ -2,7 +2,7 @@
 ghost use Rattle.std.specs.Prelude.{◌≡◌, ◌==◌, ◌<◌, ◌≤◌, ◌+◌, ◌*◌, ℕ, Bool, List, ◌++◌, length, take, drop, map, not, false, IfNone, IsSome, unwrap_or};
 ghost use Rattle.tm_base.specs.Bits.{bits_of};
 ghost use Rattle.tm_sync.specs.declared.found.Found.{Found};
-ghost use Rattle.tm_sync.specs.Searching.{StandsFor, is_pending};
+ghost use Rattle.tm_sync.specs.Searching.{SearchStandsFor, is_pending};
 ghost use Rattle.tm_sync.specs.Bits.{bits_bound};
 ghost use Rattle.tm_buffers.specs.Searching.{Finds, bits_in, span};
 ghost use Rattle.tm_buffers.specs.Buffer.{most_taken};
@@ -26,7 +26,7 @@ pub fn find_in_bits(
     ensures all { IfNone result.1 (result.0 ≡ length bits.now) }
     ensures free { IfNone result.1 (is_pending search.new ≡ false) }
     ensures finds { (given : List Bool) (found : List Found) → length given + length bits.now ≤ bits_bound
-        → StandsFor search.old room.old given found
+        → SearchStandsFor search.old room.old given found
         → Finds search.new room.new (given ++ span from result.0 (bits_in bits.now)) found result.1 }
 {
     let mut end = from;
@@ -55,7 +55,7 @@ pub fn find_in_octets(
     ensures all { IfNone result.1 (result.0 ≡ 8 * length octets.now) }
     ensures free { IfNone result.1 (is_pending search.new ≡ false) }
     ensures finds { (given : List Bool) (found : List Found) → length given + 8 * length octets.now ≤ bits_bound
-        → StandsFor search.old room.old given found
+        → SearchStandsFor search.old room.old given found
         → Finds search.new room.new (given ++ span from result.0 (bits_of octets.now)) found result.1 }
 {
     let size = 8 * octets.len() as u64;
@@ -79,8 +79,8 @@ fn take_some(search: &mut Search, room: &mut [u8], block_bits: u32, octets: &[u8
     ensures some { 0 < result }
     ensures within { from + result ≤ 8 * length octets.now }
     ensures takes { (given : List Bool) (found : List Found) → length given + result ≤ bits_bound
-        → StandsFor search.old room.old given found
-        → StandsFor search.new room.new (given ++ span from (from + result) (bits_of octets.now)) found }
+        → SearchStandsFor search.old room.old given found
+        → SearchStandsFor search.new room.new (given ++ span from (from + result) (bits_of octets.now)) found }
 {
     let first = (from / 8) as usize;
     let whole = whole_octets(search.inside(), block_bits, from % 8).min(octets.len() - first);

@@ -24,5 +24,6 @@ pub record HasPassed (r : Reading) : Type 0 where
 
 -- a certificate that was given these octets and no others, in which these windows passed and were
 -- left behind
-abbrev pub StandsFor : Reading → List ℕ → List Window → Type 0
-StandsFor r given windows = ArePassed r.rules (at_first r.rules) given windows r.before r.octets
+abbrev pub ReaderStandsFor : Reading → List ℕ → List Window → Type 0
+ReaderStandsFor r given windows =
+    ArePassed r.rules (at_first r.rules) given windows r.before r.octets

@@ -7,7 +7,7 @@ ghost use Rattle.tm_cert_file.specs.Window.{Window, steps_in, kept_in, metric_in
 ghost use Rattle.tm_cert_file.specs.Before.{at_first, after_window, most_kept};
 ghost use Rattle.tm_cert_file.specs.Seen.{IsSeen};
 ghost use Rattle.tm_cert_file.specs.File.{is_cut, kept_octets};
-ghost use Rattle.tm_cert_file.specs.Reading.{IsOpen, HasPassed, StandsFor};
+ghost use Rattle.tm_cert_file.specs.Reading.{IsOpen, HasPassed, ReaderStandsFor};
 
 use crate::certifying::span;
 use crate::judging::{
@@ -79,7 +79,7 @@ impl Reader {
         ensures rules { IfOk result (λ r. r.rules ≡ record { rate = rate; invert = invert; starts = starts;
             keep = keep; ahead = ahead }) }
         ensures fresh { IfOk result (λ r. (r.before ≡ at_first r.rules) × (r.octets ≡ []) × IsOpen r) }
-        ensures stands { IfOk result (λ r. StandsFor r [] []) }
+        ensures stands { IfOk result (λ r. ReaderStandsFor r [] []) }
     {
         let steps = (keep + ahead) as usize;
         let Ok(octets) = Held::open(alloc, HEADER + 3 * steps + COLUMN * (steps + 1)) else {
@@ -116,8 +116,8 @@ impl Reader {
             → IsSeen self.old.rules self.old.before (self.old.octets ++ take count piece.now) Seen.More }
         ensures all { result.1 ≡ Seen.More → result.0 ≡ length piece.now }
         ensures just { result.1 ≡ Seen.Passed → HasPassed self.new }
-        ensures stands { (given : List ℕ) (windows : List Window) → StandsFor self.old given windows
-            → StandsFor self.new (given ++ take result.0 piece.now) windows }
+        ensures stands { (given : List ℕ) (windows : List Window) → ReaderStandsFor self.old given windows
+            → ReaderStandsFor self.new (given ++ take result.0 piece.now) windows }
     {
         let mut taken = 0;
         while taken < piece.len() {
@@ -275,8 +275,8 @@ impl Reader {
             → self.new.before ≡ after_window self.old.rules self.old.before
             (window_in self.old.rules.rate self.old.before.t self.old.octets) }
         ensures stands { (given : List ℕ) (windows : List Window)
-            → self.old.before.t + kept_in self.old.octets ≤ most_kept → StandsFor self.old given windows
-            → StandsFor self.new given (windows ++ window_in self.old.rules.rate self.old.before.t self.old.octets
+            → self.old.before.t + kept_in self.old.octets ≤ most_kept → ReaderStandsFor self.old given windows
+            → ReaderStandsFor self.new given (windows ++ window_in self.old.rules.rate self.old.before.t self.old.octets
             ∷ []) }
     {
         let steps = self.steps();

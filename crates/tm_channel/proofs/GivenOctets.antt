@@ -17,7 +17,7 @@ use Rattle.tm_windows.specs.declared.choosing.Chosen.{Chosen}
 use Rattle.tm_inner.specs.Inner.{BlocksAt, plain_bits, plain_count, bits_at, windows_of, soft_value, soft_octets, AreInnerBlocks, AreInnerDue, Inner, inner_bits}
 use Rattle.tm_inner.specs.Phase.{IsChosenBy, IsChosen, IsSettled, needed_at, skipped_at, phase_octets, skip_of, with_phase, IsChosenSoFar}
 use Rattle.tm_inner.specs.Handing.{AreHanded, AreHandedDue}
-use Rattle.tm_inner.specs.Receiving.{IsCount, InnerReceiving, FirstAt, AreInnerFirst, StandsFor as InnerStandsFor, Hands, HandsPrefix}
+use Rattle.tm_inner.specs.Receiving.{IsCount, InnerReceiving, FirstAt, AreInnerFirst, InnerReceiverStandsFor, Hands, HandsPrefix}
 use Rattle.tm_inner.proofs.DueBits.{drop-split, soft-more}
 use Rattle.tm_inner.proofs.GivenPieces.{Stay}
 use Rattle.tm_inner.proofs.PlainBits.{bits-nil, length-plain, plain-append, plain-few}
@@ -35,7 +35,7 @@ use Rattle.tm_channel.specs.Due.{due}
 use Rattle.tm_channel.specs.declared.totals.Totals.{Totals}
 use Rattle.tm_channel.specs.Handing.{totals_of, phase_from, phase_of, AreReceived, AreReceivedDue, AreReceivedFirst, AreReceivedPrefix}
 use Rattle.tm_channel.specs.Receiving.{beyond, waiting_bits, AreFurther, AreFirstFurther, AreFirstDue}
-use Rattle.tm_channel.specs.OctetReceiving.{BitReceiving, OctetReceiving, StandsFor, FirstWith, StandsForBits, Stages, StagesFor, StagesHand, StagesOn, Keeping, Keeps, KeepsPhase, AreSpare, AreWaiting, Gathers, Grows, Ends, Received, ReceivedPart, ReceivedLast, ReceivedLastPart, bits_found, received_bits}
+use Rattle.tm_channel.specs.OctetReceiving.{BitReceiving, OctetReceiving, ReceiverStandsFor, FirstWith, BitReceiverStandsFor, Stages, StagesFor, StagesHand, StagesOn, Keeping, Keeps, KeepsPhase, AreSpare, AreWaiting, Gathers, Grows, Ends, Received, ReceivedPart, ReceivedLast, ReceivedLastPart, bits_found, received_bits}
 use Rattle.tm_channel.proofs.Streaming.{first-longer, first-more, first-then, items-then}
 use Rattle.tm_channel.proofs.AllBits.{beyond-nil, all-items, some-items, few-items, due-nil}
 use Rattle.tm_channel.proofs.ReceivedPieces.{all_bits, all_bits-append}
@@ -97,8 +97,9 @@ further-at (Some rate) c given octets blocks more kept skip is same =
 -- the first stage was given octets, and its phase and its bits were kept
 pub grows-kept : (inner now : InnerReceiving) (room kept : Keeping) (octets : List ℕ) (more : List (Handed WindowBlock)) → HandedOver (on_handed KeepsPhase Keeps) room more kept
     → room.bits ≡ [] → room.phase ≡ None
-    → ((given : List ℕ) (done : List (Handed WindowBlock)) → length given + length octets < 2 ^ 60 → InnerStandsFor inner given done
-    → InnerStandsFor now (given ++ octets) (done ++ more) × AreHandedDue inner.config (given ++ octets) (done ++ more))
+    → ((given : List ℕ) (done : List (Handed WindowBlock)) → length given + length octets < 2 ^ 60 → InnerReceiverStandsFor inner given done
+    → InnerReceiverStandsFor now (given ++ octets) (done ++ more)
+    × AreHandedDue inner.config (given ++ octets) (done ++ more))
     → Grows inner now room.size octets kept.phase (received_bits inner kept.bits octets)
 grows-kept inner now room kept octets more handed none fresh stands given done waiting few fits stood due =
     let c = inner.config in
@@ -118,27 +119,28 @@ grows-kept inner now room kept octets more handed none fresh stands given done w
 
 -- the first octets were gathered, and then it was given the others
 pub gathered-fed : (inner middle now : InnerReceiving) (octets : List ℕ) (taken : ℕ) (more : List (Handed WindowBlock)) → middle.config ≡ inner.config → taken ≤ length octets
-    → ((given : List ℕ) (done : List (Handed WindowBlock)) → length given + taken < 2 ^ 60 → InnerStandsFor inner given done → InnerStandsFor middle (given ++ take taken octets) done)
-    → ((given : List ℕ) (done : List (Handed WindowBlock)) → length given + length (drop taken octets) < 2 ^ 60 → InnerStandsFor middle given done
-    → InnerStandsFor now (given ++ drop taken octets) (done ++ more) × AreHandedDue middle.config (given ++ drop taken octets) (done ++ more))
-    → (given : List ℕ) (done : List (Handed WindowBlock)) → length given + length octets < 2 ^ 60 → InnerStandsFor inner given done
-    → InnerStandsFor now (given ++ octets) (done ++ more) × AreHandedDue inner.config (given ++ octets) (done ++ more)
+    → ((given : List ℕ) (done : List (Handed WindowBlock)) → length given + taken < 2 ^ 60 → InnerReceiverStandsFor inner given done → InnerReceiverStandsFor middle (given ++ take taken octets) done)
+    → ((given : List ℕ) (done : List (Handed WindowBlock)) → length given + length (drop taken octets) < 2 ^ 60 → InnerReceiverStandsFor middle given done
+    → InnerReceiverStandsFor now (given ++ drop taken octets) (done ++ more) × AreHandedDue middle.config (given ++ drop taken octets) (done ++ more))
+    → (given : List ℕ) (done : List (Handed WindowBlock)) → length given + length octets < 2 ^ 60 → InnerReceiverStandsFor inner given done
+    → InnerReceiverStandsFor now (given ++ octets) (done ++ more)
+    × AreHandedDue inner.config (given ++ octets) (done ++ more)
 gathered-fed inner middle now octets taken more same within gathered fed given done few stood =
     let prefix = take taken octets in
     let there = fed (given ++ prefix) done (omega (arith, few, within, length-append given prefix, length-take taken octets, length-drop taken octets)) (gathered given done (omega (arith, few, within)) stood) in
     let whole : (given ++ prefix) ++ drop taken octets ≡ given ++ octets = append_assoc given prefix (drop taken octets) ∙ ap (λ l. given ++ l) (take-append-drop taken octets) in (
-      subst (λ (l : List ℕ). InnerStandsFor now l (done ++ more)) whole there.0,
+      subst (λ (l : List ℕ). InnerReceiverStandsFor now l (done ++ more)) whole there.0,
       subst (λ (k : Configuration). AreHandedDue k (given ++ octets) (done ++ more)) same (subst (λ (l : List ℕ). AreHandedDue middle.config l (done ++ more)) whole there.1),
     )
 
 -- all octets were gathered
 pub gathered-all : (inner now : InnerReceiving) (octets : List ℕ) (taken due most : ℕ) → now.config ≡ inner.config → taken ≡ length octets → due ≤ most
-    → ((given : List ℕ) (done : List (Handed WindowBlock)) → length given + taken < 2 ^ 60 → InnerStandsFor inner given done → InnerStandsFor now (given ++ take taken octets) done)
-    → ((given : List ℕ) (done : List (Handed WindowBlock)) → InnerStandsFor now given done
+    → ((given : List ℕ) (done : List (Handed WindowBlock)) → length given + taken < 2 ^ 60 → InnerReceiverStandsFor inner given done → InnerReceiverStandsFor now (given ++ take taken octets) done)
+    → ((given : List ℕ) (done : List (Handed WindowBlock)) → InnerReceiverStandsFor now given done
     → (more : List WindowBlock) × IsCount now.config (length (kept_bits more)) due × AreHandedDue now.config given (done ++ map Item more))
     → Gathers inner now octets most
 gathered-all inner now octets taken due most same all few_due gathered counted given done few stood =
-    let there = subst (λ (l : List ℕ). InnerStandsFor now (given ++ l) done) (take_all taken octets (omega (arith, all))) (gathered given done (omega (arith, few, all)) stood) in
+    let there = subst (λ (l : List ℕ). InnerReceiverStandsFor now (given ++ l) done) (take_all taken octets (omega (arith, all))) (gathered given done (omega (arith, few, all)) stood) in
     let h = counted (given ++ octets) done there in (
       there,
       (h.0, omega (arith, h.1.0, few_due), subst (λ (k : Configuration). AreHandedDue k (given ++ octets) (done ++ map Item h.0)) same h.2),
@@ -167,7 +169,7 @@ bits-last c given done last left h =
 -- the first stage ended, and its phase and its bits were kept
 pub ends-kept : (inner : InnerReceiving) (room kept : Keeping) (totals : Totals) (last : List (Handed WindowBlock)) (left : ℕ) → HandedOver (on_handed KeepsPhase Keeps) room last kept
     → room.bits ≡ [] → room.phase ≡ None
-    → ((given : List ℕ) (done : List (Handed WindowBlock)) → InnerStandsFor inner given done
+    → ((given : List ℕ) (done : List (Handed WindowBlock)) → InnerReceiverStandsFor inner given done
     → AreHanded inner.config given (done ++ last) left × (totals ≡ totals_of inner.config (inner_bits inner.config given (items_of (done ++ last))) (items_of (done ++ last))))
     → Ends inner room.size kept.phase (map (λ bit. bit == 1) kept.bits) totals
 ends-kept inner room kept totals last left handed none fresh stands given done waiting fits stood due =
@@ -330,7 +332,7 @@ few_bits bits all piece given octets is most few = omega (arith, ap length is, m
 -- what the first stage goes on to
 record Onward (s : Stages) (now : InnerReceiving) (given octets : List ℕ) (handed : List (Handed WindowBlock)) (phase : Option Chosen) (piece : List Bool) : Type 0 where
   more : List (Handed WindowBlock)
-  stands : InnerStandsFor now (given ++ octets) (handed ++ more)
+  stands : InnerReceiverStandsFor now (given ++ octets) (handed ++ more)
   due : AreHandedDue s.inner.config (given ++ octets) (handed ++ more)
   is_phase : phase ≡ phase_of more
   is : inner_bits s.inner.config (given ++ octets) (items_of (handed ++ more)) ≡ inner_bits s.inner.config given (items_of handed) ++ piece
@@ -367,7 +369,7 @@ stages-due took s now middle taker_now room octets phase piece of roomy same gro
     let bits = inner_bits c given (items_of stood.handed) in
     let more = subst (λ (k : Configuration). AreFurther k bits piece p.items) of (p.due bits f.few stood.bits) in
     let items = subst (λ (l : List Bool). AreItemsOf c l (due c l) (stood.items ++ p.items)) (sym f.is) (due-further c bits piece stood.items p.items stood.are_items more) in
-    let stands = subst (StandsForBits now.bits) (sym f.is) (p.stands bits f.few stood.bits) in (
+    let stands = subst (BitReceiverStandsFor now.bits) (sym f.is) (p.stands bits f.few stood.bits) in (
       record {
         handed = handed;
         inner = f.stands;
@@ -375,7 +377,7 @@ stages-due took s now middle taker_now room octets phase piece of roomy same gro
         are_due = subst (λ (k : Configuration). AreWaiting k (given ++ octets) handed []) (sym same) (subst (AreHandedDue c (given ++ octets)) (sym (append-nil handed)) f.due);
         few = omega arith;
         none_due = ap (λ (l : List WindowBlock). due now.inner.config (inner_bits now.inner.config (given ++ octets) l)) (append-nil (items_of handed));
-        bits = subst (λ (k : Configuration). StandsForBits now.bits (inner_bits k (given ++ octets) (items_of handed))) (sym same) stands;
+        bits = subst (λ (k : Configuration). BitReceiverStandsFor now.bits (inner_bits k (given ++ octets) (items_of handed))) (sym same) stands;
         items = stood.items ++ p.items;
         are_items = subst (λ (k : Configuration). AreItemsOf k (inner_bits k (given ++ octets) (items_of handed)) (due k (inner_bits k (given ++ octets) (items_of handed))) (stood.items ++ p.items))
             (sym same) items;
@@ -408,7 +410,7 @@ stages-wait s now octets spare of same coded none most gathers given done few st
     let blocks = items_of stood.handed in
     let is = kept-coded c.inner c given octets blocks coded in
     let more = with-waiting c.inner c (given ++ octets) blocks waiting in
-    let stands = subst (StandsForBits s.bits) (sym is) stood.bits in
+    let stands = subst (BitReceiverStandsFor s.bits) (sym is) stood.bits in
     let none_due = subst (λ (k : Configuration). due k (inner_bits c (given ++ octets) blocks ++ more.0) ≡ due k (inner_bits c (given ++ octets) blocks)) of
     (none (inner_bits c (given ++ octets) blocks) more.0 stands (omega (arith, more.2, f.1.1))) in
     let items = subst (λ (l : List Bool). AreItemsOf c l (due c l) stood.items) (sym is) stood.are_items in (
@@ -419,7 +421,7 @@ stages-wait s now octets spare of same coded none most gathers given done few st
         are_due = subst (λ (k : Configuration). AreWaiting k (given ++ octets) stood.handed waiting) (sym same) f.1.2;
         few = omega (arith, f.1.1, most, ap (λ (k : Configuration). waiting_bits k k.batch) of, ap (λ (k : Configuration). waiting_bits k k.batch) same);
         none_due = subst (λ (k : Configuration). due k (inner_bits k (given ++ octets) (blocks ++ waiting)) ≡ due k (inner_bits k (given ++ octets) blocks)) (sym same) (ap (due c) more.1 ∙ none_due);
-        bits = subst (λ (k : Configuration). StandsForBits s.bits (inner_bits k (given ++ octets) blocks)) (sym same) stands;
+        bits = subst (λ (k : Configuration). BitReceiverStandsFor s.bits (inner_bits k (given ++ octets) blocks)) (sym same) stands;
         items = stood.items;
         are_items = subst (λ (k : Configuration). AreItemsOf k (inner_bits k (given ++ octets) blocks) (due k (inner_bits k (given ++ octets) blocks)) stood.items) (sym same) items;
         are = append-nil done ∙ stood.are;
@@ -439,7 +441,7 @@ hands-wait took s now taker octets spare of same coded none most gathers = recor
 
 -- a part of it was
 stages-prefix : (s : Stages) (now : InnerReceiving) (room : ℕ) (octets : List ℕ) (phase : Option Chosen) (piece : List Bool) (tried : List ItemValue)
-    → IsOf s → IsRoomy s (length octets) room → Grows s.inner now room octets phase piece → AreFirstDue s.bits.batch.config (StandsForBits s.bits) piece tried
+    → IsOf s → IsRoomy s (length octets) room → Grows s.inner now room octets phase piece → AreFirstDue s.bits.batch.config (BitReceiverStandsFor s.bits) piece tried
     → (with_phase phase [] ++ map Item tried ≡ [] → ⊥)
     → (given : List ℕ) (done : List (Handed ItemValue)) → length given + length octets < 2 ^ 60 → StagesFor s given done
     → AreReceivedFirst s.inner.config (given ++ octets) (done ++ (with_phase phase [] ++ map Item tried))
@@ -645,10 +647,10 @@ first_with-stays stays closed c chosen octets more handed h = (first-stays stays
 
 -- the phase that is chosen at the end
 pub chosen-at_end : (r now : OctetReceiving) (chosen : Option Chosen) → r ≡ now → r.stages.inner.config ≡ r.config
-    → ((given : List ℕ) (done : List (Handed WindowBlock)) → InnerStandsFor r.stages.inner given done → IsChosen r.stages.inner.config given chosen)
-    → (given : List ℕ) (done : List (Handed ItemValue)) → StandsFor now given done → now.has_stopped ≡ false → IsChosen now.config given chosen
+    → ((given : List ℕ) (done : List (Handed WindowBlock)) → InnerReceiverStandsFor r.stages.inner given done → IsChosen r.stages.inner.config given chosen)
+    → (given : List ℕ) (done : List (Handed ItemValue)) → ReceiverStandsFor now given done → now.has_stopped ≡ false → IsChosen now.config given chosen
 chosen-at_end r now chosen view same is =
-    subst (λ (n : OctetReceiving). (given : List ℕ) (done : List (Handed ItemValue)) → StandsFor n given done → n.has_stopped ≡ false → IsChosen n.config given chosen) view
+    subst (λ (n : OctetReceiving). (given : List ℕ) (done : List (Handed ItemValue)) → ReceiverStandsFor n given done → n.has_stopped ≡ false → IsChosen n.config given chosen) view
     (λ given done stood _. subst (λ (k : Configuration). IsChosen k given chosen) same (is given stood.handed stood.inner))
 
 -- the phase and the bits of the end of the octets
@@ -782,7 +784,7 @@ ends-prefix took broke s bits_now taker middle now room phase piece totals of ro
 
 -- ---- new stages
 
-pub stands-fresh : (s : Stages) → 1 ≤ s.inner.config.keep → InnerStandsFor s.inner [] [] → StandsForBits s.bits [] → StagesFor s [] []
+pub stands-fresh : (s : Stages) → 1 ≤ s.inner.config.keep → InnerReceiverStandsFor s.inner [] [] → BitReceiverStandsFor s.bits [] → StagesFor s [] []
 stands-fresh s some inner bits =
     let c = s.inner.config in
     let none : inner_bits c [] [] ≡ [] = bits-nil c.inner c in
@@ -793,7 +795,7 @@ stands-fresh s some inner bits =
       are_due = handed-due-none c some;
       few = omega arith;
       none_due = refl;
-      bits = subst (StandsForBits s.bits) (sym none) bits;
+      bits = subst (BitReceiverStandsFor s.bits) (sym none) bits;
       items = [];
       are_items = subst (λ (l : List Bool). AreItemsOf c l (due c l) []) (sym none)
           (subst (λ (fs : List Found). AreItemsOf c [] fs []) (sym (due-nil c)) tt);

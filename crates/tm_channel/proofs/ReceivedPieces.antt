@@ -12,14 +12,14 @@ use Rattle.tm_inner.proofs.DueBits.{kept-append}
 use Rattle.tm_channel.specs.Items.{ItemValue, AreItemsOf}
 use Rattle.tm_channel.specs.Due.{due, due_count}
 use Rattle.tm_channel.specs.Receiving.{beyond, AreDue, AreFirstDue, AreFirstFurther, AreFurther, Holds, HoldsMore}
-use Rattle.tm_channel.specs.OctetReceiving.{BitReceiving, StandsForBits, Received, ReceivedPart, Settles, SettlesPart}
+use Rattle.tm_channel.specs.OctetReceiving.{BitReceiving, BitReceiverStandsFor, Received, ReceivedPart, Settles, SettlesPart}
 use Rattle.tm_channel.proofs.Pieces.{goes-then, due-then, first-due-then, first-due-all}
 
 -- no bits
 pub received-none : {T : Type 0} (took : T → ItemValue → T → Type 0) (s : BitReceiving) (taker : T) → Received took s s taker taker []
 received-none took s taker = record {
   config = refl;
-  stands = λ bits few stood. subst (StandsForBits s) (sym (append-nil bits)) stood;
+  stands = λ bits few stood. subst (BitReceiverStandsFor s) (sym (append-nil bits)) stood;
   items = [];
   handed = refl;
   due = λ bits few stood. subst (λ (fs : List Found). AreItemsOf s.batch.config (bits ++ []) fs [])
@@ -32,7 +32,7 @@ Pushes a b piece = (handed : ℕ) (bits : List Bool) → length (bits ++ piece) 
     → HoldsMore b.search b.room b.batch handed bits piece
 
 held-then : (a b : BitReceiving) (piece bits : List Bool) → b.batch.config ≡ a.batch.config → Pushes a b piece
-    → length (bits ++ piece) < 2 ^ 63 → StandsForBits a bits
+    → length (bits ++ piece) < 2 ^ 63 → BitReceiverStandsFor a bits
     → HoldsMore b.search b.room b.batch (due_count b.batch.config bits) bits piece
 held-then a b piece bits config pushes few stood =
     subst (λ (c : Configuration). HoldsMore b.search b.room b.batch (due_count c bits) bits piece) (sym config)
@@ -68,11 +68,13 @@ pub received-then : {T : Type 0} (took : T → ItemValue → T → Type 0) (a b 
     → Received took a b taker middle bits → Received took b c middle now more → Received took a c taker now (bits ++ more)
 received-then took a b c taker middle now bits more p q = record {
   config = q.config ∙ p.config;
-  stands = goes-then (StandsForBits a) (StandsForBits b) (StandsForBits c) bits more p.stands q.stands;
+  stands = goes-then (BitReceiverStandsFor a) (BitReceiverStandsFor b) (BitReceiverStandsFor c)
+      bits more p.stands q.stands;
   items = p.items ++ q.items;
   handed = HandedOver-append took taker middle now p.items q.items p.handed q.handed;
-  due = due-then a.batch.config (StandsForBits a) (StandsForBits b) bits more p.items q.items p.stands p.due
-      (subst (λ (c : Configuration). AreDue c (StandsForBits b) more q.items) p.config q.due);
+  due = due-then a.batch.config (BitReceiverStandsFor a) (BitReceiverStandsFor b) bits more
+      p.items q.items p.stands p.due
+      (subst (λ (c : Configuration). AreDue c (BitReceiverStandsFor b) more q.items) p.config q.due);
 }
 
 -- bits, and then others at which the taker fails
@@ -82,8 +84,9 @@ part-then took broke a b c taker middle now bits more p q = record {
   config = q.config ∙ p.config;
   tried = p.items ++ q.tried;
   handed = HandedPart-after took broke taker middle now p.items q.tried p.handed q.handed;
-  first = first-due-then a.batch.config (StandsForBits a) (StandsForBits b) bits more p.items q.tried p.stands p.due
-      (subst (λ (c : Configuration). AreFirstDue c (StandsForBits b) more q.tried) p.config q.first);
+  first = first-due-then a.batch.config (BitReceiverStandsFor a) (BitReceiverStandsFor b) bits more
+      p.items q.tried p.stands p.due
+      (subst (λ (c : Configuration). AreFirstDue c (BitReceiverStandsFor b) more q.tried) p.config q.first);
 }
 
 -- bits at which the taker fails, with others after them
@@ -93,7 +96,7 @@ part-all took broke a b taker now bits more p = record {
   config = p.config;
   tried = p.tried;
   handed = p.handed;
-  first = first-due-all a.batch.config (StandsForBits a) bits more p.tried p.first;
+  first = first-due-all a.batch.config (BitReceiverStandsFor a) bits more p.tried p.first;
 }
 
 -- the bits that blocks keep

@@ -7,13 +7,13 @@ use Rattle.tm_base.specs.Pieces.{beyond, further, GoesOn, Fed, FedPrefix}
 use Rattle.tm_base.proofs.Pieces.{fed-none, fed-more, fed-prefix, further-from_nothing}
 use Rattle.tm_config.specs.Configuration.{Configuration}
 use Rattle.tm_inner.specs.Symbols.{symbols_of_octets}
-use Rattle.tm_inner.specs.Sending.{StandsFor as InnerStandsFor}
+use Rattle.tm_inner.specs.Sending.{InnerSenderStandsFor}
 use Rattle.tm_inner.proofs.Symbols.{symbols-go_on, symbols-none}
 use Rattle.tm_codeblock.specs.Frames.{Splits, first_frames, whole_frames, after_frames}
 use Rattle.tm_codeblock.specs.Cadu.{cadu}
 use Rattle.tm_codeblock.proofs.Frames.{splits, splits-more, frames-are, after-is, whole_frames-more, whole_frames-none}
 use Rattle.tm_channel.specs.Sent.{cadus, sent}
-use Rattle.tm_channel.specs.Sending.{Sending, StandsFor, Sends, SendsPrefix}
+use Rattle.tm_channel.specs.Sending.{Sending, SenderStandsFor, Sends, SendsPrefix}
 use Rattle.tm_channel.specs.Steps.{SendsFrames, SendsFramesPrefix}
 
 -- ---- what is sent for a longer list
@@ -46,30 +46,32 @@ sent-none c some = ap (λ (fs : List (List ℕ)). symbols_of_octets c (flat_map 
 pub sends-none : (sender : Sending) (taken : Option (List ℕ)) → Sends sender sender taken taken []
 sends-none sender taken = record {
   config = refl;
-  fed = fed-none StandsFor (sent sender.config) sender taken;
+  fed = fed-none SenderStandsFor (sent sender.config) sender taken;
 }
 
 pub sends-more : (a b c : Sending) (taken_a taken_b taken_c : Option (List ℕ)) (first second : List ℕ) → 0 < a.config.frame_length
     → Sends a b taken_a taken_b first → Sends b c taken_b taken_c second → Sends a c taken_a taken_c (first ++ second)
 sends-more a b c taken_a taken_b taken_c first second some p q = record {
   config = q.config ∙ p.config;
-  fed = fed-more StandsFor (sent a.config) (sent-goes_on a.config some) a b c taken_a taken_b taken_c first second p.fed
-      (subst (λ (x : Configuration). Fed StandsFor (sent x) b c taken_b taken_c second) p.config q.fed);
+  fed = fed-more SenderStandsFor (sent a.config) (sent-goes_on a.config some) a b c taken_a taken_b
+      taken_c first second p.fed
+      (subst (λ (x : Configuration). Fed SenderStandsFor (sent x) b c taken_b taken_c second) p.config q.fed);
 }
 
 pub sends-prefix : (a b : Sending) (taken_a taken_b taken_c : Option (List ℕ)) (first second : List ℕ) → 0 < a.config.frame_length
     → Sends a b taken_a taken_b first → SendsPrefix b taken_b taken_c second → SendsPrefix a taken_a taken_c (first ++ second)
 sends-prefix a b taken_a taken_b taken_c first second some p q =
-    fed-prefix StandsFor (sent a.config) (sent-goes_on a.config some) a b taken_a taken_b taken_c first second p.fed
-    (subst (λ (x : Configuration). FedPrefix StandsFor (sent x) b taken_b taken_c second) p.config q)
+    fed-prefix SenderStandsFor (sent a.config) (sent-goes_on a.config some) a b taken_a taken_b
+    taken_c first second p.fed
+    (subst (λ (x : Configuration). FedPrefix SenderStandsFor (sent x) b taken_b taken_c second) p.config q)
 
 -- a sender that was given nothing before writes what is sent for the octets
-pub sends-all : (a b : Sending) (taken taken_now : Option (List ℕ)) (octets : List ℕ) → 0 < a.config.frame_length → StandsFor a [] → Sends a b taken taken_now octets
+pub sends-all : (a b : Sending) (taken taken_now : Option (List ℕ)) (octets : List ℕ) → 0 < a.config.frame_length → SenderStandsFor a [] → Sends a b taken taken_now octets
     → Wrote taken taken_now (sent a.config octets)
 sends-all a b taken taken_now octets some new p =
     subst (Wrote taken taken_now) (further-from_nothing (sent a.config) octets (sent-none a.config some)) (p.fed.written [] new)
 
-pub sends-all_prefix : (a : Sending) (taken taken_now : Option (List ℕ)) (octets : List ℕ) → 0 < a.config.frame_length → StandsFor a [] → SendsPrefix a taken taken_now octets
+pub sends-all_prefix : (a : Sending) (taken taken_now : Option (List ℕ)) (octets : List ℕ) → 0 < a.config.frame_length → SenderStandsFor a [] → SendsPrefix a taken taken_now octets
     → WrotePrefix taken taken_now (sent a.config octets)
 sends-all_prefix a taken taken_now octets some new p =
     subst (WrotePrefix taken taken_now) (further-from_nothing (sent a.config) octets (sent-none a.config some)) (p.prefix [] new)
@@ -101,8 +103,9 @@ sends-frames a b taken taken_now octets some same p = record {
           held = subst (λ (x : Configuration). b.held ≡ after_frames x.frame_length (given ++ octets)) (sym p.config)
               (sym (after-is a.config.frame_length (given ++ octets) (whole_frames a.config.frame_length given ++ p.frames) b.held
               (from_held a.config.frame_length given octets a.held b.held p.frames some stood.held p.split)));
-          inner = subst (λ (x : Configuration). InnerStandsFor b.inner (cadus x (given ++ octets))) (sym p.config)
-              (subst (InnerStandsFor b.inner) (sym due.0) (p.inner.fed.stands (cadus a.config given) stood.inner));
+          inner = subst (λ (x : Configuration). InnerSenderStandsFor b.inner (cadus x (given ++ octets))) (sym p.config)
+              (subst (InnerSenderStandsFor b.inner) (sym due.0)
+              (p.inner.fed.stands (cadus a.config given) stood.inner));
         };
     written = λ given stood.
         let due = due-is a.config given octets a.held b.held p.frames some stood.held p.split in

@@ -3,12 +3,12 @@ use Rattle.std.proofs.Common.{◌≡◌, ℕ, ◌^◌, ◌<◌, ◌≤◌, Bool,
 use Rattle.tm_config.specs.Configuration.{Configuration}
 use Rattle.tm_sync.specs.declared.found.Found.{Found}
 use Rattle.tm_sync.specs.Places.{places}
-use Rattle.tm_sync.specs.Searching.{Searching, StandsFor as SearchStandsFor}
+use Rattle.tm_sync.specs.Searching.{Searching, SearchStandsFor}
 use Rattle.tm_codeblock.specs.ReceivedCodeblock.{rules_of}
 use Rattle.tm_channel.specs.Items.{ItemValue, AreItemsOf, AreFirstItemsOf}
 use Rattle.tm_channel.specs.Due.{in_batches, due_count_of, due_of, due_count, due}
 use Rattle.tm_channel.specs.Receiving.{AreFirstFurther, AreFurther, AreItemsFor, Holding, HoldsMore, HoldsReported, IsHanded}
-use Rattle.tm_channel.specs.OctetReceiving.{BitReceiving, StandsForBits}
+use Rattle.tm_channel.specs.OctetReceiving.{BitReceiving, BitReceiverStandsFor}
 use Rattle.tm_channel.proofs.Batches.{batches-more}
 use Rattle.tm_channel.proofs.Streaming.{after-due, due-none, turn-broke, turn-items, turn-stands}
 
@@ -95,10 +95,10 @@ settling-broke a b m f number others config_b config_m keeps many are bits more 
 -- all places were reported
 pub settling-all : (a b n : BitReceiving) → b.batch.config ≡ a.batch.config → n.batch.config ≡ b.batch.config
     → ((handed : ℕ) (bits : List Bool) (reported : List Found)
-        → HoldsReported b.search b.room b.batch handed bits reported
+    → HoldsReported b.search b.room b.batch handed bits reported
     → HoldsReported n.search n.room n.batch handed bits reported × (places (rules_of b.batch.config) bits ≡ reported))
     → (bits more : List Bool) (items : List ItemValue) → Settling a b bits (bits ++ more) items
-    → StandsForBits n (bits ++ more) × AreFurther a.batch.config bits more items
+    → BitReceiverStandsFor n (bits ++ more) × AreFurther a.batch.config bits more items
 settling-all a b n config_b config_n none bits more items s =
     let c = a.batch.config in
     let all : List Bool = bits ++ more in

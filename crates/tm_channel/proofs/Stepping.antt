@@ -12,7 +12,7 @@ use Rattle.tm_base.proofs.Packing.{length-low_bits, length-bits_of}
 use Rattle.tm_config.specs.Configuration.{Configuration, codeblock_length}
 use Rattle.tm_sync.specs.declared.found.Found.{Found}
 use Rattle.tm_sync.specs.Places.{Rules, places, verify_bits}
-use Rattle.tm_sync.specs.Searching.{Searching, StandsFor, inside_next, inside_of, is_pending, waiting_of}
+use Rattle.tm_sync.specs.Searching.{Searching, SearchStandsFor, inside_next, inside_of, is_pending, waiting_of}
 use Rattle.tm_sync.proofs.Given.{reported-recent}
 use Rattle.tm_codeblock.specs.ReceivedCodeblock.{rules_of}
 use Rattle.tm_codeblock.specs.RoomBits.{room_bits}
@@ -26,31 +26,31 @@ use Rattle.tm_channel.proofs.Streaming.{stored-last, more-begun, more-inside, mo
 -- bits of the codeblock under way
 pub stands-inside : (s s' : Searching) (room room' : List ℕ) (b b' : Batching) (handed : ℕ) (bits more : List Bool)
     → b'.config ≡ b.config → b'.part ≡ b.part ++ more → b'.stored ≡ b.stored
-    → ((found : List Found) → StandsFor s room bits found → StandsFor s' room' (bits ++ more) found)
+    → ((found : List Found) → SearchStandsFor s room bits found → SearchStandsFor s' room' (bits ++ more) found)
     → Holds s room b handed bits → HoldsMore s' room' b' handed bits more
 stands-inside s s' room room' b b' handed bits more config grows same reported h =
-    subst (λ (k : Configuration). Holding k (StandsFor s' room') b'.part b'.stored handed (bits ++ more) (places (rules_of k) bits)) (sym config)
-    (more-inside b.config (StandsFor s room) (StandsFor s' room') b.part b'.part b.stored b'.stored handed bits more h grows same
+    subst (λ (k : Configuration). Holding k (SearchStandsFor s' room') b'.part b'.stored handed (bits ++ more) (places (rules_of k) bits)) (sym config)
+    (more-inside b.config (SearchStandsFor s room) (SearchStandsFor s' room') b.part b'.part b.stored b'.stored handed bits more h grows same
     (reported (places (rules_of b.config) bits) h.search))
 
 -- bits where none is under way, of which the last ones begin one
 pub stands-begun : (s s' : Searching) (room room' : List ℕ) (b b' : Batching) (handed : ℕ) (bits before more : List Bool)
     → b'.config ≡ b.config → more ≡ before ++ b'.part → b'.stored ≡ b.stored
-    → ((found : List Found) → StandsFor s room bits found → StandsFor s' room' (bits ++ more) found)
+    → ((found : List Found) → SearchStandsFor s room bits found → SearchStandsFor s' room' (bits ++ more) found)
     → Holds s room b handed bits → HoldsMore s' room' b' handed bits more
 stands-begun s s' room room' b b' handed bits before more config ends same reported h =
-    subst (λ (k : Configuration). Holding k (StandsFor s' room') b'.part b'.stored handed (bits ++ more) (places (rules_of k) bits)) (sym config)
-    (more-begun b.config (StandsFor s room) (StandsFor s' room') b.part b'.part b.stored b'.stored handed bits before more h ends same
+    subst (λ (k : Configuration). Holding k (SearchStandsFor s' room') b'.part b'.stored handed (bits ++ more) (places (rules_of k) bits)) (sym config)
+    (more-begun b.config (SearchStandsFor s room) (SearchStandsFor s' room') b.part b'.part b.stored b'.stored handed bits before more h ends same
     (reported (places (rules_of b.config) bits) h.search))
 
 -- bits where none is under way
 pub stands-outside : (s s' : Searching) (room room' : List ℕ) (b b' : Batching) (handed : ℕ) (bits more : List Bool)
     → b'.config ≡ b.config → length b'.part ≡ 0 → b'.stored ≡ b.stored
-    → ((found : List Found) → StandsFor s room bits found → StandsFor s' room' (bits ++ more) found)
+    → ((found : List Found) → SearchStandsFor s room bits found → SearchStandsFor s' room' (bits ++ more) found)
     → Holds s room b handed bits → HoldsMore s' room' b' handed bits more
 stands-outside s s' room room' b b' handed bits more config none same reported h =
-    subst (λ (k : Configuration). Holding k (StandsFor s' room') b'.part b'.stored handed (bits ++ more) (places (rules_of k) bits)) (sym config)
-    (more-outside b.config (StandsFor s room) (StandsFor s' room') b.part b'.part b.stored b'.stored handed bits more h none same
+    subst (λ (k : Configuration). Holding k (SearchStandsFor s' room') b'.part b'.stored handed (bits ++ more) (places (rules_of k) bits)) (sym config)
+    (more-outside b.config (SearchStandsFor s room) (SearchStandsFor s' room') b.part b'.part b.stored b'.stored handed bits more h none same
     (reported (places (rules_of b.config) bits) h.search))
 
 -- an octet ends with its lowest bits
@@ -251,8 +251,8 @@ recall-needs s room b count a is whole fewer = go a.gathered
 
 -- what `next` says of a search whose codeblock is whole
 abbrev pub Reported : Searching → Searching → List ℕ → Found → Type 0
-Reported s s' room f = (l : List Bool) (found : List Found) → StandsFor s room l found
-    → StandsFor s' room l (found ++ f ∷ [])
+Reported s s' room f = (l : List Bool) (found : List Found) → SearchStandsFor s room l found
+    → SearchStandsFor s' room l (found ++ f ∷ [])
     × ((rest : List Found) × (places s.rules l ≡ found ++ f ∷ rest) × (length rest ≡ waiting_of s'))
     × (f.place + 32 + unwrap_or (inside_of s) 0 ≡ length l)
 
@@ -269,7 +269,7 @@ complete-size room b place part (inr (fewer, same)) = ap length same ∙ length-
 -- they are those after its marker
 block-reported : (s : Searching) (room : List ℕ) (b : Batching) (part : List Bool) (count : ℕ) (f : Found) (bits prefix : List Bool) (reported rest : List Found)
     → Agree s room b → inside_of s ≡ Some count → s.rules.block_bits ≤ count → IsComplete room b f.place part → length bits < 2 ^ 63
-    → StandsFor s room bits reported → places s.rules bits ≡ reported ++ f ∷ rest → f.place + 32 + unwrap_or (inside_of s) 0 ≡ length bits → bits ≡ prefix ++ b.part
+    → SearchStandsFor s room bits reported → places s.rules bits ≡ reported ++ f ∷ rest → f.place + 32 + unwrap_or (inside_of s) 0 ≡ length bits → bits ≡ prefix ++ b.part
     → stored_at b.config bits f ≡ stored_of b.config f part
 block-reported s room b part count f bits prefix reported rest a is whole complete few stood tells ends parts = go complete a.gathered
   where
@@ -301,21 +301,21 @@ block-reported s room b part count f bits prefix reported rest a is whole comple
 pub keeps-reported : (s s' now : Searching) (room room' : List ℕ) (b b' : Batching) (part : List Bool) (count : ℕ) (f : Found) (handed : ℕ) (bits : List Bool) (reported : List Found)
     → Agree s room b → inside_of s ≡ Some count → s.rules.block_bits ≤ count → Reported s s' room f → IsComplete room b f.place part
     → now ≡ s' → room' ≡ room → b'.config ≡ b.config → b'.part ≡ []
-        → b'.stored ≡ b.stored ++ stored_of b.config f part ∷ []
+    → b'.stored ≡ b.stored ++ stored_of b.config f part ∷ []
     → length bits < 2 ^ 63 → HoldsReported s room b handed bits reported
-        → HoldsReported now room' b' handed bits (reported ++ f ∷ [])
+    → HoldsReported now room' b' handed bits (reported ++ f ∷ [])
 keeps-reported s s' now room room' b b' part count f handed bits reported a is whole tell complete same_search same_room config none stored few h =
     let t = tell bits reported h.search in
     let tells : places (rules_of b.config) bits ≡ reported ++ f ∷ t.1.0 = ap (λ (r : Rules). places r bits) (sym a.same) ∙ t.1.1 in
     let one = block-reported s room b part count f bits h.prefix reported t.1.0 a is whole complete few h.search t.1.1 t.2 h.parts in
     subst (λ (v : Searching). HoldsReported v room' b' handed bits (reported ++ f ∷ [])) (sym same_search)
     (subst (λ (l : List ℕ). HoldsReported s' l b' handed bits (reported ++ f ∷ [])) (sym same_room)
-    (subst (λ (k : Configuration). Holding k (StandsFor s' room) b'.part b'.stored handed bits (reported ++ f ∷ [])) (sym config)
-    (reported-stored b.config (StandsFor s room) (StandsFor s' room) b.part part b'.part b.stored b'.stored handed bits reported t.1.0 f h tells one stored none t.0)))
+    (subst (λ (k : Configuration). Holding k (SearchStandsFor s' room) b'.part b'.stored handed bits (reported ++ f ∷ [])) (sym config)
+    (reported-stored b.config (SearchStandsFor s room) (SearchStandsFor s' room) b.part part b'.part b.stored b'.stored handed bits reported t.1.0 f h tells one stored none t.0)))
 
 -- none is
 pub none-reported : (s s' : Searching) (room : List ℕ) (b : Batching) (handed : ℕ) (bits : List Bool) (reported : List Found) → s.rules ≡ rules_of b.config → s' ≡ s
-    → ((l : List Bool) (found : List Found) → StandsFor s room l found → places s.rules l ≡ found)
+    → ((l : List Bool) (found : List Found) → SearchStandsFor s room l found → places s.rules l ≡ found)
     → HoldsReported s room b handed bits reported → HoldsReported s' room b handed bits reported × (places (rules_of b.config) bits ≡ reported)
 none-reported s s' room b handed bits reported rules same none h = (
   subst (λ (v : Searching). HoldsReported v room b handed bits reported) (sym same) h,

@@ -3,7 +3,7 @@ use Rattle.std.proofs.Common.{◌≡◌, ℕ, ◌<◌, List, [], ◌∷◌, ◌+
 use Rattle.std.proofs.lemmas.List.{append-nil}
 use Rattle.std.proofs.lemmas.Grind.{flat_map-append}
 use Rattle.tm_config.specs.Configuration.{Configuration}
-use Rattle.tm_inner.specs.Sending.{InnerSending, Sends as InnerSends, SendsPrefix as InnerSendsPrefix}
+use Rattle.tm_inner.specs.Sending.{InnerSending, InnerSends, InnerSendsPrefix}
 use Rattle.tm_inner.proofs.Sending.{sends-none, sends-more, sends-prefix, sends-prefix_of_longer}
 use Rattle.tm_codeblock.specs.Frames.{Splits, whole_frames, after_frames}
 use Rattle.tm_codeblock.specs.Cadu.{cadu}

@@ -15,7 +15,7 @@ use Rattle.tm_windows.specs.declared.choosing.Chosen.{Chosen}
 use Rattle.tm_inner.specs.Inner.{inner_bits, plain_bits, plain_count}
 use Rattle.tm_inner.specs.Phase.{IsChosen, IsChosenSoFar, with_phase}
 use Rattle.tm_inner.specs.Handing.{AreHanded, AreHandedDue}
-use Rattle.tm_inner.specs.Receiving.{InnerReceiving, StandsFor as InnerStandsFor}
+use Rattle.tm_inner.specs.Receiving.{InnerReceiving, InnerReceiverStandsFor}
 use Rattle.tm_channel.specs.Items.{ItemValue, AreItemsOf}
 use Rattle.tm_channel.specs.Due.{due, due_count}
 use Rattle.tm_channel.specs.declared.totals.Totals.{Totals}
@@ -31,8 +31,8 @@ pub record BitReceiving : Type 0 where
   pub batch : Batching
 
 -- it was given these bits
-abbrev pub StandsForBits : BitReceiving → List Bool → Type 0
-StandsForBits r = Stands r.search r.room r.batch
+abbrev pub BitReceiverStandsFor : BitReceiving → List Bool → Type 0
+BitReceiverStandsFor r = Stands r.search r.room r.batch
 
 -- what contracts see of both stages of a receiver: the inner code, and the search for codeblocks in
 -- its bits
@@ -46,13 +46,13 @@ pub record Stages : Type 0 where
 -- to the taker.
 pub record StagesFor (s : Stages) (given : List ℕ) (done : List (Handed ItemValue)) : Type 0 where
   pub handed : List (Handed WindowBlock)
-  pub inner : InnerStandsFor s.inner given handed
+  pub inner : InnerReceiverStandsFor s.inner given handed
   pub waiting : List WindowBlock
   pub are_due : AreHandedDue s.inner.config given (handed ++ map Item waiting)
   pub few : length (kept_bits waiting) ≤ waiting_bits s.inner.config s.inner.config.batch
   pub none_due : due s.inner.config (inner_bits s.inner.config given (items_of handed ++ waiting))
       ≡ due s.inner.config (inner_bits s.inner.config given (items_of handed))
-  pub bits : StandsForBits s.bits (inner_bits s.inner.config given (items_of handed))
+  pub bits : BitReceiverStandsFor s.bits (inner_bits s.inner.config given (items_of handed))
   pub items : List ItemValue
   pub are_items : AreItemsOf s.inner.config (inner_bits s.inner.config given (items_of handed))
       (due s.inner.config (inner_bits s.inner.config given (items_of handed))) items
@@ -88,8 +88,8 @@ pub record OctetReceiving : Type 0 where
   pub stages : Stages
 
 -- a receiver that was given these octets and no others, fewer than 2^60, and has handed over this
-abbrev pub StandsFor : OctetReceiving → List ℕ → List (Handed ItemValue) → Type 0
-StandsFor r = StagesFor r.stages
+abbrev pub ReceiverStandsFor : OctetReceiving → List ℕ → List (Handed ItemValue) → Type 0
+ReceiverStandsFor r = StagesFor r.stages
 
 -- octets were dropped before so many of the windows whose bits were searched; others that are due
 -- may wait only while their bits are no more than may wait, none with one worker
@@ -109,12 +109,12 @@ FeedHands took before now taker taker_now octets = (more : List (Handed ItemValu
     × HandedOver took taker more taker_now
     × ((given : List ℕ) (done : List (Handed ItemValue))
     → length given + length octets < stream_bound
-    → StandsFor before given done
-    → StandsFor now (given ++ octets) (done ++ more)
+    → ReceiverStandsFor before given done
+    → ReceiverStandsFor now (given ++ octets) (done ++ more)
     × AreReceivedDue before.config (given ++ octets) (done ++ more))
     × ((given : List ℕ) (done : List (Handed ItemValue))
     → length given + length octets < stream_bound
-    → StandsFor before given done → AreFew before.config (length octets) (items_of more))
+    → ReceiverStandsFor before given done → AreFew before.config (length octets) (items_of more))
 
 -- the taker failed at something of what is due with these octets
 abbrev pub FeedBreaks : {T : Type 0} → (T → Handed ItemValue → T → Type 0)
@@ -123,14 +123,14 @@ FeedBreaks took broke before taker taker_now octets = (tried : List (Handed Item
     × HandedPart took broke taker tried taker_now
     × ((given : List ℕ) (done : List (Handed ItemValue))
     → length given + length octets < stream_bound
-    → StandsFor before given done
+    → ReceiverStandsFor before given done
     → AreReceivedFirst before.config (given ++ octets) (done ++ tried))
 
 -- the phase that is kept now is the one that is chosen of these octets, if one is
 abbrev pub FeedChooses : OctetReceiving → OctetReceiving → List ℕ → Type 0
 FeedChooses before now octets = (given : List ℕ) (done : List (Handed ItemValue))
     → length given + length octets < stream_bound
-    → StandsFor before given done → before.has_stopped ≡ false
+    → ReceiverStandsFor before given done → before.has_stopped ≡ false
     → IsChosenSoFar before.config (given ++ octets) now.stages.inner.phased.chosen
 
 -- at the end what is left was handed over, and the octets come to this; these are few items too
@@ -138,9 +138,9 @@ abbrev pub FinishHands : {T : Type 0} → (T → Handed ItemValue → T → Type
     → Totals → Type 0
 FinishHands took before taker taker_now totals = (last : List (Handed ItemValue))
     × HandedOver took taker last taker_now
-    × ((given : List ℕ) (done : List (Handed ItemValue)) → StandsFor before given done
+    × ((given : List ℕ) (done : List (Handed ItemValue)) → ReceiverStandsFor before given done
     → AreReceived before.config given (done ++ last) totals)
-    × ((given : List ℕ) (done : List (Handed ItemValue)) → StandsFor before given done
+    × ((given : List ℕ) (done : List (Handed ItemValue)) → ReceiverStandsFor before given done
     → AreFew before.config 0 (items_of last))
 
 -- the taker failed at something of what is left
@@ -148,13 +148,13 @@ abbrev pub FinishBreaks : {T : Type 0} → (T → Handed ItemValue → T → Typ
     → (T → Handed ItemValue → T → Type 0) → OctetReceiving → T → T → Type 0
 FinishBreaks took broke before taker taker_now = (tried : List (Handed ItemValue))
     × HandedPart took broke taker tried taker_now
-    × ((given : List ℕ) (done : List (Handed ItemValue)) → StandsFor before given done
+    × ((given : List ℕ) (done : List (Handed ItemValue)) → ReceiverStandsFor before given done
     → AreReceivedPrefix before.config given (done ++ tried))
 
 -- the phase that is kept at the end is the one of all octets
 abbrev pub FinishChooses : OctetReceiving → OctetReceiving → Type 0
 FinishChooses before now = (given : List ℕ) (done : List (Handed ItemValue))
-    → StandsFor before given done → before.has_stopped ≡ false
+    → ReceiverStandsFor before given done → before.has_stopped ≡ false
     → IsChosen before.config given now.stages.inner.phased.chosen
 
 -- ---- codeblocks that are whole
@@ -165,7 +165,7 @@ abbrev pub Settles : BitReceiving → BitReceiving → List ItemValue → Type 0
 Settles before now items = (bits more : List Bool) → length (bits ++ more) < bits_bound
     → HoldsMore before.search before.room before.batch (due_count before.batch.config bits) bits
     more
-    → StandsForBits now (bits ++ more) × AreFurther before.batch.config bits more items
+    → BitReceiverStandsFor now (bits ++ more) × AreFurther before.batch.config bits more items
 
 -- these are first ones of the items that are due with the last ones
 abbrev pub SettlesPart : BitReceiving → List ItemValue → Type 0
@@ -180,10 +180,10 @@ SettlesPart before tried = (bits more : List Bool) → length (bits ++ more) < b
 pub record Received {T : Type 0} (took : T → ItemValue → T → Type 0) (before now : BitReceiving)
     (taker taker_now : T) (bits : List Bool) : Type 0 where
   pub config : now.batch.config ≡ before.batch.config
-  pub stands : GoesOn (StandsForBits before) (StandsForBits now) bits
+  pub stands : GoesOn (BitReceiverStandsFor before) (BitReceiverStandsFor now) bits
   pub items : List ItemValue
   pub handed : HandedOver took taker items taker_now
-  pub due : AreDue before.batch.config (StandsForBits before) bits items
+  pub due : AreDue before.batch.config (BitReceiverStandsFor before) bits items
 
 -- first items of those that are due with these bits were handed over, until the taker failed at one
 -- of them
@@ -192,21 +192,21 @@ pub record ReceivedPart {T : Type 0} (took broke : T → ItemValue → T → Typ
   pub config : now.batch.config ≡ before.batch.config
   pub tried : List ItemValue
   pub handed : HandedPart took broke taker tried taker_now
-  pub first : AreFirstDue before.batch.config (StandsForBits before) bits tried
+  pub first : AreFirstDue before.batch.config (BitReceiverStandsFor before) bits tried
 
 -- the items that were not due before the end of the bits was known were handed over
 pub record ReceivedLast {T : Type 0} (took : T → ItemValue → T → Type 0) (before : BitReceiving)
     (taker taker_now : T) : Type 0 where
   pub items : List ItemValue
   pub handed : HandedOver took taker items taker_now
-  pub last : AreLast before.batch.config (StandsForBits before) items
+  pub last : AreLast before.batch.config (BitReceiverStandsFor before) items
 
 -- first ones of these were handed over, until the taker failed at one of them
 pub record ReceivedLastPart {T : Type 0} (took broke : T → ItemValue → T → Type 0)
     (before : BitReceiving) (taker taker_now : T) : Type 0 where
   pub tried : List ItemValue
   pub handed : HandedPart took broke taker tried taker_now
-  pub first : AreFirstLast before.batch.config (StandsForBits before) tried
+  pub first : AreFirstLast before.batch.config (BitReceiverStandsFor before) tried
 
 -- ---- octets that are taken
 
@@ -248,7 +248,7 @@ received_bits inner kept octets =
 pub record Further (inner inner_now : InnerReceiving) (given octets : List ℕ)
     (done : List (Handed WindowBlock)) (phase : Option Chosen) (piece : List Bool) : Type 0 where
   pub more : List (Handed WindowBlock)
-  pub stands : InnerStandsFor inner_now (given ++ octets) (done ++ more)
+  pub stands : InnerReceiverStandsFor inner_now (given ++ octets) (done ++ more)
   pub due : AreHandedDue inner.config (given ++ octets) (done ++ more)
   pub is_phase : phase ≡ phase_of more
   pub bits : inner_bits inner.config (given ++ octets) (items_of (done ++ more))
@@ -271,14 +271,14 @@ abbrev pub Gathers : InnerReceiving → InnerReceiving → List ℕ → ℕ → 
 Gathers inner inner_now octets most =
     (given : List ℕ) (done : List (Handed WindowBlock))
     → length given + length octets < stream_bound
-    → InnerStandsFor inner given done
-    → InnerStandsFor inner_now (given ++ octets) done
+    → InnerReceiverStandsFor inner given done
+    → InnerReceiverStandsFor inner_now (given ++ octets) done
     × ((waiting : List WindowBlock) × (length (kept_bits waiting) ≤ most)
     × AreWaiting inner.config (given ++ octets) done waiting)
 
 -- so many further bits make no item due, whatever they are
 abbrev pub AreSpare : BitReceiving → ℕ → Type 0
-AreSpare r count = (bits more : List Bool) → StandsForBits r bits → length more ≤ count
+AreSpare r count = (bits more : List Bool) → BitReceiverStandsFor r bits → length more ≤ count
     → due r.batch.config (bits ++ more) ≡ due r.batch.config bits
 
 -- whatever octets the first stage was given, fewer than 2^60 with these, and whichever blocks
@@ -290,7 +290,7 @@ Grows inner inner_now room octets phase piece =
     (given : List ℕ) (done : List (Handed WindowBlock)) (waiting : List WindowBlock)
     → length given + length octets < stream_bound
     → HasRoom inner.config waiting (length octets) room
-    → InnerStandsFor inner given done → AreWaiting inner.config given done waiting
+    → InnerReceiverStandsFor inner given done → AreWaiting inner.config given done waiting
     → Further inner inner_now given octets done phase piece
 
 -- the end of the octets adds this phase and these bits, and the octets come to this
@@ -311,5 +311,5 @@ abbrev pub Ends : InnerReceiving → ℕ → Option Chosen → List Bool → Tot
 Ends inner room phase piece totals =
     (given : List ℕ) (done : List (Handed WindowBlock)) (waiting : List WindowBlock)
     → HasRoom inner.config waiting 0 room
-    → InnerStandsFor inner given done → AreWaiting inner.config given done waiting
+    → InnerReceiverStandsFor inner given done → AreWaiting inner.config given done waiting
     → EndsWith inner given done phase piece totals

@@ -4,7 +4,7 @@ use Rattle.tm_base.specs.Bits.{bits_of}
 use Rattle.tm_config.specs.Configuration.{Configuration, codeblock_length}
 use Rattle.tm_sync.specs.declared.found.Found.{Found}
 use Rattle.tm_sync.specs.Places.{places, verify_bits}
-use Rattle.tm_sync.specs.Searching.{Searching, StandsFor, inside_of, is_pending}
+use Rattle.tm_sync.specs.Searching.{Searching, SearchStandsFor, inside_of, is_pending}
 use Rattle.tm_sync.specs.Bits.{bits_bound}
 use Rattle.tm_codeblock.specs.ReceivedCodeblock.{rules_of, codeblock_in}
 use Rattle.tm_channel.specs.Items.{ItemValue, IsItem, AreItemsOf, AreFirstItemsOf}
@@ -114,7 +114,7 @@ pub record Batching : Type 0 where
 -- their places, and the codeblocks of all of these but the first `handed` ones are stored
 abbrev pub HoldsReported : Searching → List ℕ → Batching → ℕ → List Bool → List Found → Type 0
 HoldsReported s room b handed bits reported =
-    Holding b.config (StandsFor s room) b.part b.stored handed bits reported
+    Holding b.config (SearchStandsFor s room) b.part b.stored handed bits reported
 
 -- the search reported all of their places
 abbrev pub Holds : Searching → List ℕ → Batching → ℕ → List Bool → Type 0

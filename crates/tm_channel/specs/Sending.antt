@@ -2,7 +2,7 @@
 use Rattle.std.specs.Prelude.{◌≡◌, ℕ, List, Option}
 use Rattle.tm_base.specs.Pieces.{Fed, FedPrefix}
 use Rattle.tm_config.specs.Configuration.{Configuration}
-use Rattle.tm_inner.specs.Sending.{InnerSending, StandsFor as InnerStandsFor}
+use Rattle.tm_inner.specs.Sending.{InnerSending, InnerSenderStandsFor}
 use Rattle.tm_codeblock.specs.Frames.{after_frames}
 use Rattle.tm_channel.specs.Sent.{cadus, sent}
 
@@ -14,17 +14,17 @@ pub record Sending : Type 0 where
 
 -- it holds what follows the last whole frame, and its last stage was given the whole frames'
 -- units
-pub record StandsFor (sender : Sending) (octets : List ℕ) : Type 0 where
+pub record SenderStandsFor (sender : Sending) (octets : List ℕ) : Type 0 where
   pub held : sender.held ≡ after_frames sender.config.frame_length octets
-  pub inner : InnerStandsFor sender.inner (cadus sender.config octets)
+  pub inner : InnerSenderStandsFor sender.inner (cadus sender.config octets)
 
 -- given these octets, a sender went on and wrote what is due for them
 pub record Sends (before now : Sending) (taken taken_now : Option (List ℕ))
     (octets : List ℕ) : Type 0 where
   pub config : now.config ≡ before.config
-  pub fed : Fed StandsFor (sent before.config) before now taken taken_now octets
+  pub fed : Fed SenderStandsFor (sent before.config) before now taken taken_now octets
 
 -- given these octets, a sender wrote a prefix of what is due for them
 abbrev pub SendsPrefix : Sending → Option (List ℕ) → Option (List ℕ) → List ℕ → Type 0
 SendsPrefix before taken taken_now octets =
-    FedPrefix StandsFor (sent before.config) before taken taken_now octets
+    FedPrefix SenderStandsFor (sent before.config) before taken taken_now octets

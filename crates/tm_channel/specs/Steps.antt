@@ -1,6 +1,6 @@
 -- What a sender does with the next octets, by what it keeps alone.
 use Rattle.std.specs.Prelude.{◌≡◌, ℕ, List, ◌++◌, flat_map, Option}
-use Rattle.tm_inner.specs.Sending.{Sends as InnerSends, SendsPrefix as InnerSendsPrefix}
+use Rattle.tm_inner.specs.Sending.{InnerSends, InnerSendsPrefix}
 use Rattle.tm_codeblock.specs.Frames.{Splits}
 use Rattle.tm_codeblock.specs.Cadu.{cadu}
 use Rattle.tm_channel.specs.Sending.{Sending}

@@ -8,7 +8,7 @@ ghost use Rattle.tm_base.specs.Limits.{most_workers};
 ghost use Rattle.tm_inner.specs.InnerDecoding.{HasWorkers};
 ghost use Rattle.tm_inner.specs.Phase.{IsChosen, IsChosenSoFar};
 ghost use Rattle.tm_sync.specs.Places.{verify_bits};
-ghost use Rattle.tm_sync.specs.Searching.{StandsFor as SearchStandsFor, inside_of};
+ghost use Rattle.tm_sync.specs.Searching.{SearchStandsFor, inside_of};
 ghost use Rattle.tm_codeblock.specs.ReceivedCodeblock.{rules_of};
 ghost use Rattle.tm_workers.specs.Batch.{EachBecomes, IsBatch};
 ghost use Rattle.tm_workers.specs.Words.{Decodes};
@@ -16,7 +16,7 @@ ghost use Rattle.tm_viterbi.specs.WindowSizes.{stream_bound};
 ghost use Rattle.tm_channel.specs.Items.{ItemValue};
 ghost use Rattle.tm_channel.specs.Handing.{AreReceived, AreReceivedDue, AreReceivedFirst, AreReceivedPrefix};
 ghost use Rattle.tm_channel.specs.Calls.{Calls, Feeds, Finishes};
-ghost use Rattle.tm_channel.specs.OctetReceiving.{AreSlipsSoFar, FeedBreaks, FeedChooses, FeedHands, FinishBreaks, FinishChooses, FinishHands, StandsFor};
+ghost use Rattle.tm_channel.specs.OctetReceiving.{AreSlipsSoFar, FeedBreaks, FeedChooses, FeedHands, FinishBreaks, FinishChooses, FinishHands, ReceiverStandsFor};
 
 use crate::item::ItemTaker;
 use crate::kept::KeptBits;
@@ -91,7 +91,7 @@ impl Receiver {
     pub fn open(alloc: Global, config: Config) -> Result<Receiver, NoMemory>
         ensures config { IfOk result (λ r. r.config ≡ config) }
         ensures fresh { IfOk result (λ r. r.has_stopped ≡ false) }
-        ensures stands { IfOk result (λ r. StandsFor r [] []) }
+        ensures stands { IfOk result (λ r. ReceiverStandsFor r [] []) }
         ensures workers { IfOk result (λ r. HasWorkers config.workers config r.stages.inner.phased.decoder) }
     {
         Receiver::open_for(alloc, config, config.workers() as u8)
@@ -102,7 +102,7 @@ impl Receiver {
         requires workers { (0 < workers) × (workers ≤ most_workers) }
         ensures config { IfOk result (λ r. r.config ≡ config) }
         ensures fresh { IfOk result (λ r. r.has_stopped ≡ false) }
-        ensures stands { IfOk result (λ r. StandsFor r [] []) }
+        ensures stands { IfOk result (λ r. ReceiverStandsFor r [] []) }
         ensures workers { IfOk result (λ r. HasWorkers workers config r.stages.inner.phased.decoder) }
     {
         let Ok(inner) = InnerReceiver::open_for(alloc, &config, workers) else {
@@ -271,7 +271,7 @@ impl Receiver {
     /// The symbol phase that was chosen: None before the choice, and where the phase is given.
     pub fn chosen(&self) -> Option<Chosen>
         ensures value { result ≡ self.now.stages.inner.phased.chosen }
-        ensures so_far { (given : List ℕ) (done : List (Handed ItemValue)) → StandsFor self.now given done
+        ensures so_far { (given : List ℕ) (done : List (Handed ItemValue)) → ReceiverStandsFor self.now given done
             → IsChosenSoFar self.now.config given result }
     {
         self.inner.chosen()
@@ -280,7 +280,7 @@ impl Receiver {
     /// Before how many windows of the inner code octets were dropped so far, of those whose bits were searched: none
     /// where the symbol phase is not followed.
     pub fn slips(&self) -> u64
-        ensures { (given : List ℕ) (done : List (Handed ItemValue)) → StandsFor self.now given done
+        ensures { (given : List ℕ) (done : List (Handed ItemValue)) → ReceiverStandsFor self.now given done
             → AreSlipsSoFar self.now.config given result }
     {
         self.inner.slips()

@@ -2,10 +2,10 @@
 ghost use Rattle.std.specs.Prelude.{◌≡◌, ◌≢◌, ◌↔◌, ℕ, ◌+◌, ◌*◌, ◌/◌, ◌<◌, ◌≤◌, List, [], ◌++◌, length, flat_map, IsTrue, OnOk, OnErr, IsErrOf, false};
 ghost use Rattle.tm_base.specs.Outside.{Rose, HasCause};
 ghost use Rattle.tm_config.specs.Configuration.{codeblock_length};
-ghost use Rattle.tm_inner.specs.Sending.{Sends as InnerSends, SendsPrefix as InnerSendsPrefix};
+ghost use Rattle.tm_inner.specs.Sending.{InnerSends, InnerSendsPrefix};
 ghost use Rattle.tm_codeblock.specs.Frames.{after_frames};
 ghost use Rattle.tm_codeblock.specs.Cadu.{cadu};
-ghost use Rattle.tm_channel.specs.Sending.{StandsFor, Sends, SendsPrefix};
+ghost use Rattle.tm_channel.specs.Sending.{SenderStandsFor, Sends, SendsPrefix};
 ghost use Rattle.tm_channel.specs.Steps.{SendsFrames, SendsFramesPrefix};
 
 use std::marker::Model;
@@ -42,7 +42,7 @@ impl Sender {
     pub fn new(config: Config) -> Sender
         ensures config { result.config ≡ config }
         ensures fresh { result.inner.has_failed ≡ false }
-        ensures stands { StandsFor result [] }
+        ensures stands { SenderStandsFor result [] }
     {
         Sender {
             config,
@@ -88,7 +88,7 @@ impl Sender {
 
     /// How many octets follow the last whole frame of those given so far, where no push answered `Sink`.
     pub fn left_over(&self) -> u32
-        ensures { (given : List ℕ) → StandsFor self.now given
+        ensures { (given : List ℕ) → SenderStandsFor self.now given
             → result ≡ length (after_frames self.now.config.frame_length given) }
     {
         let held = &self.frame[..self.count];
@@ -97,7 +97,7 @@ impl Sender {
 
     /// How many octets follow the last whole frame of those given, where no push answered `Sink`.
     pub fn finish(self) -> u32
-        ensures { (given : List ℕ) → StandsFor self given
+        ensures { (given : List ℕ) → SenderStandsFor self given
             → result ≡ length (after_frames self.config.frame_length given) }
     {
         self.left_over()

@@ -3,11 +3,11 @@ ghost use Rattle.std.specs.Prelude.{◌≡◌, ◌*◌, ◌<◌, ◌≤◌, [], 
 ghost use Rattle.tm_base.specs.Bits.{bits_of};
 ghost use Rattle.tm_base.specs.Outside.{HasCause};
 ghost use Rattle.tm_sync.specs.Places.{verify_bits};
-ghost use Rattle.tm_sync.specs.Searching.{StandsFor as SearchStandsFor, inside_of};
+ghost use Rattle.tm_sync.specs.Searching.{SearchStandsFor, inside_of};
 ghost use Rattle.tm_sync.specs.Bits.{bits_bound};
 ghost use Rattle.tm_codeblock.specs.ReceivedCodeblock.{rules_of};
 ghost use Rattle.tm_channel.specs.Receiving.{waiting_bits};
-ghost use Rattle.tm_channel.specs.OctetReceiving.{AreSpare, StandsForBits, Received, ReceivedPart, ReceivedLast, ReceivedLastPart};
+ghost use Rattle.tm_channel.specs.OctetReceiving.{AreSpare, BitReceiverStandsFor, Received, ReceivedPart, ReceivedLast, ReceivedLastPart};
 
 use crate::bit_receiver::BitReceiver;
 use crate::item::ItemTaker;
@@ -49,7 +49,7 @@ impl BitStream {
         requires stored { batch.stored ≡ [] }
         requires some { 0 < batch.config.batch }
         ensures config { result.batch.config ≡ batch.config }
-        ensures stands { StandsForBits result [] }
+        ensures stands { BitReceiverStandsFor result [] }
     {
         BitStream {
             receiver: BitReceiver {

@@ -6,7 +6,7 @@ ghost use Rattle.tm_base.specs.Outside.{HasCause};
 ghost use Rattle.tm_base.specs.Takers.{HandedOver, HandedPart};
 ghost use Rattle.tm_inner.specs.Inner.{nearest_bit, plain_bits};
 ghost use Rattle.tm_inner.specs.Phase.{IsChosen, with_phase};
-ghost use Rattle.tm_inner.specs.Receiving.{HandsPrefix, StandsFor as InnerStandsFor};
+ghost use Rattle.tm_inner.specs.Receiving.{HandsPrefix, InnerReceiverStandsFor};
 ghost use Rattle.tm_viterbi.specs.WindowBlock.{WindowBlock};
 ghost use Rattle.tm_channel.specs.Calls.{TakesBits, TakesOctets};
 ghost use Rattle.tm_channel.specs.Receiving.{waiting_bits, piece_size};
@@ -146,7 +146,7 @@ pub fn end<P: Workers>(by: &P, inner: &mut InnerReceiver, kept: &mut KeptBits) -
     ensures inner { inner.new.config ≡ inner.old.config }
     ensures room { kept.new.size ≡ kept.old.size }
     ensures ends { Ends inner.old kept.old.size kept.new.phase (map (λ bit. bit == 1) kept.new.bits) result }
-    ensures chosen { (given : List ℕ) (done : List (Handed WindowBlock)) → InnerStandsFor inner.old given done
+    ensures chosen { (given : List ℕ) (done : List (Handed WindowBlock)) → InnerReceiverStandsFor inner.old given done
         → IsChosen inner.old.config given inner.new.phased.chosen }
 {
     kept.clear();

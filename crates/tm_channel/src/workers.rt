@@ -8,7 +8,7 @@ ghost use Rattle.tm_viterbi.specs.WindowSizes.{stream_bound};
 ghost use Rattle.tm_inner.specs.Inner.{inner_bits};
 ghost use Rattle.tm_inner.specs.Phase.{IsChosen};
 ghost use Rattle.tm_inner.specs.Handing.{AreHanded, AreHandedDue};
-ghost use Rattle.tm_inner.specs.Receiving.{StandsFor};
+ghost use Rattle.tm_inner.specs.Receiving.{InnerReceiverStandsFor};
 ghost use Rattle.tm_workers.specs.Batch.{EachBecomes};
 ghost use Rattle.tm_workers.specs.Words.{Decodes};
 ghost use Rattle.tm_channel.specs.Handing.{totals_of};
@@ -40,7 +40,8 @@ pub trait Workers {
         ensures stopped { inner.new.has_stopped ≡ inner.old.has_stopped }
         ensures most { result ≤ length octets.now }
         ensures gathered { (given : List ℕ) (done : List (Handed WindowBlock)) → length given + result < stream_bound
-            → StandsFor inner.old given done → StandsFor inner.new (given ++ take result octets.now) done };
+            → InnerReceiverStandsFor inner.old given done
+            → InnerReceiverStandsFor inner.new (given ++ take result octets.now) done };
 
     /// Gives it the next octets, and keeps the phase and the bits of its blocks, where there is room for them.
     fn feed(&self, inner: &mut InnerReceiver, octets: &[u8], kept: &mut KeptBits)
@@ -51,8 +52,8 @@ pub trait Workers {
         ensures handed { (more : List (Handed WindowBlock))
             × HandedOver (on_handed KeepsPhase Keeps) kept.old more kept.new
             × ((given : List ℕ) (done : List (Handed WindowBlock)) → length given + length octets.now < stream_bound
-            → StandsFor inner.old given done
-            → StandsFor inner.new (given ++ octets.now) (done ++ more)
+            → InnerReceiverStandsFor inner.old given done
+            → InnerReceiverStandsFor inner.new (given ++ octets.now) (done ++ more)
             × AreHandedDue inner.old.config (given ++ octets.now) (done ++ more)) };
 
     /// Ends it, and keeps the phase and the bits of its last blocks, where there is room for them. Answers what all
@@ -61,11 +62,12 @@ pub trait Workers {
         requires ready { is_ready self.now }
         requires fresh { inner.old.has_stopped ≡ false }
         ensures config { inner.new.config ≡ inner.old.config }
-        ensures chosen { (given : List ℕ) (done : List (Handed WindowBlock)) → StandsFor inner.old given done
+        ensures chosen { (given : List ℕ) (done : List (Handed WindowBlock))
+            → InnerReceiverStandsFor inner.old given done
             → IsChosen inner.old.config given inner.new.phased.chosen }
         ensures handed { (last : List (Handed WindowBlock)) × (left : ℕ)
             × HandedOver (on_handed KeepsPhase Keeps) kept.old last kept.new
-            × ((given : List ℕ) (done : List (Handed WindowBlock)) → StandsFor inner.old given done
+            × ((given : List ℕ) (done : List (Handed WindowBlock)) → InnerReceiverStandsFor inner.old given done
             → AreHanded inner.old.config given (done ++ last) left
             × (result ≡ totals_of inner.old.config (inner_bits inner.old.config given (items_of (done ++ last)))
             (items_of (done ++ last)))) };

@@ -10,7 +10,7 @@ use Rattle.tm_base.specs.Written.{Wrote, WrotePrefix}
 use Rattle.tm_config.specs.Accepted.{IsAccepted}
 use Rattle.tm_config.specs.Configuration.{Configuration}
 use Rattle.tm_codeblock.specs.Frames.{after_frames}
-use Rattle.tm_channel.specs.Sending.{Sending, StandsFor, Sends, SendsPrefix}
+use Rattle.tm_channel.specs.Sending.{Sending, SenderStandsFor, Sends, SendsPrefix}
 use Rattle.tm_channel.specs.Sent.{sent}
 use Rattle.tm_channel.proofs.Sending.{sent-goes_on, sends-all, sends-all_prefix}
 use Rattle.tm_driver.specs.Courses.{SinkState, SinkCourse}
@@ -94,7 +94,7 @@ Stopped sender out state last notes a b octets stop = (stop ≡ FeedFault) × (0
     × SinkCourse true (state (out a)) (state (out b)) (last (out b)) × SendsPrefix (sender a) (state (out a)).taken (state (out b)).taken octets
 
 abbrev IsRest : Sending → ℕ → Type 0
-IsRest s rest = (given : List ℕ) → StandsFor s given → rest ≡ length (after_frames s.config.frame_length given)
+IsRest s rest = (given : List ℕ) → SenderStandsFor s given → rest ≡ length (after_frames s.config.frame_length given)
 
 abbrev Finishes : {F R S : Type 0} → (F → Sending) → (F → R) → (F → S) → (S → SinkState) → F → F → Outcome → Type 0
 Finishes sender out notes noted a b outcome = (rest : ℕ) × IsRest (sender a) rest × (outcome ≡ outcome_by rest) × (out b ≡ out a)
@@ -105,16 +105,16 @@ Fails sender out notes noted last a b = (rest : ℕ) × IsRest (sender a) rest �
     × SinkCourse true (noted (notes a)) (noted (notes b)) (last (notes b)) × WrotePrefix (noted (notes a)).taken (noted (notes b)).taken (left_over_text rest)
 
 -- what a new sender that was fed has written
-fed-all : (c : Configuration) (a b : Sending) (taken now : Option (List ℕ)) (octets : List ℕ) → a.config ≡ c → StandsFor a []
+fed-all : (c : Configuration) (a b : Sending) (taken now : Option (List ℕ)) (octets : List ℕ) → a.config ≡ c → SenderStandsFor a []
     → 0 < a.config.frame_length → Sends a b taken now octets → Wrote taken now (sent c octets)
 fed-all c a b taken now octets same new some p = subst (λ (x : Configuration). Wrote taken now (sent x octets)) same (sends-all a b taken now octets some new p)
 
-fed-prefix : (c : Configuration) (a : Sending) (taken now : Option (List ℕ)) (octets : List ℕ) → a.config ≡ c → StandsFor a []
+fed-prefix : (c : Configuration) (a : Sending) (taken now : Option (List ℕ)) (octets : List ℕ) → a.config ≡ c → SenderStandsFor a []
     → 0 < a.config.frame_length → SendsPrefix a taken now octets → WrotePrefix taken now (sent c octets)
 fed-prefix c a taken now octets same new some p = subst (λ (x : Configuration). WrotePrefix taken now (sent x octets)) same (sends-all_prefix a taken now octets some new p)
 
 -- how many octets are left over then
-rest-is : (c : Configuration) (a b : Sending) (taken now : Option (List ℕ)) (octets : List ℕ) (rest : ℕ) → a.config ≡ c → StandsFor a []
+rest-is : (c : Configuration) (a b : Sending) (taken now : Option (List ℕ)) (octets : List ℕ) (rest : ℕ) → a.config ≡ c → SenderStandsFor a []
     → Sends a b taken now octets → IsRest b rest → rest ≡ left_over c octets
 rest-is c a b taken now octets rest same new p finish = finish octets (p.fed.stands [] new)
     ∙ ap (λ (x : Configuration). length (after_frames x.frame_length octets)) (p.config ∙ same) ∙ length-after c.frame_length octets
@@ -127,7 +127,7 @@ record AllSent (c : Configuration) (octets : List ℕ) (taken taken_now noted no
 
 all-sent : {F R S : Type 0} (sender : F → Sending) (out : F → R) (state : R → SinkState) (notes : F → S) (noted : S → SinkState) (Told : SinkState → List ℕ → Type 0)
     (c : Configuration) (a m b : F) (octets : List ℕ) (rest : ℕ)
-    → (sender a).config ≡ c → StandsFor (sender a) [] → Fed sender out state notes a m octets → IsRest (sender m) rest → out b ≡ out m → Told (noted (notes m)) (left_over_text rest)
+    → (sender a).config ≡ c → SenderStandsFor (sender a) [] → Fed sender out state notes a m octets → IsRest (sender m) rest → out b ≡ out m → Told (noted (notes m)) (left_over_text rest)
     → AllSent c octets (state (out a)).taken (state (out b)).taken (noted (notes a)).taken (noted (notes b)).taken rest (Told (noted (notes a)))
 all-sent sender out state notes noted Told c a m b octets rest same new fed finish out_same told =
     let is = rest-is c (sender a) (sender m) (state (out a)).taken (state (out m)).taken octets rest same new fed.3 finish in
@@ -139,7 +139,7 @@ all-sent sender out state notes noted Told c a m b octets rest same new fed fini
     }
 
 encode-ends : {F R S : Type 0} (sender : F → Sending) (out : F → R) (state : R → SinkState) (out_last : R → Type 0) (notes : F → S) (noted : S → SinkState) (notes_last : S → Type 0)
-    (c : Configuration) (a b : F) (ended unended : Type 0) (e : Ending) (octets : List ℕ) → IsAccepted c → (sender a).config ≡ c → StandsFor (sender a) []
+    (c : Configuration) (a b : F) (ended unended : Type 0) (e : Ending) (octets : List ℕ) → IsAccepted c → (sender a).config ≡ c → SenderStandsFor (sender a) []
     → DrivenTo (Fed sender out state notes) (Stopped sender out state out_last notes) (Finishes sender out notes noted) (Fails sender out notes noted notes_last) c.limit a b ended unended e octets
     → Ends e (encode_meaning c) c.limit octets (taken_by (state (out a)).taken (state (out b)).taken (noted (notes a)).taken (noted (notes b)).taken)
 encode-ends sender out state out_last notes noted notes_last c a b ended unended Done octets accepted same new p =
@@ -183,7 +183,7 @@ encode-ends sender out state out_last notes noted notes_last c a b ended unended
     )
 
 pub encode-driven : {F R S : Type 0} (sender : F → Sending) (out : F → R) (state : R → SinkState) (out_last : R → Type 0) (notes : F → S) (noted : S → SinkState) (notes_last : S → Type 0)
-    (c : Configuration) (limit : ℕ) (a b : F) (ended unended : Type 0) (e : Ending) (octets : List ℕ) → IsAccepted c → (sender a).config ≡ c → StandsFor (sender a) [] → limit ≡ c.limit
+    (c : Configuration) (limit : ℕ) (a b : F) (ended unended : Type 0) (e : Ending) (octets : List ℕ) → IsAccepted c → (sender a).config ≡ c → SenderStandsFor (sender a) [] → limit ≡ c.limit
     → DrivenTo (Fed sender out state notes) (Stopped sender out state out_last notes) (Finishes sender out notes noted) (Fails sender out notes noted notes_last) limit a b ended unended e octets
     → Ends e (encode_meaning c) c.limit octets (taken_by (state (out a)).taken (state (out b)).taken (noted (notes a)).taken (noted (notes b)).taken)
 encode-driven sender out state out_last notes noted notes_last c limit a b ended unended e octets accepted same new is p =

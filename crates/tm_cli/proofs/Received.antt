@@ -23,7 +23,7 @@ use Rattle.tm_channel.specs.Items.{ItemValue, AreItemsOf, AreFirstItemsOf}
 use Rattle.tm_channel.specs.Receive.{ReceiveDue, ReceiveFirst, ReceivePrefix}
 use Rattle.tm_channel.specs.declared.totals.Totals.{Totals}
 use Rattle.tm_channel.specs.Handing.{ReceiveAll, AreReceived, AreReceivedDue, AreReceivedFirst, AreReceivedPrefix}
-use Rattle.tm_channel.specs.OctetReceiving.{OctetReceiving, StandsFor}
+use Rattle.tm_channel.specs.OctetReceiving.{OctetReceiving, ReceiverStandsFor}
 use Rattle.tm_channel.specs.declared.receiver.RecvError.{RecvError}
 use Rattle.tm_channel.specs.declared.receiver.RecvError.TheVariants.{Taker, Stopped}
 use Rattle.tm_driver.specs.Driven.{DrivenTo}
@@ -127,8 +127,9 @@ none-due c accepted = elim (given_or_find c.phase) as (λ _. AreReceivedDue c []
 
 pub due-more : {T : Type 0} (took : T → Handed ItemValue → T → Type 0) (c : Configuration) (before now : OctetReceiving) (start taker taker_now : T) (given octets : List ℕ) (more : List (Handed ItemValue))
     → now.config ≡ before.config → HandedOver took taker more taker_now
-    → ((given : List ℕ) (done : List (Handed ItemValue)) → length given + length octets < 2 ^ 60 → StandsFor before given done
-    → StandsFor now (given ++ octets) (done ++ more) × AreReceivedDue before.config (given ++ octets) (done ++ more))
+    → ((given : List ℕ) (done : List (Handed ItemValue)) → length given + length octets < 2 ^ 60 → ReceiverStandsFor before given done
+    → ReceiverStandsFor now (given ++ octets) (done ++ more)
+        × AreReceivedDue before.config (given ++ octets) (done ++ more))
     → HandedDue c before (λ handed. HandedOver took start handed taker) given → HandedDue c now (λ handed. HandedOver took start handed taker_now) (given ++ octets)
 due-more took c before now start taker taker_now given octets more same handed stands was =
     let long = length-append given octets in
@@ -143,7 +144,7 @@ due-more took c before now start taker taker_now given octets more same handed s
 
 pub first-more : {T : Type 0} (took broke : T → Handed ItemValue → T → Type 0) (c : Configuration) (before : OctetReceiving) (start taker taker_now : T) (given octets : List ℕ) (tried : List (Handed ItemValue))
     → HandedPart took broke taker tried taker_now
-    → ((given : List ℕ) (done : List (Handed ItemValue)) → length given + length octets < 2 ^ 60 → StandsFor before given done
+    → ((given : List ℕ) (done : List (Handed ItemValue)) → length given + length octets < 2 ^ 60 → ReceiverStandsFor before given done
     → AreReceivedFirst before.config (given ++ octets) (done ++ tried))
     → HandedDue c before (λ handed. HandedOver took start handed taker) given → HandedFirst c (λ handed. HandedPart took broke start handed taker_now) (given ++ octets)
 first-more took broke c before start taker taker_now given octets tried handed first was =
@@ -157,7 +158,7 @@ first-more took broke c before start taker taker_now given octets tried handed f
     }
 
 -- a receiver that was given nothing has handed over nothing
-pub due-none : {T : Type 0} (took : T → Handed ItemValue → T → Type 0) (c : Configuration) (receiver : OctetReceiving) (taker : T) → IsAccepted c → receiver.config ≡ c → StandsFor receiver [] []
+pub due-none : {T : Type 0} (took : T → Handed ItemValue → T → Type 0) (c : Configuration) (receiver : OctetReceiving) (taker : T) → IsAccepted c → receiver.config ≡ c → ReceiverStandsFor receiver [] []
     → HandedDue c receiver (λ handed. HandedOver took taker handed taker) []
 due-none took c receiver taker accepted same stands = record { handed = []; config = same; stands = λ _. (stands, none-due c accepted); holds = refl }
 
@@ -168,7 +169,7 @@ few c octets accepted within = let most = accepted.limit in omega arith
 
 pub all-handed : {T : Type 0} (took : T → Handed ItemValue → T → Type 0) (c : Configuration) (receiver : OctetReceiving) (start taker taker_now : T) (octets : List ℕ) (last : List (Handed ItemValue)) (totals : Totals)
     → length octets < 2 ^ 60 → HandedDue c receiver (λ handed. HandedOver took start handed taker) octets → HandedOver took taker last taker_now
-    → ((given : List ℕ) (done : List (Handed ItemValue)) → StandsFor receiver given done → AreReceived receiver.config given (done ++ last) totals)
+    → ((given : List ℕ) (done : List (Handed ItemValue)) → ReceiverStandsFor receiver given done → AreReceived receiver.config given (done ++ last) totals)
     → (handed : List (Handed ItemValue)) × AreReceived c octets handed totals × HandedOver took start handed taker_now
 all-handed took c receiver start taker taker_now octets last totals small p handed finish =
     let all = p.handed ++ last in (
@@ -179,7 +180,7 @@ all-handed took c receiver start taker taker_now octets last totals small p hand
 
 pub prefix-handed : {T : Type 0} (took broke : T → Handed ItemValue → T → Type 0) (c : Configuration) (receiver : OctetReceiving) (start taker taker_now : T) (octets : List ℕ) (tried : List (Handed ItemValue))
     → IsAccepted c → length octets ≤ c.limit → HandedDue c receiver (λ handed. HandedOver took start handed taker) octets → HandedPart took broke taker tried taker_now
-    → ((given : List ℕ) (done : List (Handed ItemValue)) → StandsFor receiver given done → AreReceivedPrefix receiver.config given (done ++ tried))
+    → ((given : List ℕ) (done : List (Handed ItemValue)) → ReceiverStandsFor receiver given done → AreReceivedPrefix receiver.config given (done ++ tried))
     → (handed : List (Handed ItemValue)) × AreReceivedPrefix c octets handed × HandedPart took broke start handed taker_now
 prefix-handed took broke c receiver start taker taker_now octets tried accepted within p handed finish =
     let all = p.handed ++ tried in (
@@ -228,7 +229,7 @@ LastPart receiver taker took broke broke_end x y =
 
 received-to : {F T : Type 0} (receiver : F → OctetReceiving) (taker : F → T) (took broke : T → Handed ItemValue → T → Type 0) (took_end : T → Totals → Bool → T → Type 0)
     (broke_end : T → Totals → T → Type 0) (c : Configuration) (a b : F) (ended unended : Type 0) (e : Ending) (octets : List ℕ)
-    → IsAccepted c → (receiver a).config ≡ c → StandsFor (receiver a) [] []
+    → IsAccepted c → (receiver a).config ≡ c → ReceiverStandsFor (receiver a) [] []
     → DrivenTo (Fed receiver taker took) (FedPart receiver taker took broke) (Last receiver taker took took_end) (LastPart receiver taker took broke broke_end) c.limit a b ended unended e octets
     → ReceivedTo took broke took_end broke_end c e octets (taker a) (taker b)
 received-to receiver taker took broke took_end broke_end c a b ended unended Done octets accepted same stands p =
@@ -274,7 +275,7 @@ received-to {F} {T} receiver taker took broke took_end broke_end c a b ended une
 
 pub received-driven : {F T : Type 0} (receiver : F → OctetReceiving) (taker : F → T) (took broke : T → Handed ItemValue → T → Type 0) (took_end : T → Totals → Bool → T → Type 0)
     (broke_end : T → Totals → T → Type 0) (c : Configuration) (limit : ℕ) (a b : F) (ended unended : Type 0) (e : Ending) (octets : List ℕ)
-    → IsAccepted c → (receiver a).config ≡ c → StandsFor (receiver a) [] [] → limit ≡ c.limit
+    → IsAccepted c → (receiver a).config ≡ c → ReceiverStandsFor (receiver a) [] [] → limit ≡ c.limit
     → DrivenTo (Fed receiver taker took) (FedPart receiver taker took broke) (Last receiver taker took took_end) (LastPart receiver taker took broke broke_end) limit a b ended unended e octets
     → ReceivedTo took broke took_end broke_end c e octets (taker a) (taker b)
 received-driven receiver taker took broke took_end broke_end c limit a b ended unended e octets

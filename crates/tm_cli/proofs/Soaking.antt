@@ -9,7 +9,7 @@ use Rattle.tm_base.specs.Written.{Wrote, WrotePrefix}
 use Rattle.tm_config.specs.Accepted.{IsAccepted}
 use Rattle.tm_config.specs.Configuration.{Configuration, word_length, codeblock_length}
 use Rattle.tm_config.proofs.Lengths.{codeblock_length-le}
-use Rattle.tm_inner.specs.Sending.{InnerSending, SendsPrefix, Sends, StandsFor as SenderStandsFor}
+use Rattle.tm_inner.specs.Sending.{InnerSending, InnerSendsPrefix, InnerSends, InnerSenderStandsFor}
 use Rattle.tm_inner.specs.declared.sender.SendError.{SendError}
 use Rattle.tm_inner.specs.declared.sender.SendError.TheVariants.{Sink, Stopped}
 use Rattle.tm_inner.specs.Symbols.{symbols_of_octets}
@@ -17,7 +17,7 @@ use Rattle.tm_inner.proofs.Symbols.{symbols-go_on, symbols-none}
 use Rattle.tm_channel.specs.Items.{ItemValue}
 use Rattle.tm_channel.specs.declared.totals.Totals.{Totals}
 use Rattle.tm_channel.specs.Handing.{AreReceived, AreReceivedDue}
-use Rattle.tm_channel.specs.OctetReceiving.{OctetReceiving, StandsFor}
+use Rattle.tm_channel.specs.OctetReceiving.{OctetReceiving, ReceiverStandsFor}
 use Rattle.tm_cli.specs.Generated.{drawn, draw_count, generated_unit, generated_units, generated}
 use Rattle.tm_cli.specs.HeldSymbols.{HeldSymbols}
 use Rattle.tm_cli.specs.Lines.{report_end_text}
@@ -57,8 +57,8 @@ no-room-left true rose = refl
 no-room-left false rose = elim rose [ inl more ↦ absurd (omega (arith, more)) | inr is ↦ is ]
 
 pub unit-sent : (sender : InnerSending) (given unit : List ℕ) (result : Result (Unit {0}) SendError) (before now : HeldSymbols)
-    → before ≡ record { octets = []; is_full = false } → length unit ≤ 2044 → SenderStandsFor sender given → sender.has_failed ≡ false
-    → (IsErrOf result Stopped → IsTrue sender.has_failed) → (IsErrOf result Sink → SendsPrefix sender (Some before.octets) (Some now.octets) unit)
+    → before ≡ record { octets = []; is_full = false } → length unit ≤ 2044 → InnerSenderStandsFor sender given → sender.has_failed ≡ false
+    → (IsErrOf result Stopped → IsTrue sender.has_failed) → (IsErrOf result Sink → InnerSendsPrefix sender (Some before.octets) (Some now.octets) unit)
     → (IsErrOf result Sink → Rose (cond before.is_full 1 0) (cond now.is_full 1 0) (now.is_full ≡ true)) → (now.is_full ≡ true → length now.octets ≡ 32768)
     → IsOk result
 unit-sent sender given unit (Ok x) before now new small stands fresh stopped prefix rose full = refl
@@ -72,10 +72,10 @@ unit-sent sender given unit (Err Stopped) before now new small stands fresh stop
 -- and what is due for it is received
 pub unit-received : (c : Configuration) (sender sender_now : InnerSending) (receiver receiver_now : OctetReceiving) (start counts counts_now : Counts) (given unit octets : List ℕ)
     (before now : HeldSymbols) (more : List (Handed ItemValue)) → before ≡ record { octets = []; is_full = false } → octets ≡ now.octets
-    → Sends sender sender_now (Some before.octets) (Some now.octets) unit → SenderStandsFor sender given
+    → InnerSends sender sender_now (Some before.octets) (Some now.octets) unit → InnerSenderStandsFor sender given
     → receiver_now.config ≡ receiver.config → HandedOver CountedHanded counts more counts_now
-    → ((given : List ℕ) (done : List (Handed ItemValue)) → length given + length octets < 2 ^ 60 → StandsFor receiver given done
-    → StandsFor receiver_now (given ++ octets) (done ++ more) × AreReceivedDue receiver.config (given ++ octets) (done ++ more))
+    → ((given : List ℕ) (done : List (Handed ItemValue)) → length given + length octets < 2 ^ 60 → ReceiverStandsFor receiver given done
+    → ReceiverStandsFor receiver_now (given ++ octets) (done ++ more) × AreReceivedDue receiver.config (given ++ octets) (done ++ more))
     → HandedDue c receiver (λ handed. HandedOver CountedHanded start handed counts) (symbols_of_octets sender.config given)
     → HandedDue c receiver_now (λ handed. HandedOver CountedHanded start handed counts_now) (symbols_of_octets sender.config (given ++ unit))
 unit-received c sender sender_now receiver receiver_now start counts counts_now given unit octets before now more new is sends stands same handed goes_on was =
@@ -86,7 +86,7 @@ unit-received c sender sender_now receiver receiver_now start counts counts_now 
 
 -- ---- all units
 
-pub handed-none : (c : Configuration) (hits : ℕ) (receiver : OctetReceiving) → IsAccepted c → receiver.config ≡ c → StandsFor receiver [] []
+pub handed-none : (c : Configuration) (hits : ℕ) (receiver : OctetReceiving) → IsAccepted c → receiver.config ≡ c → ReceiverStandsFor receiver [] []
     → (g : _) → HandedDue c receiver (λ handed. HandedOver CountedHanded no_counts handed no_counts) (symbols_of_octets c (generated_units c 0 hits g))
 handed-none c hits receiver accepted same stands g =
     let none : [] ≡ symbols_of_octets c (generated_units c 0 hits g) = sym (ap (symbols_of_octets c) (units-none c hits g) ∙ symbols-none c) in
@@ -145,7 +145,7 @@ counted-all handed counts few over =
 -- at the end all items of the octets are counted
 pub all-counted : (c : Configuration) (receiver : OctetReceiving) (counts now : Counts) (octets : List ℕ) (last : List (Handed ItemValue)) (totals : Totals) → length octets < 2 ^ 40
     → HandedDue c receiver (λ handed. HandedOver CountedHanded no_counts handed counts) octets → HandedOver CountedHanded counts last now
-    → ((given : List ℕ) (done : List (Handed ItemValue)) → StandsFor receiver given done → AreReceived receiver.config given (done ++ last) totals)
+    → ((given : List ℕ) (done : List (Handed ItemValue)) → ReceiverStandsFor receiver given done → AreReceived receiver.config given (done ++ last) totals)
     → (handed : List (Handed ItemValue)) × AreReceived c octets handed totals × (now ≡ counts_of (items_of handed))
 all-counted c receiver counts now octets last totals few was more finish =
     let all = all-handed CountedHanded c receiver no_counts counts now octets last totals (omega (arith, few)) was more finish in

@@ -1,7 +1,7 @@
 -- Words that are refused: those that clap's rule does not take, and others for what a command alone has.
 use Rattle.std.proofs.Common.{◌≡◌, ◌∙◌, [], ◌∷◌, Option, Some, None, refl, sym, ap}
 use Rattle.clap.specs.Kinds.{Kinds}
-use Rattle.tm_config.specs.Accepted.{refusal_of as refusal_of_raw}
+use Rattle.tm_config.specs.Accepted.{refusal_of_raw}
 use Rattle.tm_config.specs.Configuration.{Configuration, configuration_of}
 use Rattle.tm_config.specs.declared.error.ConfigError.{ConfigError}
 use Rattle.tm_words.specs.declared.job.Job.{Job}

@@ -6,7 +6,7 @@ use Rattle.tm_config.specs.Configuration.{Configuration}
 use Rattle.tm_channel.specs.declared.totals.Totals.{Totals}
 use Rattle.tm_channel.specs.Items.{ItemValue}
 use Rattle.tm_channel.specs.Handing.{AreReceived, AreReceivedDue, AreReceivedFirst, AreReceivedPrefix}
-use Rattle.tm_channel.specs.OctetReceiving.{OctetReceiving, StandsFor}
+use Rattle.tm_channel.specs.OctetReceiving.{OctetReceiving, ReceiverStandsFor}
 use Rattle.tm_driver.specs.Courses.{SinkState}
 use Rattle.tm_driver.specs.Texts.{TookText}
 use Rattle.tm_driver.specs.declared.ending.Ending.{Ending}
@@ -21,7 +21,7 @@ pub record HandedDue (c : Configuration) (receiver : OctetReceiving) (took : Lis
     (Handed ItemValue) → Type 0) (octets : List ℕ) : Type 0 where
   pub handed : List (Handed ItemValue)
   pub config : receiver.config ≡ c
-  pub stands : length octets < stream_bound → StandsFor receiver octets handed
+  pub stands : length octets < stream_bound → ReceiverStandsFor receiver octets handed
       × AreReceivedDue c octets handed
   pub holds : took handed
 
@@ -56,7 +56,8 @@ pub record HandedLast {T : Type 0} (took : T → Handed ItemValue → T
   pub totals : Totals
   pub middle : T
   pub handed : HandedOver took before last middle
-  pub received : (given : List ℕ) (done : List (Handed ItemValue)) → StandsFor receiver given done
+  pub received : (given : List ℕ) (done : List (Handed ItemValue))
+      → ReceiverStandsFor receiver given done
       → AreReceived receiver.config given (done ++ last) totals
   pub is_end : end middle totals
 
@@ -64,7 +65,8 @@ pub record HandedLastPart {T : Type 0} (took broke : T → Handed ItemValue → 
     → Type 0) (receiver : OctetReceiving) (before now : T) : Type 0 where
   pub tried : List (Handed ItemValue)
   pub handed : HandedPart took broke before tried now
-  pub prefix : (given : List ℕ) (done : List (Handed ItemValue)) → StandsFor receiver given done
+  pub prefix : (given : List ℕ) (done : List (Handed ItemValue))
+      → ReceiverStandsFor receiver given done
       → AreReceivedPrefix receiver.config given (done ++ tried)
 
 -- all of the octets of an input within the limit was taken, and then something holds of what they

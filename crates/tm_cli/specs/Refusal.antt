@@ -4,7 +4,7 @@ use Rattle.clap.specs.Words.{Text}
 use Rattle.clap.specs.Faults.{fault_of}
 use Rattle.clap.specs.Kinds.{Kinds}
 use Rattle.tm_config.specs.Configuration.{Configuration, configuration_of, is_uncoded}
-use Rattle.tm_config.specs.Accepted.{name_of, refusal_of as refusal_of_raw}
+use Rattle.tm_config.specs.Accepted.{name_of, refusal_of_raw}
 use Rattle.tm_config.specs.declared.error.ConfigError.{ConfigError}
 use Rattle.tm_config.specs.declared.error.ConfigError.TheVariants.{Code, Inner}
 use Rattle.tm_words.specs.CommandLine.{command_line}

@@ -22,7 +22,7 @@ impl<'a, 'b, 'c, O: Sink, N: Sink> Feed for Encoding<'a, 'b, 'c, O, N> {
     ghost use Rattle.tm_base.specs.Outside.{Rose};
     ghost use Rattle.tm_base.specs.Written.{Wrote, WrotePrefix};
     ghost use Rattle.tm_codeblock.specs.Frames.{after_frames};
-    ghost use Rattle.tm_channel.specs.Sending.{Sends, SendsPrefix, StandsFor};
+    ghost use Rattle.tm_channel.specs.Sending.{Sends, SendsPrefix, SenderStandsFor};
     ghost use Rattle.tm_channel.proofs.Sending.{sends-none, sends-more, sends-prefix};
     ghost use Rattle.tm_driver.specs.Courses.{SinkWent, SinksWent, sink_call};
     ghost use Rattle.tm_driver.specs.Lines.{left_over_text, outcome_by};
@@ -38,12 +38,12 @@ impl<'a, 'b, 'c, O: Sink, N: Sink> Feed for Encoding<'a, 'b, 'c, O, N> {
         × SinkWent true (sink_call O.taken O.faults O.is_last a.out.now b.out.now)
         × SendsPrefix a.sender.now (O.taken a.out.now) (O.taken b.out.now) octets };
 
-    ghost finished = { λ a b outcome. (rest : ℕ) × ((given : List ℕ) → StandsFor a.sender.now given
+    ghost finished = { λ a b outcome. (rest : ℕ) × ((given : List ℕ) → SenderStandsFor a.sender.now given
         → rest ≡ length (after_frames a.sender.now.config.frame_length given))
         × (outcome ≡ outcome_by rest) × (b.out.now ≡ a.out.now)
         × Wrote (N.taken a.notes.now) (N.taken b.notes.now) (left_over_text rest) };
 
-    ghost failed = { λ a b. (rest : ℕ) × ((given : List ℕ) → StandsFor a.sender.now given
+    ghost failed = { λ a b. (rest : ℕ) × ((given : List ℕ) → SenderStandsFor a.sender.now given
         → rest ≡ length (after_frames a.sender.now.config.frame_length given))
         × (b.out.now ≡ a.out.now) × SinkWent true (sink_call N.taken N.faults N.is_last a.notes.now b.notes.now)
         × WrotePrefix (N.taken a.notes.now) (N.taken b.notes.now) (left_over_text rest) };

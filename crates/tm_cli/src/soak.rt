@@ -3,12 +3,12 @@ ghost use Rattle.std.specs.Prelude.{◌≡◌, ◌⊎◌, ◌+◌, ◌*◌, ◌^
 ghost use Rattle.tm_base.specs.Takers.{HandedOver};
 ghost use Rattle.tm_config.specs.Accepted.{IsAccepted};
 ghost use Rattle.tm_config.specs.Configuration.{Configuration, correctable};
-ghost use Rattle.tm_inner.specs.Sending.{StandsFor as SenderStandsFor};
+ghost use Rattle.tm_inner.specs.Sending.{InnerSenderStandsFor};
 ghost use Rattle.tm_inner.specs.Symbols.{symbols_of_octets};
 ghost use Rattle.tm_base.specs.Handed.{Handed, items_of};
 ghost use Rattle.tm_channel.specs.Handing.{AreReceived};
 ghost use Rattle.tm_channel.specs.Items.{ItemValue};
-ghost use Rattle.tm_channel.specs.OctetReceiving.{StandsFor};
+ghost use Rattle.tm_channel.specs.OctetReceiving.{ReceiverStandsFor};
 ghost use Rattle.tm_cli.specs.Generated.{generated};
 ghost use Rattle.tm_cli.specs.Receiving.{HandedDue};
 ghost use Rattle.tm_cli.specs.Soak.{soak_meaning, soak_refusal, CountedHanded, counts_of};
@@ -68,14 +68,14 @@ fn pass_unit<R: Threads + Sync>(
 )
     requires unit { length unit.now ≤ longest_cadu }
     requires fresh { sender.old.has_failed ≡ false }
-    requires stands { (given : List ℕ) × SenderStandsFor sender.old given }
+    requires stands { (given : List ℕ) × InnerSenderStandsFor sender.old given }
     requires ready { receiver.old.has_stopped ≡ false }
     ensures fresh { sender.new.has_failed ≡ false }
     ensures config { sender.new.config ≡ sender.old.config }
-    ensures stands { (given : List ℕ) → SenderStandsFor sender.old given
-        → SenderStandsFor sender.new (given ++ unit.now) }
+    ensures stands { (given : List ℕ) → InnerSenderStandsFor sender.old given
+        → InnerSenderStandsFor sender.new (given ++ unit.now) }
     ensures ready { receiver.new.has_stopped ≡ false }
-    ensures handed { (c : Configuration) (start : Counts) (given : List ℕ) → SenderStandsFor sender.old given
+    ensures handed { (c : Configuration) (start : Counts) (given : List ℕ) → InnerSenderStandsFor sender.old given
         → HandedDue c receiver.old
         (λ handed. HandedOver CountedHanded start handed counts.old) (symbols_of_octets sender.old.config given)
         → HandedDue c receiver.new
@@ -102,7 +102,7 @@ fn pass_frames<R: Threads + Sync>(
     requires hits { hits ≤ 2 * correctable config.now.code }
     requires ready { receiver.old.has_stopped ≡ false }
     requires config { receiver.old.config ≡ config.now }
-    requires new { StandsFor receiver.old [] [] }
+    requires new { ReceiverStandsFor receiver.old [] [] }
     ensures accepted { IsAccepted config.now }
     ensures few { length (generated config.now seed frames hits) ≤ 2 ^ 15 * frames }
     ensures ready { receiver.new.has_stopped ≡ false }
@@ -134,7 +134,7 @@ fn count_frames<R: Threads + Sync>(
     requires accepted { soak_refusal config.now seed frames hits ≡ None }
     requires ready { receiver.old.has_stopped ≡ false }
     requires config { receiver.old.config ≡ config.now }
-    requires new { StandsFor receiver.old [] [] }
+    requires new { ReceiverStandsFor receiver.old [] [] }
     ensures accepted { IsAccepted config.now }
     ensures counted { (handed : List (Handed ItemValue))
         × AreReceived config.now (generated config.now seed frames hits) handed result.1

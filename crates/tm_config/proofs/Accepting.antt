@@ -14,7 +14,7 @@ use Rattle.tm_config.specs.declared.error.ConfigError.{ConfigError}
 use Rattle.tm_config.specs.Configuration.{Configuration, configuration_of, unfollowed, most_data, correctable, all_codes, code_of, is_uncoded, number_of_rate, all_rates}
 use Rattle.tm_config.specs.Configuration.{number_of_basis, all_bases, number_of_form, all_forms, number_of_start, all_starts}
 use Rattle.tm_config.specs.Configuration.{number_of_mode, all_modes}
-use Rattle.tm_config.specs.Accepted.{IsAccepted, is_listed, is_number, is_within, switch_fits, sought_fits, fits_if_given, depth_fits, length_fits, repair_fits, tests, first_error, refusal_of}
+use Rattle.tm_config.specs.Accepted.{IsAccepted, is_listed, is_number, is_within, switch_fits, sought_fits, fits_if_given, depth_fits, length_fits, repair_fits, tests, first_error, refusal_of_raw}
 use Rattle.tm_config.proofs.Choices.{uncoded_tells}
 
 -- where no test fails, each passes
@@ -55,8 +55,8 @@ pub record AllPass (raw : Raw) : Type 0 where
   pub pack : switch_fits raw.pack ≡ true
   pub verify : nat_le raw.verify most_verify ≡ true
 
-pub all_pass : (raw : Raw) → refusal_of raw ≡ None → AllPass raw
-unfolding refusal_of
+pub all_pass : (raw : Raw) → refusal_of_raw raw ≡ None → AllPass raw
+unfolding refusal_of_raw
 all_pass raw none =
     let p1 = each-passes (tests raw) none in
     let p2 = p1.1 in
@@ -177,7 +177,7 @@ repair_within code None fits = omega arith
 repair_within code (Some repair) fits = at_most repair code fits
 
 -- the configuration of values that are not refused is accepted
-pub configuration_is_accepted : (raw : Raw) → refusal_of raw ≡ None → IsAccepted (configuration_of raw)
+pub configuration_is_accepted : (raw : Raw) → refusal_of_raw raw ≡ None → IsAccepted (configuration_of raw)
 configuration_is_accepted raw none =
     let pass = all_pass raw none in
     let code = code_of raw.code in

@@ -15,7 +15,7 @@ use Rattle.tm_config.specs.Configuration.{HaveNumbers, configuration_of, numbere
 use Rattle.tm_config.specs.Configuration.{number_of_switch, all_switches, is_on, number_of_basis, all_bases, number_of_form, all_forms}
 use Rattle.tm_config.specs.Configuration.{number_of_start, all_starts, number_of_mode, all_modes, mode_of, phase_of, is_followed, mode_by}
 use Rattle.tm_config.specs.Configuration.{number_of_sought, all_sought}
-use Rattle.tm_config.specs.Accepted.{is_number, fits_if_given, switch_fits, refusal_of}
+use Rattle.tm_config.specs.Accepted.{is_number, fits_if_given, switch_fits, refusal_of_raw}
 use Rattle.tm_config.proofs.Accepting.{all_pass}
 
 -- the value found by a number that one of the list has
@@ -52,7 +52,7 @@ invert-has None fits = refl
 invert-has (Some number) fits = ap (λ n. Some n) (numbered-has number_of_switch all_switches false number fits)
 
 -- of values that are not refused
-pub configuration-has : (raw : Raw) → refusal_of raw ≡ None → HaveNumbers raw (configuration_of raw)
+pub configuration-has : (raw : Raw) → refusal_of_raw raw ≡ None → HaveNumbers raw (configuration_of raw)
 configuration-has raw none =
     let pass = all_pass raw none in
     record {

@@ -121,8 +121,8 @@ first_error ((true, error) ∷ rest) = first_error rest
 first_error ((false, error) ∷ rest) = Some error
 
 -- the error of the first value that is outside its list or range, or none
-unfoldable pub refusal_of : Raw → Option ConfigError
-refusal_of raw = first_error (tests raw)
+unfoldable pub refusal_of_raw : Raw → Option ConfigError
+refusal_of_raw raw = first_error (tests raw)
 
 -- the names of the options
 abbrev pub name_of : ConfigError → List ℕ

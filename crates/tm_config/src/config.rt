@@ -2,7 +2,7 @@
 ghost use Rattle.std.specs.Prelude.{◌≡◌, ◌≢◌, ◌⊎◌, ◌*◌, ◌<◌, ◌≤◌, None, Some, OnOk, IfOk, IfErr, option_map};
 ghost use Rattle.tm_rs_code.specs.Code.{longest_word};
 ghost use Rattle.tm_config.specs.Configuration.{HaveNumbers, configuration_of, word_length, correctable, number_of_rate, number_of_switch, number_of_basis, number_of_form, number_of_start, number_of_mode, mode_by, number_of_sought, unfollowed};
-ghost use Rattle.tm_config.specs.Accepted.{IsAccepted, refusal_of};
+ghost use Rattle.tm_config.specs.Accepted.{IsAccepted, refusal_of_raw};
 
 use crate::ranges::{frame_length, refusal};
 use crate::values::{
@@ -45,11 +45,11 @@ impl Config {
     /// - `Workers`: 1 to 64. `Limit`: 1 to 2^40. `Fly`: 0 to 15. `Keep`: 64 to 65,536. `Ahead`: 0 to 4,096.
     /// - `Phase`: 0 to 2. `Polarity`: 0 or 1. `Batch`: 1 to 32. `Pack`: 0 or 1. `Verify`: 0 to 7.
     pub fn check(raw: &Raw) -> Result<Config, ConfigError>
-        ensures ok { OnOk result (refusal_of raw.now ≡ None) }
+        ensures ok { OnOk result (refusal_of_raw raw.now ≡ None) }
         ensures config { IfOk result (λ config. config ≡ configuration_of raw.now) }
         ensures numbers { IfOk result (HaveNumbers raw.now) }
         ensures accepted { IfOk result IsAccepted }
-        ensures err { IfErr result (λ error. refusal_of raw.now ≡ Some error) }
+        ensures err { IfErr result (λ error. refusal_of_raw raw.now ≡ Some error) }
     {
         match refusal(raw) {
             Some(error) => Err(error),
@@ -291,7 +291,7 @@ impl Config {
 
 // The values, with those that were not given.
 fn resolved(raw: &Raw) -> Values
-    requires { refusal_of raw.now ≡ None }
+    requires { refusal_of_raw raw.now ≡ None }
     ensures { result ≡ configuration_of raw.now }
 {
     let code = code_of(raw.code);

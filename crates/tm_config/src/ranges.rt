@@ -1,7 +1,7 @@
 // The test of each value, and the first that fails.
 ghost use Rattle.std.specs.Prelude.{◌≡◌, ◌*◌, None, unwrap_or};
 ghost use Rattle.tm_config.specs.Configuration.{most_data, code_of, correctable, all_codes, number_of_rate, all_rates, number_of_mode, all_modes};
-ghost use Rattle.tm_config.specs.Accepted.{is_number, is_within, switch_fits, depth_fits, length_fits, switches_fit, repair_fits, first_error, refusal_of};
+ghost use Rattle.tm_config.specs.Accepted.{is_number, is_within, switch_fits, depth_fits, length_fits, switches_fit, repair_fits, first_error, refusal_of_raw};
 
 use crate::values::code_of;
 use crate::{ConfigError, OuterCode, Raw};
@@ -130,7 +130,7 @@ fn first_error(tests: &[(bool, ConfigError)]) -> Option<ConfigError>
 
 // The error of the first value that is outside its list or range.
 pub fn refusal(raw: &Raw) -> Option<ConfigError>
-    ensures { result ≡ refusal_of raw.now }
+    ensures { result ≡ refusal_of_raw raw.now }
 {
     first_error(&[
         (code_fits(raw.code), ConfigError::Code),
@@ -165,7 +165,7 @@ pub fn refusal(raw: &Raw) -> Option<ConfigError>
 
 // The octets of a frame, of the longest one where its length is not given.
 pub fn frame_length(raw: &Raw) -> u64
-    requires { refusal_of raw.now ≡ None }
+    requires { refusal_of_raw raw.now ≡ None }
     ensures { result ≡ unwrap_or raw.now.length (raw.now.depth * most_data (code_of raw.now.code)) }
 {
     match raw.length {

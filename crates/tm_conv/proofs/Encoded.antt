@@ -6,7 +6,7 @@ use Rattle.tm_base.specs.Bits.{bit_number}
 use Rattle.tm_conv.specs.declared.rates.Rate.{Rate}
 use Rattle.tm_conv.specs.declared.rates.Rate.TheVariants.{R12, R23, R34, R56, R78}
 use Rattle.tm_conv.specs.Path.{c1, c2, c1_pattern, c2_pattern, period, sent, step_symbols, next_register, register_after, path}
-use Rattle.tm_conv.specs.Encoding.{Encoding, StandsFor, bit_numbers, sent_for}
+use Rattle.tm_conv.specs.Encoding.{Encoding, EncoderStandsFor, bit_numbers, sent_for}
 use Rattle.tm_conv.proofs.Paths.{path-push, register_after-push}
 
 -- a bit as an octet is its number
@@ -51,10 +51,10 @@ sent_for-push rate invert given bit register position er ep =
     step_at register = ap (λ k. step_symbols rate invert k register (bit_number bit)) ep ∙ sent-position rate invert (length given) _ _
 
 -- an encoder given one more bit
-pub StandsFor-push : (before now : Encoding) (given : List Bool) (bit : Bool) → now.rate ≡ before.rate
+pub EncoderStandsFor-push : (before now : Encoding) (given : List Bool) (bit : Bool) → now.rate ≡ before.rate
     → now.register ≡ next_register before.register (bit_number bit) → now.position ≡ (before.position + 1) % period before.rate
-    → StandsFor before given → StandsFor now (given ++ bit ∷ [])
-StandsFor-push before now given bit er eg ep stands = record {
+    → EncoderStandsFor before given → EncoderStandsFor now (given ++ bit ∷ [])
+EncoderStandsFor-push before now given bit er eg ep stands = record {
   register = eg ∙ ap (λ v. next_register v (bit_number bit)) stands.register ∙ sym (register-push given bit);
   position = ep
       ∙ ap (λ v. (v + 1) % period before.rate) stands.position
@@ -67,7 +67,7 @@ StandsFor-push before now given bit er eg ep stands = record {
 pub sent_for-next : (before : Encoding) (given : List Bool) (bit : Bool) (symbols : List ℕ) (first second : ℕ)
     → symbols ≡ sent before.rate before.invert before.position first second
     → first ≡ c1 before.register (bit_number bit) → second ≡ c2 before.register (bit_number bit)
-    → StandsFor before given → sent_for before.rate before.invert (given ++ bit ∷ []) ≡ sent_for before.rate before.invert given ++ symbols
+    → EncoderStandsFor before given → sent_for before.rate before.invert (given ++ bit ∷ []) ≡ sent_for before.rate before.invert given ++ symbols
 sent_for-next before given bit symbols first second is ef es stands =
     sent_for-push before.rate before.invert given bit before.register before.position stands.register stands.position
     ∙ ap (λ v. sent_for before.rate before.invert given ++ v)

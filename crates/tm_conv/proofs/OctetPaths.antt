@@ -11,7 +11,7 @@ use Rattle.tm_base.proofs.Packing.{bits_of-append, length-bits_of}
 use Rattle.tm_conv.specs.declared.rates.Rate.{Rate}
 use Rattle.tm_conv.specs.declared.rates.Rate.TheVariants.{R12, R23, R34, R56, R78}
 use Rattle.tm_conv.specs.Path.{c1, c2, next_register, path, period, register_after, step_symbols}
-use Rattle.tm_conv.specs.Encoding.{Encoding, StandsFor, bit_numbers, level, levels, sent_for}
+use Rattle.tm_conv.specs.Encoding.{Encoding, EncoderStandsFor, bit_numbers, level, levels, sent_for}
 use Rattle.tm_conv.proofs.Paths.{path-append, register_after-append}
 use Rattle.tm_conv.proofs.Encoded.{sent-position, position-next}
 
@@ -85,8 +85,8 @@ path-more rate invert position register place here octets i within at is =
     let own = bit_numbers (bits_of_octet (get_or octets i 0)) in
     let long : position + length bits ≡ position + 8 * i = omega (arith, length-octet_bits (take i octets), length-take-le i octets (omega arith)) in
     let same : (position + length bits) % period rate ≡ place % period rate =
-    ap (λ t. t % period rate) long ∙ sym (position-twice rate (position + 8 * i)) ∙ ap
-        (λ t. t % period rate) (sym at) in
+    ap (λ t. t % period rate) long ∙ sym (position-twice rate (position + 8 * i))
+    ∙ ap (λ t. t % period rate) (sym at) in
     ap (path rate invert position register) (bits-more octets i within)
     ∙ path-append rate invert position register bits own
     ∙ ap (λ l. path rate invert position register bits ++ l)
@@ -119,10 +119,10 @@ symbols-more rate invert low position register place here octets out lanes i cou
 
 -- ---- what that means for the bits given so far
 
-pub StandsFor-octets : (before now : Encoding) (given : List Bool) (octets : List ℕ) → now.rate ≡ before.rate
+pub EncoderStandsFor-octets : (before now : Encoding) (given : List Bool) (octets : List ℕ) → now.rate ≡ before.rate
     → now.register ≡ register_after before.register (octet_bits octets) → now.position ≡ (before.position + 8 * length octets) % period before.rate
-    → StandsFor before given → StandsFor now (given ++ bits_of octets)
-StandsFor-octets before now given octets same register position stands = record {
+    → EncoderStandsFor before given → EncoderStandsFor now (given ++ bits_of octets)
+EncoderStandsFor-octets before now given octets same register position stands = record {
   register = register ∙ ap (λ r. register_after r (octet_bits octets)) stands.register
       ∙ sym (register_after-append 0 (bit_numbers given) (octet_bits octets)) ∙ ap (register_after 0) (sym (map-append bit_number given (bits_of octets)));
   position = position ∙ ap (λ t. (t + 8 * length octets) % period before.rate) stands.position ∙ position-more before.rate (length given) (8 * length octets)
@@ -131,7 +131,7 @@ StandsFor-octets before now given octets same register position stands = record 
 }
 
 pub sent_for-octets : (before : Encoding) (low : ℕ) (given : List Bool) (octets symbols : List ℕ) → symbols ≡ levels low (path before.rate before.invert before.position before.register (octet_bits octets))
-    → StandsFor before given → levels low (sent_for before.rate before.invert (given ++ bits_of octets)) ≡ levels low (sent_for before.rate before.invert given) ++ symbols
+    → EncoderStandsFor before given → levels low (sent_for before.rate before.invert (given ++ bits_of octets)) ≡ levels low (sent_for before.rate before.invert given) ++ symbols
 sent_for-octets before low given octets symbols is stands =
     let numbers = bit_numbers given in
     let rate = before.rate in

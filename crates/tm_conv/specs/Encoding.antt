@@ -36,6 +36,6 @@ pub record Encoding : Type 0 where
   pub position : ℕ
 
 -- an encoder that was given these bits, and no others
-pub record StandsFor (encoder : Encoding) (bits : List Bool) : Type 0 where
+pub record EncoderStandsFor (encoder : Encoding) (bits : List Bool) : Type 0 where
   pub register : encoder.register ≡ register_after 0 (bit_numbers bits)
   pub position : encoder.position ≡ length bits % period encoder.rate

@@ -2,7 +2,7 @@
 ghost use Rattle.std.specs.Prelude.{◌≡◌, ◌<◌, ◌≤◌, ◌*◌, Bool, List, [], ◌∷◌, ◌++◌, length, take};
 ghost use Rattle.tm_base.specs.Bits.{bit_number, bits_of};
 ghost use Rattle.tm_conv.specs.Path.{c1, c2, sent, step_symbols, next_register};
-ghost use Rattle.tm_conv.specs.Encoding.{StandsFor, sent_for, symbol_list, levels};
+ghost use Rattle.tm_conv.specs.Encoding.{EncoderStandsFor, sent_for, symbol_list, levels};
 
 use crate::octets::encode_octets;
 use crate::rates::{Rate, kept, period};
@@ -43,7 +43,7 @@ impl Encoder {
     pub fn new(rate: Rate, invert: bool) -> Encoder
         ensures rate { result.rate ≡ rate }
         ensures invert { result.invert ≡ invert }
-        ensures stands { StandsFor result [] }
+        ensures stands { EncoderStandsFor result [] }
     {
         Encoder {
             rate,
@@ -57,8 +57,9 @@ impl Encoder {
     pub fn step(&mut self, bit: bool) -> Symbols
         ensures rate { self.new.rate ≡ self.old.rate }
         ensures invert { self.new.invert ≡ self.old.invert }
-        ensures stands { (given : List Bool) → StandsFor self.old given → StandsFor self.new (given ++ bit ∷ []) }
-        ensures sent { (given : List Bool) → StandsFor self.old given
+        ensures stands { (given : List Bool) → EncoderStandsFor self.old given
+            → EncoderStandsFor self.new (given ++ bit ∷ []) }
+        ensures sent { (given : List Bool) → EncoderStandsFor self.old given
             → sent_for self.old.rate self.old.invert (given ++ bit ∷ [])
             ≡ sent_for self.old.rate self.old.invert given ++ symbol_list result }
     {
@@ -77,9 +78,9 @@ impl Encoder {
         requires room { 16 * length octets.now ≤ length out.old }
         ensures rate { self.new.rate ≡ self.old.rate }
         ensures invert { self.new.invert ≡ self.old.invert }
-        ensures stands { (given : List Bool) → StandsFor self.old given
-            → StandsFor self.new (given ++ bits_of octets.now) }
-        ensures sent { (given : List Bool) → StandsFor self.old given
+        ensures stands { (given : List Bool) → EncoderStandsFor self.old given
+            → EncoderStandsFor self.new (given ++ bits_of octets.now) }
+        ensures sent { (given : List Bool) → EncoderStandsFor self.old given
             → levels low (sent_for self.old.rate self.old.invert (given ++ bits_of octets.now))
             ≡ levels low (sent_for self.old.rate self.old.invert given) ++ take result out.new }
         ensures at_most { result ≤ 16 * length octets.now }

@@ -1,7 +1,7 @@
 // The symbols of octets bit by bit: slower than by tables, and easier to read.
 ghost use Rattle.std.specs.Prelude.{◌≡◌, ◌+◌, ◌*◌, ◌≤◌, Bool, List, ◌++◌, length, take};
 ghost use Rattle.tm_base.specs.Bits.{bit_number, bits_of};
-ghost use Rattle.tm_conv.specs.Encoding.{StandsFor, sent_for, symbol_list, level, levels};
+ghost use Rattle.tm_conv.specs.Encoding.{EncoderStandsFor, sent_for, symbol_list, level, levels};
 
 use crate::encoder::{Encoder, Symbols};
 
@@ -10,9 +10,9 @@ pub fn plain_encode(encoder: &mut Encoder, octets: &[u8], low: u8, out: &mut [u8
     requires room { 16 * length octets.now ≤ length out.old }
     ensures rate { encoder.new.rate ≡ encoder.old.rate }
     ensures invert { encoder.new.invert ≡ encoder.old.invert }
-    ensures stands { (given : List Bool) → StandsFor encoder.old given
-        → StandsFor encoder.new (given ++ bits_of octets.now) }
-    ensures sent { (given : List Bool) → StandsFor encoder.old given
+    ensures stands { (given : List Bool) → EncoderStandsFor encoder.old given
+        → EncoderStandsFor encoder.new (given ++ bits_of octets.now) }
+    ensures sent { (given : List Bool) → EncoderStandsFor encoder.old given
         → levels low (sent_for encoder.old.rate encoder.old.invert (given ++ bits_of octets.now))
         ≡ levels low (sent_for encoder.old.rate encoder.old.invert given) ++ take result out.new }
     ensures at_most { result ≤ 16 * length octets.now }

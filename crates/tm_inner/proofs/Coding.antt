@@ -5,7 +5,7 @@ use Rattle.tm_base.specs.Bits.{bits_of}
 use Rattle.tm_base.specs.Written.{Wrote, WrotePrefix}
 use Rattle.tm_base.specs.Pieces.{Fed, FedPrefix, further}
 use Rattle.tm_base.proofs.Packing.{bits_of-append}
-use Rattle.tm_conv.specs.Encoding.{Encoding, StandsFor as EncoderStandsFor, levels, sent_for}
+use Rattle.tm_conv.specs.Encoding.{Encoding, EncoderStandsFor, levels, sent_for}
 use Rattle.tm_inner.specs.Sending.{EncodesFor, encoded}
 use Rattle.tm_inner.proofs.Symbols.{further-is}
 

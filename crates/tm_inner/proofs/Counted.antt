@@ -19,7 +19,7 @@ use Rattle.tm_inner.specs.declared.inner_decoder.InnerDecoder.TheVariants.{One, 
 use Rattle.tm_inner.specs.Inner.{windows_of, soft_octets, BlocksAt, AreInnerBlocks, bits_at, inner_bits}
 use Rattle.tm_inner.specs.InnerDecoding.{HasCounted, StandsIn}
 use Rattle.tm_inner.specs.Phase.{phase_octets, skip_of}
-use Rattle.tm_inner.specs.Receiving.{DecodesFor, HasCountedAll, InnerReceiving, Phasing, PhasesFor, StandsFor}
+use Rattle.tm_inner.specs.Receiving.{DecodesFor, HasCountedAll, InnerReceiving, Phasing, PhasesFor, InnerReceiverStandsFor}
 use Rattle.tm_inner.proofs.FollowedBits.{followed-whole}
 use Rattle.tm_inner.proofs.PhasePieces.{items_of-with_phase}
 use Rattle.tm_inner.proofs.ReceivedBits.{kept-count, kept-le}
@@ -66,7 +66,8 @@ phases-counted p soft done (inr g) =
     subst (HasCountedAll p.decoder) (sym (ap items_of g.0.are ∙ items_of-with_phase p.chosen g.0.blocks))
     (decodes-counted p.decoder (drop (skip_of p.chosen) soft) g.0.blocks g.0.decodes)
 
-pub stood-counted : (r : InnerReceiving) (given : List ℕ) (done : List (Handed WindowBlock)) → StandsFor r given done
+pub stood-counted : (r : InnerReceiving) (given : List ℕ) (done : List (Handed WindowBlock))
+    → InnerReceiverStandsFor r given done
     → HasCountedAll r.phased.decoder (items_of done)
 stood-counted r given done stood = phases-counted r.phased (phase_octets r.config given) done stood.phases
 

@@ -13,10 +13,11 @@ use Rattle.tm_windows.specs.Windows.{AreFirstIn}
 use Rattle.tm_windows.specs.declared.choosing.Chosen.{Chosen}
 use Rattle.tm_inner.specs.Inner.{windows_of, soft_value, soft_octets, AreInnerBlocks, AreInnerDue, inner_bits, reported_slips}
 use Rattle.tm_inner.specs.Phase.{IsChosen, IsChosenSoFar, IsChosenBy, IsChosenSoFar, IsSettledBy, IsSoFarBy, needed_at, skipped_at, phase_octets, skip_of, with_phase}
-use Rattle.tm_inner.specs.Receiving.{AreInnerFirst, HasClosedAll, HasCountedAll, IsCount, IsDecoderOf, DecodesFor, FirstFor, FirstAt, Hands, HandsPrefix, InnerReceiving, StandsFor, Phasing, Goes, PhasesFor, IsPrefixBy, IsFirstBy, soft_form}
+use Rattle.tm_inner.specs.Receiving.{AreInnerFirst, HasClosedAll, HasCountedAll, IsCount, IsDecoderOf, DecodesFor, FirstFor, FirstAt, Hands, HandsPrefix, InnerReceiving, InnerReceiverStandsFor, Phasing, Goes, PhasesFor, IsPrefixBy, IsFirstBy, soft_form}
 use Rattle.tm_inner.specs.Handing.{AreHanded, AreHandedDue, AreHandedFirst, AreHandedPrefix}
 use Rattle.tm_inner.proofs.GivenPieces.{due-of, decodes-after, few-soft, phase_octets-more, soft-after}
 use Rattle.tm_inner.proofs.PhasePieces.{NoneWaits, further, items_of-with_phase, none-goes, so-far}
+use Rattle.tm_inner.proofs.Unfollowed.{choice-same, settled-same}
 use Rattle.tm_inner.proofs.WithPhase.{OnePhase, one-choice}
 
 -- the phase needs an octet or more
@@ -48,7 +49,7 @@ pub phases-so-far : (p : Phasing) (soft : List ℕ) (done : List (Handed WindowB
 phases-so-far p soft done (inl w) = subst (IsSoFarBy p.config soft) (sym w.0.none) (λ settled. absurd (w.1 settled))
 phases-so-far p soft done (inr g) = so-far p.config soft p.chosen g.1 g.0.choice
 
-pub stands-so-far : (r : InnerReceiving) (given : List ℕ) (done : List (Handed WindowBlock)) → StandsFor r given done → IsChosenSoFar r.config given r.phased.chosen
+pub stands-so-far : (r : InnerReceiving) (given : List ℕ) (done : List (Handed WindowBlock)) → InnerReceiverStandsFor r given done → IsChosenSoFar r.config given r.phased.chosen
 stands-so-far r given done stood =
     subst (λ (k : Configuration). IsSoFarBy k (phase_octets r.config given) r.phased.chosen) stood.same (phases-so-far r.phased (phase_octets r.config given) done stood.phases)
 
@@ -127,13 +128,14 @@ pub most-further : OnePhase → (p : Phasing) (given : List ℕ) (done all : Lis
 most-further one p given done all count of none counted (inl w) due =
     absurd (none (w.0.find, w.0.none))
 most-further one p given done all count of none counted (inr g) (inl unsettled) =
-    absurd (unsettled.0 g.1)
+    absurd (unsettled.0 (settled-same p.config given g.1))
 most-further one p given done all count of none counted (inr g) (inr due) =
     let c = p.config in
     let h = due.1 in
     let phase = skip_of p.chosen in
     let blocks = g.0.blocks in
-    let same : p.chosen ≡ h.chosen = one-choice one c given p.chosen h.chosen g.0.choice h.choice in
+    let same : p.chosen ≡ h.chosen =
+    one-choice one c given p.chosen h.chosen g.0.choice (choice-same c given h.chosen h.choice) in
     let plain = subst (λ (o : Option Chosen). AreInnerDue (unfollowed c) (skip_of o) given h.items)
     (sym same) h.are_items in
     let decodes = decodes-after c p.decoder phase given blocks of g.0.decodes in
@@ -195,8 +197,9 @@ pub stands-further : {T : Type 0} (took : T → Handed WindowBlock → T → Typ
     → ((soft : List ℕ) (done : List (Handed WindowBlock)) → Goes now.phased soft done → HasClosedAll now.phased.decoder)
     → skipped ≡ min (skipped_at before.config.inner before.config - before.count) (length octets) → now.count ≡ min (before.count + length octets) (2 ^ 64 - 1)
     → (h : Hands took PhasesFor before.phased now.phased taker taker_now (soft_form before.config (drop skipped octets)))
-    → (given : List ℕ) (done : List (Handed WindowBlock)) → length given + length octets < 2 ^ 60 → StandsFor before given done
-    → StandsFor now (given ++ octets) (done ++ h.more) × AreHandedDue before.config (given ++ octets) (done ++ h.more)
+    → (given : List ℕ) (done : List (Handed WindowBlock)) → length given + length octets < 2 ^ 60 → InnerReceiverStandsFor before given done
+    → InnerReceiverStandsFor now (given ++ octets) (done ++ h.more)
+    × AreHandedDue before.config (given ++ octets) (done ++ h.more)
 stands-further took before now taker taker_now octets skipped inside config phased of closed skip counted h given done few stood =
     let c = before.config in
     let all = phase_octets-more c given octets skipped (skip ∙ ap (λ (n : ℕ). min (skipped_at c.inner c - n) (length octets)) (sym stood.count)) in
@@ -217,7 +220,7 @@ stands-further took before now taker taker_now octets skipped inside config phas
 pub prefix-further : {T : Type 0} (took broke : T → Handed WindowBlock → T → Type 0) (before : InnerReceiving) (taker taker_now : T) (octets : List ℕ) (skipped : ℕ)
     → skipped ≡ min (skipped_at before.config.inner before.config - before.count) (length octets)
     → (h : HandsPrefix took broke PhasesFor (IsFirstBy before.config) before.phased taker taker_now (soft_form before.config (drop skipped octets)))
-    → (given : List ℕ) (done : List (Handed WindowBlock)) → length given + length octets < 2 ^ 60 → StandsFor before given done
+    → (given : List ℕ) (done : List (Handed WindowBlock)) → length given + length octets < 2 ^ 60 → InnerReceiverStandsFor before given done
     → AreHandedFirst before.config (given ++ octets) (done ++ h.tried)
 prefix-further took broke before taker taker_now octets skipped skip h given done few stood =
     let c = before.config in
@@ -229,7 +232,7 @@ prefix-further took broke before taker taker_now octets skipped skip h given don
 pub chosen-further : (before : InnerReceiving) (chosen : Option Chosen) (octets piece : List ℕ) (skipped : ℕ) → before.phased.config ≡ before.config → piece ≡ drop skipped octets
     → skipped ≡ min (skipped_at before.config.inner before.config - before.count) (length octets)
     → ((soft : List ℕ) (done : List (Handed WindowBlock)) → PhasesFor before.phased soft done → IsSoFarBy before.phased.config (soft ++ soft_form before.phased.config piece) chosen)
-    → (given : List ℕ) (done : List (Handed WindowBlock)) → StandsFor before given done → IsChosenSoFar before.config (given ++ octets) chosen
+    → (given : List ℕ) (done : List (Handed WindowBlock)) → InnerReceiverStandsFor before given done → IsChosenSoFar before.config (given ++ octets) chosen
 chosen-further before chosen octets piece skipped inside is skip so_far given done stood =
     let c = before.config in
     let all = phase_octets-more c given octets skipped (skip ∙ ap (λ (n : ℕ). min (skipped_at c.inner c - n) (length octets)) (sym stood.count)) in
@@ -240,7 +243,8 @@ chosen-further before chosen octets piece skipped inside is skip so_far given do
 
 pub chosen-last : (r : InnerReceiving) (chosen : Option Chosen) → r.phased.config ≡ r.config
     → ((soft : List ℕ) (done : List (Handed WindowBlock)) → PhasesFor r.phased soft done → IsChosenBy r.phased.config soft chosen)
-    → (given : List ℕ) (done : List (Handed WindowBlock)) → StandsFor r given done → IsChosen r.config given chosen
+    → (given : List ℕ) (done : List (Handed WindowBlock)) → InnerReceiverStandsFor r given done
+    → IsChosen r.config given chosen
 chosen-last r chosen inside is given done stood =
     subst (λ (k : Configuration). IsChosenBy k (phase_octets r.config given) chosen) inside (is (phase_octets r.config given) done stood.phases)
 
@@ -254,7 +258,7 @@ pub all-handed : (r : InnerReceiving) (now : Option InnerDecoder) (chosen : Opti
     → r.phased.config ≡ r.config → Counted r (skip_of chosen) bits slips now
     → ((given : List ℕ) (done : List (Handed WindowBlock)) → length given < 2 ^ 60 → PhasesFor r.phased (phase_octets r.phased.config given) done
     → AllCounted r.phased.config given (done ++ last) left chosen now)
-    → (given : List ℕ) (done : List (Handed WindowBlock)) → StandsFor r given done
+    → (given : List ℕ) (done : List (Handed WindowBlock)) → InnerReceiverStandsFor r given done
     → AreHanded r.config given (done ++ last) left × (bits ≡ length (inner_bits r.config given (items_of (done ++ last))))
     × (slips ≡ reported_slips r.config (items_of (done ++ last)))
 all-handed r now chosen last bits left slips inside counts handed given done stood =

@@ -12,32 +12,35 @@ use Rattle.tm_config.specs.Configuration.{Configuration}
 use Rattle.tm_conv.specs.declared.rates.Rate.{Rate}
 use Rattle.tm_conv.specs.Encoding.{Encoding}
 use Rattle.tm_inner.specs.Symbols.{low_level, plain_symbols, symbols_by, symbols_of_octets}
-use Rattle.tm_inner.specs.Sending.{InnerSending, IsEncoderOf, KeepsFor, StandsFor, Sends, SendsPrefix, spread}
+use Rattle.tm_inner.specs.Sending.{InnerSending, IsEncoderOf, KeepsFor, InnerSenderStandsFor, InnerSends, InnerSendsPrefix, spread}
 use Rattle.tm_inner.proofs.Symbols.{octets-due, spread-append, spread-due, symbols-go_on}
 
-pub sends-none : (sender : InnerSending) (taken : Option (List ℕ)) → Sends sender sender taken taken []
+pub sends-none : (sender : InnerSending) (taken : Option (List ℕ)) → InnerSends sender sender taken taken []
 sends-none sender taken = record {
   config = refl;
-  fed = fed-none StandsFor (symbols_of_octets sender.config) sender taken;
+  fed = fed-none InnerSenderStandsFor (symbols_of_octets sender.config) sender taken;
 }
 
 pub sends-more : (a b c : InnerSending) (taken_a taken_b taken_c : Option (List ℕ)) (first second : List ℕ)
-    → Sends a b taken_a taken_b first → Sends b c taken_b taken_c second → Sends a c taken_a taken_c (first ++ second)
+    → InnerSends a b taken_a taken_b first → InnerSends b c taken_b taken_c second
+    → InnerSends a c taken_a taken_c (first ++ second)
 sends-more a b c taken_a taken_b taken_c first second p q = record {
   config = q.config ∙ p.config;
-  fed = fed-more StandsFor (symbols_of_octets a.config) (symbols-go_on a.config) a b c taken_a taken_b taken_c first second p.fed
-      (subst (λ (x : Configuration). Fed StandsFor (symbols_of_octets x) b c taken_b taken_c second) p.config q.fed);
+  fed = fed-more InnerSenderStandsFor (symbols_of_octets a.config) (symbols-go_on a.config) a b c taken_a taken_b taken_c first second p.fed
+      (subst (λ (x : Configuration). Fed InnerSenderStandsFor (symbols_of_octets x) b c taken_b taken_c
+      second) p.config q.fed);
 }
 
 pub sends-prefix : (a b : InnerSending) (taken_a taken_b taken_c : Option (List ℕ)) (first second : List ℕ)
-    → Sends a b taken_a taken_b first → SendsPrefix b taken_b taken_c second → SendsPrefix a taken_a taken_c (first ++ second)
+    → InnerSends a b taken_a taken_b first → InnerSendsPrefix b taken_b taken_c second → InnerSendsPrefix a taken_a taken_c (first ++ second)
 sends-prefix a b taken_a taken_b taken_c first second p q =
-    fed-prefix StandsFor (symbols_of_octets a.config) (symbols-go_on a.config) a b taken_a taken_b taken_c first second p.fed
-    (subst (λ (x : Configuration). FedPrefix StandsFor (symbols_of_octets x) b taken_b taken_c second) p.config q)
+    fed-prefix InnerSenderStandsFor (symbols_of_octets a.config) (symbols-go_on a.config) a b taken_a taken_b taken_c first second p.fed
+    (subst (λ (x : Configuration). FedPrefix InnerSenderStandsFor (symbols_of_octets x) b taken_b
+    taken_c second) p.config q)
 
-pub sends-prefix_of_longer : (a : InnerSending) (taken taken_now : Option (List ℕ)) (first second : List ℕ) → SendsPrefix a taken taken_now first → SendsPrefix a taken taken_now (first ++ second)
+pub sends-prefix_of_longer : (a : InnerSending) (taken taken_now : Option (List ℕ)) (first second : List ℕ) → InnerSendsPrefix a taken taken_now first → InnerSendsPrefix a taken taken_now (first ++ second)
 sends-prefix_of_longer a taken taken_now first second p =
-    fed-prefix_of_longer StandsFor (symbols_of_octets a.config) (symbols-go_on a.config) a taken taken_now first second p
+    fed-prefix_of_longer InnerSenderStandsFor (symbols_of_octets a.config) (symbols-go_on a.config) a taken taken_now first second p
 
 -- ---- with no inner code the octets are written, or one for each of their bits
 

@@ -13,7 +13,7 @@ use Rattle.tm_inner.specs.declared.receiver.InnerEnd.{InnerEnd}
 use Rattle.tm_inner.specs.Inner.{inner_bits, reported_slips}
 use Rattle.tm_inner.specs.InnerDecoding.{has_stopped_in, windows_in, StandsIn}
 use Rattle.tm_inner.specs.Phase.{IsChosen, IsChosenSoFar}
-use Rattle.tm_inner.specs.Receiving.{Hands, HandsPrefix, InnerReceiving, StandsFor}
+use Rattle.tm_inner.specs.Receiving.{Hands, HandsPrefix, InnerReceiving, InnerReceiverStandsFor}
 use Rattle.tm_inner.specs.Handing.{AreHanded, AreHandedDue, AreHandedFirst, AreHandedPrefix}
 
 -- ---- of the decoder
@@ -46,19 +46,20 @@ pub record Feeds {R : Type 0} (before now : InnerReceiving) (octets : List ℕ)
   pub call : Calls before now taker result
   pub stops : IsTrue now.has_stopped ↔ OnOk result ⊥
   pub config : now.config ≡ before.config
-  pub chosen : (given : List ℕ) (done : List (Handed WindowBlock)) → StandsFor before given done
+  pub chosen : (given : List ℕ) (done : List (Handed WindowBlock))
+      → InnerReceiverStandsFor before given done
       → before.has_stopped ≡ false
       → IsChosenSoFar before.config (given ++ octets) now.phased.chosen
   pub handed : OnOk result ((more : List (Handed WindowBlock)) × taker.took more
       × ((given : List ℕ) (done : List (Handed WindowBlock))
       → length given + length octets < stream_bound
-      → StandsFor before given done
-      → StandsFor now (given ++ octets) (done ++ more)
+      → InnerReceiverStandsFor before given done
+      → InnerReceiverStandsFor now (given ++ octets) (done ++ more)
       × AreHandedDue before.config (given ++ octets) (done ++ more)))
   pub prefix : IsErrOf result Taker → (tried : List (Handed WindowBlock)) × taker.broke tried
       × ((given : List ℕ) (done : List (Handed WindowBlock))
       → length given + length octets < stream_bound
-      → StandsFor before given done
+      → InnerReceiverStandsFor before given done
       → AreHandedFirst before.config (given ++ octets) (done ++ tried))
 
 -- at the end what is left was handed over, or the first of it until the taker failed; so many bits
@@ -68,14 +69,17 @@ pub record Finishes (before now : InnerReceiving) (taker : TakerCall (Handed Win
   pub call : Calls before now taker result
   pub stops : now.has_stopped ≡ true
   pub config : now.config ≡ before.config
-  pub chosen : (given : List ℕ) (done : List (Handed WindowBlock)) → StandsFor before given done
+  pub chosen : (given : List ℕ) (done : List (Handed WindowBlock))
+      → InnerReceiverStandsFor before given done
       → before.has_stopped ≡ false → IsChosen before.config given now.phased.chosen
   pub handed : IfOk result (λ end. (last : List (Handed WindowBlock)) × taker.took last
-      × ((given : List ℕ) (done : List (Handed WindowBlock)) → StandsFor before given done
+      × ((given : List ℕ) (done : List (Handed WindowBlock))
+          → InnerReceiverStandsFor before given done
       → AreHanded before.config given (done ++ last) end.leftover
       × (end.bits ≡ length (inner_bits before.config given (items_of (done ++ last))))
       × (end.slips ≡ reported_slips before.config (items_of (done ++ last)))))
   pub prefix : IsErrOf result Taker → (tried : List (Handed WindowBlock)) × taker.broke tried
-      × ((given : List ℕ) (done : List (Handed WindowBlock)) → StandsFor before given done
+      × ((given : List ℕ) (done : List (Handed WindowBlock))
+          → InnerReceiverStandsFor before given done
       → AreHandedPrefix before.config given (done ++ tried))
   pub left : IfOk result (λ end. end.leftover ≤ 1)

@@ -2,11 +2,11 @@
 use Rattle.std.specs.Prelude.{◌≡◌, ℕ, Bool, List, Option, Some, None, IsTrue}
 use Rattle.tm_config.specs.Configuration.{Configuration}
 use Rattle.tm_viterbi.specs.WindowBlock.{WindowBlock}
-use Rattle.tm_viterbi.specs.Decoding.{StandsFor as StandsForOne}
+use Rattle.tm_viterbi.specs.Decoding.{DecoderStandsFor}
 use Rattle.tm_windows.specs.Followed.{Windows, slips_of, kept_of}
 use Rattle.tm_windows.specs.Gathered.{IsOpen}
 use Rattle.tm_windows.specs.Sharing.{workers_for, windows_for}
-use Rattle.tm_windows.specs.ParallelDecoding.{StandsFor as StandsForMany}
+use Rattle.tm_windows.specs.ParallelDecoding.{ParallelStandsFor}
 use Rattle.tm_inner.specs.declared.inner_decoder.InnerDecoder.{InnerDecoder}
 use Rattle.tm_inner.specs.declared.inner_decoder.InnerDecoder.TheVariants.{One, Many}
 
@@ -38,8 +38,8 @@ HasClosed (Many decoder) = IsOpen decoder.gathering
 -- it was given these octets and no others, and has handed over these blocks, the first of those
 -- that are due
 abbrev pub StandsIn : InnerDecoder → List ℕ → List WindowBlock → Type 0
-StandsIn (One decoder) given done = StandsForOne decoder given done
-StandsIn (Many decoder) given done = StandsForMany decoder given done
+StandsIn (One decoder) given done = DecoderStandsFor decoder given done
+StandsIn (Many decoder) given done = ParallelStandsFor decoder given done
 
 -- it has counted before how many of the windows of these blocks octets were dropped; one with
 -- several workers has counted how many steps they keep, too

@@ -114,7 +114,7 @@ pub record InnerReceiving : Type 0 where
 
 -- an inner receiver that was given these octets and no others, fewer than 2^60, and has handed over
 -- this
-pub record StandsFor (r : InnerReceiving) (given : List ℕ)
+pub record InnerReceiverStandsFor (r : InnerReceiving) (given : List ℕ)
     (done : List (Handed WindowBlock)) : Type 0 where
   pub count : length given ≡ r.count
   pub few : length given < stream_bound

@@ -4,7 +4,7 @@ use Rattle.tm_base.specs.Bits.{bits_of}
 use Rattle.tm_base.specs.Pieces.{Fed, FedPrefix}
 use Rattle.tm_config.specs.Configuration.{Configuration}
 use Rattle.tm_conv.specs.declared.rates.Rate.{Rate}
-use Rattle.tm_conv.specs.Encoding.{Encoding, StandsFor as EncoderStandsFor, bit_numbers, levels, sent_for}
+use Rattle.tm_conv.specs.Encoding.{Encoding, EncoderStandsFor, bit_numbers, levels, sent_for}
 use Rattle.tm_inner.specs.Symbols.{is_inverted, symbols_of_octets}
 
 -- what contracts see of an inner sender
@@ -39,16 +39,17 @@ KeepsFor None octets = Unit {0}
 KeepsFor (Some encoder) octets = EncodesFor encoder octets
 
 -- an inner sender that was given these octets, and no others
-abbrev pub StandsFor : InnerSending → List ℕ → Type 0
-StandsFor sender octets = KeepsFor sender.encoder octets
+abbrev pub InnerSenderStandsFor : InnerSending → List ℕ → Type 0
+InnerSenderStandsFor sender octets = KeepsFor sender.encoder octets
 
 -- given these octets, a sender went on and wrote what is due for them
-pub record Sends (before now : InnerSending) (taken taken_now : Option (List ℕ))
+pub record InnerSends (before now : InnerSending) (taken taken_now : Option (List ℕ))
     (octets : List ℕ) : Type 0 where
   pub config : now.config ≡ before.config
-  pub fed : Fed StandsFor (symbols_of_octets before.config) before now taken taken_now octets
+  pub fed : Fed InnerSenderStandsFor (symbols_of_octets before.config) before
+      now taken taken_now octets
 
 -- given these octets, a sender wrote a prefix of what is due for them
-abbrev pub SendsPrefix : InnerSending → Option (List ℕ) → Option (List ℕ) → List ℕ → Type 0
-SendsPrefix before taken taken_now octets =
-    FedPrefix StandsFor (symbols_of_octets before.config) before taken taken_now octets
+abbrev pub InnerSendsPrefix : InnerSending → Option (List ℕ) → Option (List ℕ) → List ℕ → Type 0
+InnerSendsPrefix before taken taken_now octets =
+    FedPrefix InnerSenderStandsFor (symbols_of_octets before.config) before taken taken_now octets

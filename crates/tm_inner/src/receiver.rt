@@ -14,7 +14,7 @@ ghost use Rattle.tm_windows.specs.Followed.{slips_of};
 ghost use Rattle.tm_inner.specs.Inner.{AreInnerBlocks, inner_bits, nearest_bit, plain_bits, plain_count, reported_slips};
 ghost use Rattle.tm_inner.specs.Phase.{IsChosen, IsChosenSoFar, phase_octets, skip_of, skipped_at};
 ghost use Rattle.tm_inner.specs.InnerDecoding.{HasWorkers};
-ghost use Rattle.tm_inner.specs.Receiving.{HasCountedAll, IsCount, StandsFor};
+ghost use Rattle.tm_inner.specs.Receiving.{HasCountedAll, IsCount, InnerReceiverStandsFor};
 ghost use Rattle.tm_inner.specs.Calls.{Calls, Feeds, Finishes};
 ghost use Rattle.tm_inner.specs.Handing.{AreHanded, AreHandedDue, AreHandedFirst, AreHandedPrefix};
 
@@ -74,7 +74,7 @@ impl InnerReceiver {
     pub fn open(alloc: Global, config: &Config) -> Result<InnerReceiver, NoMemory>
         ensures config { IfOk result (λ r. r.config ≡ config.now) }
         ensures fresh { IfOk result (λ r. r.has_stopped ≡ false) }
-        ensures stands { IfOk result (λ r. StandsFor r [] []) }
+        ensures stands { IfOk result (λ r. InnerReceiverStandsFor r [] []) }
     {
         InnerReceiver::open_for(alloc, config, 1)
     }
@@ -84,7 +84,7 @@ impl InnerReceiver {
         requires workers { (0 < workers) × (workers ≤ most_workers) }
         ensures config { IfOk result (λ r. r.config ≡ config.now) }
         ensures fresh { IfOk result (λ r. r.has_stopped ≡ false) }
-        ensures stands { IfOk result (λ r. StandsFor r [] []) }
+        ensures stands { IfOk result (λ r. InnerReceiverStandsFor r [] []) }
         ensures workers { IfOk result (λ r. HasWorkers workers config.now r.phased.decoder) }
     {
         let phased = Phased::open(alloc, config, workers)?;
@@ -139,20 +139,21 @@ impl InnerReceiver {
             blocks.old blocks.new) result }
         ensures stops { IsTrue self.new.has_stopped ↔ OnOk result ⊥ }
         ensures config { self.new.config ≡ self.old.config }
-        ensures chosen { (given : List ℕ) (done : List (Handed WindowBlock)) → StandsFor self.old given done
+        ensures chosen { (given : List ℕ) (done : List (Handed WindowBlock))
+            → InnerReceiverStandsFor self.old given done
             → self.old.has_stopped ≡ false
             → IsChosenSoFar self.old.config (given ++ octets.now) self.new.phased.chosen }
         ensures handed { OnOk result ((more : List (Handed WindowBlock))
             × HandedOver (on_handed B.took_phase B.took) blocks.old more blocks.new
             × ((given : List ℕ) (done : List (Handed WindowBlock)) → length given + length octets.now < stream_bound
-            → StandsFor self.old given done
-            → StandsFor self.new (given ++ octets.now) (done ++ more)
+            → InnerReceiverStandsFor self.old given done
+            → InnerReceiverStandsFor self.new (given ++ octets.now) (done ++ more)
             × AreHandedDue self.old.config (given ++ octets.now) (done ++ more))) }
         ensures prefix { IsErrOf result FeedError.Taker
             → (tried : List (Handed WindowBlock))
             × HandedPart (on_handed B.took_phase B.took) (on_handed B.broke_phase B.broke) blocks.old tried blocks.new
             × ((given : List ℕ) (done : List (Handed WindowBlock)) → length given + length octets.now < stream_bound
-            → StandsFor self.old given done
+            → InnerReceiverStandsFor self.old given done
             → AreHandedFirst self.old.config (given ++ octets.now) (done ++ tried)) }
     {
         if self.has_stopped {
@@ -181,7 +182,8 @@ impl InnerReceiver {
         ensures chosen { self.new.phased.chosen ≡ self.old.phased.chosen }
         ensures most { result ≤ length octets.now }
         ensures gathered { (given : List ℕ) (done : List (Handed WindowBlock)) → length given + result < stream_bound
-            → StandsFor self.old given done → StandsFor self.new (given ++ take result octets.now) done }
+            → InnerReceiverStandsFor self.old given done
+            → InnerReceiverStandsFor self.new (given ++ take result octets.now) done }
     {
         if self.has_stopped || self.octets_to_skip(octets.len()) > 0 {
             return 0;
@@ -195,10 +197,11 @@ impl InnerReceiver {
     /// followed there may be fewer, since octets may be dropped; with the blocks that were handed over it counts no
     /// more than would be due if none were.
     pub fn count_due(&self) -> usize
-        ensures due { (given : List ℕ) (done : List (Handed WindowBlock)) → StandsFor self.now given done
+        ensures due { (given : List ℕ) (done : List (Handed WindowBlock)) → InnerReceiverStandsFor self.now given done
             → (more : List WindowBlock) × IsCount self.now.config (length more) result
             × AreHandedDue self.now.config given (done ++ map Item more) }
-        ensures most { (given : List ℕ) (done all : List (Handed WindowBlock)) → StandsFor self.now given done
+        ensures most { (given : List ℕ) (done all : List (Handed WindowBlock))
+            → InnerReceiverStandsFor self.now given done
             → AreHandedDue (unfollowed self.now.config) given all
             → length (items_of done) + result ≤ length (items_of all) }
     {
@@ -208,10 +211,11 @@ impl InnerReceiver {
     /// How many bits these blocks keep. Where the symbol phase is followed there may be fewer of them, too; with the
     /// bits of the blocks that were handed over it counts no more than if no octet were dropped.
     pub fn bits_due(&self) -> u64
-        ensures due { (given : List ℕ) (done : List (Handed WindowBlock)) → StandsFor self.now given done
+        ensures due { (given : List ℕ) (done : List (Handed WindowBlock)) → InnerReceiverStandsFor self.now given done
             → (more : List WindowBlock) × IsCount self.now.config (length (kept_bits more)) result
             × AreHandedDue self.now.config given (done ++ map Item more) }
-        ensures most { (given : List ℕ) (done all : List (Handed WindowBlock)) → StandsFor self.now given done
+        ensures most { (given : List ℕ) (done all : List (Handed WindowBlock))
+            → InnerReceiverStandsFor self.now given done
             → AreHandedDue (unfollowed self.now.config) given all
             → length (kept_bits (items_of done)) + result ≤ length (kept_bits (items_of all)) }
     {
@@ -256,19 +260,20 @@ impl InnerReceiver {
             blocks.old blocks.new) result }
         ensures stops { self.new.has_stopped ≡ true }
         ensures config { self.new.config ≡ self.old.config }
-        ensures chosen { (given : List ℕ) (done : List (Handed WindowBlock)) → StandsFor self.old given done
+        ensures chosen { (given : List ℕ) (done : List (Handed WindowBlock))
+            → InnerReceiverStandsFor self.old given done
             → self.old.has_stopped ≡ false
             → IsChosen self.old.config given self.new.phased.chosen }
         ensures handed { IfOk result (λ end. (last : List (Handed WindowBlock))
             × HandedOver (on_handed B.took_phase B.took) blocks.old last blocks.new
-            × ((given : List ℕ) (done : List (Handed WindowBlock)) → StandsFor self.old given done
+            × ((given : List ℕ) (done : List (Handed WindowBlock)) → InnerReceiverStandsFor self.old given done
             → AreHanded self.old.config given (done ++ last) end.leftover
             × (end.bits ≡ length (inner_bits self.old.config given (items_of (done ++ last))))
             × (end.slips ≡ reported_slips self.old.config (items_of (done ++ last))))) }
         ensures prefix { IsErrOf result FeedError.Taker
             → (tried : List (Handed WindowBlock))
             × HandedPart (on_handed B.took_phase B.took) (on_handed B.broke_phase B.broke) blocks.old tried blocks.new
-            × ((given : List ℕ) (done : List (Handed WindowBlock)) → StandsFor self.old given done
+            × ((given : List ℕ) (done : List (Handed WindowBlock)) → InnerReceiverStandsFor self.old given done
             → AreHandedPrefix self.old.config given (done ++ tried)) }
         ensures left { IfOk result (λ end. end.leftover ≤ 1) }
     {
@@ -285,7 +290,8 @@ impl InnerReceiver {
     /// The symbol phase that was chosen: None before the choice, and where the phase is given.
     pub fn chosen(&self) -> Option<Chosen>
         ensures value { result ≡ self.now.phased.chosen }
-        ensures so_far { (given : List ℕ) (done : List (Handed WindowBlock)) → StandsFor self.now given done
+        ensures so_far { (given : List ℕ) (done : List (Handed WindowBlock))
+            → InnerReceiverStandsFor self.now given done
             → IsChosenSoFar self.now.config given result }
     {
         self.phased.chosen()
@@ -294,7 +300,7 @@ impl InnerReceiver {
     /// Before how many windows octets were dropped, of those whose blocks were handed over: none where the symbol phase
     /// is not followed.
     pub fn slips(&self) -> u64
-        ensures { (given : List ℕ) (done : List (Handed WindowBlock)) → StandsFor self.now given done
+        ensures { (given : List ℕ) (done : List (Handed WindowBlock)) → InnerReceiverStandsFor self.now given done
             → result ≡ slips_of (items_of done) }
     {
         self.phased.slips()
@@ -311,7 +317,8 @@ impl InnerReceiver {
     /// received.
     pub fn bits_to_skip(&self) -> u64
         ensures value { result ≡ self.now.config.skip - plain_count self.now.config self.now.count }
-        ensures bits { (given octets : List ℕ) (done : List (Handed WindowBlock)) → StandsFor self.now given done
+        ensures bits { (given octets : List ℕ) (done : List (Handed WindowBlock))
+            → InnerReceiverStandsFor self.now given done
             → self.now.config.inner ≡ None
             → inner_bits self.now.config (given ++ octets) []
             ≡ inner_bits self.now.config given [] ++ drop result (plain_bits self.now.config octets) }
@@ -346,7 +353,7 @@ impl InnerReceiver {
     pub fn to_soft(&self, octets: &mut [u8]) -> usize
         ensures size { length octets.new ≡ length octets.old }
         ensures skipped { result ≤ length octets.old }
-        ensures soft { (given : List ℕ) (done : List (Handed WindowBlock)) → StandsFor self.now given done
+        ensures soft { (given : List ℕ) (done : List (Handed WindowBlock)) → InnerReceiverStandsFor self.now given done
             → phase_octets self.now.config (given ++ octets.old)
             ≡ phase_octets self.now.config given ++ drop result octets.new }
     {

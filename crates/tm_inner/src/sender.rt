@@ -5,7 +5,7 @@ ghost use Rattle.tm_base.specs.Pieces.{Fed, FedPrefix};
 ghost use Rattle.tm_base.specs.Written.{Wrote, WrotePrefix};
 ghost use Rattle.tm_config.specs.Configuration.{Configuration};
 ghost use Rattle.tm_inner.specs.Symbols.{low_level, symbols_of_octets};
-ghost use Rattle.tm_inner.specs.Sending.{EncodesFor, IsEncoderOf, KeepsFor, StandsFor, Sends, SendsPrefix, encoded, spread};
+ghost use Rattle.tm_inner.specs.Sending.{EncodesFor, IsEncoderOf, KeepsFor, InnerSenderStandsFor, InnerSends, InnerSendsPrefix, encoded, spread};
 
 use crate::code::{encoder_of, is_packed, low_level};
 use crate::spreading::spread;
@@ -55,7 +55,7 @@ impl InnerSender {
     pub fn new(config: &Config) -> InnerSender
         ensures config { result.config ≡ config.now }
         ensures fresh { result.has_failed ≡ false }
-        ensures stands { StandsFor result [] }
+        ensures stands { InnerSenderStandsFor result [] }
     {
         InnerSender {
             config: *config,
@@ -83,9 +83,9 @@ impl InnerSender {
         ensures unchanged { IsErrOf result SendError.Stopped → (self.new ≡ self.old) × (out.new ≡ out.old) }
         ensures failed { IsTrue self.new.has_failed ↔ OnOk result ⊥ }
         ensures config { self.new.config ≡ self.old.config }
-        ensures sent { OnOk result (Sends self.old self.new (O.taken out.old) (O.taken out.new) octets.now) }
+        ensures sent { OnOk result (InnerSends self.old self.new (O.taken out.old) (O.taken out.new) octets.now) }
         ensures prefix { IsErrOf result SendError.Sink
-            → SendsPrefix self.old (O.taken out.old) (O.taken out.new) octets.now }
+            → InnerSendsPrefix self.old (O.taken out.old) (O.taken out.new) octets.now }
         ensures later { O.faults out.old ≤ O.faults out.new }
         ensures rose { IsErrOf result SendError.Sink → Rose (O.faults out.old) (O.faults out.new) (O.is_last out.new) }
         ensures same { result ≢ Err SendError.Sink → O.faults out.new ≡ O.faults out.old }

@@ -9,7 +9,7 @@ use Rattle.tm_conv.proofs.Sizes.{steps_size-suc, same_from_steps_size}
 use Rattle.tm_conv.proofs.Paths.{length-path}
 use Rattle.tm_path_cert.specs.Claim.{Claim, is_start, edge_cost, path_cost}
 use Rattle.tm_path_cert.specs.Tests.{AllHold, Pass, column_at, last_of}
-use Rattle.tm_path_cert.specs.Checking.{Checking, StandsFor, IsFound}
+use Rattle.tm_path_cert.specs.Checking.{Checking, CheckStandsFor, IsFound}
 use Rattle.tm_path_cert.proofs.Costs.{steps_size-none, steps_size-next, cost-step}
 
 -- from column k on, the last column is no more than column k and the cost of the path's rest
@@ -67,7 +67,7 @@ Pass-least claim columns metric n initial others pass long covers c =
     = ap (λ v. cost (path claim.rate claim.invert v initial others) claim.soft) from in
     omega (arith, h, zero_sum, end, last, same)
 
-pub finish-least : (check : Checking) (columns : List (List ℕ)) (metric n initial : ℕ) (others last : List ℕ) → StandsFor check columns → check.wrong ≡ None
+pub finish-least : (check : Checking) (columns : List (List ℕ)) (metric n initial : ℕ) (others last : List ℕ) → CheckStandsFor check columns → check.wrong ≡ None
     → check.count ≡ n + 1 → check.last ≡ last → ((r : ℕ) → r < 64 → metric ≤ get_or last r 0)
     → length check.claim.soft ≡ steps_size check.claim.rate check.claim.first n
     → IsCandidate (is_start check.claim.starts) check.claim.rate check.claim.invert check.claim.first check.claim.soft initial others

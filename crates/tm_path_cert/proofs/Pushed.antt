@@ -7,7 +7,7 @@ use Rattle.tm_conv.specs.Path.{step_size, steps_size, step_symbols}
 use Rattle.tm_conv.specs.Cost.{cost}
 use Rattle.tm_path_cert.specs.Claim.{Claim, step_octets}
 use Rattle.tm_path_cert.specs.Tests.{HoldsAt, IsLowEnough, Holds, IsFirstFailing, column_at, last_of, first_place}
-use Rattle.tm_path_cert.specs.Checking.{Checking, StandsFor, IsFound}
+use Rattle.tm_path_cert.specs.Checking.{Checking, CheckStandsFor, IsFound}
 
 old_at : (columns : List (List ℕ)) (column : List ℕ) (t : ℕ) → t < length columns → column_at (columns ++ column ∷ []) t ≡ column_at columns t
 old_at columns column t lt = get_or_append_left columns (column ∷ []) [] t lt
@@ -74,10 +74,10 @@ found_push claim columns column last t None None e is test h = λ u other lt sma
       subst P same (next_in claim columns column last t other e is (test other small)))
 ]
 
-pub StandsFor-push : (before now : Checking) (columns : List (List ℕ)) (column : List ℕ) (found : Option ℕ) → now.claim ≡ before.claim → now.count ≡ before.count + 1 → now.last ≡ column
+pub CheckStandsFor-push : (before now : Checking) (columns : List (List ℕ)) (column : List ℕ) (found : Option ℕ) → now.claim ≡ before.claim → now.count ≡ before.count + 1 → now.last ≡ column
     → now.wrong ≡ first_place before.wrong before.count found → IsFirstFailing (λ r. HoldsAt before.claim before.count before.last column r) found
-    → StandsFor before columns → StandsFor now (columns ++ column ∷ [])
-StandsFor-push before now columns column found ec en el ew test stands =
+    → CheckStandsFor before columns → CheckStandsFor now (columns ++ column ∷ [])
+CheckStandsFor-push before now columns column found ec en el ew test stands =
     let P : Claim → Option (ℕ × ℕ) → Type 0 = λ claim wrong. IsFound claim (columns ++ column ∷ []) wrong in
     let there = found_push before.claim columns column before.last before.count before.wrong found stands.count stands.last test stands.found in
     let Q : Claim → Type 0 = λ claim. P claim (first_place before.wrong before.count found) in

@@ -19,7 +19,7 @@ IsFound claim columns None = AllHold claim columns
 IsFound claim columns (Some place) = IsFirstWrong claim columns place.0 place.1
 
 -- a check that was given these columns, and no others
-pub record StandsFor (check : Checking) (columns : List (List ℕ)) : Type 0 where
+pub record CheckStandsFor (check : Checking) (columns : List (List ℕ)) : Type 0 where
   pub count : check.count ≡ length columns
   pub last : 0 < check.count → check.last ≡ last_of columns
   pub found : IsFound check.claim columns check.wrong

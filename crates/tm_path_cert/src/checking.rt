@@ -48,7 +48,7 @@ impl<'a> Model for Check<'a> {
 }
 
 impl<'a> Check<'a> {
-    ghost use Rattle.tm_path_cert.specs.Checking.{StandsFor, IsVerdict};
+    ghost use Rattle.tm_path_cert.specs.Checking.{CheckStandsFor, IsVerdict};
 
     /// A check of soft octets, which are the symbols of whole steps from step `first` on, at most 2^24 steps.
     /// It was given no column yet.
@@ -59,7 +59,7 @@ impl<'a> Check<'a> {
         ensures claim { result.claim ≡ record { rate = rate; invert = invert; first = first; starts = start;
             soft = soft.now } }
         ensures count { result.count ≡ 0 }
-        ensures stands { StandsFor result [] }
+        ensures stands { CheckStandsFor result [] }
     {
         Check {
             rate,
@@ -80,8 +80,8 @@ impl<'a> Check<'a> {
             ≤ length self.old.claim.soft }
         ensures claim { self.new.claim ≡ self.old.claim }
         ensures count { self.new.count ≡ self.old.count + 1 }
-        ensures stands { (given : List (List ℕ)) → StandsFor self.old given
-            → StandsFor self.new (given ++ sums.now ∷ []) }
+        ensures stands { (given : List (List ℕ)) → CheckStandsFor self.old given
+            → CheckStandsFor self.new (given ++ sums.now ∷ []) }
     {
         let size = self.step_size();
         let found = self.first_wrong(sums);
@@ -130,9 +130,9 @@ impl<'a> Check<'a> {
         requires columns { self.count ≡ length bits.now + 1 }
         requires register { register < 64 }
         requires start { IsTrue (is_start self.claim.starts register) }
-        ensures verdict { (given : List (List ℕ)) → StandsFor self.entry given
+        ensures verdict { (given : List (List ℕ)) → CheckStandsFor self.entry given
             → IsVerdict self.entry.claim given register bits.now metric result }
-        ensures least { (given : List (List ℕ)) → StandsFor self.entry given → result ≡ Verdict.Yes
+        ensures least { (given : List (List ℕ)) → CheckStandsFor self.entry given → result ≡ Verdict.Yes
             → (initial : ℕ) (others : List ℕ)
             → IsCandidate (is_start self.entry.claim.starts) self.entry.claim.rate self.entry.claim.invert
             self.entry.claim.first self.entry.claim.soft initial others

@@ -12,7 +12,7 @@ use Rattle.tm_viterbi.specs.WindowBlock.{WindowBlock}
 use Rattle.tm_inner.specs.Inner.{AreInnerBlocks, AreInnerDue, inner_bits, reported_slips}
 use Rattle.tm_inner.specs.declared.receiver.InnerEnd.{InnerEnd}
 use Rattle.tm_inner.specs.Phase.{with_phase, skip_of}
-use Rattle.tm_inner.specs.Receiving.{InnerReceiving, StandsFor}
+use Rattle.tm_inner.specs.Receiving.{InnerReceiving, InnerReceiverStandsFor}
 use Rattle.tm_inner.specs.Handing.{AreHanded, AreHandedDue}
 use Rattle.tm_inner.proofs.DueBits.{StandFirst, StayClosed, bits-first}
 use Rattle.tm_inner.proofs.WithPhase.{HasPhase, OnePhase, choice-stays, with_phase-exists, one-choice}
@@ -491,7 +491,7 @@ module _ (exists : HasBlocks) (stands : StandFirst) (phase : HasPhase) (one : On
 
 -- before the first octets
 pub writes-new : (c : Configuration) (receiver : InnerReceiving) (packing : Packing) (out notes : Option (List ℕ))
-    → IsAccepted c → receiver.config ≡ c → StandsFor receiver [] []
+    → IsAccepted c → receiver.config ≡ c → InnerReceiverStandsFor receiver [] []
     → packing ≡ record { bits = []; room = c.keep + c.ahead + 4096; phase = None; windows = 0 }
     → Writes c receiver packing out out notes notes []
 writes-new c receiver packing out notes accepted same stands new = record {

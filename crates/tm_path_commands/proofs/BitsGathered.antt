@@ -18,7 +18,7 @@ use Rattle.tm_viterbi.specs.WindowBlock.{WindowBlock}
 use Rattle.tm_inner.specs.Inner.{BlocksAt, DueAt, plain_bits, bits_at, inner_bits, reported_slips, soft_value, AreInnerBlocks}
 use Rattle.tm_inner.specs.declared.receiver.InnerEnd.{InnerEnd}
 use Rattle.tm_inner.specs.Phase.{IsChosenBy, IsSettled, with_phase, needed_at, phase_octets, skip_of, skipped_at}
-use Rattle.tm_inner.specs.Receiving.{InnerReceiving, StandsFor}
+use Rattle.tm_inner.specs.Receiving.{InnerReceiving, InnerReceiverStandsFor}
 use Rattle.tm_inner.specs.Handing.{AreHanded, AreHandedDue}
 use Rattle.tm_inner.proofs.DueBits.{kept-append}
 use Rattle.tm_inner.proofs.HandedBits.{handed-last-few, handed-more-few, needed-few}
@@ -250,7 +250,7 @@ module _ (receiver now : InnerReceiving) (packing packed : Packing) (octets : Li
     was-due : AreHandedDue c given done
     was-due = subst (λ (k : Configuration). AreHandedDue k given done) p.config p.stands.1
 
-    there : StandsFor now (given ++ octets) (done ++ h.more)
+    there : InnerReceiverStandsFor now (given ++ octets) (done ++ h.more)
         × AreHandedDue receiver.config (given ++ octets) (done ++ h.more)
     there = h.stands given done (omega (arith, within, length-append given octets)) p.stands.0
 
@@ -330,7 +330,7 @@ module _ (receiver now : InnerReceiving) (packing packed : Packing) (octets : Li
   -- with none there are no windows, and further bits are those of the octets
   pub gathers-plain : (final : Packing) (skip : ℕ) → is_some receiver.config.inner ≡ false
       → Adds packed (drop skip (plain_bits receiver.config octets)) final
-      → ((given more : List ℕ) (done : List (Handed WindowBlock)) → StandsFor receiver given done
+      → ((given more : List ℕ) (done : List (Handed WindowBlock)) → InnerReceiverStandsFor receiver given done
       → receiver.config.inner ≡ None
       → inner_bits receiver.config (given ++ more) [] ≡ inner_bits receiver.config given []
       ++ drop skip (plain_bits receiver.config more))
@@ -395,7 +395,7 @@ last-bits (Some rate) c phase octets blocks last left are = all_bits-append bloc
 pub gathers-last : (receiver : InnerReceiving) (packing packed final : Packing) (end : InnerEnd)
     (last : List (Handed WindowBlock)) → HandedOver (on_handed AddsPhase AddsWindow) packing last packed
     → Adds packed (low_bits 7 0) final
-    → ((given : List ℕ) (done : List (Handed WindowBlock)) → StandsFor receiver given done
+    → ((given : List ℕ) (done : List (Handed WindowBlock)) → InnerReceiverStandsFor receiver given done
     → AreHanded receiver.config given (done ++ last) end.leftover
     × (end.bits ≡ length (inner_bits receiver.config given (items_of (done ++ last))))
     × (end.slips ≡ reported_slips receiver.config (items_of (done ++ last))))

@@ -12,7 +12,7 @@ use Rattle.tm_viterbi.specs.Due.{Place, Closed, first_place}
 use Rattle.tm_windows.specs.declared.choosing.Chosen.{Chosen}
 use Rattle.tm_inner.specs.Inner.{settings_of, windows_of, soft_octets, BlocksAt}
 use Rattle.tm_inner.specs.Phase.{IsChosen, phase_octets, skip_of, with_phase}
-use Rattle.tm_inner.specs.Receiving.{InnerReceiving, StandsFor, FirstAt, AreInnerFirst}
+use Rattle.tm_inner.specs.Receiving.{InnerReceiving, InnerReceiverStandsFor, FirstAt, AreInnerFirst}
 use Rattle.tm_inner.specs.Handing.{AreHanded, AreHandedPrefix}
 use Rattle.tm_inner.proofs.DueBits.{StandFirst}
 use Rattle.tm_inner.proofs.InnerBits.{HasBlocks, seen-of}
@@ -45,7 +45,7 @@ last-at append writes (Some rate) c old now octets handed last left text taken t
 
 pub certified-last : Append → WritesLast → (c : Configuration) (r : InnerReceiving) (old now : Certifying) (start taken taken_now : Option (List ℕ)) (octets : List ℕ)
     (last : List (Handed WindowBlock)) (left : ℕ) → IsAccepted c → Certifies c r old start taken octets → WroteHanded old now last taken taken_now
-    → ((given : List ℕ) (done : List (Handed WindowBlock)) → StandsFor r given done → AreHanded r.config given (done ++ last) left) → WroteCertificate c start taken_now octets
+    → ((given : List ℕ) (done : List (Handed WindowBlock)) → InnerReceiverStandsFor r given done → AreHanded r.config given (done ++ last) left) → WroteCertificate c start taken_now octets
 certified-last append writes c r old now start taken taken_now octets last left accepted t wrote finish =
     let all = subst (λ (k : Configuration). AreHanded k octets (t.handed ++ last) left) t.config (finish octets t.handed t.stands.0) in
     let end = last-at append writes c.inner c old now octets t.handed last left t.text taken taken_now accepted refl t.unfollowed t.few t.writes wrote all in (
@@ -162,7 +162,7 @@ module _ (exists : HasBlocks) (stands : StandFirst) (has : HasCertificate) (one 
 
     pub certified-prefix : (c : Configuration) (r : InnerReceiving) (old : Certifying) (start taken taken_now : Option (List ℕ)) (octets : List ℕ) (tried : List (Handed WindowBlock))
         → IsAccepted c → Certifies c r old start taken octets → WroteHandedPrefix old tried taken taken_now
-        → ((given : List ℕ) (done : List (Handed WindowBlock)) → StandsFor r given done → AreHandedPrefix r.config given (done ++ tried)) → WroteCertificatePrefix c start taken_now octets
+        → ((given : List ℕ) (done : List (Handed WindowBlock)) → InnerReceiverStandsFor r given done → AreHandedPrefix r.config given (done ++ tried)) → WroteCertificatePrefix c start taken_now octets
     certified-prefix c r old start taken taken_now octets tried accepted t part finish =
         let h = subst (λ (k : Configuration). AreHandedPrefix k octets (t.handed ++ tried)) t.config (finish octets t.handed t.stands.0) in
         let end = prefix-at c.inner c old octets t.handed tried t.text taken taken_now accepted refl t.unfollowed t.few t.writes part h h.are_items in

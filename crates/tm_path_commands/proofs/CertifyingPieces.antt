@@ -18,7 +18,7 @@ use Rattle.tm_inner.specs.Symbols.{is_inverted}
 use Rattle.tm_windows.specs.Windows.{AreFirstIn}
 use Rattle.tm_inner.specs.Inner.{settings_of, windows_of, soft_value, soft_octets, DueAt, AreInnerDue}
 use Rattle.tm_inner.specs.Phase.{IsChosenBy, PhaseAt, needed_at, phase_octets, skip_of, skipped_at}
-use Rattle.tm_inner.specs.Receiving.{InnerReceiving, StandsFor, FirstAt, AreInnerFirst}
+use Rattle.tm_inner.specs.Receiving.{InnerReceiving, InnerReceiverStandsFor, FirstAt, AreInnerFirst}
 use Rattle.tm_inner.specs.Handing.{AreHandedDue, AreHandedFirst}
 use Rattle.tm_inner.proofs.DueBits.{StayClosed, soft-more}
 use Rattle.tm_inner.proofs.Unfollowed.{due-unfollowed, first-unfollowed, first-windows}
@@ -105,7 +105,7 @@ new-writes c now (Some rate) each due =
         let both = subst P none (ap (first_place s) (no-soft_octets c (skip_of h.1.chosen)) ∙ sym place, refl) in
         inr (record { settled = h.0; are_due = h.1; closed = both.0; is_text = both.1 })
 
-pub certifies-new : (c : Configuration) (r : InnerReceiving) (now : Certifying) (taken : Option (List ℕ)) → IsAccepted c → c.follow ≡ false → r.config ≡ c → StandsFor r [] []
+pub certifies-new : (c : Configuration) (r : InnerReceiving) (now : Certifying) (taken : Option (List ℕ)) → IsAccepted c → c.follow ≡ false → r.config ≡ c → InnerReceiverStandsFor r [] []
     → ((rate : Rate) → c.inner ≡ Some rate → now ≡ new-at c rate) → Certifies c r now taken taken []
 certifies-new c r now taken accepted plain same stands each =
     let there = stands-new c r accepted same stands in
@@ -302,11 +302,11 @@ writes-on append longer closes stay within (Some rate) c old given now octets pi
 
 -- what the receiver says of a piece, for every history
 abbrev pub HandsOn : (r now : InnerReceiving) → List ℕ → List (Handed WindowBlock) → Type 0
-HandsOn r now piece more = (given : List ℕ) (done : List (Handed WindowBlock)) → length given + length piece < 2 ^ 60 → StandsFor r given done
-    → StandsFor now (given ++ piece) (done ++ more) × AreHandedDue r.config (given ++ piece) (done ++ more)
+HandsOn r now piece more = (given : List ℕ) (done : List (Handed WindowBlock)) → length given + length piece < 2 ^ 60 → InnerReceiverStandsFor r given done
+    → InnerReceiverStandsFor now (given ++ piece) (done ++ more) × AreHandedDue r.config (given ++ piece) (done ++ more)
 
 abbrev pub HandsFirst : InnerReceiving → List ℕ → List (Handed WindowBlock) → Type 0
-HandsFirst r piece tried = (given : List ℕ) (done : List (Handed WindowBlock)) → length given + length piece < 2 ^ 60 → StandsFor r given done
+HandsFirst r piece tried = (given : List ℕ) (done : List (Handed WindowBlock)) → length given + length piece < 2 ^ 60 → InnerReceiverStandsFor r given done
     → AreHandedFirst r.config (given ++ piece) (done ++ tried)
 
 module _ (append : Append) (longer : Longer) (stay : StayClosed) (within : PhaseWithin) (c : Configuration) (r : InnerReceiving) (old given : Certifying) (start taken taken_now : Option (List ℕ)) (octets piece : List ℕ) (p : GavePiece r old given piece) where

@@ -13,7 +13,7 @@ use Rattle.tm_cert_file.specs.declared.seen.Seen.TheVariants.{More, Failed}
 use Rattle.tm_cert_file.specs.Window.{Window}
 use Rattle.tm_cert_file.specs.Before.{Rules}
 use Rattle.tm_cert_file.specs.File.{IsRead, IsCut, IsBroken, all_kept, is_cut, kept_octets}
-use Rattle.tm_cert_file.specs.Reading.{Reading, IsOpen, StandsFor}
+use Rattle.tm_cert_file.specs.Reading.{Reading, IsOpen, ReaderStandsFor}
 use Rattle.tm_driver.specs.Driven.{DrivenTo, but_last_turn}
 use Rattle.tm_driver.specs.Meaning.{Ends, Output, WroteEarly, WrotePrefixes, taken_by, WroteOutput}
 use Rattle.tm_driver.specs.Statuses.{ending_at_end}
@@ -32,7 +32,7 @@ use Rattle.tm_path_commands.specs.declared.checking.Progress.{Progress}
 use Rattle.tm_path_commands.proofs.CheckedWindows.{ReadOne, windows_text-append, all_kept-append, from-none, read-so_far}
 
 -- nothing was read yet
-passes-first : (r : Reading) (p : Progress) (start was : Option (List ℕ)) → StandsFor r [] [] → p.count ≡ 0 → p.bits ≡ 0 → Passes r.rules r p start start was was []
+passes-first : (r : Reading) (p : Progress) (start was : Option (List ℕ)) → ReaderStandsFor r [] [] → p.count ≡ 0 → p.bits ≡ 0 → Passes r.rules r p start start was was []
 passes-first r p start was stands count bits =
     record { same = refl; windows = []; stands = stands; wrote = record { out = wrote-nothing start; notes = wrote-nothing was }; count = count; bits = bits }
 
@@ -327,7 +327,7 @@ module _ {F : Type 0} (reader : F → Reading) (progress : F → Progress) (out 
   module _ (once : ReadOnce) (c : Configuration) (before now : F) (count : (progress before).count ≡ 0)
       (bits : (progress before).bits ≡ 0)
       (accepted : IsAccepted c) (rules_are : ReadAt (λ rules. (reader before).rules ≡ rules) c.inner c)
-      (fresh : StandsFor (reader before) [] []) where
+      (fresh : ReaderStandsFor (reader before) [] []) where
     abbrev rules : Rules
     rules = (reader before).rules
 

@@ -10,7 +10,7 @@ use Rattle.tm_cert_file.specs.Window.{Window, kept_in, steps_in, window_size}
 use Rattle.tm_cert_file.specs.Before.{Rules, Before, at_first, after_window}
 use Rattle.tm_cert_file.specs.Seen.{IsSeen}
 use Rattle.tm_cert_file.specs.File.{ArePassed, IsRead, all_kept, kept_octets}
-use Rattle.tm_cert_file.specs.Reading.{Reading, HasPassed, IsOpen, StandsFor}
+use Rattle.tm_cert_file.specs.Reading.{Reading, HasPassed, IsOpen, ReaderStandsFor}
 use Rattle.tm_cert_file.proofs.Stages.{Holds-from_none}
 use Rattle.tm_cert_file.proofs.Looking.{Shaped-from_shape, seen_none}
 use Rattle.tm_cert_file.proofs.Passing.{passed-push}
@@ -111,7 +111,7 @@ module _ (rules : Rules) (r : Reading) (p : Progress) (start taken taken_now was
 
   -- it is taken to the others
   pub passes-turned : (after : Reading) (now : Progress) → length given < 2 ^ 43 → after.rules ≡ r.rules
-      → ((windows : List Window) → r.before.t + kept_in r.octets ≤ 2 ^ 43 → StandsFor r given windows → StandsFor after given (windows ++ window_of r ∷ []))
+      → ((windows : List Window) → r.before.t + kept_in r.octets ≤ 2 ^ 43 → ReaderStandsFor r given windows → ReaderStandsFor after given (windows ++ window_of r ∷ []))
       → now.count ≡ min (p.count + 1) (2 ^ 64 - 1) → now.bits ≡ min (p.bits + kept_in r.octets) (2 ^ 64 - 1)
       → WroteWindow r p.count taken taken_now noted noted_now → Passes rules after now start taken_now was noted_now given
   passes-turned after now short same stands count bits wrote = record {
@@ -174,7 +174,7 @@ module _ (rules : Rules) (r : Reading) (p : Progress) (start taken taken_now was
 
 -- nothing more is seen of the window
 pub passes-more : (rules : Rules) (r after : Reading) (p : Progress) (start taken was noted : Option (List ℕ)) (given more : List ℕ) → after.rules ≡ r.rules
-    → ((windows : List Window) → StandsFor r given windows → StandsFor after (given ++ more) windows)
+    → ((windows : List Window) → ReaderStandsFor r given windows → ReaderStandsFor after (given ++ more) windows)
     → Passes rules r p start taken was noted given → Passes rules after p start taken was noted (given ++ more)
 passes-more rules r after p start taken was noted given more same stands h = record {
   same = same ∙ h.same;

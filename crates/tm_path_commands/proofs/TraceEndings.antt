@@ -21,7 +21,7 @@ use Rattle.tm_viterbi.proofs.CleanBlocks.{steps-mono}
 use Rattle.tm_viterbi.proofs.HasBlocks.{some_kept}
 use Rattle.tm_inner.specs.Inner.{windows_of, soft_value, soft_octets, BlocksAt, AreInnerBlocks, AreInnerDue, inner_bits}
 use Rattle.tm_inner.specs.Phase.{skip_of, with_phase, WithPhaseSettled}
-use Rattle.tm_inner.specs.Receiving.{InnerReceiving, StandsFor, FirstAt, AreInnerFirst, Hands, HandsPrefix}
+use Rattle.tm_inner.specs.Receiving.{InnerReceiving, InnerReceiverStandsFor, FirstAt, AreInnerFirst, Hands, HandsPrefix}
 use Rattle.tm_inner.specs.Handing.{AreHanded, AreHandedDue, AreHandedFirst, AreHandedPrefix}
 use Rattle.tm_inner.proofs.Counted.{blocks-kept}
 use Rattle.tm_inner.proofs.FollowedBits.{followed-count, followed-count_all, followed-few, followed-keep, followed-whole}
@@ -266,7 +266,7 @@ trace-fails name lines last count c a taker now octets new accepted few stood p 
 pub traced-whole : {T K : Type 0} (name : T → K) (lines : T → SinkState) (count : T → Tally) (c : Configuration) (r : InnerReceiving) (taker now : T) (start : SinkState) (octets : List ℕ)
     (last : List (Handed WindowBlock)) (bits left : ℕ) → IsAccepted c → Traces c r (count taker) start (lines taker) octets
     → HandedOver (TookOne name lines count) taker last now
-    → ((given : List ℕ) (done : List (Handed WindowBlock)) → StandsFor r given done
+    → ((given : List ℕ) (done : List (Handed WindowBlock)) → InnerReceiverStandsFor r given done
     → AreHanded r.config given (done ++ last) left × (bits ≡ length (inner_bits r.config given (items_of (done ++ last)))))
     → TracedWhole c (count now) bits left start (lines now) octets
 traced-whole name lines count c r taker now start octets last bits left accepted t handed finish =
@@ -318,7 +318,7 @@ trace-first before now handed first rest bits left split wrote =
 pub cut-last : HasBlocks → StandFirst → {T K : Type 0} (name : T → K) (lines : T → SinkState) (last : T → Type 0) (count : T → Tally) (c : Configuration) (r : InnerReceiving) (taker now : T)
     (start : SinkState) (octets : List ℕ) (tried : List (Handed WindowBlock)) → IsAccepted c → Traces c r (count taker) start (lines taker) octets
     → HandedPart (TookOne name lines count) (BrokeOne name lines last count) taker tried now
-    → ((given : List ℕ) (done : List (Handed WindowBlock)) → StandsFor r given done → AreHandedPrefix r.config given (done ++ tried))
+    → ((given : List ℕ) (done : List (Handed WindowBlock)) → InnerReceiverStandsFor r given done → AreHandedPrefix r.config given (done ++ tried))
     → WroteTracePrefix c start (lines now) octets
 cut-last exists stands name lines last count c r taker now start octets tried accepted t part finish =
     let prefix = t.handed ++ tried in
@@ -338,7 +338,7 @@ cut-last exists stands name lines last count c r taker now start octets tried ac
 
 -- ---- nothing was given yet
 
-pub stands-new : (c : Configuration) (r : InnerReceiving) → IsAccepted c → r.config ≡ c → StandsFor r [] [] → StandsAt r [] []
+pub stands-new : (c : Configuration) (r : InnerReceiving) → IsAccepted c → r.config ≡ c → InnerReceiverStandsFor r [] [] → StandsAt r [] []
 stands-new c r accepted same stands = (stands, subst (λ (k : Configuration). AreHandedDue k [] []) (sym same) (handed-due-none c (keeps-some c accepted)))
 
 -- ---- how tracing ends
@@ -452,7 +452,7 @@ module _ (exists : HasBlocks) (stands : StandFirst) (phase : HasPhase) (one : On
     -- nothing was given before
     module _ (c : Configuration) (before now : F) (noted : Option (List ℕ)) (new : count (taker before) ≡ no_blocks)
         (accepted : IsAccepted c)
-        (same : (receiver before).config ≡ c) (fresh : StandsFor (receiver before) [] []) where
+        (same : (receiver before).config ≡ c) (fresh : InnerReceiverStandsFor (receiver before) [] []) where
       stood : StandsAt (receiver before) [] []
       stood = stands-new c (receiver before) accepted same fresh
 

@@ -16,7 +16,7 @@ use Rattle.tm_viterbi.specs.WindowBlock.{WindowBlock}
 use Rattle.tm_viterbi.specs.WindowSizes.{stream_bound}
 use Rattle.tm_inner.specs.Inner.{inner_bits, reported_slips}
 use Rattle.tm_inner.specs.Handing.{AreHanded, AreHandedDue}
-use Rattle.tm_inner.specs.Receiving.{InnerReceiving, StandsFor}
+use Rattle.tm_inner.specs.Receiving.{InnerReceiving, InnerReceiverStandsFor}
 use Rattle.tm_inner.specs.declared.receiver.InnerEnd.{InnerEnd}
 use Rattle.tm_path_commands.specs.Lines.{bits_end_text}
 use Rattle.tm_path_commands.specs.Tracing.{StandsAt}
@@ -168,8 +168,8 @@ pub record HandsWindows (receiver receiver_now : InnerReceiving) (packing packin
   pub more : List (Handed WindowBlock)
   pub handed : HandedOver (on_handed AddsPhase AddsWindow) packing more packing_now
   pub stands : (given : List ℕ) (done : List (Handed WindowBlock))
-      → length given + length octets < stream_bound → StandsFor receiver given done
-      → StandsFor receiver_now (given ++ octets) (done ++ more)
+      → length given + length octets < stream_bound → InnerReceiverStandsFor receiver given done
+      → InnerReceiverStandsFor receiver_now (given ++ octets) (done ++ more)
       × AreHandedDue receiver.config (given ++ octets) (done ++ more)
 
 -- given these octets the receiver hands over more, whose bits and phase wait

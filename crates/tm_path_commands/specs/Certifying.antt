@@ -11,7 +11,7 @@ use Rattle.tm_viterbi.specs.WindowBlock.{WindowBlock}
 use Rattle.tm_inner.specs.Handing.{AreHandedFirst}
 use Rattle.tm_inner.specs.Inner.{AreInnerDue, settings_of, soft_octets}
 use Rattle.tm_inner.specs.Phase.{WithPhase, IsSettled, phase_octets, skip_of}
-use Rattle.tm_inner.specs.Receiving.{InnerReceiving, StandsFor}
+use Rattle.tm_inner.specs.Receiving.{InnerReceiving, InnerReceiverStandsFor}
 use Rattle.tm_inner.specs.Symbols.{is_inverted}
 use Rattle.tm_cert_file.specs.Certificate.{IsCertificate}
 use Rattle.tm_cert_file.specs.Certifying.{Certifying, with_octets}
@@ -66,7 +66,7 @@ pub record GavePiece (receiver : InnerReceiving) (before now : Certifying)
   pub soft : List ℕ
   pub few : length soft ≤ 256
   pub are_soft : (octets : List ℕ) (handed : List (Handed WindowBlock))
-      → StandsFor receiver octets handed
+      → InnerReceiverStandsFor receiver octets handed
       → phase_octets receiver.config (octets ++ piece) ≡ phase_octets receiver.config octets ++ soft
   pub given : now ≡ with_octets before
       (before.place.octets ++ take (before.room - length before.place.octets) soft)

@@ -6,7 +6,7 @@ use Rattle.tm_cert_file.specs.declared.seen.Seen.TheVariants.{More}
 use Rattle.tm_cert_file.specs.Window.{Window, window_in}
 use Rattle.tm_cert_file.specs.Before.{Rules, most_kept}
 use Rattle.tm_cert_file.specs.File.{IsRead, IsBroken, all_kept, kept_octets}
-use Rattle.tm_cert_file.specs.Reading.{Reading, StandsFor}
+use Rattle.tm_cert_file.specs.Reading.{Reading, ReaderStandsFor}
 use Rattle.tm_config.specs.Configuration.{Configuration}
 use Rattle.tm_driver.specs.Driven.{but_last_turn}
 use Rattle.tm_driver.specs.Meaning.{Ends, taken_by}
@@ -51,7 +51,7 @@ pub record Passes (rules : Rules) (reading : Reading) (progress : Progress)
     (taken taken_now noted noted_now : Option (List ℕ)) (octets : List ℕ) : Type 0 where
   pub same : reading.rules ≡ rules
   pub windows : List Window
-  pub stands : StandsFor reading octets windows
+  pub stands : ReaderStandsFor reading octets windows
   pub wrote : WroteWindows rules windows taken taken_now noted noted_now
   pub count : progress.count ≡ length windows
   pub bits : progress.bits ≡ bits_kept windows

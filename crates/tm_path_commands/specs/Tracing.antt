@@ -9,7 +9,7 @@ use Rattle.tm_driver.specs.Texts.{TookText}
 use Rattle.tm_viterbi.specs.WindowBlock.{WindowBlock}
 use Rattle.tm_inner.specs.Inner.{inner_bits}
 use Rattle.tm_inner.specs.Handing.{AreHanded, AreHandedDue, AreHandedFirst}
-use Rattle.tm_inner.specs.Receiving.{InnerReceiving, StandsFor}
+use Rattle.tm_inner.specs.Receiving.{InnerReceiving, InnerReceiverStandsFor}
 use Rattle.tm_path_commands.specs.declared.tally.Tally.{Tally}
 use Rattle.tm_path_commands.specs.Lines.{no_blocks}
 use Rattle.tm_path_commands.specs.Trace.{trace_text}
@@ -18,7 +18,7 @@ use Rattle.tm_path_commands.specs.Taken.{TracedAll, TraceBroke}
 -- an inner receiver that was given these octets and no others, and has handed over what is due of
 -- them
 abbrev pub StandsAt : InnerReceiving → List ℕ → List (Handed WindowBlock) → Type 0
-StandsAt receiver octets handed = StandsFor receiver octets handed
+StandsAt receiver octets handed = InnerReceiverStandsFor receiver octets handed
     × AreHandedDue receiver.config octets handed
 
 -- the receiver was given these octets, and the sink took the lines of what is due for them, with so

@@ -6,7 +6,7 @@ ghost use Rattle.tm_config.specs.Configuration.{Configuration};
 ghost use Rattle.tm_driver.specs.Answered.{AnsweredAlone};
 ghost use Rattle.tm_driver.specs.Courses.{sink_call, source_call};
 ghost use Rattle.tm_conv.specs.Columns.{last_certified};
-ghost use Rattle.tm_inner.specs.Receiving.{InnerReceiving, StandsFor};
+ghost use Rattle.tm_inner.specs.Receiving.{InnerReceiving, InnerReceiverStandsFor};
 ghost use Rattle.tm_path_commands.specs.Certify.{certify_meaning};
 ghost use Rattle.tm_path_commands.specs.Certifying.{Certifies, CertifyFails, CutsCertificate, EndsCertificate, GavePiece};
 
@@ -26,7 +26,7 @@ use tm_windows::{
 fn open(alloc: Global, config: &Config) -> Result<Certifying, NoMemory>
     requires { config.now.follow ≡ false }
     ensures { IfOk result (λ certifying. (receiver : InnerReceiving) (taken : Option (List ℕ))
-        → receiver.config ≡ config.now → StandsFor receiver [] []
+        → receiver.config ≡ config.now → InnerReceiverStandsFor receiver [] []
         → Certifies config.now receiver certifying taken taken []) }
 {
     let rate = rate_of(config).unwrap_or(Rate::R12);

@@ -11,7 +11,7 @@ use Rattle.tm_sync.specs.declared.found.Found.{Found}
 use Rattle.tm_sync.specs.declared.found.Before.{Before}
 use Rattle.tm_sync.specs.declared.found.Awaited.{Awaited}
 use Rattle.tm_sync.specs.Places.{Rules, before_next, wrong_bits, match_of, matches_in, are_verified, verified, place_polarity, verify_bits, found_at, place_at, place_by, places, places_from}
-use Rattle.tm_sync.specs.Searching.{Counts, Searching, StandsFor, Remembers, Recalls, IsRun, IsRecent, awaited_at, begun_of, first_place, from_of, place_ahead, inside_ahead, inside_by, inside_of, is_pending, is_right_after, waiting_of, end_of, before_past}
+use Rattle.tm_sync.specs.Searching.{Counts, Searching, SearchStandsFor, Remembers, Recalls, IsRun, IsRecent, awaited_at, begun_of, first_place, from_of, place_ahead, inside_ahead, inside_by, inside_of, is_pending, is_right_after, waiting_of, end_of, before_past}
 use Rattle.tm_sync.proofs.Numbers.{value_from, number-value}
 use Rattle.tm_sync.proofs.Sliding.{byte-number, word-push}
 use Rattle.tm_sync.proofs.Steps.{places_from-short, places_from-hit, wrong_bits-append, match_of-append, matches_in-is, are_verified-more, place_polarity-far, place_at-room}
@@ -54,7 +54,7 @@ take-prefix : (prefix rest : List Bool) → take (length prefix) (prefix ++ rest
 take-prefix [] rest = refl
 take-prefix (b ∷ prefix) rest = ap (λ l. b ∷ l) (take-prefix prefix rest)
 
-pub parts_of : (s : Searching) (room : List ℕ) (bits : List Bool) (found : List Found) → StandsFor s room bits found → Parts s room bits found
+pub parts_of : (s : Searching) (room : List ℕ) (bits : List Bool) (found : List Found) → SearchStandsFor s room bits found → Parts s room bits found
 parts_of s room bits found h =
     let end = end_of s.rules found in
     let there = end-there s.rules bits found h.found_first in
@@ -96,7 +96,7 @@ parts_of s room bits found h =
     fresh-at None after = after
     fresh-at (Some f) after = tt
 
-pub stands_of : (s : Searching) (room : List ℕ) (bits : List Bool) (found : List Found) → Parts s room bits found → StandsFor s room bits found
+pub stands_of : (s : Searching) (room : List ℕ) (bits : List Bool) (found : List Found) → Parts s room bits found → SearchStandsFor s room bits found
 stands_of s room bits found h =
     let end : end_of s.rules found ≡ length h.prefix = h.ends in
     let rest : drop (end_of s.rules found) bits ≡ h.rest = (λ i. drop (end i) (h.parts i)) ∙ drop-prefix h.prefix h.rest in
@@ -145,7 +145,7 @@ gone_on : (s s' : Searching) (room room' : List ℕ) (more bits : List Bool) (fo
     → IfSome o (λ f. f.place + 32 + s'.after ≡ s'.pushed) → IfNone o (s'.after ≡ 0)
     → IsRun s' (bits ++ more) (option_map (awaited_at s.before) o)
     → IsRecent room' (bits ++ more) (from_of s' (option_map (awaited_at s.before) o))
-    → StandsFor s' room' (bits ++ more) found
+    → SearchStandsFor s' room' (bits ++ more) found
 gone_on s s' room room' more bits found h rules pushed start before word size o ahead awaited after fresh run recent =
     stands_of s' room' (bits ++ more) found record {
       prefix = h.prefix;
@@ -184,7 +184,7 @@ grown : (s s' : Searching) (room room' : List ℕ) (b : Bool) (bits : List Bool)
     → IfSome o (λ f. f.place + 32 + s'.after ≡ s'.pushed) → IfNone o (s'.after ≡ 0)
     → IsRun s' (bits ++ b ∷ []) (option_map (awaited_at s.before) o)
     → IsRecent room' (bits ++ b ∷ []) (from_of s' (option_map (awaited_at s.before) o))
-    → StandsFor s' room' (bits ++ b ∷ []) found
+    → SearchStandsFor s' room' (bits ++ b ∷ []) found
 grown s s' room room' b bits found h g =
     gone_on s s' room room' (b ∷ []) bits found h g.rules g.pushed g.start g.before
     (g.word ∙ word-push s.word b bits h.word_is)
@@ -217,7 +217,7 @@ grows s old s' b c rules word pushed start before = record {
 }
 
 -- the bits given, and those up to the last codeblock found
-pub start-there : (s : Searching) (room : List ℕ) (bits : List Bool) (found : List Found) → StandsFor s room bits found → (s.pushed ≡ length bits) × (s.start ≤ s.pushed)
+pub start-there : (s : Searching) (room : List ℕ) (bits : List Bool) (found : List Found) → SearchStandsFor s room bits found → (s.pushed ≡ length bits) × (s.start ≤ s.pushed)
 start-there s room bits found stood =
     let h = parts_of s room bits found stood in
     (h.pushed_is, omega (arith, h.pushed_is, h.start_is, ap length h.parts, length-append h.prefix h.rest))
@@ -243,7 +243,7 @@ ahead-is s room bits found h m was = go (first_place s.rules (length h.prefix) s
 
 -- a place was found before, and its codeblock is not whole
 pub push_inside : (s s' : Searching) (room room' : List ℕ) (b : Bool) (m : Awaited) → Grows s s' b → length room' ≡ length room → s.awaited ≡ Some m → is_pending s ≡ false
-    → s'.awaited ≡ s.awaited → s'.after ≡ s.after + 1 → (bits : List Bool) (found : List Found) → StandsFor s room bits found → StandsFor s' room' (bits ++ b ∷ []) found
+    → s'.awaited ≡ s.awaited → s'.after ≡ s.after + 1 → (bits : List Bool) (found : List Found) → SearchStandsFor s room bits found → SearchStandsFor s' room' (bits ++ b ∷ []) found
 push_inside s s' room room' b m g size was free stays more bits found stood =
     let h = parts_of s room bits found stood in
     let a = ahead-is s room bits found h m was in
@@ -261,7 +261,7 @@ push_inside s s' room room' b m g size was free stays more bits found stood =
 -- all bits are of the codeblock after a place that was found before
 pub push_run : (s s' : Searching) (room : List ℕ) (more : List Bool) (m : Awaited) → s.awaited ≡ Some m → s'.rules ≡ s.rules → s'.pushed ≡ s.pushed + length more → s'.start ≡ s.start
     → s'.before ≡ s.before → s'.awaited ≡ s.awaited → s'.after ≡ s.after + length more → s'.after ≤ s'.rules.block_bits
-    → (bits : List Bool) (found : List Found) → s'.word ≡ number_of (bits ++ more) % 2 ^ 32 → StandsFor s room bits found → StandsFor s' room (bits ++ more) found
+    → (bits : List Bool) (found : List Found) → s'.word ≡ number_of (bits ++ more) % 2 ^ 32 → SearchStandsFor s room bits found → SearchStandsFor s' room (bits ++ more) found
 push_run s s' room more m was rules pushed start before stays after few bits found word stood =
     let h = parts_of s room bits found stood in
     let a = ahead-is s room bits found h m was in
@@ -303,7 +303,7 @@ IsReported s bits (Some f) = (f.place + 32 + s.after ≡ s.pushed)
 -- no place was awaited, and now the search awaits that which there is, or none
 reported : (s s' : Searching) (room room' : List ℕ) (b : Bool) (bits : List Bool) (found : List Found) (h : Parts s room bits found) → Grows s s' b → Remembers room room' bits b
     → s.awaited ≡ None → (o : Option Found) → first_place s.rules (length h.prefix) s.before (h.rest ++ b ∷ []) ≡ o → s'.awaited ≡ option_map (awaited_at s.before) o
-    → IsReported s' (bits ++ b ∷ []) o → StandsFor s' room' (bits ++ b ∷ []) found
+    → IsReported s' (bits ++ b ∷ []) o → SearchStandsFor s' room' (bits ++ b ∷ []) found
 reported s s' room room' b bits found h g kept was None ahead awaited fresh =
     grown s s' room room' b bits found h g kept.sized None ahead awaited tt fresh tt (recent-start s s' room room' b bits found h was g.start kept)
 reported s s' room room' b bits found h g kept was (Some f) ahead awaited (ends, run) =
@@ -454,7 +454,8 @@ reported-zero s bits rules at before l polarity fresh pushed = go (seen (place_b
 pub reported_right : (s now : Searching) (room room' : List ℕ) (b : Bool) (a : Option Awaited) (bits : List Bool) (found : List Found) → Counts s now b → Remembers room room' bits b
     → s.awaited ≡ None → is_right_after (now.pushed - now.start) now.before ≡ true
     → ((l : List Bool) → length l ≡ 32 → now.word ≡ number_of l → a ≡ option_map (awaited_at now.before) (place_by now.rules (now.pushed - 32) now.before l (match_of now.rules l)))
-    → StandsFor s room bits found → StandsFor (record now { awaited = a; after = 0 }) room' (bits ++ b ∷ []) found
+    → SearchStandsFor s room bits found
+    → SearchStandsFor (record now { awaited = a; after = 0 }) room' (bits ++ b ∷ []) found
 reported_right s now room room' b a bits found c kept was right looks stood =
     let h = parts_of s room bits found stood in
     let s' : Searching = record now { awaited = a; after = 0 } in
@@ -484,8 +485,8 @@ pub push_short : (s s' : Searching) (room room' : List ℕ) (more : List Bool) �
     → length room' ≡ length room → (bits : List Bool) (found : List Found)
     → s'.word ≡ number_of (bits ++ more) % 2 ^ 32
     → (IsRecent room bits s.start → IsRecent room' (bits ++ more) s.start)
-    → StandsFor s room bits found
-    → StandsFor s' room' (bits ++ more) found
+    → SearchStandsFor s room bits found
+    → SearchStandsFor s' room' (bits ++ more) found
 push_short s s' room room' more was rules pushed start before stays after few size bits found word kept stood =
     let h = parts_of s room bits found stood in
     let many = after-is s room bits found h in
@@ -500,8 +501,8 @@ push_short s s' room room' more was rules pushed start before stays after few si
 
 pub short-bit : (s now : Searching) (room room' : List ℕ) (b : Bool) (bits : List Bool)
     (found : List Found) → Counts s now b → Remembers room room' bits b
-    → s.awaited ≡ None → now.pushed - now.start < 32 → StandsFor s room bits found
-    → StandsFor now room' (bits ++ b ∷ []) found
+    → s.awaited ≡ None → now.pushed - now.start < 32 → SearchStandsFor s room bits found
+    → SearchStandsFor now room' (bits ++ b ∷ []) found
 short-bit s now room room' b bits found c kept was few stood =
     let h = parts_of s room bits found stood in
     let g : Grows s now b = grows s now now b c refl refl refl refl refl in
@@ -512,7 +513,8 @@ short-bit s now room room' b bits found c kept was few stood =
 
 pub reported_waits : (s now : Searching) (room room' : List ℕ) (b : Bool) (bits : List Bool) (found : List Found) → Counts s now b → Remembers room room' bits b
     → s.awaited ≡ None → is_right_after (now.pushed - now.start) now.before ≡ false → now.pushed - now.start < 32 + verify_bits now.rules
-    → StandsFor s room bits found → StandsFor (record now { awaited = None; after = 0 }) room' (bits ++ b ∷ []) found
+    → SearchStandsFor s room bits found
+    → SearchStandsFor (record now { awaited = None; after = 0 }) room' (bits ++ b ∷ []) found
 reported_waits s now room room' b bits found c kept was right few stood =
     let h = parts_of s room bits found stood in
     let s' : Searching = record now { awaited = None; after = 0 } in
@@ -529,7 +531,8 @@ pub reported_verified : (s now : Searching) (room room' : List ℕ) (b : Bool) (
     → s.awaited ≡ None → is_right_after (now.pushed - now.start) now.before ≡ false → 32 + verify_bits now.rules ≤ now.pushed - now.start → IfSome a (λ _. n ≡ verify_bits now.rules) → IfNone a (n ≡ 0)
     → ((from : ℕ) → Recalls now room' (bits ++ b ∷ []) from → from + (32 + verify_bits now.rules) ≤ length (bits ++ b ∷ [])
     → a ≡ option_map (awaited_at None) (here now.rules (prefix_of now.rules (bits ++ b ∷ [])) None (back_of now.rules (bits ++ b ∷ []))))
-    → StandsFor s room bits found → StandsFor (record now { awaited = a; after = n }) room' (bits ++ b ∷ []) found
+    → SearchStandsFor s room bits found
+    → SearchStandsFor (record now { awaited = a; after = n }) room' (bits ++ b ∷ []) found
 reported_verified s now room room' b a n bits found c kept was right enough taken waits looks stood =
     let h = parts_of s room bits found stood in
     let s' : Searching = record now { awaited = a; after = n } in
@@ -582,7 +585,7 @@ reported_verified s now room room' b a n bits found c kept was right enough take
 pub push_far : (s s' : Searching) (room room' : List ℕ) (b : Bool) (bits : List Bool) (found : List Found) → Grows s s' b → Remembers room room' bits b
     → s.awaited ≡ None → s'.awaited ≡ None → s'.after ≡ s.after → s'.start + 32 < s'.pushed
     → ((l : List Bool) → length l ≡ 32 → s'.word ≡ number_of l → match_of s.rules l ≡ None)
-    → StandsFor s room bits found → StandsFor s' room' (bits ++ b ∷ []) found
+    → SearchStandsFor s room bits found → SearchStandsFor s' room' (bits ++ b ∷ []) found
 push_far s s' room room' b bits found g kept was free same enough far stood =
     let h = parts_of s room bits found stood in
     let pushed = g.pushed in
@@ -613,7 +616,7 @@ push_far s s' room room' b bits found g kept was free same enough far stood =
 
 -- ---- places are reported
 pub stands_first : (s : Searching) (room : List ℕ) → length room ≡ verify_bits s.rules → s.pushed ≡ 0 → s.start ≡ 0 → s.word ≡ 0 → s.before ≡ None → s.awaited ≡ None → s.after ≡ 0
-    → StandsFor s room [] []
+    → SearchStandsFor s room [] []
 stands_first s room size pushed start word before free fresh = stands_of s room [] [] record {
   prefix = [];
   rest = [];
@@ -645,7 +648,7 @@ places-now s room bits found h =
     ap (places s.rules) (sym (append-nil bits)) ∙ places-on s room bits [] found h ∙ ap (λ l. found ++ places_from s.rules (length h.prefix) 0 s.before l) (append-nil h.rest)
 
 -- nothing waits, so all places were reported
-pub reported_all : (s : Searching) (room : List ℕ) → is_pending s ≡ false → (bits : List Bool) (found : List Found) → StandsFor s room bits found → places s.rules bits ≡ found
+pub reported_all : (s : Searching) (room : List ℕ) → is_pending s ≡ false → (bits : List Bool) (found : List Found) → SearchStandsFor s room bits found → places s.rules bits ≡ found
 reported_all s room free bits found stood =
     let h = parts_of s room bits found stood in
     places-now s room bits found h ∙ ap (λ fs. found ++ fs) (go h (first_place s.rules (length h.prefix) s.before h.rest) refl) ∙ append-nil found
@@ -659,7 +662,7 @@ reported_all s room free bits found stood =
         places_from-unfinished s.rules (length h.prefix) s.before h.rest f e (omega (arith, h.pushed_is, ap length h.parts, length-append h.prefix h.rest))
 
 -- how many places there may be with further bits
-pub reported-few : (s : Searching) (room : List ℕ) (bits more : List Bool) (found : List Found) → StandsFor s room bits found
+pub reported-few : (s : Searching) (room : List ℕ) (bits more : List Bool) (found : List Found) → SearchStandsFor s room bits found
     → length (places s.rules (bits ++ more)) * (32 + s.rules.block_bits) ≤ length found * (32 + s.rules.block_bits) + begun_of s + length more
 reported-few s room bits more found stood =
     let h = parts_of s room bits found stood in
@@ -865,7 +868,7 @@ pub inside-is : (s : Searching) (m : Awaited) → s.awaited ≡ Some m → unwra
 inside-is s m was = ap (λ (o : Option Awaited). unwrap_or (option_map (λ _. s.after) o) 0) was
 
 -- its codeblock lies in the bits
-pub reported-fits : (s : Searching) (room : List ℕ) (m : Awaited) (bits : List Bool) (found : List Found) → s.awaited ≡ Some m → is_pending s ≡ true → StandsFor s room bits found
+pub reported-fits : (s : Searching) (room : List ℕ) (m : Awaited) (bits : List Bool) (found : List Found) → s.awaited ≡ Some m → is_pending s ≡ true → SearchStandsFor s room bits found
     → m.found.place + 32 + s.rules.block_bits ≤ s.pushed
 reported-fits s room m bits found was pending stood =
     let h = parts_of s room bits found stood in
@@ -875,7 +878,7 @@ reported-fits s room m bits found was pending stood =
 
 -- what the clause of a place that is reported says
 abbrev Gives : Searching → Searching → List ℕ → List Bool → List Found → Found → Type 0
-Gives s s' room bits found f = StandsFor s' room bits (found ++ f ∷ [])
+Gives s s' room bits found f = SearchStandsFor s' room bits (found ++ f ∷ [])
     × ((rest : List Found) × (places s.rules bits ≡ found ++ f ∷ rest) × (length rest ≡ waiting_of s'))
     × (f.place + 32 + unwrap_or (inside_of s) 0 ≡ length bits)
 
@@ -917,7 +920,7 @@ gives s s' room m bits found h reported t awaited ends fresh run recent many =
 
 -- no codeblock follows it
 pub reported_last : (s s' : Searching) (room : List ℕ) (m : Awaited) → is_pending s ≡ true → Tells s s' m → s.after - s.rules.block_bits < 32 → s'.awaited ≡ None → s'.after ≡ 0
-    → (bits : List Bool) (found : List Found) → StandsFor s room bits found → Gives s s' room bits found m.found
+    → (bits : List Bool) (found : List Found) → SearchStandsFor s room bits found → Gives s s' room bits found m.found
 reported_last s s' room m pending t short free fresh bits found stood =
     let h = parts_of s room bits found stood in
     let reported = reported-of s room bits found h m t.awaited_was pending in
@@ -953,7 +956,7 @@ reported_last s s' room m pending t short free fresh bits found stood =
 
 -- where further markers verified the place that is reported, the room holds what was given from its first bit on
 pub reported-recent : (s : Searching) (room : List ℕ) (count : ℕ) (bits : List Bool) (found rest : List Found) (f : Found) → inside_of s ≡ Some count → s.rules.block_bits < count
-    → StandsFor s room bits found → places s.rules bits ≡ found ++ f ∷ rest → IsRecent room bits f.place
+    → SearchStandsFor s room bits found → places s.rules bits ≡ found ++ f ∷ rest → IsRecent room bits f.place
 reported-recent s room count bits found rest f is more stood tells = go s.awaited refl
   where
     go : (o : Option Awaited) → s.awaited ≡ o → IsRecent room bits f.place
@@ -986,7 +989,7 @@ pub reported_next : (s s' : Searching) (room : List ℕ) (m a : Awaited) (word :
     → ((from : ℕ) → Recalls s room bits from → (s'.after ≡ 0) ⊎ ((32 ≤ s'.after) × (s'.after ≤ verify_bits s.rules)) → from + 32 + s'.after ≤ length bits
     → word ≡ number_of (take 32 (drop (length bits - (32 + s'.after)) bits)))
     → ((l : List Bool) → length l ≡ 32 → word ≡ number_of l → a ≡ awaited_at s'.before (found_at s'.start false m.found.inverted l))
-    → StandsFor s room bits found → Gives s s' room bits found m.found
+    → SearchStandsFor s room bits found → Gives s s' room bits found m.found
 reported_next s s' room m a word pending t most long awaits after bits found words matches stood =
     let h = parts_of s room bits found stood in
     let reported = reported-of s room bits found h m t.awaited_was pending in
@@ -1056,7 +1059,7 @@ none_awaited (Some m) e = absurd (cc)
 
 -- ---- the end of the bits
 -- where codeblocks wait, few bits follow the last of them
-pub left-pending : (s : Searching) (room : List ℕ) → is_pending s ≡ true → (bits : List Bool) (found : List Found) → StandsFor s room bits found
+pub left-pending : (s : Searching) (room : List ℕ) → is_pending s ≡ true → (bits : List Bool) (found : List Found) → SearchStandsFor s room bits found
     → (s.after - s.rules.block_bits) % (32 + s.rules.block_bits) ≡ length bits - end_of s.rules (places s.rules bits)
 left-pending s room pending bits found stood = go s.awaited refl
   where
@@ -1074,7 +1077,7 @@ left-pending s room pending bits found stood = go s.awaited refl
         omega arith
 
 -- else those after the last codeblock found
-pub left-after : (s : Searching) (room : List ℕ) → is_pending s ≡ false → (bits : List Bool) (found : List Found) → StandsFor s room bits found
+pub left-after : (s : Searching) (room : List ℕ) → is_pending s ≡ false → (bits : List Bool) (found : List Found) → SearchStandsFor s room bits found
     → (s.pushed ≡ length bits) × (s.start ≤ s.pushed) × (s.start ≡ end_of s.rules (places s.rules bits))
 left-after s room free bits found stood =
     let h = parts_of s room bits found stood in

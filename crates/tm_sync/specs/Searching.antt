@@ -144,7 +144,7 @@ pub record Recalls (s : Searching) (room : List ℕ) (bits : List Bool) (from : 
 
 -- It was given these bits, of which the room holds those that it may look at again, and has found
 -- these places: they are the first in the bits.
-pub record StandsFor (s : Searching) (room : List ℕ) (bits : List Bool)
+pub record SearchStandsFor (s : Searching) (room : List ℕ) (bits : List Bool)
     (found : List Found) : Type 0 where
   pub search : s ≡ search_of s.rules bits found
   pub found_first : take (length found) (places s.rules bits) ≡ found

@@ -7,7 +7,7 @@ ghost use Rattle.tm_sync.specs.declared.found.Found.{Found};
 ghost use Rattle.tm_sync.specs.declared.found.Before.{Before};
 ghost use Rattle.tm_sync.specs.Places.{Rules, wrong_bits, match_of, are_verified, place_polarity, verify_bits, found_at, place_by, places};
 ghost use Rattle.tm_sync.specs.Paused.{is_resumable, resumed};
-ghost use Rattle.tm_sync.specs.Searching.{Counts, IsNewlyFound, Recalls, Remembers, Searching, StandsFor, awaited_at, far_count, end_of, inside_ahead, inside_by, inside_next, inside_of, is_pending, is_right_after, most_inside, waiting_of};
+ghost use Rattle.tm_sync.specs.Searching.{Counts, IsNewlyFound, Recalls, Remembers, Searching, SearchStandsFor, awaited_at, far_count, end_of, inside_ahead, inside_by, inside_next, inside_of, is_pending, is_right_after, most_inside, waiting_of};
 ghost use Rattle.tm_sync.specs.Bits.{bits_bound};
 
 use crate::found::{Awaited, Before, Found, Paused};
@@ -86,7 +86,7 @@ impl Search {
           verify = verify;
         } }
         ensures inside { inside_of result ≡ None }
-        ensures stands { (room : List ℕ) → length room ≡ verify_bits result.rules → StandsFor result room [] [] }
+        ensures stands { (room : List ℕ) → length room ≡ verify_bits result.rules → SearchStandsFor result room [] [] }
     {
         Search {
             tolerance,
@@ -173,7 +173,8 @@ impl Search {
         ensures within { unwrap_or (inside_of self.new) 0 ≤ most_inside self.new.rules }
         ensures size { length room.new ≡ length room.old }
         ensures stands { (bits : List Bool) (found : List Found) → length bits < bits_bound
-            → StandsFor self.old room.old bits found → StandsFor self.new room.new (bits ++ bit ∷ []) found }
+            → SearchStandsFor self.old room.old bits found
+            → SearchStandsFor self.new room.new (bits ++ bit ∷ []) found }
     {
         remember(room, self.pushed, self.word >> 31 == 1);
         self.word = (self.word << 1) | u32::from(bit);
@@ -198,7 +199,8 @@ impl Search {
         ensures first { IfNone (inside_of self.old) (unwrap_or (inside_of self.new) 0 < 8) }
         ensures within { unwrap_or (inside_of self.new) 0 ≤ self.new.rules.block_bits }
         ensures stands { (room : List ℕ) (bits : List Bool) (found : List Found) → length bits + 8 ≤ bits_bound
-            → StandsFor self.old room bits found → StandsFor self.new room (bits ++ bits_of_octet octet) found }
+            → SearchStandsFor self.old room bits found
+            → SearchStandsFor self.new room (bits ++ bits_of_octet octet) found }
     {
         match self.awaited {
             Some(_) => self.push_octets(&[octet]),
@@ -217,7 +219,8 @@ impl Search {
         ensures more { inside_of self.new ≡ Some (unwrap_or (inside_of self.old) 0 + 8 * length octets.now) }
         ensures stands { (room : List ℕ) (bits : List Bool) (found : List Found)
             → length bits + 8 * length octets.now ≤ bits_bound
-            → StandsFor self.old room bits found → StandsFor self.new room (bits ++ bits_of octets.now) found }
+            → SearchStandsFor self.old room bits found
+            → SearchStandsFor self.new room (bits ++ bits_of octets.now) found }
     {
         self.word = last_bits(self.word, octets);
         let count = 8 * octets.len() as u64;
@@ -233,7 +236,8 @@ impl Search {
         ensures rules { self.new.rules ≡ self.old.rules }
         ensures first { unwrap_or (inside_of self.new) 0 < 8 }
         ensures stands { (room : List ℕ) (bits : List Bool) (found : List Found) → length bits + 8 ≤ bits_bound
-            → StandsFor self.old room bits found → StandsFor self.new room (bits ++ bits_of_octet octet) found }
+            → SearchStandsFor self.old room bits found
+            → SearchStandsFor self.new room (bits ++ bits_of_octet octet) found }
     {
         if self.pass_octet(octet) {
             return;
@@ -256,7 +260,8 @@ impl Search {
         ensures free { inside_of self.new ≡ None }
         ensures stands { IsTrue result → (room : List ℕ) (bits : List Bool) (found : List Found)
             → length bits + 8 ≤ bits_bound
-            → StandsFor self.old room bits found → StandsFor self.new room (bits ++ bits_of_octet octet) found }
+            → SearchStandsFor self.old room bits found
+            → SearchStandsFor self.new room (bits ++ bits_of_octet octet) found }
     {
         let since = self.pushed.wrapping_sub(self.start);
         if since < 24 {
@@ -291,7 +296,7 @@ impl Search {
         ensures within { unwrap_or (inside_of self.new) 0 ≤ most_inside self.new.rules }
         ensures stands { (s : Searching) (was : List ℕ) (bit : Bool) (bits : List Bool) (found : List Found)
             → length bits < bits_bound → Counts s self.old bit → Remembers was room.now bits bit
-            → StandsFor s was bits found → StandsFor self.new room.now (bits ++ bit ∷ []) found }
+            → SearchStandsFor s was bits found → SearchStandsFor self.new room.now (bits ++ bit ∷ []) found }
     {
         if self.awaited.is_some() {
             self.after += 1;
@@ -321,8 +326,9 @@ impl Search {
         ensures fresh { IfNone result.0 (result.1 ≡ 0) }
         ensures stands { (s : Searching) (was : List ℕ) (bit : Bool) (bits : List Bool) (found : List Found)
             → length bits < bits_bound → Counts s self.now bit → Remembers was room.now bits bit → s.awaited ≡ None
-            → StandsFor s was bits found
-            → StandsFor (record self.now { awaited = result.0; after = result.1 }) room.now (bits ++ bit ∷ []) found }
+            → SearchStandsFor s was bits found
+            → SearchStandsFor (record self.now { awaited = result.0; after = result.1 }) room.now
+            (bits ++ bit ∷ []) found }
     {
         let since = self.pushed.wrapping_sub(self.start);
         if right_after(since, self.before) {
@@ -407,7 +413,8 @@ impl Search {
     /// they are, these may be the bits of several codeblocks.
     pub fn inside(&self) -> Option<u64>
         ensures count { result ≡ inside_of self.now }
-        ensures ahead { (room : List ℕ) (bits : List Bool) (found : List Found) → StandsFor self.now room bits found
+        ensures ahead { (room : List ℕ) (bits : List Bool) (found : List Found)
+            → SearchStandsFor self.now room bits found
             → result ≡ inside_ahead self.now.rules bits found }
     {
         match self.awaited {
@@ -438,10 +445,10 @@ impl Search {
         ensures once { IfSome result (λ f. self.old.rules.verify ≡ 0
             → (inside_of self.old ≡ Some self.old.rules.block_bits) × (inside_of self.new ≡ None)) }
         ensures none { IfNone result ((bits : List Bool) (found : List Found)
-            → StandsFor self.old room.now bits found → places self.old.rules bits ≡ found) }
+            → SearchStandsFor self.old room.now bits found → places self.old.rules bits ≡ found) }
         ensures some { IfSome result (λ f. (bits : List Bool) (found : List Found)
-            → StandsFor self.old room.now bits found
-            → StandsFor self.new room.now bits (found ++ f ∷ [])
+            → SearchStandsFor self.old room.now bits found
+            → SearchStandsFor self.new room.now bits (found ++ f ∷ [])
             × ((rest : List Found) × (places self.old.rules bits ≡ found ++ f ∷ rest)
             × (length rest ≡ waiting_of self.new))
             × (f.place + 32 + unwrap_or (inside_of self.old) 0 ≡ length bits)) }
@@ -472,7 +479,7 @@ impl Search {
     /// The number of bits after the last codeblock that is whole, or of all bits where none is.
     pub fn finish(self) -> u64
         ensures { (room : List ℕ) (bits : List Bool) (found : List Found) → length bits < bits_bound
-            → StandsFor self room bits found → result ≡ length bits - end_of self.rules (places self.rules bits) }
+            → SearchStandsFor self room bits found → result ≡ length bits - end_of self.rules (places self.rules bits) }
     {
         if self.pending() {
             let block = u64::from(self.block_bits);

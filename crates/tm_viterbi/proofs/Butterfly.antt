@@ -4,7 +4,7 @@ use Rattle.std.proofs.lemmas.List.{get_or_append_left, get_or-append_right}
 use Rattle.std.proofs.lemmas.Bool.{cases_lt}
 use Rattle.std.proofs.lemmas.Nat.Bits.{bit_at_cat_low, bit_at_cat_high}
 use Rattle.tm_conv.specs.Path.{c1, c2}
-use Rattle.tm_viterbi.specs.Column.{first_metric, second_metric, sum_via, IsEach, IsNextSums, AreSurvivors}
+use Rattle.tm_viterbi.specs.AddCompareSelect.{first_metric, second_metric, sum_via, IsEach, IsNextSums, AreSurvivors}
 
 -- the two pairs of symbols of a butterfly: over the low and the high register, by 0 and by 1
 pair_one : (i : ℕ) → i < 32 → 2 * c1 (2 * i) 1 + c2 (2 * i) 1 ≡ 2 * c1 (2 * i + 1) 0 + c2 (2 * i + 1) 0

@@ -10,7 +10,7 @@ use Rattle.tm_conv.specs.declared.rates.Rate.{Rate}
 use Rattle.tm_conv.specs.declared.rates.Rate.TheVariants.{R12}
 use Rattle.tm_conv.specs.Path.{c1, c2, step_size, steps_size}
 use Rattle.tm_viterbi.specs.Walk.{AreBest}
-use Rattle.tm_viterbi.specs.Column.{IsNextSums, first_metric, second_metric}
+use Rattle.tm_viterbi.specs.AddCompareSelect.{IsNextSums, first_metric, second_metric}
 use Rattle.tm_viterbi.specs.Totals.{total_of, StepsTo, AreCosts, AreAtMost}
 use Rattle.tm_viterbi.proofs.Walk.{AreBest-more, AreBest-none}
 use Rattle.tm_viterbi.proofs.Totals.{Grows-total_of}

@@ -5,7 +5,7 @@ use Rattle.std.proofs.lemmas.List.{get_or-map, length-map, get_or_append_left, g
 use Rattle.std.proofs.lemmas.Nat.Bits.{bit_at_cat_low, bit_at_cat_high}
 use Rattle.std.proofs.lemmas.Simd.{swz_l, SwzOk, SwzOk-from_below, Each1-from_get_or, length-swz_l, get_or-swz_l_below}
 use Rattle.tm_conv.specs.Path.{c1, c2}
-use Rattle.tm_viterbi.specs.Column.{IsEach, IsHalf, first_metric, second_metric}
+use Rattle.tm_viterbi.specs.AddCompareSelect.{IsEach, IsHalf, first_metric, second_metric}
 use Rattle.tm_viterbi.proofs.Vectors.{follows, follows_at}
 use Rattle.tm_viterbi.proofs.Butterfly.{AreMetrics, low_metric, high_metric}
 

@@ -5,7 +5,7 @@ use lib.Lanes.{zip2, sel_l, mask_l, top, Each2}
 use mir.Val.{Fits}
 use Rattle.std.proofs.lemmas.Bool.Decides.{nat_tests}
 use Rattle.std.proofs.lemmas.Simd.{tops_compared, length-zip2, get_or-zip2, length-sel_l, get_or-sel_l, mask_l-mod, bit_mask_l}
-use Rattle.tm_viterbi.specs.Column.{IsHalf}
+use Rattle.tm_viterbi.specs.AddCompareSelect.{IsHalf}
 
 pub Each2-from_get_or : (xs ys : List ℕ) → length xs ≡ length ys
     → ((i : ℕ) → i < length xs → Fits w16 (get_or xs i 0 + get_or ys i 0)) → Each2 (λ a b. Fits w16 (a + b)) xs ys

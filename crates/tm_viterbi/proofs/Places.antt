@@ -2,7 +2,7 @@
 use Rattle.std.proofs.Common.{◌≡◌, ℕ, ◌+◌, ◌*◌, ◌∙◌, ap, arith, length, get_or, List, [], ◌∷◌, ◌++◌, refl, map, true, take, drop}
 use Rattle.std.proofs.lemmas.List.{get_or-map, length-map, take-take, take_all, take-append-drop, length-drop}
 use Rattle.tm_conv.specs.Path.{c1, c2}
-use Rattle.tm_viterbi.specs.Column.{IsEach}
+use Rattle.tm_viterbi.specs.AddCompareSelect.{IsEach}
 use Rattle.tm_viterbi.proofs.Vectors.{follows, follows_at}
 
 -- lanes taken from xs by a table of places

@@ -5,7 +5,7 @@ use mir.Val.{Fits}
 use Rattle.std.proofs.lemmas.Bool.Decides.{nat_tests}
 use Rattle.std.proofs.lemmas.Bool.{eqb-true}
 use Rattle.std.proofs.lemmas.Simd.{tops_compared, length-zip2, length-sel_l, get_or-sel_l, get_or-zip2, mask_l-lt, mask_l-mod, bit_mask_l}
-use Rattle.tm_viterbi.specs.Column.{IsEach}
+use Rattle.tm_viterbi.specs.AddCompareSelect.{IsEach}
 
 pub Each2-from_get_or : (xs ys : List ℕ) → length xs ≡ length ys → ((i : ℕ) → i < length xs → Fits w32 (get_or xs i 0 + get_or ys i 0)) → Each2 (λ a b. Fits w32 (a + b)) xs ys
 Each2-from_get_or [] ys l h = tt

@@ -8,7 +8,7 @@ use Rattle.std.proofs.lemmas.List.Elements.{All-head, All-tail, All-cons, All-ni
 use Rattle.tm_viterbi.proofs.Survivors.{choice_second, choice_first}
 use Rattle.tm_conv.specs.Path.{next_register, c1, c2}
 use Rattle.tm_viterbi.specs.Walk.{register_back, rank, IsPathTo, IsNoWorse, IsBestTo, before, past_of, start_of, AreBest}
-use Rattle.tm_viterbi.specs.Column.{first_metric, second_metric, IsNextSums, AreSurvivors}
+use Rattle.tm_viterbi.specs.AddCompareSelect.{first_metric, second_metric, IsNextSums, AreSurvivors}
 
 pub register_back_lt : (r : ℕ) (past : List ℕ) → r < 64 → All (λ b. b < 2) past → register_back r past < 64
 register_back_lt r [] lt each = lt

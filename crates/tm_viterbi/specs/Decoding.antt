@@ -20,7 +20,7 @@ pub record Decoding : Type 0 where
   pub stream : Stream
 
 -- a decoder that was given these octets and no others, and has handed over these blocks
-pub record StandsFor (d : Decoding) (given : List ℕ) (done : List WindowBlock) : Type 0 where
+pub record DecoderStandsFor (d : Decoding) (given : List ℕ) (done : List WindowBlock) : Type 0 where
   pub settings : settings_of d.stream ≡ d.settings
   pub count : length given ≡ d.count
   pub reaches : Reaches d.stream given [] done

@@ -5,7 +5,7 @@ pub mod WindowBlock
 pub mod Blocks
 pub mod Due
 pub mod Clean
-pub mod Column
+pub mod AddCompareSelect
 pub mod Masks
 pub mod Walk
 pub mod Totals

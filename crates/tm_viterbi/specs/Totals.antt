@@ -4,7 +4,7 @@ use Rattle.tm_conv.specs.declared.rates.Rate.{Rate}
 use Rattle.tm_conv.specs.Path.{path, sent}
 use Rattle.tm_conv.specs.Cost.{cost}
 use Rattle.tm_conv.specs.Columns.{first_cost}
-use Rattle.tm_viterbi.specs.Column.{IsNextSums, AreSurvivors}
+use Rattle.tm_viterbi.specs.AddCompareSelect.{IsNextSums, AreSurvivors}
 
 -- what a path, its newest bit first, costs for these octets, with the first sum of its starting
 -- register

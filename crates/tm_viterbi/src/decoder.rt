@@ -6,7 +6,7 @@ ghost use Rattle.tm_viterbi.specs.WindowBlock.{WindowBlock};
 ghost use Rattle.tm_viterbi.specs.Settings.{Settings};
 ghost use Rattle.tm_viterbi.specs.Blocks.{AreBlocksOf};
 ghost use Rattle.tm_viterbi.specs.Due.{AreDue, AreFirst};
-ghost use Rattle.tm_viterbi.specs.Decoding.{Calls, StandsFor};
+ghost use Rattle.tm_viterbi.specs.Decoding.{Calls, DecoderStandsFor};
 ghost use Rattle.tm_viterbi.specs.WindowSizes.{least_keep, most_keep, most_ahead, stream_bound};
 
 use crate::block::{BlockTaker, Start};
@@ -77,7 +77,7 @@ impl Decoder {
         ensures settings { IfOk result (λ d. d.settings
             ≡ record { rate = rate; invert = invert; start = start; keep = keep; ahead = ahead }) }
         ensures fresh { IfOk result (λ d. d.has_stopped ≡ false) }
-        ensures stands { IfOk result (λ d. StandsFor d [] []) }
+        ensures stands { IfOk result (λ d. DecoderStandsFor d [] []) }
     {
         let shape = WindowShape {
             rate,
@@ -109,12 +109,12 @@ impl Decoder {
         ensures settings { self.new.settings ≡ self.old.settings }
         ensures handed { OnOk result ((more : List WindowBlock) × HandedOver B.took blocks.old more blocks.new
             × ((given : List ℕ) (done : List WindowBlock) → length given + length piece.now < stream_bound
-            → StandsFor self.old given done
-            → StandsFor self.new (given ++ piece.now) (done ++ more)
+            → DecoderStandsFor self.old given done
+            → DecoderStandsFor self.new (given ++ piece.now) (done ++ more)
             × AreDue self.old.settings (given ++ piece.now) (done ++ more))) }
         ensures prefix { IsErrOf result FeedError.Taker → (tried : List WindowBlock)
             × HandedPart B.took B.broke blocks.old tried blocks.new
-            × ((given : List ℕ) (done : List WindowBlock) → StandsFor self.old given done
+            × ((given : List ℕ) (done : List WindowBlock) → DecoderStandsFor self.old given done
             → AreFirst self.old.settings (given ++ piece.now) (done ++ tried)) }
     {
         if self.has_stopped {
@@ -144,10 +144,10 @@ impl Decoder {
         ensures stops { self.new.has_stopped ≡ true }
         ensures settings { self.new.settings ≡ self.old.settings }
         ensures handed { IfOk result (λ left. (last : List WindowBlock) × HandedOver B.took blocks.old last blocks.new
-            × ((given : List ℕ) (done : List WindowBlock) → StandsFor self.old given done
+            × ((given : List ℕ) (done : List WindowBlock) → DecoderStandsFor self.old given done
             → AreBlocksOf self.old.settings given (done ++ last) left)) }
         ensures prefix { IsErrOf result FeedError.Taker → (last : WindowBlock) × B.broke blocks.old last blocks.new
-            × ((given : List ℕ) (done : List WindowBlock) → StandsFor self.old given done → (left : ℕ)
+            × ((given : List ℕ) (done : List WindowBlock) → DecoderStandsFor self.old given done → (left : ℕ)
             × AreBlocksOf self.old.settings given (done ++ last ∷ []) left) }
         ensures left { IfOk result (λ left. left ≤ 1) }
     {

@@ -2,7 +2,7 @@
 // own registers hold.
 ghost use Rattle.std.specs.Prelude.{◌≡◌, ◌++◌, min, ℕ, ◌+◌, ◌-◌, ◌*◌, ◌/◌, ◌%◌, ◌^◌, ◌<◌, length, slice_index, nat_lt, if◌then◌else◌};
 ghost use Rattle.tm_conv.specs.Path.{c1, c2};
-ghost use Rattle.tm_viterbi.specs.Column.{IsHalf, AreSortedPlaces, IsNextSums, AreSurvivors};
+ghost use Rattle.tm_viterbi.specs.AddCompareSelect.{IsHalf, AreSortedPlaces, IsNextSums, AreSurvivors};
 
 use std::simd::prelude::*;
 

@@ -1,7 +1,7 @@
 // Steps of the forward pass in sixteen bits.
 ghost use Rattle.std.specs.Prelude.{◌≡◌, ◌++◌, Bool, ℕ, ◌+◌, ◌-◌, ◌*◌, ◌^◌, ◌<◌, ◌≤◌, [], ◌∷◌, take, length};
 ghost use Rattle.tm_conv.specs.Path.{step_size, steps_size};
-ghost use Rattle.tm_viterbi.specs.Column.{AreSortedPlaces};
+ghost use Rattle.tm_viterbi.specs.AddCompareSelect.{AreSortedPlaces};
 ghost use Rattle.tm_viterbi.specs.Totals.{StepsTo, AreAtMost, most_spread, most_narrow};
 ghost use Rattle.tm_viterbi.specs.Carries.{Carries, lifted};
 ghost use Rattle.tm_viterbi.specs.Masks.{two_step_masks};

@@ -24,7 +24,7 @@ pub record ParallelDecoding : Type 0 where
 
 -- a decoder that was given these octets and no others, and has handed over these blocks, the first
 -- of those that are due
-pub record StandsFor (d : ParallelDecoding) (given : List ℕ) (done : List WindowBlock)
+pub record ParallelStandsFor (d : ParallelDecoding) (given : List ℕ) (done : List WindowBlock)
     : Type 0 where
   pub windows : windows_of d.gathering ≡ d.windows
   pub count : length given ≡ d.count
@@ -47,12 +47,12 @@ pub record Feeds {R : Type 0} (before now : ParallelDecoding) (octets : List ℕ
   pub windows : now.windows ≡ before.windows
   pub handed : OnOk result ((more : List WindowBlock) × taker.took more
       × ((given : List ℕ) (done : List WindowBlock) → length given + length octets < stream_bound
-      → StandsFor before given done
-      → StandsFor now (given ++ octets) (done ++ more)
+      → ParallelStandsFor before given done
+      → ParallelStandsFor now (given ++ octets) (done ++ more)
       × AreDueIn before.windows (given ++ octets) (done ++ more)))
   pub is_open : OnOk result (IsOpen now.gathering)
   pub prefix : IsErrOf result Taker → (tried : List WindowBlock) × taker.broke tried
-      × ((given : List ℕ) (done : List WindowBlock) → StandsFor before given done
+      × ((given : List ℕ) (done : List WindowBlock) → ParallelStandsFor before given done
       → AreFirstIn before.windows (given ++ octets) (done ++ tried))
 
 -- at the end what is left was handed over, the last block among it, and so many octets are left
@@ -63,12 +63,12 @@ pub record Finishes (before now : ParallelDecoding) (taker : TakerCall WindowBlo
   pub stops : now.has_stopped ≡ true
   pub windows : now.windows ≡ before.windows
   pub handed : IfOk result (λ left. (last : List WindowBlock) × taker.took last
-      × ((given : List ℕ) (done : List WindowBlock) → StandsFor before given done
+      × ((given : List ℕ) (done : List WindowBlock) → ParallelStandsFor before given done
       → AreBlocksIn before.windows given (done ++ last) left
       × (kept_of (done ++ last) ≡ now.gathering.t)
       × (slips_of (done ++ last) ≡ now.gathering.slips)))
   pub prefix : IsErrOf result Taker → (tried : List WindowBlock) × taker.broke tried
-      × ((given : List ℕ) (done : List WindowBlock) → StandsFor before given done
+      × ((given : List ℕ) (done : List WindowBlock) → ParallelStandsFor before given done
       → AreFirstIn before.windows given (done ++ tried)
       ⊎ ((left : ℕ) × AreBlocksIn before.windows given (done ++ tried) left))
   pub left : IfOk result (λ left. left ≤ 1)

@@ -12,7 +12,7 @@ ghost use Rattle.tm_windows.specs.Followed.{slips_of, kept_of};
 ghost use Rattle.tm_windows.specs.Windows.{AreBlocksIn, AreDueIn, AreFirstIn};
 ghost use Rattle.tm_windows.specs.Gathered.{IsOpen, room_of};
 ghost use Rattle.tm_windows.specs.Sharing.{workers_for, windows_for, most_windows, most_octets};
-ghost use Rattle.tm_windows.specs.ParallelDecoding.{Calls, Feeds, Finishes, StandsFor};
+ghost use Rattle.tm_windows.specs.ParallelDecoding.{Calls, Feeds, Finishes, ParallelStandsFor};
 
 use crate::closing::{Closing, OneByOne, SideBySide};
 use crate::gathering::Gathering;
@@ -146,7 +146,7 @@ impl ParallelDecoder {
         ensures most { IfOk result (λ d.
             d.gathering.workers.most ≡ windows_for (workers_for workers shape.keep shape.ahead) shape.keep) }
         ensures fresh { IfOk result (λ d. d.has_stopped ≡ false) }
-        ensures stands { IfOk result (λ d. StandsFor d [] []) }
+        ensures stands { IfOk result (λ d. ParallelStandsFor d [] []) }
     {
         let workers = worker_count(workers, shape.keep, shape.ahead);
         let most = window_count(workers, shape.keep);
@@ -204,13 +204,13 @@ impl ParallelDecoder {
         ensures windows { self.new.windows ≡ self.old.windows }
         ensures handed { OnOk result ((more : List WindowBlock) × HandedOver B.took blocks.old more blocks.new
             × ((given : List ℕ) (done : List WindowBlock) → length given + length piece.now < stream_bound
-            → StandsFor self.old given done
-            → StandsFor self.new (given ++ piece.now) (done ++ more)
+            → ParallelStandsFor self.old given done
+            → ParallelStandsFor self.new (given ++ piece.now) (done ++ more)
             × AreDueIn self.old.windows (given ++ piece.now) (done ++ more))) }
         ensures is_open { OnOk result (IsOpen self.new.gathering) }
         ensures prefix { IsErrOf result FeedError.Taker → (tried : List WindowBlock)
             × HandedPart B.took B.broke blocks.old tried blocks.new
-            × ((given : List ℕ) (done : List WindowBlock) → StandsFor self.old given done
+            × ((given : List ℕ) (done : List WindowBlock) → ParallelStandsFor self.old given done
             → AreFirstIn self.old.windows (given ++ piece.now) (done ++ tried)) }
     {
         if self.has_stopped {
@@ -239,8 +239,9 @@ impl ParallelDecoder {
             × (length self.old.gathering.held.octets + length piece.now ≤ room_of self.old.gathering) }
         ensures unchanged { result ≡ false → self.new ≡ self.old }
         ensures windows { (self.new.windows ≡ self.old.windows) × (self.new.has_stopped ≡ self.old.has_stopped) }
-        ensures gathered { IsTrue result → (given : List ℕ) (done : List WindowBlock) → StandsFor self.old given done
-            → StandsFor self.new (given ++ piece.now) done }
+        ensures gathered { IsTrue result → (given : List ℕ) (done : List WindowBlock)
+            → ParallelStandsFor self.old given done
+            → ParallelStandsFor self.new (given ++ piece.now) done }
     {
         if self.has_stopped || piece.len() as u64 >= STREAM_BOUND - self.count {
             return false;
@@ -256,10 +257,10 @@ impl ParallelDecoder {
     /// the phase is followed there may be fewer, since octets may be dropped; with the blocks that were handed over it
     /// counts no more than would be due if none were.
     pub fn count_closed(&self) -> usize
-        ensures due { (given : List ℕ) (done : List WindowBlock) → StandsFor self.now given done
+        ensures due { (given : List ℕ) (done : List WindowBlock) → ParallelStandsFor self.now given done
             → (more : List WindowBlock) × (length more ≤ result) × (self.now.windows.seen ≡ None → length more ≡ result)
             × AreDueIn self.now.windows given (done ++ more) }
-        ensures most { (given : List ℕ) (done all : List WindowBlock) → StandsFor self.now given done
+        ensures most { (given : List ℕ) (done all : List WindowBlock) → ParallelStandsFor self.now given done
             → AreDue self.now.windows.settings given all → length done + result ≤ length all }
     {
         self.gathering.count_closed()
@@ -268,7 +269,7 @@ impl ParallelDecoder {
     /// How many steps the blocks that were handed over keep.
     pub fn steps(&self) -> u64
         ensures value { result ≡ self.now.gathering.t }
-        ensures kept { (given : List ℕ) (done : List WindowBlock) → StandsFor self.now given done
+        ensures kept { (given : List ℕ) (done : List WindowBlock) → ParallelStandsFor self.now given done
             → result ≡ kept_of done }
     {
         self.gathering.t
@@ -277,7 +278,7 @@ impl ParallelDecoder {
     /// Before how many windows octets were dropped whose blocks were handed over.
     pub fn slips(&self) -> u64
         ensures value { result ≡ self.now.gathering.slips }
-        ensures count { (given : List ℕ) (done : List WindowBlock) → StandsFor self.now given done
+        ensures count { (given : List ℕ) (done : List WindowBlock) → ParallelStandsFor self.now given done
             → result ≡ slips_of done }
     {
         self.gathering.slips
@@ -320,12 +321,12 @@ impl ParallelDecoder {
         ensures stops { self.new.has_stopped ≡ true }
         ensures windows { self.new.windows ≡ self.old.windows }
         ensures handed { IfOk result (λ left. (last : List WindowBlock) × HandedOver B.took blocks.old last blocks.new
-            × ((given : List ℕ) (done : List WindowBlock) → StandsFor self.old given done
+            × ((given : List ℕ) (done : List WindowBlock) → ParallelStandsFor self.old given done
             → AreBlocksIn self.old.windows given (done ++ last) left
             × (kept_of (done ++ last) ≡ self.new.gathering.t) × (slips_of (done ++ last) ≡ self.new.gathering.slips))) }
         ensures prefix { IsErrOf result FeedError.Taker → (tried : List WindowBlock)
             × HandedPart B.took B.broke blocks.old tried blocks.new
-            × ((given : List ℕ) (done : List WindowBlock) → StandsFor self.old given done
+            × ((given : List ℕ) (done : List WindowBlock) → ParallelStandsFor self.old given done
             → AreFirstIn self.old.windows given (done ++ tried) ⊎ ((left : ℕ)
             × AreBlocksIn self.old.windows given (done ++ tried) left)) }
         ensures left { IfOk result (λ left. left ≤ 1) }

@@ -1,6 +1,6 @@
 -- When a call is refused, what that promises, and the numbers that calls answer.
 use Rattle.std.specs.Prelude.{◌≡◌, ℕ, ◌+◌, ◌*◌, ◌==◌, ℤ, pos, negsuc, [], ◌∷◌, Option, Some, None, option_map, nat_lt, nat_le, if◌then◌else◌}
-use Rattle.tm_config.specs.Accepted.{is_number, is_within, place_of, refusal_of}
+use Rattle.tm_config.specs.Accepted.{is_number, is_within, place_of, refusal_of_raw}
 use Rattle.tm_config.specs.Configuration.{correctable, number_of_basis, all_bases}
 use Rattle.tm_config.specs.declared.error.ConfigError.{ConfigError}
 use Rattle.tm_config.specs.declared.error.ConfigError.TheVariants.{Code, Length, Basis, Repair}
@@ -47,7 +47,7 @@ Refuses refusal answer unchanged =
 
 -- the reason to refuse the values of options: the first that is outside its list or range, or none
 abbrev pub values_refusal : Raw → Option Refusal
-values_refusal raw = option_map (λ error. Value error) (refusal_of raw)
+values_refusal raw = option_map (λ error. Value error) (refusal_of_raw raw)
 
 -- the first reason to refuse a word of n symbols of the code that corrects this many, or else the
 -- one that comes after these, or none

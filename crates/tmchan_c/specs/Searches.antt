@@ -10,7 +10,7 @@ use Rattle.tm_sync.specs.declared.found.Awaited.{Awaited}
 use Rattle.tm_sync.specs.declared.found.Paused.{Paused}
 use Rattle.tm_sync.specs.Paused.{is_resumable, resumed}
 use Rattle.tm_sync.specs.Places.{Rules, verify_bits}
-use Rattle.tm_sync.specs.Searching.{Searching, StandsFor}
+use Rattle.tm_sync.specs.Searching.{Searching, SearchStandsFor}
 use Rattle.tm_sync.specs.Bits.{bits_bound}
 use Rattle.tm_buffers.specs.Searching.{Finds, span}
 use Rattle.tm_buffers.specs.Buffer.{most_taken}
@@ -96,7 +96,7 @@ pub record IsSearching (s : SearchState) (room : List ℕ) (bits : List Bool)
     (found : List Found) : Type 0 where
   pub is_open : s.is_open ≡ 1
   pub valid : is_resumable (paused_of s) ≡ true
-  pub stands : StandsFor (search_of s) room bits found
+  pub stands : SearchStandsFor (search_of s) room bits found
 
 -- a search that is open and was given nothing yet, whatever its room holds
 abbrev pub Begins : SearchState → Type 0
@@ -130,5 +130,5 @@ pub record FindsInto (was now : SearchState) (room room_now : List ℕ) (at end 
   pub is_open : now.is_open ≡ 1
   pub valid : is_resumable (paused_of now) ≡ true
   pub finds : (given : List Bool) (before : List Found) → length given + size ≤ bits_bound
-      → StandsFor (search_of was) room given before
+      → SearchStandsFor (search_of was) room given before
       → Finds (search_of now) room_now (given ++ span at end bits) before found

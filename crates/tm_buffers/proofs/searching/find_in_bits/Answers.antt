@@ -1,6 +1,6 @@
 use Rattle.std.proofs.Common.{rules, arith, ◌≡◌, ◌==◌, ◌+◌, Bool, not, List, ◌++◌, None, sym, ap, ◌∙◌, subst, length-append}
 use Rattle.std.proofs.lemmas.List.{append-nil, length-map}
-use Rattle.tm_sync.specs.Searching.{StandsFor}
+use Rattle.tm_sync.specs.Searching.{SearchStandsFor}
 use Rattle.tm_buffers.specs.Searching.{bits_in, span}
 use Rattle.tm_buffers.proofs.Spans.{finds-next, length-span, none-waits, not-found, span-none, span-number, taken-more}
 use Rattle.tm_buffers.proofs.searching.find_in_bits.Goals as goal
@@ -14,7 +14,7 @@ loop-place-init c = record {
   finds = λ given found few stands.
       let same : given ++ span c.args.from c.args.from (bits_in c.args.bits.now) ≡ given = ap (λ l. given ++ l) (span-none c.args.from (bits_in c.args.bits.now)) ∙ append-nil given in
       finds-next c.args.search.now c.next-place.new.self c.args.room.now c.next-place.result c.next-place.ensures.rules c.next-place.ensures.unchanged c.next-place.ensures.none c.next-place.ensures.some
-      (given ++ span c.args.from c.args.from (bits_in c.args.bits.now)) found (subst (λ (l : List Bool). StandsFor c.args.search.now c.args.room.now l found) (sym same) stands);
+      (given ++ span c.args.from c.args.from (bits_in c.args.bits.now)) found (subst (λ (l : List Bool). SearchStandsFor c.args.search.now c.args.room.now l found) (sym same) stands);
 }
 
 pub push_bit-requires : goal.push_bit-requires
@@ -36,7 +36,7 @@ loop-place-preserved c =
           (omega (arith, few, long, length-append given (span c.args.from c.loop-place.end (bits_in c.args.bits.now)), c.if-end-bits.true)) before in
           finds-next c.push_bit.new.self c.next-place-in-loop-place.new.self c.push_bit.new.room c.next-place-in-loop-place.result c.next-place-in-loop-place.ensures.rules c.next-place-in-loop-place.ensures.unchanged
           c.next-place-in-loop-place.ensures.none c.next-place-in-loop-place.ensures.some (given ++ span c.args.from (c.loop-place.end + 1) (bits_in c.args.bits.now)) found
-          (taken-more (λ l. StandsFor c.push_bit.new.self c.push_bit.new.room l found) c.args.from c.loop-place.end (c.loop-place.end + 1) given (bits_in c.args.bits.now) _
+          (taken-more (λ l. SearchStandsFor c.push_bit.new.self c.push_bit.new.room l found) c.args.from c.loop-place.end (c.loop-place.end + 1) given (bits_in c.args.bits.now) _
           c.loop-place.invariant.first (omega arith) bit next);
     }
 

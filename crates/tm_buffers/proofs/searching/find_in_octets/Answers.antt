@@ -2,7 +2,7 @@ use Rattle.std.proofs.Common.{rules, arith, ◌≡◌, ◌+◌, Bool, List, ◌+
 use Rattle.std.proofs.lemmas.List.{append-nil}
 use Rattle.tm_base.specs.Bits.{bits_of}
 use Rattle.tm_base.proofs.Packing.{length-bits_of}
-use Rattle.tm_sync.specs.Searching.{StandsFor}
+use Rattle.tm_sync.specs.Searching.{SearchStandsFor}
 use Rattle.tm_buffers.specs.Searching.{span}
 use Rattle.tm_buffers.proofs.Spans.{finds-next, length-span, none-waits, not-found, span-none, taken-more}
 use Rattle.tm_buffers.proofs.searching.find_in_octets.Goals as goal
@@ -16,7 +16,7 @@ loop-place-init c = record {
   finds = λ given found few stands.
       let same : given ++ span c.args.from c.args.from (bits_of c.args.octets.now) ≡ given = ap (λ l. given ++ l) (span-none c.args.from (bits_of c.args.octets.now)) ∙ append-nil given in
       finds-next c.args.search.now c.next-place.new.self c.args.room.now c.next-place.result c.next-place.ensures.rules c.next-place.ensures.unchanged c.next-place.ensures.none c.next-place.ensures.some
-      (given ++ span c.args.from c.args.from (bits_of c.args.octets.now)) found (subst (λ (l : List Bool). StandsFor c.args.search.now c.args.room.now l found) (sym same) stands);
+      (given ++ span c.args.from c.args.from (bits_of c.args.octets.now)) found (subst (λ (l : List Bool). SearchStandsFor c.args.search.now c.args.room.now l found) (sym same) stands);
 }
 
 pub take_some-end-requires-clause-free : goal.take_some-end-requires-clause-free
@@ -37,7 +37,7 @@ loop-place-preserved c =
           (omega (arith, few, long, length-append given (span c.args.from c.loop-place.end (bits_of c.args.octets.now)), c.take_some-end.ensures.within)) before in
           finds-next c.take_some-end.new.search c.next-place-in-loop-place.new.self c.take_some-end.new.room c.next-place-in-loop-place.result c.next-place-in-loop-place.ensures.rules c.next-place-in-loop-place.ensures.unchanged
           c.next-place-in-loop-place.ensures.none c.next-place-in-loop-place.ensures.some (given ++ span c.args.from (c.loop-place.end + c.take_some-end.result) (bits_of c.args.octets.now)) found
-          (taken-more (λ l. StandsFor c.take_some-end.new.search c.take_some-end.new.room l found) c.args.from c.loop-place.end (c.loop-place.end + c.take_some-end.result) given (bits_of c.args.octets.now) _
+          (taken-more (λ l. SearchStandsFor c.take_some-end.new.search c.take_some-end.new.room l found) c.args.from c.loop-place.end (c.loop-place.end + c.take_some-end.result) given (bits_of c.args.octets.now) _
           c.loop-place.invariant.first (omega arith) refl next);
     }
 

@@ -1,7 +1,7 @@
 use Rattle.std.proofs.Common.{◌≡◌, ◌+◌, ◌-◌, ◌<◌, ◌≤◌, ℕ, List, length, sym, ap, ◌∙◌, subst, arith}
 use Rattle.tm_conv.specs.Path.{steps_size}
 use Rattle.tm_path_cert.specs.Claim.{Claim}
-use Rattle.tm_path_cert.specs.Checking.{StandsFor}
+use Rattle.tm_path_cert.specs.Checking.{CheckStandsFor}
 use Rattle.tm_cert_file.specs.Window.{columns_in}
 use Rattle.tm_cert_file.proofs.BigEndian.{columns_in-none, columns_more}
 use Rattle.tm_cert_file.proofs.judging.verdict_on.Goals as goal
@@ -14,7 +14,7 @@ loop-at-init c =
       claim = c.new-check.ensures.claim;
       place = omega (arith, none);
       within = omega (arith, none);
-      stands = subst (λ (v : List (List ℕ)). StandsFor c.new-check.result v)
+      stands = subst (λ (v : List (List ℕ)). CheckStandsFor c.new-check.result v)
           (sym (ap (λ k. columns_in k c.args.columns.now) none ∙ columns_in-none c.args.columns.now)) c.new-check.ensures.stands;
     }
 
@@ -37,6 +37,6 @@ loop-at-preserved c =
       claim = c.column.ensures.claim ∙ c.loop-at.invariant.claim;
       place = omega (arith, next);
       within = omega (arith, next);
-      stands = subst (λ (v : List (List ℕ)). StandsFor c.column.new.self v) (more ∙ ap (λ k. columns_in k columns) (sym next))
+      stands = subst (λ (v : List (List ℕ)). CheckStandsFor c.column.new.self v) (more ∙ ap (λ k. columns_in k columns) (sym next))
           (c.column.ensures.stands (columns_in count columns) c.loop-at.invariant.stands);
     }

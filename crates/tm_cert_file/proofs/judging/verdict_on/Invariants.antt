@@ -1,5 +1,5 @@
 use Rattle.std.proofs.Common.{◌≡◌, ◌+◌, ◌*◌, ◌-◌, ◌≤◌, length}
-use Rattle.tm_path_cert.specs.Checking.{StandsFor}
+use Rattle.tm_path_cert.specs.Checking.{CheckStandsFor}
 use Rattle.tm_cert_file.specs.Window.{columns_in}
 use Rattle.tm_cert_file.proofs.judging.verdict_on.Given as goal
 
@@ -8,7 +8,7 @@ invariant-loop-at l = record {
   claim : l.check.claim ≡ record { rate = l.fn.rate; invert = l.fn.invert; first = l.fn.first; starts = l.fn.starts; soft = l.fn.soft };
   place : l.at ≡ 256 * l.check.count;
   within : l.check.count ≤ length l.bits + 1;
-  stands : StandsFor l.check (columns_in l.check.count l.columns);
+  stands : CheckStandsFor l.check (columns_in l.check.count l.columns);
 }
 
 abbrev pub decreases-loop-at : goal.decreases-loop-at

@@ -4,7 +4,7 @@ use Rattle.std.proofs.lemmas.List.{take_rest}
 use Rattle.tm_base.specs.Handed.{Handed}
 use Rattle.tm_config.specs.Configuration.{Configuration}
 use Rattle.tm_inner.specs.Handing.{AreHandedDue}
-use Rattle.tm_inner.specs.Receiving.{StandsFor}
+use Rattle.tm_inner.specs.Receiving.{InnerReceiverStandsFor}
 use Rattle.tm_viterbi.specs.WindowBlock.{WindowBlock}
 use Rattle.tm_channel.specs.OctetReceiving.{Grows, Keeping, received_bits}
 use Rattle.tm_channel.proofs.GivenOctets.{gathered-all, gathered-fed, grows-kept, kept-size}
@@ -31,8 +31,8 @@ returns-clause-grows g c = λ _.
     let octets = c.args.octets.now in
     let taken = c.gather-taken.result in
     let h = c.feed.ensures.handed in
-    let fed = subst (λ (l : List ℕ). (given : List ℕ) (done : List (Handed WindowBlock)) → length given + length l < 2 ^ 60 → StandsFor middle given done
-    → StandsFor now (given ++ l) (done ++ h.0) × AreHandedDue middle.config (given ++ l) (done ++ h.0)) (take_rest octets taken) h.2 in
+    let fed = subst (λ (l : List ℕ). (given : List ℕ) (done : List (Handed WindowBlock)) → length given + length l < 2 ^ 60 → InnerReceiverStandsFor middle given done
+    → InnerReceiverStandsFor now (given ++ l) (done ++ h.0) × AreHandedDue middle.config (given ++ l) (done ++ h.0)) (take_rest octets taken) h.2 in
     subst (λ (n : ℕ). Grows inner now n octets c.feed.new.kept.phase (received_bits inner c.feed.new.kept.bits octets)) (ap (λ (k : Keeping). k.size) c.clear.ensures)
     (grows-kept inner now c.clear.new.self c.feed.new.kept octets h.0 h.1 (ap (λ (k : Keeping). k.bits) c.clear.ensures) (ap (λ (k : Keeping). k.phase) c.clear.ensures)
     (gathered-fed inner middle now octets taken h.0 c.gather-taken.ensures.config c.gather-taken.ensures.most c.gather-taken.ensures.gathered fed))

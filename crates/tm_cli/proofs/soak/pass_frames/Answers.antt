@@ -2,7 +2,7 @@ use Rattle.std.proofs.Common.{◌≡◌, ◌*◌, ◌≤◌, ◌++◌, length, L
 use Rattle.std.proofs.lemmas.Grind.{common_steps}
 use Rattle.tm_base.specs.Takers.{HandedOver}
 use Rattle.tm_config.specs.Configuration.{codeblock_length}
-use Rattle.tm_inner.specs.Sending.{StandsFor}
+use Rattle.tm_inner.specs.Sending.{InnerSenderStandsFor}
 use Rattle.tm_inner.specs.Symbols.{symbols_of_octets}
 use Rattle.tm_cli.specs.Generated.{generator_of, drawn, draw_count, generated_units}
 use Rattle.tm_cli.specs.Receiving.{HandedDue}
@@ -23,7 +23,7 @@ loop-frame-init g c =
       draws = c.new-draws.ensures ∙ drawn-none start ∙ ap (λ n. drawn n start) none;
       fresh = c.new-sender.ensures.fresh;
       config = c.new-sender.ensures.config;
-      stands = subst (StandsFor c.new-sender.result) (sym (units-none config c.args.hits start)) c.new-sender.ensures.stands;
+      stands = subst (InnerSenderStandsFor c.new-sender.result) (sym (units-none config c.args.hits start)) c.new-sender.ensures.stands;
       few = omega (arith, ap length (units-none config c.args.hits start));
       ready = c.requires.ready;
       handed = subst (λ (k : Counts). HandedDue config c.args.receiver.now (λ handed. HandedOver CountedHanded no_counts handed k) (symbols_of_octets config (generated_units config 0 c.args.hits start)))
@@ -58,7 +58,7 @@ loop-frame-preserved g c =
       draws = draws-frames config frame hits start here.draws made.new.draws was.draws made.ensures.draws;
       fresh = pass.ensures.fresh;
       config = pass.ensures.config ∙ was.config;
-      stands = subst (StandsFor pass.new.sender) (ap (λ (unit : List _). generated_units config frame hits start ++ unit) made.ensures.unit ∙ units-more config frame hits start here.draws was.draws)
+      stands = subst (InnerSenderStandsFor pass.new.sender) (ap (λ (unit : List _). generated_units config frame hits start ++ unit) made.ensures.unit ∙ units-more config frame hits start here.draws was.draws)
           (pass.ensures.stands (generated_units config frame hits start) was.stands);
       few = units-long config frame hits start here.draws made.new.unit was.draws made.ensures.unit small was.few;
       ready = pass.ensures.ready;

@@ -1,6 +1,6 @@
 use Rattle.std.proofs.Common.{◌≡◌, ◌*◌, ◌≤◌, length, false}
 use Rattle.tm_base.specs.Takers.{HandedOver}
-use Rattle.tm_inner.specs.Sending.{StandsFor}
+use Rattle.tm_inner.specs.Sending.{InnerSenderStandsFor}
 use Rattle.tm_inner.specs.Symbols.{symbols_of_octets}
 use Rattle.tm_cli.specs.Generated.{generator_of, drawn, draw_count, generated_units}
 use Rattle.tm_cli.specs.Receiving.{HandedDue}
@@ -13,7 +13,7 @@ invariant-loop-frame g l = record {
   draws : l.draws ≡ drawn (l._frame * draw_count l.config l.hits) (generator_of l.seed);
   fresh : l.sender.has_failed ≡ false;
   config : l.sender.config ≡ l.config;
-  stands : StandsFor l.sender (generated_units l.config l._frame l.hits (generator_of l.seed));
+  stands : InnerSenderStandsFor l.sender (generated_units l.config l._frame l.hits (generator_of l.seed));
   few : length (generated_units l.config l._frame l.hits (generator_of l.seed)) ≤ 2044 * l._frame;
   ready : l.receiver.has_stopped ≡ false;
   handed : HandedDue l.config l.receiver (λ handed. HandedOver CountedHanded no_counts handed l.counts) (symbols_of_octets l.config (generated_units l.config l._frame l.hits (generator_of l.seed)));

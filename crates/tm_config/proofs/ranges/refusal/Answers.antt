@@ -1,9 +1,9 @@
 use Rattle.std.proofs.Common.{◌∙◌, refl}
-use Rattle.tm_config.specs.Accepted.{refusal_of}
+use Rattle.tm_config.specs.Accepted.{refusal_of_raw}
 use Rattle.tm_config.proofs.ranges.refusal.Goals as goal
 
 pub returns : goal.returns
-unfolding refusal_of
+unfolding refusal_of_raw
 returns c = c.first_error.ensures ∙ (rw (
   c.code_fits.ensures,
   c.depth_fits.ensures,

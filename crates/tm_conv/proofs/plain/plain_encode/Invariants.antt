@@ -1,6 +1,6 @@
 use Rattle.std.proofs.Common.{◌≡◌, ◌*◌, ◌≤◌, ◌++◌, Bool, List, length, take}
 use Rattle.tm_base.specs.Bits.{bits_of}
-use Rattle.tm_conv.specs.Encoding.{StandsFor, sent_for, levels}
+use Rattle.tm_conv.specs.Encoding.{EncoderStandsFor, sent_for, levels}
 use Rattle.tm_conv.proofs.plain.plain_encode.Given as goal
 
 abbrev pub invariant-loop-k : goal.invariant-loop-k
@@ -9,8 +9,8 @@ invariant-loop-k l = record {
   invert : l.encoder.invert ≡ l.fn.encoder.invert;
   count : l.count ≤ 2 * l.k;
   length : length l.out ≡ length l.fn.out;
-  stands : (given : List Bool) → StandsFor l.fn.encoder given → StandsFor l.encoder (given ++ take l.k (bits_of l.octets));
-  sent : (given : List Bool) → StandsFor l.fn.encoder given
+  stands : (given : List Bool) → EncoderStandsFor l.fn.encoder given → EncoderStandsFor l.encoder (given ++ take l.k (bits_of l.octets));
+  sent : (given : List Bool) → EncoderStandsFor l.fn.encoder given
       → levels l.low (sent_for l.fn.encoder.rate l.fn.encoder.invert (given ++ take l.k (bits_of l.octets)))
       ≡ levels l.low (sent_for l.fn.encoder.rate l.fn.encoder.invert given) ++ take l.count l.out;
 }

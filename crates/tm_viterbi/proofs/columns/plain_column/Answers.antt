@@ -1,5 +1,5 @@
 use Rattle.std.proofs.Common.{ℕ, ◌+◌, min, nat_lt, if◌then◌else◌, sym, subst, arith}
-use Rattle.tm_viterbi.specs.Column.{first_metric, second_metric}
+use Rattle.tm_viterbi.specs.AddCompareSelect.{first_metric, second_metric}
 use Rattle.tm_viterbi.proofs.Survivors.{HoldsBelow, bit_set_more, bit_clear_more, sum_more, choice_second, choice_first}
 use Rattle.tm_viterbi.proofs.columns.plain_column.Goals as goal
 use Rattle.tm_viterbi.proofs.columns.plain_column.Goals.{then-second-first, else-second-first}

@@ -1,5 +1,5 @@
 use Rattle.std.proofs.Common.{◌≡◌, ℕ, ◌<◌, slice_index, nat_lt, if◌then◌else◌, min}
-use Rattle.tm_viterbi.specs.Column.{first_metric, second_metric}
+use Rattle.tm_viterbi.specs.AddCompareSelect.{first_metric, second_metric}
 use Rattle.tm_viterbi.proofs.Survivors.{HoldsBelow}
 use Rattle.tm_viterbi.proofs.columns.plain_column.Given as goal
 

@@ -1,5 +1,5 @@
 use Rattle.std.proofs.Common.{ℕ, List, subst, sym}
-use Rattle.tm_viterbi.specs.Column.{IsNextSums}
+use Rattle.tm_viterbi.specs.AddCompareSelect.{IsNextSums}
 use Rattle.tm_viterbi.proofs.Butterfly.{AreLanes, IsNextSums-from_lanes, AreSurvivors-from_lanes}
 use Rattle.tm_viterbi.proofs.lanes.lane_column.Goals as goal
 

@@ -1,7 +1,7 @@
 use Rattle.std.proofs.Common.{rules, arith, ◌≡◌, ◌++◌, length, take, nat_le, ◌^◌, ap, sym, subst, false}
 use Rattle.tm_config.specs.Configuration.{Configuration}
 use Rattle.tm_inner.specs.Handing.{AreHandedDue}
-use Rattle.tm_inner.specs.Receiving.{InnerReceiving, StandsFor}
+use Rattle.tm_inner.specs.Receiving.{InnerReceiving, InnerReceiverStandsFor}
 use Rattle.tm_inner.proofs.HandedBits.{handed-more-few, needed-few}
 use Rattle.tm_buffers.specs.declared.bits.BufferBits.{BufferBits}
 use Rattle.tm_buffers.proofs.Needed.{needed}
@@ -13,7 +13,7 @@ pub returns-clause-decoded : goal.returns-clause-decoded
 returns-clause-decoded c = λ given done few is room.
     let inner = c.self.inside.inner in
     let now = c.feed-fed.new.self in
-    let stood = subst (λ (d : InnerReceiving). StandsFor d given done) (sym c.self.view_is) is.stands in
+    let stood = subst (λ (d : InnerReceiving). InnerReceiverStandsFor d given done) (sym c.self.view_is) is.stands in
     let due = subst (λ (d : InnerReceiving). AreHandedDue d.config given done) (sym c.self.view_is) is.due in
     let keep = ap (λ (d : InnerReceiving). d.config.keep) c.self.view_is in
     let ahead = ap (λ (d : InnerReceiving). d.config.ahead) c.self.view_is in

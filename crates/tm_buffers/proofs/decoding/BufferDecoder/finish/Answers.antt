@@ -1,7 +1,7 @@
 use Rattle.std.proofs.Common.{rules, arith, ◌≡◌, ◌++◌, length, take, ap, sym, subst, true, false}
 use Rattle.tm_inner.specs.Handing.{AreHanded, AreHandedDue}
 use Rattle.tm_inner.specs.Phase.{IsChosen}
-use Rattle.tm_inner.specs.Receiving.{InnerReceiving, StandsFor}
+use Rattle.tm_inner.specs.Receiving.{InnerReceiving, InnerReceiverStandsFor}
 use Rattle.tm_inner.proofs.HandedBits.{handed-last-few, needed-few}
 use Rattle.tm_buffers.specs.declared.bits.BufferBits.{BufferBits}
 use Rattle.tm_buffers.proofs.Needed.{needed}
@@ -12,7 +12,7 @@ use Rattle.tm_buffers.proofs.decoding.BufferDecoder.finish.Goals.{in-Ok, in-Err}
 pub returns-clause-decoded : goal.returns-clause-decoded
 returns-clause-decoded c = λ given done is room.
     let inner = c.self.inside.inner in
-    let stood = subst (λ (d : InnerReceiving). StandsFor d given done) (sym c.self.view_is) is.stands in
+    let stood = subst (λ (d : InnerReceiving). InnerReceiverStandsFor d given done) (sym c.self.view_is) is.stands in
     let due = subst (λ (d : InnerReceiving). AreHandedDue d.config given done) (sym c.self.view_is) is.due in
     let keep = ap (λ (d : InnerReceiving). d.config.keep) c.self.view_is in
     let ahead = ap (λ (d : InnerReceiving). d.config.ahead) c.self.view_is in

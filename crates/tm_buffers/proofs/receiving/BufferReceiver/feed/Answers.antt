@@ -1,6 +1,6 @@
 use Rattle.std.proofs.Common.{rules, ◌≡◌, ◌++◌, length, false, sym, subst}
 use Rattle.tm_base.specs.Handed.{items_of}
-use Rattle.tm_channel.specs.OctetReceiving.{OctetReceiving, StandsFor}
+use Rattle.tm_channel.specs.OctetReceiving.{OctetReceiving, ReceiverStandsFor}
 use Rattle.tm_channel.specs.Handing.{AreReceivedDue}
 use Rattle.tm_channel.specs.Most.{AreFew}
 use Rattle.tm_buffers.specs.Items.{Collected, collected}
@@ -12,7 +12,7 @@ use Rattle.tm_buffers.proofs.receiving.BufferReceiver.feed.Goals.{in-Ok, in-Err}
 pub returns-clause-received : goal.returns-clause-received
 returns-clause-received c = λ given done few is.
     let was = c.self.inside.receiver in
-    let stood = subst (λ (r : OctetReceiving). StandsFor r given done) (sym c.self.view_is) is.stands in
+    let stood = subst (λ (r : OctetReceiving). ReceiverStandsFor r given done) (sym c.self.view_is) is.stands in
     let going : was.has_stopped ≡ false = subst (λ (r : OctetReceiving). r.has_stopped ≡ false) (sym c.self.view_is) is.going in
     elim c.match-fed.branch [
       | in-Ok w ↦

@@ -1,6 +1,6 @@
 use Rattle.std.proofs.Common.{rules, ◌≡◌, ◌++◌, false, sym, subst}
 use Rattle.tm_base.specs.Handed.{items_of}
-use Rattle.tm_channel.specs.OctetReceiving.{OctetReceiving, StandsFor}
+use Rattle.tm_channel.specs.OctetReceiving.{OctetReceiving, ReceiverStandsFor}
 use Rattle.tm_channel.specs.declared.totals.Totals.{Totals}
 use Rattle.tm_channel.specs.Handing.{AreReceived}
 use Rattle.tm_inner.specs.Phase.{IsChosen}
@@ -14,7 +14,7 @@ use Rattle.tm_buffers.proofs.receiving.BufferReceiver.finish.Goals.{in-Ok, in-Er
 pub returns-clause-received : goal.returns-clause-received
 returns-clause-received c = λ given done is.
     let was = c.self.inside.receiver in
-    let stood = subst (λ (r : OctetReceiving). StandsFor r given done) (sym c.self.view_is) is.stands in
+    let stood = subst (λ (r : OctetReceiving). ReceiverStandsFor r given done) (sym c.self.view_is) is.stands in
     let going : was.has_stopped ≡ false = subst (λ (r : OctetReceiving). r.has_stopped ≡ false) (sym c.self.view_is) is.going in
     elim c.match-ended.branch [
       | in-Ok w ↦

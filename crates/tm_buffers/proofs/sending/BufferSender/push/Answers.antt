@@ -2,7 +2,7 @@ use Rattle.std.proofs.Common.{rules, arith, ◌≡◌, ◌<◌, ◌∙◌, false
 use Rattle.std.proofs.lemmas.List.Elements.{All-append}
 use Rattle.tm_base.proofs.Octets.{are_octets}
 use Rattle.tm_config.specs.Accepted.{IsAccepted}
-use Rattle.tm_channel.specs.Sending.{Sending, StandsFor}
+use Rattle.tm_channel.specs.Sending.{Sending, SenderStandsFor}
 use Rattle.tm_buffers.proofs.SymbolRoom.{symbols-fit}
 use Rattle.tm_buffers.proofs.Written.{fills, held, not-full, sink_alone}
 use Rattle.tm_buffers.proofs.sending.BufferSender.push.Goals as goal
@@ -11,7 +11,7 @@ use Rattle.tm_buffers.proofs.sending.BufferSender.push.Goals.{in-Ok, in-Err}
 pub returns-clause-pushed : goal.returns-clause-pushed
 returns-clause-pushed c = λ given is room.
     let config = c.self.inside.sender.config in
-    let stood = subst (λ (s : Sending). StandsFor s given) (sym c.self.view_is) is.stands in
+    let stood = subst (λ (s : Sending). SenderStandsFor s given) (sym c.self.view_is) is.stands in
     let going : c.self.inside.sender.inner.has_failed ≡ false = subst (λ (s : Sending). s.inner.has_failed ≡ false) (sym c.self.view_is) is.going in
     let both = All-append (λ octet. octet < 256) given c.args.octets.now is.octets (are_octets c.args.octets.now (λ i. omega (arith, c.type_inv.octets i))) in
     elim c.match-pushed.branch [

@@ -2,7 +2,7 @@ use Rattle.std.proofs.Common.{◌≡◌, ◌∙◌, ◌<◌, ◌*◌, ◌++◌, 
 use Rattle.tm_config.specs.Configuration.{Configuration, codeblock_length}
 use Rattle.tm_sync.specs.declared.found.Found.{Found}
 use Rattle.tm_sync.specs.Places.{places}
-use Rattle.tm_sync.specs.Searching.{Searching, StandsFor, waiting_of}
+use Rattle.tm_sync.specs.Searching.{Searching, SearchStandsFor, waiting_of}
 use Rattle.tm_channel.specs.Receiving.{Agree, stored_of}
 use Rattle.tm_channel.proofs.Stepping.{Reported, agree-next, agree-ready, agree-same, complete-size, keeps-reported, none-reported, one-more, recall-needs, waiting-less}
 use Rattle.tm_channel.proofs.bit_receiver.BitReceiver.keep_whole.Goals as goal
@@ -24,7 +24,7 @@ pub returns-in-None-clause-none : goal.returns-in-None-clause-none
 returns-in-None-clause-none c = λ none handed bits reported h.
     let was = c.args.self.now in
     none-reported was.search c.next.new.self was.room.items was.batch handed bits reported c.requires.agree.same c.in-None.ensures.unchanged
-    (subst (λ (room : List ℕ). (l : List Bool) (found : List Found) → StandsFor was.search room l found → places was.search.rules l ≡ found)
+    (subst (λ (room : List ℕ). (l : List Bool) (found : List Found) → SearchStandsFor was.search room l found → places was.search.rules l ≡ found)
     c.as_slice.ensures.value c.in-None.ensures.none) h
 
 -- ---- one is

@@ -1,7 +1,7 @@
 use Rattle.std.proofs.Common.{◌≡◌, ◌+◌, ◌∙◌, ◌∷◌, [], ℕ, List, length, sym, ap, arith, subst, Option, Some, IfSome, IfNone, unwrap_or, length-append, ◌⊎◌}
 use Rattle.std.proofs.lemmas.List.{with_items_is}
 use Rattle.tm_sync.specs.Places.{verify_bits}
-use Rattle.tm_sync.specs.Searching.{Searching, StandsFor, inside_of}
+use Rattle.tm_sync.specs.Searching.{Searching, SearchStandsFor, inside_of}
 use Rattle.tm_channel.specs.Receiving.{Agree, HoldsMore}
 use Rattle.tm_channel.specs.declared.bit_receiver.BitReceiver.{BitReceiver}
 use Rattle.tm_channel.proofs.Stepping.{agree-inside, agree-outside, stands-inside, stands-outside}
@@ -53,8 +53,8 @@ returns-clause-holds c = λ handed bits few h.
           (ap (λ (r : BitReceiver). r.batch.part) w.self-is ∙ w.push_bit.ensures.part)
           (ap (λ (r : BitReceiver). r.batch.stored) w.self-is ∙ w.push_bit.ensures.stored)
           (λ found stood. c.push_bit-2.ensures.stands bits found (omega (arith, few, length-append bits (c.args.bit ∷ [])))
-          (subst (λ (v : Searching). StandsFor v c.as_mut_slice.result.now bits found) (sym (ap (λ (r : BitReceiver). r.search) w.self-is))
-          (subst (λ (l : List ℕ). StandsFor was.search l bits found) (sym slice) stood))) h
+          (subst (λ (v : Searching). SearchStandsFor v c.as_mut_slice.result.now bits found) (sym (ap (λ (r : BitReceiver). r.search) w.self-is))
+          (subst (λ (l : List ℕ). SearchStandsFor was.search l bits found) (sym slice) stood))) h
           )
       | in-None w ↦ (
           let slice = c.as_mut_slice.ensures.value ∙ ap (λ (r : BitReceiver). r.room.items) w.self-is in
@@ -64,7 +64,7 @@ returns-clause-holds c = λ handed bits few h.
           ∙ ap (λ (o : Option ℕ). unwrap_or o 0) (sym c.inside.ensures.count ∙ w.in-None.is))
           (ap (λ (r : BitReceiver). r.batch.stored) w.self-is)
           (λ found stood. c.push_bit-2.ensures.stands bits found (omega (arith, few, length-append bits (c.args.bit ∷ [])))
-          (subst (λ (v : Searching). StandsFor v c.as_mut_slice.result.now bits found) (sym (ap (λ (r : BitReceiver). r.search) w.self-is))
-          (subst (λ (l : List ℕ). StandsFor was.search l bits found) (sym slice) stood))) h
+          (subst (λ (v : Searching). SearchStandsFor v c.as_mut_slice.result.now bits found) (sym (ap (λ (r : BitReceiver). r.search) w.self-is))
+          (subst (λ (l : List ℕ). SearchStandsFor was.search l bits found) (sym slice) stood))) h
           )
     ])

@@ -8,7 +8,7 @@ use Rattle.tm_inner.proofs.HandedPieces.{stands-so-far}
 use Rattle.tm_channel.specs.Items.{ItemValue}
 use Rattle.tm_channel.specs.Handing.{AreReceivedDue, AreReceivedFirst}
 use Rattle.tm_channel.specs.Most.{AreFew}
-use Rattle.tm_channel.specs.OctetReceiving.{FeedHands, OctetReceiving, Stages, StandsFor}
+use Rattle.tm_channel.specs.OctetReceiving.{FeedHands, OctetReceiving, Stages, ReceiverStandsFor}
 use Rattle.tm_channel.proofs.FewItems.{stages-few}
 use Rattle.tm_channel.proofs.GivenOctets.{received-due}
 use Rattle.tm_channel.proofs.receiver.Receiver.feed_by.Goals as goal
@@ -41,7 +41,7 @@ returns-in-Err-clause-prefix g c = λ _.
     let took = on_handed g.T.ItemTaker.took_phase g.T.ItemTaker.took in
     let broke = on_handed g.T.ItemTaker.broke_phase g.T.ItemTaker.broke in
     subst (λ (r : OctetReceiving). (tried : List (Handed ItemValue)) × HandedPart took broke c.args.taker.now tried c.take.new.taker
-    × ((given : List ℕ) (done : List (Handed ItemValue)) → length given + length octets < 2 ^ 60 → StandsFor r given done
+    × ((given : List ℕ) (done : List (Handed ItemValue)) → length given + length octets < 2 ^ 60 → ReceiverStandsFor r given done
     → AreReceivedFirst r.config (given ++ octets) (done ++ tried))) c.self.view_is (
       p.tried,
       p.handed,
@@ -54,7 +54,7 @@ returns-in-Ok-clause-chosen g c =
     let now : Stages = record { inner = c.take.new.inner; bits = c.take.new.stream } in
     let chosen = c.take.new.inner.phased.chosen in
     let p = c.in-Ok.ensures.handed in
-    subst (λ (r : OctetReceiving). (given : List ℕ) (done : List (Handed ItemValue)) → length given + length octets < 2 ^ 60 → StandsFor r given done
+    subst (λ (r : OctetReceiving). (given : List ℕ) (done : List (Handed ItemValue)) → length given + length octets < 2 ^ 60 → ReceiverStandsFor r given done
     → r.has_stopped ≡ false → IsChosenSoFar r.config (given ++ octets) chosen) c.self.view_is
     (λ given done few stood _.
     let there = (p.stands given done few stood).0 in
@@ -66,6 +66,6 @@ returns-in-Err-clause-chosen g c =
     let octets = c.args.octets.now in
     let chosen = c.take.new.inner.phased.chosen in
     let p = c.in-Err.ensures.prefix in
-    subst (λ (r : OctetReceiving). (given : List ℕ) (done : List (Handed ItemValue)) → length given + length octets < 2 ^ 60 → StandsFor r given done
+    subst (λ (r : OctetReceiving). (given : List ℕ) (done : List (Handed ItemValue)) → length given + length octets < 2 ^ 60 → ReceiverStandsFor r given done
     → r.has_stopped ≡ false → IsChosenSoFar r.config (given ++ octets) chosen) c.self.view_is
     (λ given done few stood _. subst (λ (k : Configuration). IsChosenSoFar k (given ++ octets) chosen) c.self.invariant.0 (p.first given done few stood).1)

@@ -10,7 +10,7 @@ use Rattle.tm_channel.specs.Items.{ItemValue}
 use Rattle.tm_channel.specs.Handing.{AreReceived, AreReceivedPrefix}
 use Rattle.tm_channel.specs.Receiving.{waiting_bits}
 use Rattle.tm_channel.specs.Most.{AreFew}
-use Rattle.tm_channel.specs.OctetReceiving.{FinishHands, OctetReceiving, StandsFor, Stages, Ends}
+use Rattle.tm_channel.specs.OctetReceiving.{FinishHands, OctetReceiving, ReceiverStandsFor, Stages, Ends}
 use Rattle.tm_channel.specs.declared.totals.Totals.{Totals}
 use Rattle.tm_channel.specs.declared.receiver.RecvError.{RecvError}
 use Rattle.tm_channel.specs.declared.receiver.RecvError.TheVariants.{Taker}
@@ -32,7 +32,7 @@ returns-in-Err-clause-prefix g c = λ _.
     let broke = on_handed g.T.ItemTaker.broke_phase g.T.ItemTaker.broke in
     let kept = c.end-totals.new.kept in
     subst (λ (r : OctetReceiving). (tried : List (Handed ItemValue)) × HandedPart took broke c.args.taker.now tried c.hand_phase.new.taker
-    × ((given : List ℕ) (done : List (Handed ItemValue)) → StandsFor r given done → AreReceivedPrefix r.config given (done ++ tried))) c.self.view_is (
+    × ((given : List ℕ) (done : List (Handed ItemValue)) → ReceiverStandsFor r given done → AreReceivedPrefix r.config given (done ++ tried))) c.self.view_is (
       with_phase kept.phase [],
       c.in-Err.ensures.prefix,
       λ given done stood. subst (λ (k : Configuration). AreReceivedPrefix k given (done ++ with_phase kept.phase [])) c.self.invariant.0
@@ -56,7 +56,7 @@ returns-in-Err-take_bits-clause-prefix g c = λ _.
     let p = c.in-Err-take_bits.ensures.part in
     let tried = with_phase phase [] ++ map Item p.tried in
     subst (λ (r : OctetReceiving). (tried : List (Handed ItemValue)) × HandedPart took broke start tried middle
-    × ((given : List ℕ) (done : List (Handed ItemValue)) → StandsFor r given done → AreReceivedPrefix r.config given (done ++ tried))) c.self.view_is (
+    × ((given : List ℕ) (done : List (Handed ItemValue)) → ReceiverStandsFor r given done → AreReceivedPrefix r.config given (done ++ tried))) c.self.view_is (
       tried,
       HandedPart-after took broke start first middle (with_phase phase []) (map Item p.tried) c.in-Ok.ensures.handed
           (HandedPart-items g.T.ItemTaker.took_phase g.T.ItemTaker.broke_phase g.T.ItemTaker.took g.T.ItemTaker.broke first middle p.tried p.handed),
@@ -118,7 +118,7 @@ returns-clause-prefix g c =
     let over = subst (λ (l : List ℕ). Ends s.inner s.kept.size phase (map (λ bit. bit == 1) l) totals) (sym c.bits.ensures) c.end-totals.ensures.ends in
     let p = c.in-Ok-take_bits.ensures.handed in
     let Said : OctetReceiving → Result Totals RecvError → Type 0 = λ r result. IsErrOf result Taker → (tried : List (Handed ItemValue)) × HandedPart took broke start tried last
-    × ((given : List ℕ) (done : List (Handed ItemValue)) → StandsFor r given done → AreReceivedPrefix r.config given (done ++ tried)) in
+    × ((given : List ℕ) (done : List (Handed ItemValue)) → ReceiverStandsFor r given done → AreReceivedPrefix r.config given (done ++ tried)) in
     subst (λ (r : OctetReceiving). Said r c.match-hand_last.result) c.self.view_is (elim c.match-hand_last.branch as (λ _. Said before c.match-hand_last.result) [
       | in-Ok-hand_last w ↦ (let said : Said before (Ok totals) = λ none. absurd cc in subst (Said before) (sym w.result-is) said)
       | in-Err-hand_last w ↦ (

@@ -1,6 +1,6 @@
 use Rattle.std.proofs.Common.{sym, subst, Result, Ok, Err, OnOk, OnErr}
 use Rattle.tm_base.specs.declared.outside.Failed.{Failed}
-use Rattle.tm_sync.specs.Searching.{StandsFor}
+use Rattle.tm_sync.specs.Searching.{SearchStandsFor}
 use Rattle.tm_channel.specs.OctetReceiving.{BitReceiving, ReceivedLast, ReceivedLastPart}
 use Rattle.tm_channel.proofs.Streaming.{items-last, first-last}
 use Rattle.tm_channel.proofs.stream.BitStream.hand_last.Goals as goal
@@ -18,7 +18,8 @@ returns-clause-handed g c =
           let said : Said before (Ok tt) = record {
             items = some.0;
             handed = some.2;
-            last = λ bits h. items-last b.config (StandsFor r.search r.room.items) b.part b.stored bits some.0 h some.1;
+            last = λ bits h. items-last b.config (SearchStandsFor r.search r.room.items) b.part
+                b.stored bits some.0 h some.1;
           } in
           subst (Said before) (sym w.result-is) said
           )
@@ -38,7 +39,7 @@ returns-clause-part g c =
           let said : Said before (Err w.in-Err.field-0) = record {
             tried = some.1;
             handed = some.3;
-            first = λ bits h. first-last b.config (StandsFor r.search r.room.items) b.part b.stored bits some.0 some.1 h some.2;
+            first = λ bits h. first-last b.config (SearchStandsFor r.search r.room.items) b.part b.stored bits some.0 some.1 h some.2;
           } in
           subst (Said before) (sym w.result-is) said
           )

@@ -4,7 +4,7 @@ use Rattle.tm_base.specs.Handed.{on_handed}
 use Rattle.tm_config.specs.Configuration.{Configuration}
 use Rattle.tm_inner.specs.Phase.{IsChosenSoFar, skipped_at}
 use Rattle.tm_inner.specs.Handing.{AreHandedDue, AreHandedFirst}
-use Rattle.tm_inner.specs.Receiving.{InnerReceiving, StandsFor, Hands, HandsPrefix, PhasesFor, IsFirstBy, soft_form}
+use Rattle.tm_inner.specs.Receiving.{InnerReceiving, InnerReceiverStandsFor, Hands, HandsPrefix, PhasesFor, IsFirstBy, soft_form}
 use Rattle.tm_inner.proofs.HandedPieces.{chosen-further, stands-further, prefix-further}
 use Rattle.tm_inner.proofs.receiver.InnerReceiver.feed_by.Goals as goal
 
@@ -20,7 +20,7 @@ returns-in-Ok-clause-chosen g c = λ given done stood _.
     let n = c.octets_to_skip-skipped.result in
     let before : InnerReceiving = record { config = s.config; phased = s.phased; count = s.count; has_stopped = s.has_stopped } in
     let skip = skips before c.args.self.now n (length octets) c.self.view_is c.octets_to_skip-skipped.ensures in
-    subst (λ (r : InnerReceiving). StandsFor r given done → IsChosenSoFar r.config (given ++ octets) c.feed.new.self.chosen) c.self.view_is
+    subst (λ (r : InnerReceiving). InnerReceiverStandsFor r given done → IsChosenSoFar r.config (given ++ octets) c.feed.new.self.chosen) c.self.view_is
     (chosen-further before c.feed.new.self.chosen octets (take (length octets - n) (drop n octets)) n c.self.invariant.0 (take_rest octets n) skip c.feed.ensures.chosen given done) stood
 
 pub returns-in-Ok-clause-handed : goal.returns-in-Ok-clause-handed
@@ -40,7 +40,7 @@ returns-in-Ok-clause-handed g c =
       p.handed,
       λ given done few stood.
           let further = stands-further (on_handed t.took_phase t.took) before now start last octets n c.self.invariant.0 refl c.feed.ensures.config c.feed.ensures.of c.in-Ok.ensures.closed
-          skip (omega (arith, c.saturating_add-self-inside.ensures)) p given done few (subst (λ (r : InnerReceiving). StandsFor r given done) (sym c.self.view_is) stood) in (
+          skip (omega (arith, c.saturating_add-self-inside.ensures)) p given done few (subst (λ (r : InnerReceiving). InnerReceiverStandsFor r given done) (sym c.self.view_is) stood) in (
             further.0,
             subst (λ (r : InnerReceiving). AreHandedDue r.config (given ++ octets) (done ++ p.more)) c.self.view_is further.1,
           ),
@@ -53,7 +53,7 @@ returns-in-Err-clause-chosen g c = λ given done stood _.
     let n = c.octets_to_skip-skipped.result in
     let before : InnerReceiving = record { config = s.config; phased = s.phased; count = s.count; has_stopped = s.has_stopped } in
     let skip = skips before c.args.self.now n (length octets) c.self.view_is c.octets_to_skip-skipped.ensures in
-    subst (λ (r : InnerReceiving). StandsFor r given done → IsChosenSoFar r.config (given ++ octets) c.feed.new.self.chosen) c.self.view_is
+    subst (λ (r : InnerReceiving). InnerReceiverStandsFor r given done → IsChosenSoFar r.config (given ++ octets) c.feed.new.self.chosen) c.self.view_is
     (chosen-further before c.feed.new.self.chosen octets (take (length octets - n) (drop n octets)) n c.self.invariant.0 (take_rest octets n) skip c.feed.ensures.chosen given done) stood
 
 pub returns-in-Err-clause-prefix : goal.returns-in-Err-clause-prefix
@@ -73,5 +73,5 @@ returns-in-Err-clause-prefix g c = λ _.
       λ given done few stood.
           subst (λ (r : InnerReceiving). AreHandedFirst r.config (given ++ octets) (done ++ p.tried)) c.self.view_is
           (prefix-further (on_handed t.took_phase t.took) (on_handed t.broke_phase t.broke) before start last octets n skip p given done few
-          (subst (λ (r : InnerReceiving). StandsFor r given done) (sym c.self.view_is) stood)),
+          (subst (λ (r : InnerReceiving). InnerReceiverStandsFor r given done) (sym c.self.view_is) stood)),
     )

@@ -8,7 +8,7 @@ use Rattle.tm_viterbi.specs.declared.decoder.FeedError.TheVariants.{Taker}
 use Rattle.tm_inner.specs.declared.receiver.InnerEnd.{InnerEnd}
 use Rattle.tm_inner.specs.Inner.{inner_bits, reported_slips}
 use Rattle.tm_inner.specs.Phase.{IsChosen, phase_octets}
-use Rattle.tm_inner.specs.Receiving.{InnerReceiving, StandsFor, PhasesFor}
+use Rattle.tm_inner.specs.Receiving.{InnerReceiving, InnerReceiverStandsFor, PhasesFor}
 use Rattle.tm_inner.specs.Handing.{AreHanded, AreHandedPrefix}
 use Rattle.tm_inner.proofs.HandedPieces.{AllCounted, chosen-last, all-handed}
 use Rattle.tm_inner.proofs.receiver.InnerReceiver.finish_by.Goals as goal
@@ -18,7 +18,7 @@ pub returns-clause-chosen : goal.returns-clause-chosen
 returns-clause-chosen g c = λ given done stood _.
     let s = c.self.inside in
     let before : InnerReceiving = record { config = s.config; phased = s.phased; count = s.count; has_stopped = s.has_stopped } in
-    subst (λ (r : InnerReceiving). StandsFor r given done → IsChosen r.config given c.end.new.self.chosen) c.self.view_is
+    subst (λ (r : InnerReceiving). InnerReceiverStandsFor r given done → IsChosen r.config given c.end.new.self.chosen) c.self.view_is
     (chosen-last before c.end.new.self.chosen c.self.invariant.0 c.end.ensures.chosen given done) stood
 
 pub returns-clause-handed : goal.returns-clause-handed
@@ -27,7 +27,7 @@ returns-clause-handed g c =
     let before : InnerReceiving = record { config = s.config; phased = s.phased; count = s.count; has_stopped = s.has_stopped } in
     let over = HandedOver (on_handed g.B.BlockTaker.took_phase g.B.BlockTaker.took) in
     let Said : InnerReceiving → Result InnerEnd FeedError → Type 0 = λ r result. IfOk result (λ end. (last : List (Handed WindowBlock)) × over c.args.blocks.now last c.end.new.blocks
-    × ((given : List ℕ) (done : List (Handed WindowBlock)) → StandsFor r given done
+    × ((given : List ℕ) (done : List (Handed WindowBlock)) → InnerReceiverStandsFor r given done
     → AreHanded r.config given (done ++ last) end.leftover × (end.bits ≡ length (inner_bits r.config given (items_of (done ++ last))))
     × (end.slips ≡ reported_slips r.config (items_of (done ++ last))))) in
     subst (λ (r : InnerReceiving). Said r c.match-end.result) c.self.view_is (elim c.match-end.branch as (λ _. Said before c.match-end.result) [
@@ -54,7 +54,7 @@ returns-clause-prefix g c =
     let before : InnerReceiving = record { config = s.config; phased = s.phased; count = s.count; has_stopped = s.has_stopped } in
     let part = HandedPart (on_handed t.took_phase t.took) (on_handed t.broke_phase t.broke) in
     let Said : InnerReceiving → Result InnerEnd FeedError → Type 0 = λ r result. IsErrOf result Taker → (tried : List (Handed WindowBlock)) × part c.args.blocks.now tried c.end.new.blocks
-    × ((given : List ℕ) (done : List (Handed WindowBlock)) → StandsFor r given done → AreHandedPrefix r.config given (done ++ tried)) in
+    × ((given : List ℕ) (done : List (Handed WindowBlock)) → InnerReceiverStandsFor r given done → AreHandedPrefix r.config given (done ++ tried)) in
     subst (λ (r : InnerReceiving). Said r c.match-end.result) c.self.view_is (elim c.match-end.branch as (λ _. Said before c.match-end.result) [
       | in-Ok w ↦ (
           let said : Said before (Ok w.ended.result) = λ none. absurd cc in

@@ -2,7 +2,7 @@ use Rattle.std.proofs.Common.{◌+◌, ◌≤◌, length, refl, sym, ap, subst, 
 use Rattle.tm_conv.specs.Path.{steps_size}
 use Rattle.tm_path_cert.specs.Tests.{first_place}
 use Rattle.tm_path_cert.specs.Checking.{Checking}
-use Rattle.tm_path_cert.proofs.Pushed.{StandsFor-push}
+use Rattle.tm_path_cert.proofs.Pushed.{CheckStandsFor-push}
 use Rattle.tm_path_cert.proofs.checking.Check.column.Goals as goal
 use Rattle.tm_conv.proofs.Sizes.{steps_size-least}
 
@@ -14,7 +14,7 @@ overflow_add-self-2 c =
 
 pub returns-clause-stands : goal.returns-clause-stands
 returns-clause-stands c = λ given stands.
-    StandsFor-push c.args.self.now _ given c.args.sums.now c.first_wrong-found.result
+    CheckStandsFor-push c.args.self.now _ given c.args.sums.now c.first_wrong-found.result
     (ap (λ (e : Checking). e.claim) c.self.view_is)
     (ap (λ (e : Checking). e.count + 1) c.self.view_is)
     refl

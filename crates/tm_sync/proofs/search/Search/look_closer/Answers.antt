@@ -1,6 +1,6 @@
 use Rattle.std.proofs.Common.{◌≡◌, ◌<◌, ◌+◌, ◌-◌, ◌∙◌, arith, [], ◌∷◌, ◌++◌, sym, ap, subst, nat_le, false}
 use Rattle.std.specs.Option.{option_map, option_map_or}
-use Rattle.tm_sync.specs.Searching.{Searching, StandsFor, is_pending}
+use Rattle.tm_sync.specs.Searching.{Searching, SearchStandsFor, is_pending}
 use Rattle.tm_sync.proofs.Given.{grows, push_inside, short-bit, start-there, some_awaited, none_awaited}
 use Rattle.tm_sync.proofs.search.Search.look_closer.Goals as goal
 
@@ -31,5 +31,5 @@ returns-then-since-lt32-clause-stands c = λ s was bit bits found few count kept
 pub returns-clause-stands : goal.returns-clause-stands
 returns-clause-stands c = λ s was bit bits found few count kept h.
     let free = sym count.awaited ∙ ap (λ (v : Searching). v.awaited) (sym c.self.view_is) ∙ none_awaited c.self.inside.awaited (sym c.is_some.ensures ∙ c.if-is_some.false) in
-    subst (λ (v : Searching). StandsFor (record v { awaited = c.place_found-awaited.result.0; after = c.place_found-awaited.result.1 }) c.args.room.now (bits ++ bit ∷ []) found) (sym c.self.view_is)
+    subst (λ (v : Searching). SearchStandsFor (record v { awaited = c.place_found-awaited.result.0; after = c.place_found-awaited.result.1 }) c.args.room.now (bits ++ bit ∷ []) found) (sym c.self.view_is)
     (c.place_found-awaited.ensures.stands s was bit bits found few count kept free h)

@@ -3,7 +3,7 @@ use Rattle.std.proofs.lemmas.List.{append-nil}
 use Rattle.tm_base.specs.Bits.{bits_of_octet, number_of}
 use Rattle.tm_base.proofs.Packing.{length-low_bits}
 use Rattle.tm_sync.specs.Places.{match_of}
-use Rattle.tm_sync.specs.Searching.{Searching, StandsFor}
+use Rattle.tm_sync.specs.Searching.{Searching, SearchStandsFor}
 use Rattle.tm_sync.proofs.Given.{free-of, push_far, push_short, start-there, verify-none}
 use Rattle.tm_sync.proofs.Sliding.{bit_of, bits-bit, bits-all, word-window}
 use Rattle.tm_sync.proofs.search.Search.pass_octet.Invariants.{passing}
@@ -53,7 +53,7 @@ loop-left-preserved c =
         bits-bit was.0 left octet some was.1,
         λ room bits found few h.
             let none : length room ≡ 0 = h.sized ∙ verify-none s.rules c.requires.alone in
-            subst (λ l. StandsFor (passing s octet (left - 1)) room l found) (append_assoc bits was.0 (bit ∷ []))
+            subst (λ l. SearchStandsFor (passing s octet (left - 1)) room l found) (append_assoc bits was.0 (bit ∷ []))
             (push_far (passing s octet left) (passing s octet (left - 1)) room room bit (bits ++ was.0) found record {
               rules = refl;
               word = word-window s.word octet left some most c.ranges.octet.fits;
@@ -80,9 +80,9 @@ returns-clause-stands c = λ done room bits found few h.
     sym (c.window-self-inside.ensures
     ∙ (λ i. ((c.from.ensures ∙ ap (λ (v : Searching). v.word) c.self.view_is) i * 256
     + c.from-2.ensures i) / 1 % 2 ^ 32)) in
-    subst (λ (v : Searching). StandsFor v room (bits ++ bits_of_octet octet) found)
+    subst (λ (v : Searching). SearchStandsFor v room (bits ++ bits_of_octet octet) found)
     (λ i. record (sym c.self.view_is i) { word = word i; pushed = pushed i })
-    (subst (λ (n : ℕ). StandsFor (passing s octet n) room (bits ++ bits_of_octet octet) found) none
-    (subst (λ l. StandsFor (passing s octet c.loop-left.left) room (bits ++ l) found)
+    (subst (λ (n : ℕ). SearchStandsFor (passing s octet n) room (bits ++ bits_of_octet octet) found) none
+    (subst (λ l. SearchStandsFor (passing s octet c.loop-left.left) room (bits ++ l) found)
     (sym (bits-all was.0 c.loop-left.left octet none was.1))
     (was.2 room bits found few h)))

@@ -1,7 +1,7 @@
 use Rattle.std.proofs.Common.{◌≡◌, ℕ, ◌≤◌, ◌+◌, ◌-◌, ◌*◌, ◌/◌, ◌%◌, ◌^◌, Bool, List, ◌++◌, length}
 use Rattle.tm_base.specs.Bits.{bits_of_octet, low_bits}
 use Rattle.tm_sync.specs.declared.found.Found.{Found}
-use Rattle.tm_sync.specs.Searching.{Searching, StandsFor}
+use Rattle.tm_sync.specs.Searching.{Searching, SearchStandsFor}
 use Rattle.tm_sync.proofs.search.Search.pass_octet.Given as goal
 
 -- a search that was given an octet but the last bits, so many
@@ -13,8 +13,8 @@ invariant-loop-left l = record {
   most : l.left ≤ 8;
   given : (prefix : List Bool) × (bits_of_octet l.octet ≡ prefix ++ low_bits l.left l.octet)
       × ((room : List ℕ) (bits : List Bool) (found : List Found) → length bits + 8 ≤ 2 ^ 63
-      → StandsFor l.fn.self room bits found
-      → StandsFor (passing l.fn.self l.octet l.left) room (bits ++ prefix) found);
+      → SearchStandsFor l.fn.self room bits found
+      → SearchStandsFor (passing l.fn.self l.octet l.left) room (bits ++ prefix) found);
 }
 
 abbrev pub decreases-loop-left : goal.decreases-loop-left

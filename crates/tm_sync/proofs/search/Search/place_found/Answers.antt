@@ -3,14 +3,14 @@ use Rattle.std.specs.Option.{option_map}
 use Rattle.tm_sync.specs.declared.found.Found.{Found}
 use Rattle.tm_sync.specs.declared.found.Awaited.{Awaited}
 use Rattle.tm_sync.specs.Places.{match_of, place_by, verify_bits}
-use Rattle.tm_sync.specs.Searching.{Searching, StandsFor, Counts, Remembers, awaited_at, is_right_after}
+use Rattle.tm_sync.specs.Searching.{Searching, SearchStandsFor, Counts, Remembers, awaited_at, is_right_after}
 use Rattle.tm_sync.proofs.FirstPlaces.{here}
 use Rattle.tm_sync.proofs.Given.{start-there, right-least, reported_right, reported_waits, reported_verified}
 use Rattle.tm_sync.proofs.search.Search.place_found.Goals.{After-right_after, After-place_verified}
 use Rattle.tm_sync.proofs.search.Search.place_found.Goals as goal
 
 -- what the test before says
-tested : (c : After-right_after) (s : Searching) (was : List ℕ) (bit : Bool) (bits : List Bool) (found : List Found) → Counts s c.args.self.now bit → StandsFor s was bits found
+tested : (c : After-right_after) (s : Searching) (was : List ℕ) (bit : Bool) (bits : List Bool) (found : List Found) → Counts s c.args.self.now bit → SearchStandsFor s was bits found
     → (c.args.self.now.start ≤ c.args.self.now.pushed) × (c.args.self.now.pushed < 2 ^ 64)
     × ((c.self.inside.pushed + (2 ^ 64 - c.self.inside.start)) % 2 ^ 64 ≡ c.args.self.now.pushed - c.args.self.now.start)
     × (c.right_after.result ≡ is_right_after (c.args.self.now.pushed - c.args.self.now.start) c.args.self.now.before)
@@ -55,7 +55,7 @@ looked : (c : After-place_verified) (n : ℕ)
     → (c.self.inside.pushed + (2 ^ 64 - c.self.inside.start)) % 2 ^ 64 ≡ c.args.self.now.pushed - c.args.self.now.start
     → c.right_after.result ≡ is_right_after (c.args.self.now.pushed - c.args.self.now.start) c.args.self.now.before → IfSome c.place_verified.result (λ _. n ≡ c.verified_by-lag.result) → IfNone c.place_verified.result (n ≡ 0)
     → (s : Searching) (was : List ℕ) (bit : Bool) (bits : List Bool) (found : List Found) → Counts s c.args.self.now bit → Remembers was c.args.room.now bits bit → s.awaited ≡ None
-    → StandsFor s was bits found → StandsFor (record c.args.self.now { awaited = c.place_verified.result; after = n }) c.args.room.now (bits ++ bit ∷ []) found
+    → SearchStandsFor s was bits found → SearchStandsFor (record c.args.self.now { awaited = c.place_verified.result; after = n }) c.args.room.now (bits ++ bit ∷ []) found
 looked c n since right taken waits s was bit bits found count kept free h =
     let now = c.args.self.now in
     let lag : c.verified_by-lag.result ≡ verify_bits now.rules = c.verified_by-lag.ensures.value ∙ ap (λ (v : Searching). verify_bits v.rules) c.self.view_is in
@@ -67,7 +67,7 @@ looked c n since right taken waits s was bit bits found count kept free h =
 pub returns-in-Some-clause-stands : goal.returns-in-Some-clause-stands
 returns-in-Some-clause-stands c = λ s was bit bits found few count kept free h.
     let t = tested (goal.at.returns-in-Some-clause-stands c).After-right_after s was bit bits found count h in
-    subst (λ (o : Option Awaited). StandsFor (record c.args.self.now { awaited = o; after = c.verified_by-lag.result }) c.args.room.now (bits ++ bit ∷ []) found) c.in-Some.is
+    subst (λ (o : Option Awaited). SearchStandsFor (record c.args.self.now { awaited = o; after = c.verified_by-lag.result }) c.args.room.now (bits ++ bit ∷ []) found) c.in-Some.is
     (looked (goal.at.returns-in-Some-clause-stands c).After-place_verified c.verified_by-lag.result t.2 t.3
     (subst (λ (o : Option Awaited). IfSome o (λ _. c.verified_by-lag.result ≡ c.verified_by-lag.result)) (sym c.in-Some.is) refl)
     (subst (λ (o : Option Awaited). IfNone o (c.verified_by-lag.result ≡ 0)) (sym c.in-Some.is) tt) s was bit bits found count kept free h)
@@ -75,7 +75,7 @@ returns-in-Some-clause-stands c = λ s was bit bits found few count kept free h.
 pub returns-in-None-clause-stands : goal.returns-in-None-clause-stands
 returns-in-None-clause-stands c = λ s was bit bits found few count kept free h.
     let t = tested (goal.at.returns-in-None-clause-stands c).After-right_after s was bit bits found count h in
-    subst (λ (o : Option Awaited). StandsFor (record c.args.self.now { awaited = o; after = 0 }) c.args.room.now (bits ++ bit ∷ []) found) c.in-None.is
+    subst (λ (o : Option Awaited). SearchStandsFor (record c.args.self.now { awaited = o; after = 0 }) c.args.room.now (bits ++ bit ∷ []) found) c.in-None.is
     (looked (goal.at.returns-in-None-clause-stands c).After-place_verified 0 t.2 t.3
     (subst (λ (o : Option Awaited). IfSome o (λ _. 0 ≡ c.verified_by-lag.result)) (sym c.in-None.is) tt)
     (subst (λ (o : Option Awaited). IfNone o (◌≡◌ {A = ℕ} 0 0)) (sym c.in-None.is) refl) s was bit bits found count kept free h)

@@ -3,7 +3,7 @@ use Rattle.std.proofs.lemmas.List.{append-nil}
 use Rattle.tm_base.specs.Bits.{low_bits}
 use Rattle.tm_base.proofs.Packing.{length-low_bits}
 use Rattle.tm_sync.specs.Places.{Rules, verify_bits}
-use Rattle.tm_sync.specs.Searching.{Searching, StandsFor, inside_of}
+use Rattle.tm_sync.specs.Searching.{Searching, SearchStandsFor, inside_of}
 use Rattle.tm_sync.proofs.Given.{none_few, few_more, few_free, few_less, first-zero, room-same, verify-none}
 use Rattle.tm_sync.proofs.Sliding.{bit_of, masked-bit, bits-bit, bits-all}
 use Rattle.tm_sync.proofs.search.Search.push_bits.Goals as goal
@@ -21,8 +21,8 @@ loop-left-init c = record {
     [],
     refl,
     λ room bits found few h.
-        subst (λ l. StandsFor c.pass_octet.new.self room l found) (sym (append-nil bits))
-        (subst (λ (v : Searching). StandsFor v room bits found)
+        subst (λ l. SearchStandsFor c.pass_octet.new.self room l found) (sym (append-nil bits))
+        (subst (λ (v : Searching). SearchStandsFor v room bits found)
         (sym (c.pass_octet.ensures.unchanged c.if-pass_octet.false)) h),
   );
 }
@@ -52,11 +52,11 @@ loop-left-preserved c =
         λ room bits found few h.
             let stood = was.2 room bits found few h in
             let none : length room ≡ 0 = stood.sized ∙ verify-none c.loop-left.self.rules (ap (λ (r : Rules). r.verify) c.loop-left.invariant.rules ∙ c.requires.alone) in
-            subst (λ (r : List ℕ). StandsFor c.push_bit.new.self r (bits ++ (was.0 ++ bit ∷ [])) found) (room-same c.push_bit.new.room room empty none)
-            (subst (λ l. StandsFor c.push_bit.new.self c.push_bit.new.room l found)
+            subst (λ (r : List ℕ). SearchStandsFor c.push_bit.new.self r (bits ++ (was.0 ++ bit ∷ [])) found) (room-same c.push_bit.new.room room empty none)
+            (subst (λ l. SearchStandsFor c.push_bit.new.self c.push_bit.new.room l found)
             (ap (λ b. (bits ++ was.0) ++ b ∷ []) (masked-bit (left - 1) octet) ∙ append_assoc bits was.0 (bit ∷ []))
             (c.push_bit.ensures.stands (bits ++ was.0) found (omega (arith, length-append bits was.0))
-            (subst (λ (r : List ℕ). StandsFor c.loop-left.self r (bits ++ was.0) found) (room-same room c.loop-left.room none c.loop-left.invariant.empty) stood))),
+            (subst (λ (r : List ℕ). SearchStandsFor c.loop-left.self r (bits ++ was.0) found) (room-same room c.loop-left.room none c.loop-left.invariant.empty) stood))),
       );
     }
 
@@ -66,4 +66,4 @@ returns-clause-first c = few_less _ _ c.loop-left.invariant.few
 pub returns-clause-stands : goal.returns-clause-stands
 returns-clause-stands c = λ room bits found few h.
     let was = c.loop-left.invariant.given in
-    subst (λ l. StandsFor c.loop-left.self room (bits ++ l) found) (sym (bits-all was.0 c.loop-left.left c.args.octet (omega arith) was.1)) (was.2 room bits found few h)
+    subst (λ l. SearchStandsFor c.loop-left.self room (bits ++ l) found) (sym (bits-all was.0 c.loop-left.left c.args.octet (omega arith) was.1)) (was.2 room bits found few h)

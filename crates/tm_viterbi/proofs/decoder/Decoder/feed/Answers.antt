@@ -1,6 +1,6 @@
 use Rattle.std.proofs.Common.{◌≡◌, ◌++◌, ◌∙◌, sym, subst, ap, arith, refl, length-append}
 use Rattle.tm_viterbi.specs.Streaming.{settings_of}
-use Rattle.tm_viterbi.specs.Decoding.{Decoding, StandsFor}
+use Rattle.tm_viterbi.specs.Decoding.{Decoding, DecoderStandsFor}
 use Rattle.tm_viterbi.proofs.Feeding.{Reaches-append, AreDue-reached, due_with, first_with}
 use Rattle.tm_viterbi.proofs.decoder.Decoder.feed.Goals as goal
 
@@ -13,7 +13,7 @@ returns-in-Ok-clause-handed g c =
       ok.0,
       ok.1,
       λ given done few stands.
-          let stood = subst (λ (d : Decoding). StandsFor d given done) (sym c.self.view_is) stands in
+          let stood = subst (λ (d : Decoding). DecoderStandsFor d given done) (sym c.self.view_is) stands in
           let reaches = ok.2 (given ++ piece) done (Reaches-append s given piece done stood.reaches) in (
             record {
               settings = refl;
@@ -34,6 +34,6 @@ returns-in-Err-clause-prefix g c = λ _.
       err.0,
       err.1,
       λ given done stands.
-          let stood = subst (λ (d : Decoding). StandsFor d given done) (sym c.self.view_is) stands in
+          let stood = subst (λ (d : Decoding). DecoderStandsFor d given done) (sym c.self.view_is) stands in
           first_with _ _ (given ++ piece) (done ++ err.0) set (err.2 (given ++ piece) done (Reaches-append s given piece done stood.reaches)),
     )

@@ -2,7 +2,7 @@ use Rattle.std.proofs.Common.{◌≡◌, ◌++◌, ◌∷◌, [], sym, subst, ap
 use Rattle.tm_viterbi.specs.Settings.{Settings}
 use Rattle.tm_viterbi.specs.Blocks.{AreBlocksOf}
 use Rattle.tm_viterbi.specs.Streaming.{settings_of}
-use Rattle.tm_viterbi.specs.Decoding.{Decoding, StandsFor}
+use Rattle.tm_viterbi.specs.Decoding.{Decoding, DecoderStandsFor}
 use Rattle.tm_viterbi.proofs.decoder.Decoder.finish.Goals as goal
 
 pub returns-clause-handed : goal.returns-clause-handed
@@ -12,7 +12,7 @@ returns-clause-handed g c =
       ok.0,
       ok.1,
       λ given done stands.
-          let stood = subst (λ (d : Decoding). StandsFor d given done) (sym c.self.view_is) stands in
+          let stood = subst (λ (d : Decoding). DecoderStandsFor d given done) (sym c.self.view_is) stands in
           subst (λ (v : Settings). AreBlocksOf v given (done ++ ok.0) c.in-Ok.left) set (ok.2 given done stood.open_step stood.reaches),
     )
 
@@ -23,7 +23,7 @@ returns-in_default-clause-prefix g c = λ _.
       err.0,
       err.1,
       λ given done stands.
-          let stood = subst (λ (d : Decoding). StandsFor d given done) (sym c.self.view_is) stands in
+          let stood = subst (λ (d : Decoding). DecoderStandsFor d given done) (sym c.self.view_is) stands in
           let last = err.2 given done stood.open_step stood.reaches in
           (last.0, subst (λ (v : Settings). AreBlocksOf v given (done ++ err.0 ∷ []) last.0) set last.1),
     )

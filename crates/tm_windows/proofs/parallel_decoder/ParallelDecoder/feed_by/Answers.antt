@@ -2,7 +2,7 @@ use Rattle.std.proofs.Common.{◌≡◌, ◌+◌, ◌++◌, ◌∙◌, ℕ, List
 use Rattle.tm_windows.specs.Followed.{Windows, AreFollowedFirst}
 use Rattle.tm_windows.specs.Windows.{AreDueIn, AreFirstIn}
 use Rattle.tm_windows.specs.Gathered.{windows_of}
-use Rattle.tm_windows.specs.ParallelDecoding.{ParallelDecoding, StandsFor}
+use Rattle.tm_windows.specs.ParallelDecoding.{ParallelDecoding, ParallelStandsFor}
 use Rattle.tm_windows.proofs.Gatherings.{Reaches-append, AreDue-reached, due-in, first-in, has_room}
 use Rattle.tm_windows.proofs.FollowedOnce.{followed-prefix}
 use Rattle.tm_windows.proofs.parallel_decoder.ParallelDecoder.feed_by.Goals as goal
@@ -37,11 +37,11 @@ returns-in-Ok-clause-handed g c =
       ok.0,
       ok.1,
       λ given done few stands.
-          let stood = subst (λ (d : ParallelDecoding). StandsFor d given done) (sym c.self.view_is) stands in
+          let stood = subst (λ (d : ParallelDecoding). ParallelStandsFor d given done) (sym c.self.view_is) stands in
           let reaches = ok.2 (given ++ taken) done (Reaches-append s given taken done stood.reaches) in
           let due = AreDue-reached c.take.new.self (given ++ taken) (done ++ ok.0) reaches c.take.ensures.is_open in
           let same = c.counted-piece.ensures.all (omega (arith, few, stood.count)) in
-          subst (λ (v : List ℕ). StandsFor now (given ++ v) (done ++ ok.0) × AreDueIn old.windows (given ++ v) (done ++ ok.0)) same (
+          subst (λ (v : List ℕ). ParallelStandsFor now (given ++ v) (done ++ ok.0) × AreDueIn old.windows (given ++ v) (done ++ ok.0)) same (
             record {
               windows = refl;
               count = omega (arith, stood.count, length-append given taken);
@@ -63,7 +63,7 @@ returns-in-Err-clause-prefix g c = λ _.
       err.0,
       err.1,
       λ given done stands.
-          let stood = subst (λ (d : ParallelDecoding). StandsFor d given done) (sym c.self.view_is) stands in
+          let stood = subst (λ (d : ParallelDecoding). ParallelStandsFor d given done) (sym c.self.view_is) stands in
           let first = err.2 (given ++ taken) done (Reaches-append s given taken done stood.reaches) in
           subst (λ (w : Windows). AreFirstIn w (given ++ c.args.piece.now) (done ++ err.0)) set
           (first-in s.seen (windows_of s) (given ++ c.args.piece.now) (done ++ err.0) refl

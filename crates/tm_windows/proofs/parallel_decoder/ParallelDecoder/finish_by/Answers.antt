@@ -2,7 +2,7 @@ use Rattle.std.proofs.Common.{◌≡◌, ◌++◌, arith, ℕ, sym, subst, ap, r
 use Rattle.tm_windows.specs.Followed.{Windows}
 use Rattle.tm_windows.specs.Windows.{AreBlocksIn, AreFirstIn}
 use Rattle.tm_windows.specs.Gathered.{windows_of}
-use Rattle.tm_windows.specs.ParallelDecoding.{ParallelDecoding, StandsFor}
+use Rattle.tm_windows.specs.ParallelDecoding.{ParallelDecoding, ParallelStandsFor}
 use Rattle.tm_windows.proofs.Gatherings.{has_room, first-in, blocks-in}
 use Rattle.tm_windows.proofs.parallel_decoder.ParallelDecoder.finish_by.Goals as goal
 
@@ -28,7 +28,7 @@ returns-clause-handed g c =
       ok.0,
       ok.1,
       λ given done stands.
-          let stood = subst (λ (d : ParallelDecoding). StandsFor d given done) (sym c.self.view_is) stands in
+          let stood = subst (λ (d : ParallelDecoding). ParallelStandsFor d given done) (sym c.self.view_is) stands in
           let are = ok.2 given done stood.reaches in (
             subst (λ (w : Windows). AreBlocksIn w given (done ++ ok.0) c.in-Ok.left) set
                 (blocks-in s.seen (windows_of s) given (done ++ ok.0) c.in-Ok.left refl are.0),
@@ -45,7 +45,7 @@ returns-in_default-clause-prefix g c = λ _.
       err.0,
       err.1,
       λ given done stands.
-          let stood = subst (λ (d : ParallelDecoding). StandsFor d given done) (sym c.self.view_is) stands in
+          let stood = subst (λ (d : ParallelDecoding). ParallelStandsFor d given done) (sym c.self.view_is) stands in
           subst (λ (w : Windows). AreFirstIn w given (done ++ err.0) ⊎ ((left : ℕ) × AreBlocksIn w given (done ++ err.0) left)) set
           (elim (err.2 given done stood.reaches) as (λ _. AreFirstIn (windows_of s) given (done ++ err.0) ⊎ ((left : ℕ) × AreBlocksIn (windows_of s) given (done ++ err.0) left)) [
             | inl first ↦ inl (first-in s.seen (windows_of s) given (done ++ err.0) refl first)

@@ -1,12 +1,12 @@
 use Rattle.std.proofs.Common.{◌++◌, sym, subst, arith, refl, length-append}
-use Rattle.tm_windows.specs.ParallelDecoding.{ParallelDecoding, StandsFor}
+use Rattle.tm_windows.specs.ParallelDecoding.{ParallelDecoding, ParallelStandsFor}
 use Rattle.tm_windows.proofs.Gatherings.{Reaches-append}
 use Rattle.tm_windows.proofs.parallel_decoder.ParallelDecoder.gather.Goals as goal
 
 pub returns-clause-gathered : goal.returns-clause-gathered
 returns-clause-gathered c = λ yes given done stands.
     let piece = c.args.piece.now in
-    let stood = subst (λ (d : ParallelDecoding). StandsFor d given done) (sym c.self.view_is) stands in
+    let stood = subst (λ (d : ParallelDecoding). ParallelStandsFor d given done) (sym c.self.view_is) stands in
     record {
       windows = refl;
       count = omega (arith, stood.count, length-append given piece);
