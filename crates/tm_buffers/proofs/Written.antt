@@ -3,8 +3,8 @@ use Rattle.std.proofs.Common.{◌≡◌, ◌≤◌, ◌<◌, ℕ, Bool, true, fa
 use Rattle.std.specs.Io.KnownBytes.{append_known}
 use Rattle.tm_base.specs.Outside.{Rose}
 use Rattle.tm_base.specs.Written.{WrotePrefix}
-use Rattle.tm_inner.specs.declared.sender.SendError.{SendError}
-use Rattle.tm_inner.specs.declared.sender.SendError.TheVariants.{Sink, Stopped}
+use Rattle.tm_inner.specs.declared.inner_sender.SendError.{SendError}
+use Rattle.tm_inner.specs.declared.inner_sender.SendError.TheVariants.{Sink, Stopped}
 use Rattle.tm_buffers.specs.Buffer.{Fills, told}
 
 -- the loan is the same, and the start of its buffer is what was written

@@ -3,17 +3,17 @@
 //! what takes memory is opened.
 #![tactic(auto)]
 
-mod bits;
-mod decoding;
+mod buffer_bits;
+mod buffer_decoder;
+mod buffer_receiver;
+mod buffer_sender;
 mod items;
-mod receiving;
 mod room;
 mod searching;
-mod sending;
 mod sink;
 
-pub use decoding::{BufferDecoder, bits_room};
+pub use buffer_decoder::{BufferDecoder, bits_room};
+pub use buffer_receiver::{BufferReceiver, items_room};
+pub use buffer_sender::{BufferSender, symbols_room};
 pub use items::Report;
-pub use receiving::{BufferReceiver, items_room};
 pub use searching::{find_in_bits, find_in_octets};
-pub use sending::{BufferSender, symbols_room};

@@ -4,9 +4,10 @@
 #![tactic(auto)]
 
 mod bit_receiver;
-mod columns;
+mod bit_stream;
+mod column_words;
 mod item;
-mod kept;
+mod kept_bits;
 mod laws;
 mod packed;
 mod receiver;
@@ -14,7 +15,6 @@ mod repair;
 mod sender;
 mod slot;
 mod store;
-mod stream;
 mod taking;
 mod totals;
 mod workers;

@@ -4,8 +4,8 @@ ghost use Rattle.tm_base.specs.Outside.{HasCause};
 ghost use Rattle.tm_channel.specs.Calls.{TakesBits};
 ghost use Rattle.tm_channel.specs.OctetReceiving.{Received, ReceivedPart};
 
+use crate::bit_stream::BitStream;
 use crate::item::ItemTaker;
-use crate::stream::BitStream;
 use crate::workers::Workers;
 use tm_base::Failed;
 use tm_codeblock::{pack, run_length};

@@ -18,11 +18,11 @@ ghost use Rattle.tm_channel.specs.Handing.{AreReceived, AreReceivedDue, AreRecei
 ghost use Rattle.tm_channel.specs.Calls.{Calls, Feeds, Finishes};
 ghost use Rattle.tm_channel.specs.OctetReceiving.{AreSlipsSoFar, FeedBreaks, FeedChooses, FeedHands, FinishBreaks, FinishChooses, FinishHands, ReceiverStandsFor};
 
+use crate::bit_stream::BitStream;
 use crate::item::ItemTaker;
-use crate::kept::KeptBits;
+use crate::kept_bits::KeptBits;
 use crate::packed::take_bits;
 use crate::store::Codeblocks;
-use crate::stream::BitStream;
 use crate::taking::{PIECE, end, take};
 use crate::totals::Totals;
 use crate::workers::{InOrder, SideBySide, Workers};

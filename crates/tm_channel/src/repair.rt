@@ -5,7 +5,7 @@ ghost use Rattle.tm_codeblock.specs.ReceivedCodeblock.{column_count};
 ghost use Rattle.tm_channel.specs.Receiving.{AreItemsFor};
 ghost use Rattle.tm_channel.specs.Storing.{AreDecoded, AreRead, item_in, stored_in};
 
-use crate::columns::read_columns;
+use crate::column_words::read_columns;
 use crate::slot::Slot;
 use crate::workers::Workers;
 use std::alloc::Global;

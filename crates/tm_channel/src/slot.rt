@@ -7,7 +7,7 @@ ghost use Rattle.tm_channel.specs.Items.{IsItem};
 ghost use Rattle.tm_channel.specs.Receiving.{stored_of};
 ghost use Rattle.tm_channel.specs.Storing.{IsDecoded, answers_of, item_in, stored_in};
 
-use crate::columns::write_frame;
+use crate::column_words::write_frame;
 use crate::item::{Item, are_fixed};
 use tm_codeblock::{column_count, has_code, read_codeblock};
 use tm_config::{Config, LONGEST_CODEBLOCK};

@@ -12,10 +12,10 @@ ghost use Rattle.tm_channel.specs.Calls.{TakesBits, TakesOctets};
 ghost use Rattle.tm_channel.specs.Receiving.{waiting_bits, piece_size};
 ghost use Rattle.tm_channel.specs.OctetReceiving.{Ends, FirstWith, Gathers, Grows, Received, ReceivedPart, StagesFor, StagesHand, received_bits};
 
+use crate::bit_stream::BitStream;
 use crate::item::ItemTaker;
-use crate::kept::KeptBits;
+use crate::kept_bits::KeptBits;
 use crate::packed::take_bits;
-use crate::stream::BitStream;
 use crate::totals::Totals;
 use crate::workers::Workers;
 use tm_base::Failed;

@@ -14,7 +14,7 @@ ghost use Rattle.tm_workers.specs.Words.{Decodes};
 ghost use Rattle.tm_channel.specs.Handing.{totals_of};
 ghost use Rattle.tm_channel.specs.OctetReceiving.{Keeps, KeepsPhase};
 
-use crate::kept::KeptBits;
+use crate::kept_bits::KeptBits;
 use crate::totals::Totals;
 use std::alloc::Global;
 use std::thread::Threads;

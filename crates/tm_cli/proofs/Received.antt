@@ -129,7 +129,7 @@ pub due-more : {T : Type 0} (took : T → Handed ItemValue → T → Type 0) (c 
     → now.config ≡ before.config → HandedOver took taker more taker_now
     → ((given : List ℕ) (done : List (Handed ItemValue)) → length given + length octets < 2 ^ 60 → ReceiverStandsFor before given done
     → ReceiverStandsFor now (given ++ octets) (done ++ more)
-        × AreReceivedDue before.config (given ++ octets) (done ++ more))
+    × AreReceivedDue before.config (given ++ octets) (done ++ more))
     → HandedDue c before (λ handed. HandedOver took start handed taker) given → HandedDue c now (λ handed. HandedOver took start handed taker_now) (given ++ octets)
 due-more took c before now start taker taker_now given octets more same handed stands was =
     let long = length-append given octets in

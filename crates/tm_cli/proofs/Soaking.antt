@@ -10,8 +10,8 @@ use Rattle.tm_config.specs.Accepted.{IsAccepted}
 use Rattle.tm_config.specs.Configuration.{Configuration, word_length, codeblock_length}
 use Rattle.tm_config.proofs.Lengths.{codeblock_length-le}
 use Rattle.tm_inner.specs.Sending.{InnerSending, InnerSendsPrefix, InnerSends, InnerSenderStandsFor}
-use Rattle.tm_inner.specs.declared.sender.SendError.{SendError}
-use Rattle.tm_inner.specs.declared.sender.SendError.TheVariants.{Sink, Stopped}
+use Rattle.tm_inner.specs.declared.inner_sender.SendError.{SendError}
+use Rattle.tm_inner.specs.declared.inner_sender.SendError.TheVariants.{Sink, Stopped}
 use Rattle.tm_inner.specs.Symbols.{symbols_of_octets}
 use Rattle.tm_inner.proofs.Symbols.{symbols-go_on, symbols-none}
 use Rattle.tm_channel.specs.Items.{ItemValue}

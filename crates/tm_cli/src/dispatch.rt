@@ -5,9 +5,9 @@ ghost use Rattle.tm_cli.specs.Refusal.{refusal_of_command};
 ghost use Rattle.tm_driver.specs.Answered.{Answered};
 ghost use Rattle.tm_driver.specs.Courses.{SinkWent, sink_call, source_call};
 
-use crate::decode::{decode, report};
-use crate::encode::encode;
-use crate::soak::soak;
+use crate::decode_command::{decode, report};
+use crate::encode_command::encode;
+use crate::soak_command::soak;
 use std::alloc::Global;
 use std::thread::Threads;
 use tm_base::{NoMemory, Sink, Source};

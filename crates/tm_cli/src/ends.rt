@@ -9,7 +9,7 @@ ghost use Rattle.tm_driver.specs.Courses.{SinkState, sink_state};
 ghost use Rattle.tm_driver.specs.Texts.{TookText, BrokeText};
 
 use crate::counts::Counts;
-use crate::lines::totals_line;
+use crate::report_lines::totals_line;
 use tm_base::{Failed, Sink};
 use tm_channel::Totals;
 

@@ -5,16 +5,16 @@
 #![tactic(auto)]
 
 mod counts;
-mod decode;
+mod decode_command;
 mod dispatch;
-mod encode;
+mod encode_command;
 mod ends;
 mod generated;
-mod lines;
 mod link;
 mod receiving;
 mod refusal;
-mod soak;
+mod report_lines;
+mod soak_command;
 mod soak_refusal;
 mod takers;
 mod top;
@@ -23,7 +23,7 @@ mod unit_symbols;
 pub use counts::Counts;
 pub use ends::end_report;
 pub use generated::generate_unit;
-pub use lines::{frame_line, frames_line};
+pub use report_lines::{frame_line, frames_line};
 pub use takers::{Decoding, Report};
 pub use tm_driver::phase_line;
 pub use tm_path_commands::{Tally, Trace, block_line, blocks_line, end_trace};

@@ -73,8 +73,7 @@ impl<'a, 'b, 'c, R: Threads + Sync, T: ItemTaker + ReportEnd> Feed for Receiving
 
     ghost same_more = { λ a b c p q. (q.0 ∙ p.0, q.1 ∙ p.1) };
 
-    ghost fed_none =
-        { λ a ready c start given. subst (HandedDue c a.receiver.now
+    ghost fed_none = { λ a ready c start given. subst (HandedDue c a.receiver.now
         (λ handed. HandedOver (on_handed T.took_phase T.took) start handed a.taker.now)) (sym (append-nil given)) };
 
     ghost fed_more = { λ a b last first second p q c start given was. subst

@@ -1,8 +1,8 @@
 // What takes items: it writes frames and lines, and counts.
 use crate::counts::Counts;
 use crate::ends::end_report;
-use crate::lines::frame_line;
 use crate::receiving::ReportEnd;
+use crate::report_lines::frame_line;
 use tm_base::{Failed, Sink, put_all};
 use tm_channel::{Item, ItemTaker, Totals};
 use tm_driver::phase_line;

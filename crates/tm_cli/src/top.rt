@@ -71,13 +71,7 @@ pub fn run<R: Threads + Sync, S: Source, O: Sink, N: Sink>(
     certificate_law();
     match parse(alloc, words) {
         Parsed::Command(job, config) => match dispatch(
-            rt,
-            alloc,
-            &job,
-            &config,
-            source,
-            out,
-            notes,
+            rt, alloc, &job, &config, source, out, notes,
         ) {
             Ok(ending) => ending.status(),
             Err(NoMemory) => 5,

@@ -4,12 +4,12 @@
 //! Synchronization).
 #![tactic(auto)]
 
+mod bit_gathering;
 mod cadus;
-mod gathering;
 mod packing;
 mod received;
 
+pub use bit_gathering::Gathering;
 pub use cadus::{LONGEST_CADU, basis_of, cadu, codeblock_size, column_count, has_code, params_of};
-pub use gathering::Gathering;
 pub use packing::{bits_of_octet, pack, run_length};
 pub use received::{finds_polarity, read_codeblock};

@@ -9,7 +9,7 @@ use Rattle.tm_viterbi.specs.declared.decoder.FeedError.{FeedError}
 use Rattle.tm_viterbi.specs.declared.decoder.FeedError.TheVariants.{Stopped, Taker}
 use Rattle.tm_windows.specs.Windows.{AreFirstIn}
 use Rattle.tm_inner.specs.declared.inner_decoder.InnerDecoder.{InnerDecoder}
-use Rattle.tm_inner.specs.declared.receiver.InnerEnd.{InnerEnd}
+use Rattle.tm_inner.specs.declared.inner_receiver.InnerEnd.{InnerEnd}
 use Rattle.tm_inner.specs.Inner.{inner_bits, reported_slips}
 use Rattle.tm_inner.specs.InnerDecoding.{has_stopped_in, windows_in, StandsIn}
 use Rattle.tm_inner.specs.Phase.{IsChosen, IsChosenSoFar}
@@ -74,12 +74,12 @@ pub record Finishes (before now : InnerReceiving) (taker : TakerCall (Handed Win
       → before.has_stopped ≡ false → IsChosen before.config given now.phased.chosen
   pub handed : IfOk result (λ end. (last : List (Handed WindowBlock)) × taker.took last
       × ((given : List ℕ) (done : List (Handed WindowBlock))
-          → InnerReceiverStandsFor before given done
+      → InnerReceiverStandsFor before given done
       → AreHanded before.config given (done ++ last) end.leftover
       × (end.bits ≡ length (inner_bits before.config given (items_of (done ++ last))))
       × (end.slips ≡ reported_slips before.config (items_of (done ++ last)))))
   pub prefix : IsErrOf result Taker → (tried : List (Handed WindowBlock)) × taker.broke tried
       × ((given : List ℕ) (done : List (Handed WindowBlock))
-          → InnerReceiverStandsFor before given done
+      → InnerReceiverStandsFor before given done
       → AreHandedPrefix before.config given (done ++ tried))
   pub left : IfOk result (λ end. end.leftover ≤ 1)

@@ -6,19 +6,19 @@
 mod code;
 mod counting;
 mod feeding;
-mod held;
+mod held_symbols;
 mod inner_decoder;
+mod inner_receiver;
+mod inner_sender;
 mod laws;
 mod nearest;
 mod phased;
-mod receiver;
-mod sender;
+mod received_whole;
 mod spreading;
-mod whole;
 mod workers;
 
 pub use code::{is_inverted, rate_of, shape_of};
+pub use inner_receiver::{InnerEnd, InnerReceiver};
+pub use inner_sender::{InnerSender, SendError};
 pub use laws::{clean_inner_law, due_bits_law, inner_law, metric_law};
-pub use receiver::{InnerEnd, InnerReceiver};
-pub use sender::{InnerSender, SendError};
-pub use whole::inner_all;
+pub use received_whole::inner_all;

@@ -15,7 +15,7 @@ ghost use Rattle.tm_inner.specs.Handing.{AreHanded, AreHandedDue, AreHandedPrefi
 
 use crate::code::{is_inverted, is_signed, rate_of};
 use crate::feeding::{count_due, decode, decoder_of, end, gather_octets, slips, steps};
-use crate::held::hold;
+use crate::held_symbols::hold;
 use crate::inner_decoder::InnerDecoder;
 use crate::workers::Feeding;
 use std::alloc::Global;

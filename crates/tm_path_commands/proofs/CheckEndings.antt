@@ -28,7 +28,7 @@ use Rattle.tm_driver.proofs.SinkTexts.{prefix-of, part-prefix, wrote-prefix, wro
 use Rattle.tm_path_commands.specs.Check.{ReadAt, IsChecked, IsCheckedDue, AreInOrder, bits_kept, check_meaning, windows_text, end_text, rules_of}
 use Rattle.tm_path_commands.specs.Checking.{Passes, Breaks, EndsBy, Fails, PassesMore, StopsBy, StopsInPiece, TookAfter, TookPartAfter}
 use Rattle.tm_path_commands.specs.Lines.{cut_text, trace_end_text, window_text}
-use Rattle.tm_path_commands.specs.declared.checking.Progress.{Progress}
+use Rattle.tm_path_commands.specs.declared.check_command.Progress.{Progress}
 use Rattle.tm_path_commands.proofs.CheckedWindows.{ReadOne, windows_text-append, all_kept-append, from-none, read-so_far}
 
 -- nothing was read yet

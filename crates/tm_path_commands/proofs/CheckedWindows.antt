@@ -22,7 +22,7 @@ use Rattle.tm_driver.proofs.SinkTexts.{wrote-then}
 use Rattle.tm_path_commands.specs.Check.{bits_kept, windows_text}
 use Rattle.tm_path_commands.specs.Checking.{Passes, Breaks, Fails, NoneFails, StopsBy, WroteBy, TookAfter, TookPartAfter, WroteWindow, WroteWindowPrefix, window_of}
 use Rattle.tm_path_commands.specs.Lines.{bad_text, window_text}
-use Rattle.tm_path_commands.specs.declared.checking.Progress.{Progress}
+use Rattle.tm_path_commands.specs.declared.check_command.Progress.{Progress}
 
 -- ---- the octets and the lines of windows
 

@@ -16,7 +16,7 @@ use Rattle.tm_driver.specs.declared.ending.Stop.{Stop}
 use Rattle.tm_driver.specs.declared.ending.Stop.TheVariants.{BadWindow, SinkFault}
 use Rattle.tm_path_commands.specs.Check.{ReadAt, bits_kept, check_meaning, windows_text}
 use Rattle.tm_path_commands.specs.Lines.{bad_text, window_text}
-use Rattle.tm_path_commands.specs.declared.checking.Progress.{Progress}
+use Rattle.tm_path_commands.specs.declared.check_command.Progress.{Progress}
 
 -- the window that is read
 abbrev pub window_of : Reading → Window

@@ -10,7 +10,7 @@ ghost use Rattle.tm_driver.specs.Driven.{turn_size};
 ghost use Rattle.tm_inner.specs.Inner.{nearest_bit, plain_bits};
 ghost use Rattle.tm_path_commands.specs.Bits.{Adds, CutsWriting, EndsWriting, FailsWriting, Gathers, GathersLast, HandsWindows, IsEmptied, WrotePart, WritesMore, WroteWaiting, bits_meaning, line_of};
 
-use crate::lines::bits_end_line;
+use crate::window_lines::bits_end_line;
 use std::alloc::Global;
 use std::marker::Model;
 use tm_base::{Failed, NoMemory, Sink, Source, put_all};

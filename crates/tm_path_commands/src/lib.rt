@@ -5,18 +5,18 @@
 
 mod bits_command;
 mod certificate;
-mod certifying;
-mod checking;
-mod lines;
+mod certify_command;
+mod check_command;
 mod tally;
+mod trace_command;
 mod trace_lines;
-mod tracing;
+mod window_lines;
 
 pub use bits_command::bits;
 pub use certificate::certificate_law;
-pub use certifying::certify;
-pub use checking::check;
-pub use lines::{block_line, blocks_line};
+pub use certify_command::certify;
+pub use check_command::check;
 pub use tally::Tally;
+pub use trace_command::trace;
 pub use trace_lines::{Trace, end_trace};
-pub use tracing::trace;
+pub use window_lines::{block_line, blocks_line};

@@ -9,8 +9,8 @@ ghost use Rattle.tm_path_commands.specs.Lines.{no_blocks, trace_end_text};
 ghost use Rattle.tm_path_commands.specs.Taken.{TracedAll};
 ghost use Rattle.tm_path_commands.specs.Trace.{blocks_text, trace_text};
 
-use crate::lines::{block_line, blocks_line};
 use crate::tally::Tally;
+use crate::window_lines::{block_line, blocks_line};
 use tm_base::{Failed, Sink};
 use tm_driver::phase_line;
 use tm_viterbi::{Block, BlockTaker};

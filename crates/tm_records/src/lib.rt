@@ -8,10 +8,10 @@
 #![tactic(auto)]
 
 mod coding;
-mod decoding;
 mod erased_command;
 mod hexadecimal;
 mod laws;
+mod record_decoding;
 mod records;
 mod word_command;
 

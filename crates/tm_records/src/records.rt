@@ -8,7 +8,7 @@ ghost use Rattle.tm_records.specs.Batch.{Batch, opened};
 ghost use Rattle.tm_records.specs.Records.{AreNearest, left_over, record_size};
 
 use crate::coding::Coding;
-use crate::decoding::decode_records;
+use crate::record_decoding::decode_records;
 use std::alloc::{AllocError, Global};
 use std::marker::Model;
 use std::thread::Threads;

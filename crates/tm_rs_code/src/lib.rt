@@ -7,11 +7,11 @@ mod lanes;
 mod laws;
 mod params;
 mod places;
-mod words;
+mod word_values;
 
 pub use laws::{
     distance_law, nearest_erased_law, nearest_law, pattern_law, systematic_codeword_law,
 };
 pub use params::{BadParams, Params};
 pub use places::{plain_values_at_places, values_at_places};
-pub use words::{count_erased, distance, is_codeword, short_syndromes, syndromes};
+pub use word_values::{count_erased, distance, is_codeword, short_syndromes, syndromes};

@@ -4,13 +4,13 @@
 #![tactic(auto)]
 
 mod counter;
-mod erasing;
+mod errata;
 mod factors;
 mod recurrence;
 mod roots;
 mod solving;
 
 pub use counter::Steps;
-pub use erasing::{locate_erased, solve_erased};
+pub use errata::{locate_erased, solve_erased};
 pub use factors::times_factor;
 pub use solving::{Locator, locate, solve};

@@ -13,7 +13,7 @@ ghost use Rattle.tm_rs_solve.specs.Naming.{NamesSymbol};
 
 use crate::answers::ErasedAnswer;
 use crate::dividing::{is_zero, remainder};
-use crate::values::{correct, error_at};
+use crate::error_values::{correct, error_at};
 use std::sync::ledger::Ledger;
 use tm_gf256::{Gf, see_range};
 use tm_rs_code::{Params, count_erased, short_syndromes, syndromes, values_at_places};

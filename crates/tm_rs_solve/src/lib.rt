@@ -7,8 +7,8 @@
 mod answers;
 mod dividing;
 mod erasing;
+mod error_values;
 mod uncounted;
-mod values;
 mod word;
 
 pub use answers::{Answer, ErasedAnswer};

@@ -7,7 +7,7 @@ ghost use Rattle.tm_rs_solve.specs.Answers.{found};
 
 use crate::answers::Answer;
 use crate::dividing::{is_zero, remainder};
-use crate::values::correct;
+use crate::error_values::correct;
 use std::sync::ledger::Ledger;
 use tm_gf256::{Gf, see_range};
 use tm_rs_code::{Params, short_syndromes, syndromes};

@@ -5,7 +5,6 @@
 
 mod block;
 mod clean_laws;
-mod columns;
 mod costs;
 mod decoder;
 mod filling;
@@ -16,6 +15,7 @@ mod narrow_column;
 mod narrow_steps;
 mod narrow_sums;
 mod passes;
+mod plain;
 mod stream;
 mod sums;
 mod traceback;
@@ -25,11 +25,11 @@ mod window_decoder;
 
 pub use block::{Block, BlockTaker, Start, first_start};
 pub use clean_laws::{clean_blocks_law, closed_windows_law, complemented_blocks_law};
-pub use columns::plain_column;
 pub use decoder::{Decoder, FeedError, STREAM_BOUND};
 pub use filling::BestPath;
 pub use lanes::lane_column;
 pub use laws::{due_law, one_list_law};
+pub use plain::plain_column;
 pub use sums::Sums;
 pub use whole::{AllError, decode_all, least_cost, least_cost_from};
 pub use window_decoder::{WindowDecoder, WindowShape};

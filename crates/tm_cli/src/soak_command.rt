@@ -1,0 +1,180 @@
+// The command `soak`: generated frames are sent, and what is received of them is counted.
+ghost use Rattle.std.specs.Prelude.{◌≡◌, ◌⊎◌, ◌+◌, ◌*◌, ◌^◌, ◌≤◌, ℕ, List, [], ◌++◌, length, false, Option, None, IfOk, OnErr};
+ghost use Rattle.tm_base.specs.Takers.{HandedOver};
+ghost use Rattle.tm_config.specs.Accepted.{IsAccepted};
+ghost use Rattle.tm_config.specs.Configuration.{Configuration, correctable};
+ghost use Rattle.tm_inner.specs.Sending.{InnerSenderStandsFor};
+ghost use Rattle.tm_inner.specs.Symbols.{symbols_of_octets};
+ghost use Rattle.tm_base.specs.Handed.{Handed, items_of};
+ghost use Rattle.tm_channel.specs.Handing.{AreReceived};
+ghost use Rattle.tm_channel.specs.Items.{ItemValue};
+ghost use Rattle.tm_channel.specs.OctetReceiving.{ReceiverStandsFor};
+ghost use Rattle.tm_cli.specs.Generated.{generated};
+ghost use Rattle.tm_cli.specs.Receiving.{HandedDue};
+ghost use Rattle.tm_cli.specs.Soak.{soak_meaning, soak_refusal, CountedHanded, counts_of};
+ghost use Rattle.tm_cli.specs.Taken.{no_counts};
+ghost use Rattle.tm_cli.specs.declared.counts.Counts.{Counts};
+ghost use Rattle.tm_driver.specs.Courses.{SinkWent, sink_call};
+ghost use Rattle.tm_driver.specs.Meaning.{Ends, taken_by};
+ghost use Rattle.tm_driver.specs.Statuses.{is_sink_fault};
+ghost use Rattle.tm_codeblock.specs.Cadu.{longest_cadu};
+
+use crate::counts::Counts;
+use crate::generated::generate_unit;
+use crate::report_lines::frames_line;
+use crate::unit_symbols::UnitSymbols;
+use rand_pcg::Lcg64Xsh32;
+use std::alloc::Global;
+use std::thread::Threads;
+use tm_base::{Failed, NoMemory, Sink};
+use tm_channel::{Config, InnerSender, Item, ItemTaker, OpenGate, Receiver, Totals, received_law};
+use tm_codeblock::LONGEST_CADU;
+use tm_driver::Ending;
+
+// Counts the items, and writes none.
+impl ItemTaker for Counts {
+    ghost use Rattle.std.specs.Prelude.{◌≡◌};
+    ghost use Rattle.tm_cli.specs.Soak.{Counted};
+
+    ghost faults = { λ _. 0 };
+
+    ghost is_last = { λ _. ⊥ };
+
+    ghost took = { Counted };
+
+    ghost broke = { λ _ _ _. ⊥ };
+
+    ghost took_phase = { λ a _ _ b. b ≡ a };
+
+    ghost broke_phase = { λ _ _ _ _. ⊥ };
+
+    fn item(&mut self, item: &Item<'_>) -> Result<(), Failed> {
+        self.add(item.answers);
+        Ok(())
+    }
+
+    fn phase(&mut self, _skip: u8, _cost: u64) -> Result<(), Failed> {
+        Ok(())
+    }
+}
+
+// Sends a unit, receives its symbols, and counts the items that are due.
+fn pass_unit<R: Threads + Sync>(
+    rt: &R,
+    unit: &[u8],
+    sender: &mut InnerSender,
+    receiver: &mut Receiver,
+    counts: &mut Counts,
+)
+    requires unit { length unit.now ≤ longest_cadu }
+    requires fresh { sender.old.has_failed ≡ false }
+    requires stands { (given : List ℕ) × InnerSenderStandsFor sender.old given }
+    requires ready { receiver.old.has_stopped ≡ false }
+    ensures fresh { sender.new.has_failed ≡ false }
+    ensures config { sender.new.config ≡ sender.old.config }
+    ensures stands { (given : List ℕ) → InnerSenderStandsFor sender.old given
+        → InnerSenderStandsFor sender.new (given ++ unit.now) }
+    ensures ready { receiver.new.has_stopped ≡ false }
+    ensures handed { (c : Configuration) (start : Counts) (given : List ℕ) → InnerSenderStandsFor sender.old given
+        → HandedDue c receiver.old
+        (λ handed. HandedOver CountedHanded start handed counts.old) (symbols_of_octets sender.old.config given)
+        → HandedDue c receiver.new
+        (λ handed. HandedOver CountedHanded start handed counts.new)
+        (symbols_of_octets sender.old.config (given ++ unit.now)) }
+{
+    let mut symbols = UnitSymbols::new();
+    let sent = sender.push(unit, &mut symbols);
+    let octets = symbols.octets();
+    sent.unwrap();
+    receiver.feed(rt, octets, counts, &OpenGate).unwrap();
+}
+
+// Sends generated frames, and receives them. Answers what was counted of the items that are due.
+#[tactic(auto, using(crate::proofs::Soaking::unit_few))]
+fn pass_frames<R: Threads + Sync>(
+    rt: &R,
+    config: &Config,
+    seed: u64,
+    frames: u64,
+    hits: u64,
+    receiver: &mut Receiver,
+) -> Counts
+    requires hits { hits ≤ 2 * correctable config.now.code }
+    requires ready { receiver.old.has_stopped ≡ false }
+    requires config { receiver.old.config ≡ config.now }
+    requires new { ReceiverStandsFor receiver.old [] [] }
+    ensures accepted { IsAccepted config.now }
+    ensures few { length (generated config.now seed frames hits) ≤ 2 ^ 15 * frames }
+    ensures ready { receiver.new.has_stopped ≡ false }
+    ensures handed { HandedDue config.now receiver.new
+        (λ handed. HandedOver CountedHanded no_counts handed result) (generated config.now seed frames hits) }
+{
+    let mut draws = Lcg64Xsh32::new(seed, 0);
+    let mut sender = InnerSender::new(config);
+    let mut counts = Counts::new();
+    let size = (config.depth() * config.word_length()) as usize + 4;
+    let mut room = [0; LONGEST_CADU];
+    let unit = &mut room[..size];
+    for _frame in 0..frames {
+        generate_unit(&mut draws, config, hits, unit);
+        pass_unit(rt, unit, &mut sender, receiver, &mut counts);
+    }
+    counts
+}
+
+// Sends generated frames, and receives them. Answers what was counted of all items, and what the octets came to.
+fn count_frames<R: Threads + Sync>(
+    rt: &R,
+    config: &Config,
+    seed: u64,
+    frames: u64,
+    hits: u64,
+    receiver: &mut Receiver,
+) -> (Counts, Totals)
+    requires accepted { soak_refusal config.now seed frames hits ≡ None }
+    requires ready { receiver.old.has_stopped ≡ false }
+    requires config { receiver.old.config ≡ config.now }
+    requires new { ReceiverStandsFor receiver.old [] [] }
+    ensures accepted { IsAccepted config.now }
+    ensures counted { (handed : List (Handed ItemValue))
+        × AreReceived config.now (generated config.now seed frames hits) handed result.1
+        × (result.0 ≡ counts_of (items_of handed)) }
+{
+    let mut counts = pass_frames(rt, config, seed, frames, hits, receiver);
+    let totals = receiver.finish(rt, &mut counts, &OpenGate).unwrap();
+    (counts, totals)
+}
+
+/// Sends frames that are generated by a seed, with `hits` symbols of each codeword changed on the way, and receives
+/// them. Writes the last line of the report, and no other line. `Bad` comes where a codeblock has an uncorrectable
+/// column. `NoMemory` comes before the first frame is generated; one frame at a time is held then.
+pub fn soak<R: Threads + Sync, O: Sink>(
+    rt: &R,
+    alloc: Global,
+    config: &Config,
+    seed: u64,
+    frames: u64,
+    hits: u64,
+    out: &mut O,
+) -> Result<Ending, NoMemory>
+    requires { soak_refusal config.now seed frames hits ≡ None }
+    ensures ends { IfOk result (λ ending. (noted : Option (List ℕ))
+        → Ends ending (soak_meaning seed frames hits config.now) config.now.limit []
+        (taken_by (O.taken out.old) (O.taken out.new) noted noted)) }
+    ensures memory { OnErr result (out.new ≡ out.old) }
+    ensures answers { IfOk result (λ ending. (ending ≡ Ending.Done) ⊎ (ending ≡ Ending.Bad) ⊎
+        (ending ≡ Ending.SinkFault)) }
+    ensures sink { IfOk result (λ ending. SinkWent (is_sink_fault ending)
+        (sink_call O.taken O.faults O.is_last out.old out.new)) }
+{
+    received_law();
+    let Ok(mut receiver) = Receiver::open(alloc, *config) else {
+        return Err(NoMemory);
+    };
+    let (counts, totals) = count_frames(rt, config, seed, frames, hits, &mut receiver);
+    match frames_line(out, counts.good, counts.bad, counts.fixed, totals.bits) {
+        Ok(()) if counts.bad == 0 => Ok(Ending::Done),
+        Ok(()) => Ok(Ending::Bad),
+        Err(Failed) => Ok(Ending::SinkFault),
+    }
+}

@@ -1,0 +1,11 @@
+use Rattle.std.proofs.Common.{◌≡◌, ◌<◌, ◌≤◌, ℕ, length}
+use Rattle.tm_gf256.specs.Poly.{entry, numbers, value_at}
+use Rattle.tm_rs_code.specs.Code.{root}
+use Rattle.tm_rs_code.proofs.word_values.short_syndromes.Given as goal
+
+abbrev pub invariant-loop-k : goal.invariant-loop-k
+invariant-loop-k l = record {
+  size : length l.found ≡ 32;
+  values : (j : ℕ) → j < l.k → entry l.found j ≡ value_at (numbers l.word) (root l.e j);
+  rest : (j : ℕ) → l.k ≤ j → entry l.found j ≡ 0;
+}
