@@ -16,3 +16,7 @@ cost (symbol ∷ symbols) (octet ∷ octets) = distance symbol octet + cost symb
 abbrev pub sure : List ℕ → List ℕ
 sure [] = []
 sure (symbol ∷ symbols) = (if symbol == 0 then 0 else 255) ∷ sure symbols
+
+-- the most that a branch metric is: a step sends two symbols at most
+abbrev pub most_branch_metric : ℕ
+most_branch_metric = 510

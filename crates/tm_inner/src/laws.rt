@@ -1,11 +1,13 @@
 // What holds of received octets, over the definitions alone.
 ghost use Rattle.std.specs.Prelude.{◌≡◌, ◌≤◌, ◌++◌, ◌+◌, ◌*◌, ℕ, Bool, List};
 ghost use Rattle.std.specs.List.{All};
+ghost use Rattle.tm_conv.specs.Cost.{most_branch_metric};
 ghost use Rattle.tm_base.specs.Bits.{AreOctets, bits_of};
 ghost use Rattle.tm_config.specs.Accepted.{IsAccepted};
 ghost use Rattle.tm_config.specs.Configuration.{Configuration};
 ghost use Rattle.tm_inner.specs.Inner.{IsStartKnown, AreInnerBlocks, AreInnerDue, Inner, inner_bits};
 ghost use Rattle.tm_viterbi.specs.WindowBlock.{WindowBlock};
+ghost use Rattle.tm_viterbi.specs.WindowSizes.{most_window};
 ghost use Rattle.tm_inner.specs.Symbols.{symbols_of_octets};
 
 use tm_viterbi::clean_blocks_law;
@@ -50,6 +52,6 @@ pub fn metric_law()
     ensures { (c : Configuration) (phase : ℕ) (octets : List ℕ) (blocks : List WindowBlock) (left : ℕ) → IsAccepted c
         → AreOctets octets
         → AreInnerBlocks c phase octets blocks left
-        → All (λ block. (block.steps ≤ c.keep + c.ahead) × (block.metric ≤ 510 * block.steps)
-        × (block.metric ≤ 35512320)) blocks }
+        → All (λ block. (block.steps ≤ c.keep + c.ahead) × (block.metric ≤ most_branch_metric * block.steps)
+        × (block.metric ≤ most_branch_metric * most_window)) blocks }
 {}

@@ -3,6 +3,7 @@ ghost use Rattle.std.specs.Prelude.{◌≡◌, ℕ, ◌+◌, ◌*◌, ◌≤◌,
 ghost use Rattle.tm_conv.specs.Path.{c1, c2, sent, step_size, step_symbols, steps_size, AreBits, path};
 ghost use Rattle.tm_conv.specs.Cost as metric;
 ghost use Rattle.tm_conv.specs.Columns.{last_certified};
+ghost use Rattle.tm_conv.specs.Cost.{most_branch_metric};
 
 use tm_conv::{Rate, kept, step_len};
 
@@ -48,7 +49,7 @@ impl<'a> Step<'a> {
         requires second { second < 2 }
         ensures cost { result ≡ metric.cost (sent self.now.rate self.now.invert self.now.t first second)
             self.now.octets.now }
-        ensures small { result ≤ 510 }
+        ensures small { result ≤ most_branch_metric }
     {
         let second = if self.invert { 1 - second } else { second };
         match kept(self.rate, self.t) {
@@ -65,7 +66,7 @@ impl<'a> Step<'a> {
         requires bit { bit < 2 }
         ensures cost { result ≡ metric.cost (step_symbols self.now.rate self.now.invert self.now.t register bit)
             self.now.octets.now }
-        ensures small { result ≤ 510 }
+        ensures small { result ≤ most_branch_metric }
     {
         self.cost_of(first_sum(register, bit), second_sum(register, bit))
     }

@@ -1,7 +1,7 @@
 // The branch metrics of a step: what each of its four pairs of c1 and c2 costs.
 ghost use Rattle.std.specs.Prelude.{◌≡◌, ◌++◌, min, IsTrue, Bool, ℕ, ◌+◌, ◌-◌, ◌*◌, ◌/◌, ◌%◌, ◌^◌, ◌<◌, ◌≤◌, List, take, drop, reverse, length, slice_index, nat_lt, if◌then◌else◌};
 ghost use Rattle.tm_conv.specs.Path.{keeps_c1, keeps_c2, sent_c2, step_size};
-ghost use Rattle.tm_conv.specs.Cost.{distance};
+ghost use Rattle.tm_conv.specs.Cost.{distance, most_branch_metric};
 ghost use Rattle.tm_viterbi.specs.Totals.{AreCosts};
 ghost use Rattle.tm_viterbi.specs.Masks.{two_step_masks};
 
@@ -46,7 +46,7 @@ fn c2_costs(is_sent: bool, invert: bool, octets: &[u8]) -> (u16, u16)
 pub(crate) fn step_costs(rate: Rate, invert: bool, t: u64, octets: &[u8]) -> Simd<u16, 4>
     requires { length octets.now ≡ step_size rate t }
     ensures costs { AreCosts rate invert t octets.now result }
-    ensures small { (k : ℕ) → k < 4 → slice_index result k ≤ 510 }
+    ensures small { (k : ℕ) → k < 4 → slice_index result k ≤ most_branch_metric }
 {
     let (sends_first, sends_second) = kept(rate, t);
     let first = c1_costs(sends_first, octets);
@@ -95,8 +95,8 @@ pub(crate) fn two_step_costs(masks: Simd<u8, 16>, octets: &[u8]) -> (Simd<u16, 4
         → AreCosts Rate.R12 invert t (take 2 octets.now) result.0 }
     ensures second { (invert : Bool) (t : ℕ) → masks ≡ two_step_masks invert
         → AreCosts Rate.R12 invert t (drop 2 octets.now) result.1 }
-    ensures first_small { (k : ℕ) → k < 4 → slice_index result.0 k ≤ 510 }
-    ensures second_small { (k : ℕ) → k < 4 → slice_index result.1 k ≤ 510 }
+    ensures first_small { (k : ℕ) → k < 4 → slice_index result.0 k ≤ most_branch_metric }
+    ensures second_small { (k : ℕ) → k < 4 → slice_index result.1 k ≤ most_branch_metric }
 {
     let each = u8x4::from_slice(octets).swizzle(FOUR_TIMES) ^ masks;
     let firsts = each.extract::<0, 8>().cast::<u16>();

@@ -1,6 +1,7 @@
 // A window that is filled by the steps of pieces.
 ghost use Rattle.std.specs.Prelude.{◌≡◌, IfOk, IsTrue, ℕ, ◌+◌, ◌-◌, ◌*◌, ◌^◌, ◌<◌, ◌≤◌, ◌++◌, List, Option, [], length, vec_len};
 ghost use Rattle.tm_conv.specs.Path.{steps_size};
+ghost use Rattle.tm_conv.specs.Cost.{most_branch_metric};
 ghost use Rattle.tm_viterbi.specs.Starts.{starts_from};
 ghost use Rattle.tm_viterbi.specs.Totals.{AreAtMost};
 ghost use Rattle.tm_viterbi.specs.WindowSizes.{most_window, window_bound};
@@ -40,7 +41,7 @@ pub(crate) struct Window {
     ghost few: { keep + ahead ≤ most_window },
     ghost room: { vec_len survivors ≡ keep + ahead },
     ghost within: { filled ≤ keep + ahead },
-    ghost bounded: { AreAtMost (2 ^ 30 + 510 * filled) sums },
+    ghost bounded: { AreAtMost (2 ^ 30 + most_branch_metric * filled) sums },
 }
 
 // Room for so many survivors.
@@ -133,8 +134,15 @@ impl Window {
             → kept ≡ kept_steps self.now.keep self.now.ahead remaining
             → IsBlock self.now.rate self.now.invert self.now.keep self.now.ahead self.now.starts self.now.t remaining
             (given ++ after)
-            (record { start = result.start; steps = self.now.filled; kept = kept; metric = result.metric;
-            bits = bits.new; end_state = result.end_state; dropped = 0 }) }
+            (record {
+              start = result.start;
+              steps = self.now.filled;
+              kept = kept;
+              metric = result.metric;
+              bits = bits.new;
+              end_state = result.end_state;
+              dropped = 0;
+            }) }
         ensures register { result.end_state < 64 }
     {
         let last = least_register(&self.sums);

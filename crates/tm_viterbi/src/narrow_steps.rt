@@ -1,6 +1,7 @@
 // Steps of the forward pass in sixteen bits.
 ghost use Rattle.std.specs.Prelude.{◌≡◌, ◌++◌, Bool, ℕ, ◌+◌, ◌-◌, ◌*◌, ◌^◌, ◌<◌, ◌≤◌, [], ◌∷◌, take, length};
 ghost use Rattle.tm_conv.specs.Path.{step_size, steps_size};
+ghost use Rattle.tm_conv.specs.Cost.{most_branch_metric};
 ghost use Rattle.tm_viterbi.specs.AddCompareSelect.{AreSortedPlaces};
 ghost use Rattle.tm_viterbi.specs.Totals.{StepsTo, AreAtMost, most_spread, most_narrow};
 ghost use Rattle.tm_viterbi.specs.Carries.{Carries, lifted};
@@ -24,9 +25,9 @@ fn narrow_step(
 ) -> (Simd<u16, 32>, Simd<u16, 32>, u64)
     requires places { AreSortedPlaces places }
     requires size { length octets.now ≡ step_size rate t }
-    requires room { AreAtMost (2 ^ 16 - 511) (low ++ high) }
+    requires room { AreAtMost (2 ^ 16 - 1 - most_branch_metric) (low ++ high) }
     ensures steps { StepsTo rate invert t octets.now (low ++ high) (result.0 ++ result.1) result.2 }
-    ensures bounded { (m : ℕ) → AreAtMost m (low ++ high) → AreAtMost (m + 510) (result.0 ++ result.1) }
+    ensures bounded { (m : ℕ) → AreAtMost m (low ++ high) → AreAtMost (m + most_branch_metric) (result.0 ++ result.1) }
     ensures long { (length result.0 ≡ 32) × (length result.1 ≡ 32) }
 {
     narrow_column(low, high, step_costs(rate, invert, t, octets), places)
@@ -46,12 +47,12 @@ fn narrow_run(
     requires size { steps_size rate t (length survivors.old) ≤ length soft.now }
     requires few { length survivors.old ≤ most_narrow }
     requires first { t + length survivors.old < 2 ^ 63 }
-    requires room { AreAtMost (2 ^ 16 - 1 - 510 * length survivors.old) (first_low ++ first_high) }
+    requires room { AreAtMost (2 ^ 16 - 1 - most_branch_metric * length survivors.old) (first_low ++ first_high) }
     ensures taken { result.2 ≡ steps_size rate t (length survivors.new) }
     ensures carries { (base : ℕ) → Carries rate invert t (take result.2 soft.now)
         (lifted base (first_low ++ first_high)) (lifted base (result.0 ++ result.1)) survivors.new }
     ensures bounded { (m : ℕ) → AreAtMost m (first_low ++ first_high)
-        → AreAtMost (m + 510 * length survivors.new) (result.0 ++ result.1) }
+        → AreAtMost (m + most_branch_metric * length survivors.new) (result.0 ++ result.1) }
     ensures long { (length result.0 ≡ 32) × (length result.1 ≡ 32) }
 {
     let mut low = first_low;
@@ -88,11 +89,12 @@ fn two_steps(
 ) -> (Simd<u16, 32>, Simd<u16, 32>, u64, u64)
     requires size { length octets.now ≡ 4 }
     requires places { AreSortedPlaces places }
-    requires room { AreAtMost (2 ^ 16 - 1021) (low ++ high) }
+    requires room { AreAtMost (2 ^ 16 - 1 - 2 * most_branch_metric) (low ++ high) }
     ensures carries { (invert : Bool) (t base : ℕ) → masks ≡ two_step_masks invert
         → Carries Rate.R12 invert t octets.now (lifted base (low ++ high)) (lifted base (result.0 ++ result.1))
         (result.2 ∷ result.3 ∷ []) }
-    ensures bounded { (m : ℕ) → AreAtMost m (low ++ high) → AreAtMost (m + 1020) (result.0 ++ result.1) }
+    ensures bounded { (m : ℕ) → AreAtMost m (low ++ high)
+        → AreAtMost (m + 2 * most_branch_metric) (result.0 ++ result.1) }
     ensures long { (length result.0 ≡ 32) × (length result.1 ≡ 32) }
 {
     let (first_costs, second_costs) = two_step_costs(masks, octets);
@@ -118,11 +120,12 @@ fn four_steps(
     requires size { length octets.now ≡ 8 }
     requires survivors { length survivors.old ≡ 4 }
     requires places { AreSortedPlaces places }
-    requires room { AreAtMost (2 ^ 16 - 2041) (low ++ high) }
+    requires room { AreAtMost (2 ^ 16 - 1 - 4 * most_branch_metric) (low ++ high) }
     ensures carries { (invert : Bool) (t base : ℕ) → masks ≡ two_step_masks invert
         → Carries Rate.R12 invert t octets.now (lifted base (low ++ high)) (lifted base (result.0 ++ result.1))
         survivors.new }
-    ensures bounded { (m : ℕ) → AreAtMost m (low ++ high) → AreAtMost (m + 2040) (result.0 ++ result.1) }
+    ensures bounded { (m : ℕ) → AreAtMost m (low ++ high)
+        → AreAtMost (m + 4 * most_branch_metric) (result.0 ++ result.1) }
     ensures long { (length result.0 ≡ 32) × (length result.1 ≡ 32) }
 {
     let (low_between, high_between, first, second) = two_steps(
@@ -159,12 +162,12 @@ fn narrow_half_rate(
     requires size { steps_size Rate.R12 t (length survivors.old) ≤ length soft.now }
     requires few { length survivors.old ≤ most_narrow }
     requires first { t + length survivors.old < 2 ^ 63 }
-    requires room { AreAtMost (2 ^ 16 - 1 - 510 * length survivors.old) (first_low ++ first_high) }
+    requires room { AreAtMost (2 ^ 16 - 1 - most_branch_metric * length survivors.old) (first_low ++ first_high) }
     ensures taken { result.2 ≡ steps_size Rate.R12 t (length survivors.new) }
     ensures carries { (base : ℕ) → Carries Rate.R12 invert t (take result.2 soft.now)
         (lifted base (first_low ++ first_high)) (lifted base (result.0 ++ result.1)) survivors.new }
     ensures bounded { (m : ℕ) → AreAtMost m (first_low ++ first_high)
-        → AreAtMost (m + 510 * length survivors.new) (result.0 ++ result.1) }
+        → AreAtMost (m + most_branch_metric * length survivors.new) (result.0 ++ result.1) }
     ensures long { (length result.0 ≡ 32) × (length result.1 ≡ 32) }
 {
     let masks = two_step_masks(invert);
@@ -217,7 +220,7 @@ pub(crate) fn narrow_at(
     ensures carries { (base : ℕ) → Carries rate invert t (take result.2 soft.now)
         (lifted base (low ++ high)) (lifted base (result.0 ++ result.1)) survivors.new }
     ensures bounded { (m : ℕ) → AreAtMost m (low ++ high)
-        → AreAtMost (m + 510 * length survivors.new) (result.0 ++ result.1) }
+        → AreAtMost (m + most_branch_metric * length survivors.new) (result.0 ++ result.1) }
     ensures long { (length result.0 ≡ 32) × (length result.1 ≡ 32) }
 {
     match rate {

@@ -1,6 +1,7 @@
 // The steps of the forward pass.
 ghost use Rattle.std.specs.Prelude.{◌≡◌, ◌++◌, min, IsTrue, ℕ, ◌+◌, ◌-◌, ◌*◌, ◌/◌, ◌%◌, ◌^◌, ◌<◌, ◌≤◌, List, take, drop, reverse, length, slice_index, nat_lt, if◌then◌else◌};
 ghost use Rattle.tm_conv.specs.Path.{step_size, steps_size, farthest_step};
+ghost use Rattle.tm_conv.specs.Cost.{most_branch_metric};
 ghost use Rattle.tm_viterbi.specs.Totals.{StepsTo, AreAtMost, most_spread, most_narrow};
 ghost use Rattle.tm_viterbi.specs.Carries.{Carries};
 
@@ -23,10 +24,10 @@ pub(crate) fn step(
     most: u32,
 ) -> u64
     requires size { length octets.now ≡ step_size rate t }
-    requires most { most + 510 < 2 ^ 32 }
+    requires most { most + most_branch_metric < 2 ^ 32 }
     requires bounded { AreAtMost most sums.old }
     ensures steps { StepsTo rate invert t octets.now sums.old sums.new result }
-    ensures bounded { AreAtMost (most + 510) sums.new }
+    ensures bounded { AreAtMost (most + most_branch_metric) sums.new }
 {
     let costs = wide_costs(step_costs(rate, invert, t, octets));
     let mut next = [0u32; 64];
@@ -54,7 +55,8 @@ fn narrow_block(
     requires close { (s : ℕ) → s < 64 → slice_index sums.old s ≤ least + most_spread }
     ensures taken { result ≡ steps_size rate t (length survivors.new) }
     ensures carries { Carries rate invert t (take result soft.now) sums.old sums.new survivors.new }
-    ensures bounded { (m : ℕ) → AreAtMost m sums.old → AreAtMost (m + 510 * length survivors.new) sums.new }
+    ensures bounded { (m : ℕ) → AreAtMost m sums.old
+        → AreAtMost (m + most_branch_metric * length survivors.new) sums.new }
 {
     let narrow = less_least(sums, least);
     let (first_low, first_high) = halves_of(&narrow);
@@ -75,11 +77,11 @@ fn wide_step(
 ) -> usize
     requires one { length survivors.old ≡ 1 }
     requires size { steps_size rate t 1 ≤ length soft.now }
-    requires most { most + 510 < 2 ^ 32 }
+    requires most { most + most_branch_metric < 2 ^ 32 }
     requires bounded { AreAtMost most sums.old }
     ensures taken { result ≡ steps_size rate t (length survivors.new) }
     ensures carries { Carries rate invert t (take result soft.now) sums.old sums.new survivors.new }
-    ensures bounded { AreAtMost (most + 510) sums.new }
+    ensures bounded { AreAtMost (most + most_branch_metric) sums.new }
 {
     let end = step_len(rate, t);
     survivors[0] = step(rate, invert, t, &soft[..end], sums, most);
@@ -99,9 +101,9 @@ pub(crate) fn run(
 )
     requires size { length soft.now ≡ steps_size rate t (length survivors.old) }
     requires first { t < farthest_step }
-    requires room { most + 510 * length survivors.old + 65536 < 2 ^ 32 }
+    requires room { most + most_branch_metric * length survivors.old + 65536 < 2 ^ 32 }
     requires bounded { AreAtMost most sums.old }
-    ensures bounded { AreAtMost (most + 510 * length survivors.new) sums.new }
+    ensures bounded { AreAtMost (most + most_branch_metric * length survivors.new) sums.new }
     ensures carries { Carries rate invert t soft.now sums.old sums.new survivors.new }
 {
     let mut done = 0usize;

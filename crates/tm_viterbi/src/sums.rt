@@ -28,6 +28,7 @@ pub struct Sums {
 impl Model for Sums {
     ghost use Rattle.std.specs.Prelude.{◌≤◌, ◌+◌, ◌*◌, ◌^◌};
     ghost use Rattle.tm_conv.specs.Columns.{last_certified};
+    ghost use Rattle.tm_conv.specs.Cost.{most_branch_metric};
     ghost use Rattle.tm_viterbi.specs.Totals.{AreAtMost};
     ghost use Rattle.tm_viterbi.specs.Summing.{Summing};
     ghost use Rattle.tm_viterbi.specs.WindowSizes.{most_window};
@@ -44,7 +45,7 @@ impl Model for Sums {
     } };
 
     ghost invariant = { λ s. (s.first ≤ last_certified) × (s.steps ≤ most_window)
-        × AreAtMost (2 ^ 30 + 510 * s.steps) s.column };
+        × AreAtMost (2 ^ 30 + most_branch_metric * s.steps) s.column };
 }
 
 impl Sums {
