@@ -4,10 +4,13 @@ use Rattle.tm_conv.specs.declared.rates.Rate.{Rate}
 use Rattle.tm_conv.specs.Path.{AreBits, path, register_after}
 use Rattle.tm_conv.specs.Cost.{cost}
 
--- what a register costs before any step: nothing where a path may start from it, and else 2^30,
 -- more than a window's path costs
+abbrev pub barred_cost : ℕ
+barred_cost = 2 ^ 30
+
+-- what a register costs before any step: nothing where a path may start from it, and else that
 abbrev pub first_cost : (ℕ → Bool) → ℕ → ℕ
-first_cost starts register = if starts register then 0 else 2 ^ 30
+first_cost starts register = if starts register then 0 else barred_cost
 
 -- a path from step t on, from any of the 64 registers, that has as many symbols as there are octets
 -- and ends in register `last`

@@ -5,7 +5,7 @@ ghost use Rattle.tm_conv.specs.declared.rates.Rate.TheVariants.{R12};
 ghost use Rattle.tm_conv.specs.Path.{AreBits, complement, next_register, step_symbols, step_size, steps_size, path};
 ghost use Rattle.tm_conv.specs.Cost.{cost};
 ghost use Rattle.tm_conv.specs.Best.{IsBest};
-ghost use Rattle.tm_conv.specs.Columns.{IsColumn, first_cost};
+ghost use Rattle.tm_conv.specs.Columns.{IsColumn, first_cost, barred_cost};
 
 /// From a known register, symbols that were not disturbed fix the bits, at every rate. It does nothing.
 pub fn clean_symbols_law()
@@ -60,9 +60,9 @@ pub fn columns_law()
     ensures least { (starts : ℕ → Bool) (rate : Rate) (invert : Bool) (t initial register : ℕ)
         (octets column bits : List ℕ)
         → IsColumn starts rate invert t octets column → IsBest starts rate invert t octets initial bits
-        → cost (path rate invert t initial bits) octets ≤ 2 ^ 30 → register < 64
+        → cost (path rate invert t initial bits) octets ≤ barred_cost → register < 64
         → cost (path rate invert t initial bits) octets ≤ slice_index column register }
     ensures most { (starts : ℕ → Bool) (rate : Rate) (invert : Bool) (t register : ℕ) (octets column : List ℕ)
         → All (λ octet. octet < 256) octets → IsColumn starts rate invert t octets column → register < 64
-        → slice_index column register ≤ 2 ^ 30 + 255 * length octets }
+        → slice_index column register ≤ barred_cost + 255 * length octets }
 {}

@@ -2,6 +2,7 @@
 ghost use Rattle.std.specs.Prelude.{◌≡◌, IfOk, IsTrue, ℕ, ◌+◌, ◌-◌, ◌*◌, ◌^◌, ◌<◌, ◌≤◌, ◌++◌, List, Option, [], length, vec_len};
 ghost use Rattle.tm_conv.specs.Path.{steps_size};
 ghost use Rattle.tm_conv.specs.Cost.{most_branch_metric};
+ghost use Rattle.tm_conv.specs.Columns.{barred_cost};
 ghost use Rattle.tm_viterbi.specs.Starts.{starts_from};
 ghost use Rattle.tm_viterbi.specs.Totals.{AreAtMost};
 ghost use Rattle.tm_viterbi.specs.WindowSizes.{most_window, window_bound};
@@ -41,7 +42,7 @@ pub(crate) struct Window {
     ghost few: { keep + ahead ≤ most_window },
     ghost room: { vec_len survivors ≡ keep + ahead },
     ghost within: { filled ≤ keep + ahead },
-    ghost bounded: { AreAtMost (2 ^ 30 + most_branch_metric * filled) sums },
+    ghost bounded: { AreAtMost (barred_cost + most_branch_metric * filled) sums },
 }
 
 // Room for so many survivors.

@@ -27,7 +27,7 @@ pub struct Sums {
 
 impl Model for Sums {
     ghost use Rattle.std.specs.Prelude.{◌≤◌, ◌+◌, ◌*◌, ◌^◌};
-    ghost use Rattle.tm_conv.specs.Columns.{last_certified};
+    ghost use Rattle.tm_conv.specs.Columns.{last_certified, barred_cost};
     ghost use Rattle.tm_conv.specs.Cost.{most_branch_metric};
     ghost use Rattle.tm_viterbi.specs.Totals.{AreAtMost};
     ghost use Rattle.tm_viterbi.specs.Summing.{Summing};
@@ -45,7 +45,7 @@ impl Model for Sums {
     } };
 
     ghost invariant = { λ s. (s.first ≤ last_certified) × (s.steps ≤ most_window)
-        × AreAtMost (2 ^ 30 + most_branch_metric * s.steps) s.column };
+        × AreAtMost (barred_cost + most_branch_metric * s.steps) s.column };
 }
 
 impl Sums {
