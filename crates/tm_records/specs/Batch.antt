@@ -7,7 +7,7 @@ use Rattle.tm_rs_solve.specs.Answers.{found_erased}
 use Rattle.tm_rs_solve.specs.declared.answers.ErasedAnswer.TheVariants.{Beyond}
 use Rattle.tm_workers.specs.declared.words.ErasedWord.{ErasedWord}
 use Rattle.tm_records.specs.declared.coding.Coding.{Coding}
-use Rattle.tm_records.specs.Records.{first_erased, first_word, record_size}
+use Rattle.tm_records.specs.Records.{first_erased, first_word, record_size, most_records}
 
 -- how a batch's words are decoded and by how many workers, its octets that were taken so far, and
 -- what was found nearest to the words of its records when they were decoded
@@ -27,8 +27,8 @@ pub record HasRoom (c : Coding) (size octets words taken decoded : ℕ) : Type 0
   pub is_size : size ≡ record_size c
   pub some : 0 < size
   pub most : size ≤ 2 * longest_word
-  pub room : octets ≡ 256 * size
-  pub count : words ≡ 256
+  pub room : octets ≡ most_records * size
+  pub count : words ≡ most_records
   pub few_octets : taken ≤ octets
   pub few_words : decoded ≤ words
 

@@ -9,7 +9,7 @@ use Rattle.tm_rs_code.specs.Erasures.{NearestErased}
 use Rattle.tm_rs_code.specs.Code.{longest_word}
 use Rattle.tm_records.specs.Batch.{Batch}
 use Rattle.tm_records.specs.declared.coding.Coding.{Coding}
-use Rattle.tm_records.specs.Records.{AreFirstNearest, AreNearest, left_over, record_size}
+use Rattle.tm_records.specs.Records.{AreFirstNearest, AreNearest, left_over, record_size, most_records}
 use Rattle.tm_records.specs.Erased.{is_beyond, nearest_lines}
 
 -- Of these octets the batch holds those after some whole batches. The lines of the records in these
@@ -20,7 +20,7 @@ pub record Holds (c : Coding) (batch : Batch) (beyond : Bool) (start now : Optio
   pub nearest : List NearestErased
   pub each : AreFirstNearest c octets nearest
   pub batches : ℕ
-  pub whole : length nearest ≡ 256 * batches
+  pub whole : length nearest ≡ most_records * batches
   pub prefix : List ℕ
   pub parts : octets ≡ prefix ++ batch.octets
   pub long : length prefix ≡ length nearest * record_size c
@@ -29,7 +29,7 @@ pub record Holds (c : Coding) (batch : Batch) (beyond : Bool) (start now : Optio
 
 -- the batch is not full
 abbrev pub HasSpace : Batch → Type 0
-HasSpace batch = length batch.octets < 256 * record_size batch.coding
+HasSpace batch = length batch.octets < most_records * record_size batch.coding
 
 -- the sink took a prefix of the lines of first records of these octets
 pub record Broke (c : Coding) (start now : Option (List ℕ)) (octets : List ℕ) : Type 0 where

@@ -42,9 +42,13 @@ pub record AreNearest (c : Coding) (octets : List ℕ) (nearest : List NearestEr
   pub each : AreFirstNearest c octets nearest
   pub all : length nearest ≡ record_count c octets
 
--- of so many records, those that are in whole batches of 256
+-- the records of a whole batch
+abbrev pub most_records : ℕ
+most_records = 256
+
+-- of so many records, those that are in whole batches
 abbrev pub in_batches : ℕ → ℕ
-in_batches count = 256 * (count / 256)
+in_batches count = most_records * (count / most_records)
 
 -- these are nearest to the words of the records that are in whole batches
 pub record AreNearestDue (c : Coding) (octets : List ℕ)

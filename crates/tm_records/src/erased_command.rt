@@ -9,7 +9,7 @@ ghost use Rattle.tm_rs_solve.specs.Answers.{found_erased};
 ghost use Rattle.tm_records.specs.Batch.{opened};
 ghost use Rattle.tm_records.specs.Erased.{coding_of, erased_meaning, erased_text, is_beyond, nearest_lines};
 ghost use Rattle.tm_records.specs.Erasing.{Broke, BreaksMore, HasSpace, Holds, HoldsMore, outcome_with, stand};
-ghost use Rattle.tm_records.specs.Records.{AreNearest, record_size};
+ghost use Rattle.tm_records.specs.Records.{AreNearest, record_size, most_records};
 ghost use Rattle.tm_records.specs.declared.coding.Coding.{Coding};
 
 use crate::coding::{Coding, LONGEST_WORD};
@@ -106,7 +106,7 @@ fn end_full<R: Threads + Sync, O: Sink>(
     out: &mut O,
     beyond: bool,
 ) -> Result<bool, Failed>
-    requires { length records.old.octets ≤ 256 * record_size records.old.coding }
+    requires { length records.old.octets ≤ most_records * record_size records.old.coding }
     ensures coding { records.new.coding ≡ records.old.coding }
     ensures space { OnOk result (HasSpace records.new) }
     ensures ok { IfOk result (λ now. (c : Coding) (start : Option (List ℕ)) (given : List ℕ)

@@ -4,7 +4,7 @@ ghost use Rattle.tm_base.specs.Limits.{most_workers};
 ghost use Rattle.tm_dual.specs.Octet.{element_of};
 ghost use Rattle.tm_gf256.specs.Poly.{numbers};
 ghost use Rattle.tm_records.specs.Batch.{AreRead, all_nearest};
-ghost use Rattle.tm_records.specs.Records.{AreFirstNearest, record_size};
+ghost use Rattle.tm_records.specs.Records.{AreFirstNearest, record_size, most_records};
 
 use crate::coding::Coding;
 use std::alloc::Global;
@@ -38,7 +38,7 @@ fn read_record(coding: &Coding, octets: &[u8], word: &mut ErasedWord)
 
 // Reads records, each into the word of its number.
 fn read_records(coding: &Coding, octets: &[u8], words: &mut [ErasedWord])
-    requires count { length words.old ≤ 256 }
+    requires count { length words.old ≤ most_records }
     requires size { length words.old * record_size coding.now ≤ length octets.now }
     ensures read { AreRead coding.now octets.now words.new }
     ensures length { length words.new ≡ length words.old }
@@ -64,7 +64,7 @@ pub fn decode_records<R: Threads + Sync, G: Gate + Sync>(
     requires bound { coding.now.repair ≤ coding.now.params.e }
     requires workers { (0 < workers) × (workers ≤ most_workers) }
     requires count { count ≤ length words.old }
-    requires most { length words.old ≤ 256 }
+    requires most { length words.old ≤ most_records }
     requires size { count * record_size coding.now ≤ length octets.now }
     ensures nearest { AreFirstNearest coding.now octets.now (all_nearest coding.now (take count words.new)) }
     ensures length { length words.new ≡ length words.old }

@@ -5,7 +5,7 @@ ghost use Rattle.tm_dual.specs.Octet.{sent_octet};
 ghost use Rattle.tm_rs_code.specs.Code.{longest_word};
 ghost use Rattle.tm_rs_solve.specs.Answers.{found_erased};
 ghost use Rattle.tm_records.specs.Batch.{Batch, opened};
-ghost use Rattle.tm_records.specs.Records.{AreNearest, left_over, record_size};
+ghost use Rattle.tm_records.specs.Records.{AreNearest, left_over, record_size, most_records};
 
 use crate::coding::Coding;
 use crate::record_decoding::decode_records;
@@ -61,8 +61,8 @@ impl Model for Records {
 // Room for a batch of records of so many octets.
 fn room(alloc: Global, size: usize) -> Result<(Vec<u8>, Vec<ErasedWord>), AllocError>
     requires { size ≤ 2 * longest_word }
-    ensures octets { IfOk result (λ r. length r.0.items ≡ 256 * size) }
-    ensures words { IfOk result (λ r. length r.1.items ≡ 256) }
+    ensures octets { IfOk result (λ r. length r.0.items ≡ most_records * size) }
+    ensures words { IfOk result (λ r. length r.1.items ≡ most_records) }
 {
     let word = ErasedWord {
         symbols: [Gf(0); 255],
@@ -100,7 +100,8 @@ impl Records {
 
     /// Takes octets from the start of `piece`, as many as the batch has room for, and answers how many.
     pub fn take(&mut self, piece: &[u8]) -> usize
-        ensures count { result ≡ min (length piece.now) (256 * record_size self.old.coding - length self.old.octets) }
+        ensures count { result ≡ min (length piece.now)
+            (most_records * record_size self.old.coding - length self.old.octets) }
         ensures octets { self.new.octets ≡ self.old.octets ++ take result piece.now }
         ensures coding { self.new.coding ≡ self.old.coding }
         ensures workers { self.new.workers ≡ self.old.workers }
@@ -115,8 +116,8 @@ impl Records {
 
     /// Whether the batch has 256 records.
     pub fn is_full(&self) -> bool
-        ensures full { IsTrue result ↔ (length self.now.octets ≡ 256 * record_size self.now.coding) }
-        ensures most { length self.now.octets ≤ 256 * record_size self.now.coding }
+        ensures full { IsTrue result ↔ (length self.now.octets ≡ most_records * record_size self.now.coding) }
+        ensures most { length self.now.octets ≤ most_records * record_size self.now.coding }
         ensures some { 0 < record_size self.now.coding }
     {
         self.taken == self.octets.len()
