@@ -6,6 +6,10 @@ use Rattle.std.specs.Prelude.{ℕ, List, [], ◌∷◌}
 abbrev pub marker : List ℕ
 marker = 0x1A ∷ 0xCF ∷ 0xFC ∷ 0x1D ∷ []
 
+-- how many octets it has
+abbrev pub marker_octets : ℕ
+marker_octets = 4
+
 -- the most of its bits that may be wrong
 abbrev pub most_tolerance : ℕ
 most_tolerance = 8

@@ -1,6 +1,7 @@
 -- A sender whose symbols go to a buffer.
 use Rattle.std.specs.Prelude.{◌≡◌, ℕ, ◌+◌, ◌*◌, ◌/◌, nat_le, false, if◌then◌else◌, List, Option, Some, None}
 use Rattle.std.specs.Option.{is_some}
+use Rattle.tm_codeblock.specs.Cadu.{unit_size}
 use Rattle.tm_base.specs.Bits.{AreOctets}
 use Rattle.tm_config.specs.Configuration.{Configuration, codeblock_length}
 use Rattle.tm_channel.specs.Sending.{Sending, SenderStandsFor}
@@ -16,7 +17,7 @@ most_symbols c = if is_some c.inner then 16 else if c.pack then 1 else 8
 -- time.
 abbrev pub symbols_room : Configuration → ℕ → Option ℕ
 symbols_room c count = if nat_le count most_taken
-    then Some ((count / c.frame_length + 1) * (codeblock_length c + 4) * most_symbols c + 1)
+    then Some ((count / c.frame_length + 1) * unit_size c * most_symbols c + 1)
     else None
 
 -- a sender that was given these octets and no others, and whose symbols all found room

@@ -4,7 +4,7 @@ ghost use Rattle.tm_base.specs.Pieces.{further};
 ghost use Rattle.tm_config.specs.Accepted.{IsAccepted};
 ghost use Rattle.tm_config.specs.Configuration.{codeblock_length};
 ghost use Rattle.tm_codeblock.specs.Frames.{after_frames};
-ghost use Rattle.tm_codeblock.specs.Cadu.{longest_cadu};
+ghost use Rattle.tm_codeblock.specs.Cadu.{longest_cadu, unit_size};
 ghost use Rattle.tm_channel.specs.Sent.{sent};
 ghost use Rattle.tm_buffers.specs.Buffer.{Fills, has_room};
 ghost use Rattle.tm_buffers.specs.Sending.{IsSending, most_symbols, symbols_room};
@@ -106,7 +106,7 @@ pub fn symbols_room(config: &Config, count: usize) -> Option<usize>
 
 // The octets of a unit: four of the marker, and those of the codeblock.
 fn unit_length(config: &Config) -> u64
-    ensures value { result ≡ codeblock_length config.now + 4 }
+    ensures value { result ≡ unit_size config.now }
     ensures most { result ≤ longest_cadu }
 {
     config.depth() * config.word_length() + 4

@@ -1,5 +1,6 @@
 // Units of frames of generated octets, whose codeblocks are changed.
 ghost use Rattle.std.specs.Prelude.{◌≡◌, ◌+◌, ◌*◌, ◌<◌, ◌≤◌, length};
+ghost use Rattle.tm_codeblock.specs.Cadu.{unit_size};
 ghost use Rattle.tm_config.specs.Configuration.{codeblock_length};
 ghost use Rattle.tm_cli.specs.Generated.{drawn, drawn_octets, changed_column, changed_columns, generated_unit, draw_count};
 
@@ -62,7 +63,7 @@ fn change_columns(draws: &mut Lcg64Xsh32, config: &Config, hits: u64, codeblock:
 /// after it.
 pub fn generate_unit(draws: &mut Lcg64Xsh32, config: &Config, hits: u64, unit: &mut [u8])
     requires hits { hits ≤ 32 }
-    requires unit { length unit.old ≡ codeblock_length config.now + 4 }
+    requires unit { length unit.old ≡ unit_size config.now }
     ensures unit { unit.new ≡ generated_unit config.now hits draws.old }
     ensures draws { draws.new ≡ drawn (draw_count config.now hits) draws.old }
     ensures size { length unit.new ≡ length unit.old }

@@ -2,9 +2,8 @@
 -- (CCSDS 131.0-B, Reed-Solomon Coding, Pseudo-Randomizer and Frame Synchronization).
 use Rattle.std.specs.Prelude.{ℕ, ◌+◌, if◌then◌else◌, List, ◌++◌, map}
 use Rattle.std.specs.List.{range_with_len}
-use Rattle.tm_base.specs.Marker.{marker}
-use Rattle.tm_config.specs.Configuration.{Configuration, correctable, is_uncoded, word_length}
-use Rattle.tm_config.specs.Configuration.{longest_codeblock}
+use Rattle.tm_base.specs.Marker.{marker, marker_octets}
+use Rattle.tm_config.specs.Configuration.{Configuration, correctable, is_uncoded, word_length, longest_codeblock, codeblock_length}
 use Rattle.tm_dual.specs.Octet.{sent_octet, element_of}
 use Rattle.tm_dual.specs.declared.basis.Basis.{Basis}
 use Rattle.tm_interleave.specs.Column.{column}
@@ -36,6 +35,10 @@ sent_codeblock c frame = if c.randomize then masked (codeblock_of c frame) else 
 unfoldable pub cadu : Configuration → List ℕ → List ℕ
 cadu c frame = marker ++ sent_codeblock c frame
 
--- the most octets of a unit: the marker's, and those of the longest codeblock
+-- how many a unit has: the marker's, and those of the codeblock
+abbrev pub unit_size : Configuration → ℕ
+unit_size c = codeblock_length c + marker_octets
+
+-- the most that one has
 abbrev pub longest_cadu : ℕ
-longest_cadu = 4 + longest_codeblock
+longest_cadu = marker_octets + longest_codeblock

@@ -4,7 +4,7 @@ ghost use Rattle.tm_config.specs.Accepted.{IsAccepted};
 ghost use Rattle.tm_config.specs.Configuration.{correctable, word_length, codeblock_length, longest_codeblock, deepest};
 ghost use Rattle.tm_interleave.specs.Column.{column};
 ghost use Rattle.tm_codeblock.specs.ReceivedCodeblock.{column_count};
-ghost use Rattle.tm_codeblock.specs.Cadu.{coded_octets, coded_column, codeblock_of, cadu};
+ghost use Rattle.tm_codeblock.specs.Cadu.{coded_octets, coded_column, codeblock_of, cadu, unit_size};
 
 use tm_base::MARKER;
 use tm_config::{Config, LONGEST_CODEBLOCK, OuterCode};
@@ -30,7 +30,7 @@ const MOST_CHECKS: usize = 32;
 /// The frame has as many octets as the configuration says, and `out` four more than the codeblock.
 pub fn cadu(config: &Config, frame: &[u8], out: &mut [u8])
     requires frame { length frame.now ≡ config.now.frame_length }
-    requires out { length out.old ≡ codeblock_length config.now + 4 }
+    requires out { length out.old ≡ unit_size config.now }
     ensures { out.new ≡ cadu config.now frame.now }
 {
     let (marker, codeblock) = out.split_at_mut(MARKER.len());

@@ -1,7 +1,8 @@
 -- The channel access data unit of a frame, by the numbers that a call is given.
-use Rattle.std.specs.Prelude.{ℕ, ◌+◌, ◌==◌, Option, Some, None, if◌then◌else◌}
+use Rattle.std.specs.Prelude.{ℕ, ◌==◌, Option, Some, None, if◌then◌else◌}
 use Rattle.std.specs.Option.{option_or}
-use Rattle.tm_config.specs.Configuration.{Configuration, codeblock_length, configuration_of, default_raw}
+use Rattle.tm_codeblock.specs.Cadu.{unit_size}
+use Rattle.tm_config.specs.Configuration.{Configuration, configuration_of, default_raw}
 use Rattle.tm_config.specs.declared.values.Raw.{Raw}
 use Rattle.tmchan_c.specs.Refusal.{values_refusal}
 use Rattle.tmchan_c.specs.declared.refusal.Refusal.{Refusal}
@@ -22,10 +23,6 @@ unit_raw code depth basis randomize frame =
 abbrev pub unit_configuration : ℕ → ℕ → ℕ → ℕ → ℕ → Configuration
 unit_configuration code depth basis randomize frame =
     configuration_of (unit_raw code depth basis randomize frame)
-
--- the octets of the unit of a frame: four of the marker, and those of the codeblock
-abbrev pub unit_size : Configuration → ℕ
-unit_size c = codeblock_length c + 4
 
 -- the first reason to refuse a frame of so many octets and room for so many, or none
 abbrev pub unit_refusal : ℕ → ℕ → ℕ → ℕ → ℕ → ℕ → Option Refusal

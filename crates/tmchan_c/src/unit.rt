@@ -1,8 +1,8 @@
 // Channel access data units.
 ghost use Rattle.std.specs.Prelude.{◌≡◌, ◌≢◌, ◌≤◌, Some, length, pos};
-ghost use Rattle.tm_codeblock.specs.Cadu.{cadu as cadu_of, longest_cadu};
+ghost use Rattle.tm_codeblock.specs.Cadu.{cadu as cadu_of, longest_cadu, unit_size};
 ghost use Rattle.tmchan_c.specs.Refusal.{answered, number_answer, values_refusal};
-ghost use Rattle.tmchan_c.specs.Unit.{unit_configuration, unit_raw, unit_refusal, unit_size};
+ghost use Rattle.tmchan_c.specs.Unit.{unit_configuration, unit_raw, unit_refusal};
 
 use crate::config::checked;
 use crate::refusal::Refusal;
