@@ -37,10 +37,14 @@ windows_of c rate = record {
 abbrev pub reported_slips : Configuration → List WindowBlock → Option ℕ
 reported_slips c blocks = if c.follow then Some (slips_of blocks) else None
 
--- a soft octet as one of which 0 is the surest 0 and 255 the surest 1; in the form i8 these are
+-- an octet, signed or not, as one of which 0 is the surest 0 and 255 the surest 1; signed these are
 -- -128 and 127, in two's complement
+abbrev pub unsigned_value : Bool → ℕ → ℕ
+unsigned_value is_signed octet = if is_signed then (octet + 128) % 256 else octet
+
+-- a soft octet as such, by the form of a configuration
 abbrev pub soft_value : Configuration → ℕ → ℕ
-soft_value c octet = if is_signed c.soft then (octet + 128) % 256 else octet
+soft_value c octet = unsigned_value (is_signed c.soft) octet
 
 -- the soft octets that are decoded: those after the skipped ones, and after `phase` more of them
 abbrev pub soft_octets : Configuration → ℕ → List ℕ → List ℕ

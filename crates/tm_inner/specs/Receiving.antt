@@ -1,6 +1,6 @@
 -- What an inner receiver keeps, and for which octets, given so far, and which blocks, handed over
 -- so far, it stands.
-use Rattle.std.specs.Prelude.{◌≡◌, ◌⊎◌, ℕ, ◌+◌, ◌<◌, ◌≤◌, ◌%◌, Bool, false, if◌then◌else◌, List, [], ◌++◌, length, map, drop, Option, Some, None}
+use Rattle.std.specs.Prelude.{◌≡◌, ◌⊎◌, ℕ, ◌+◌, ◌<◌, ◌≤◌, Bool, false, List, [], ◌++◌, length, map, drop, Option, Some, None}
 use Rattle.tm_base.specs.Handed.{Handed}
 use Rattle.tm_base.specs.Takers.{HandedOver, HandedPart}
 use Rattle.tm_config.specs.Configuration.{Configuration}
@@ -11,7 +11,7 @@ use Rattle.tm_viterbi.specs.WindowSizes.{stream_bound}
 use Rattle.tm_inner.specs.declared.inner_decoder.InnerDecoder.{InnerDecoder}
 use Rattle.tm_windows.specs.declared.choosing.Chosen.{Chosen}
 use Rattle.tm_windows.specs.Windows.{AreFirstIn}
-use Rattle.tm_inner.specs.Inner.{windows_of, soft_value, soft_octets}
+use Rattle.tm_inner.specs.Inner.{windows_of, soft_value, soft_octets, unsigned_value}
 use Rattle.tm_inner.specs.InnerDecoding.{HasClosed, HasCounted, windows_in, has_stopped_in, StandsIn}
 use Rattle.tm_inner.specs.Phase.{IsChosenBy, IsSettledBy, phase_octets, skip_of, with_phase}
 
@@ -128,10 +128,9 @@ FirstAt rate c phase octets = FirstFor rate c (soft_octets c phase octets)
 abbrev pub AreInnerFirst : Configuration → ℕ → List ℕ → List WindowBlock → Type 0
 AreInnerFirst c = FirstAt c.inner c
 
--- octets of which 0 is the surest 0 and 255 the surest 1; in the signed form these are -128 and
--- 127, in two's complement
+-- octets, signed or not, as unsigned ones
 abbrev pub from_form : Bool → List ℕ → List ℕ
-from_form is_signed octets = map (λ octet. if is_signed then (octet + 128) % 256 else octet) octets
+from_form is_signed octets = map (λ octet. unsigned_value is_signed octet) octets
 
 -- received octets as such
 abbrev pub soft_form : Configuration → List ℕ → List ℕ

@@ -1,5 +1,6 @@
 // The soft octets that wait for the choice of the symbol phase.
-ghost use Rattle.std.specs.Prelude.{◌≡◌, ◌++◌, ◌+◌, ◌-◌, ◌%◌, if◌then◌else◌, length, min, take};
+ghost use Rattle.std.specs.Prelude.{◌≡◌, ◌++◌, ◌+◌, ◌-◌, length, min, take};
+ghost use Rattle.tm_inner.specs.Inner.{unsigned_value};
 ghost use Rattle.tm_inner.specs.Receiving.{from_form};
 
 use tm_base::Held;
@@ -20,7 +21,7 @@ pub fn hold(held: &mut Held, is_signed: bool, octets: &[u8]) -> usize
 
 // An octet, signed or not, as an unsigned one.
 pub fn unsigned(is_signed: bool, octet: u8) -> u8
-    ensures { result ≡ (if is_signed then (octet + 128) % 256 else octet) }
+    ensures { result ≡ unsigned_value is_signed octet }
 {
     if is_signed {
         octet.wrapping_add(0x80)
