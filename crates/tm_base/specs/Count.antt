@@ -2,9 +2,13 @@
 use Rattle.std.specs.Prelude.{ℕ, ◌+◌, ◌-◌, ◌^◌, ◌==◌, Bool, min, List}
 use Rattle.std.specs.List.{list_any}
 
+-- the last count
+abbrev pub last_count : ℕ
+last_count = 2 ^ 64 - 1
+
 -- a count raised by a number
 abbrev pub raised_by : ℕ → ℕ → ℕ
-raised_by number count = min (count + number) (2 ^ 64 - 1)
+raised_by number count = min (count + number) last_count
 
 -- the call of this number is among those that are to fail
 abbrev pub is_failing : List ℕ → ℕ → Bool

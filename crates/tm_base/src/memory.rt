@@ -3,7 +3,7 @@ ghost use Rattle.std.specs.Prelude.{◌≡◌, ◌==◌, ◌||◌, ◌<◌, ◌�
 ghost use Rattle.std.specs.Io.{ReadsAtMost, WritesAtMost};
 ghost use Rattle.std.specs.Io.KnownBytes.{append_known, prepend_known, IsAtEnd};
 ghost use Rattle.tm_base.specs.Outside.{HasCause, HasWriteCause, moved, is_nothing};
-ghost use Rattle.tm_base.specs.Count.{raised_by, is_failing};
+ghost use Rattle.tm_base.specs.Count.{raised_by, is_failing, last_count};
 ghost use Rattle.tm_base.specs.SourceInMemory.{source_of, most_of, given_by, after_read};
 ghost use Rattle.tm_base.specs.SinkInMemory.{sink_of, taken_by, after_write};
 
@@ -91,7 +91,7 @@ impl Source for MemSource {
 
     ghost faults = { λ s. s.faults };
 
-    ghost is_last = { λ s. s.faults ≡ 2 ^ 64 - 1 };
+    ghost is_last = { λ s. s.faults ≡ last_count };
 
     fn read(&mut self, buf: &mut [u8]) -> Result<usize, Failed>
         ensures bound { ReadsAtMost result buf.new }
@@ -99,7 +99,7 @@ impl Source for MemSource {
         ensures left { Some self.old.left ≡ prepend_known (moved result buf.new) (Some self.new.left) }
         ensures ended { self.new.ended ≡ (self.old.ended || is_nothing result buf.new) }
         ensures end { IsTrue (is_nothing result buf.new) → IsAtEnd (Some self.new.left) }
-        ensures cause { HasCause self.old.faults self.new.faults (self.new.faults ≡ 2 ^ 64 - 1) result }
+        ensures cause { HasCause self.old.faults self.new.faults (self.new.faults ≡ last_count) result }
 
         // Which call fails, and how many octets each other call gives.
         ensures answer { result ≡ given_by self.old (length buf.old) }
@@ -212,12 +212,12 @@ impl Sink for MemSink {
 
     ghost faults = { λ s. s.faults };
 
-    ghost is_last = { λ s. s.faults ≡ 2 ^ 64 - 1 };
+    ghost is_last = { λ s. s.faults ≡ last_count };
 
     fn write(&mut self, piece: &[u8]) -> Result<usize, Failed>
         ensures bound { WritesAtMost result piece.now }
         ensures taken { Some self.new.octets ≡ append_known (Some self.old.octets) (moved result piece.now) }
-        ensures cause { HasWriteCause self.old.faults self.new.faults (self.new.faults ≡ 2 ^ 64 - 1) result piece.now }
+        ensures cause { HasWriteCause self.old.faults self.new.faults (self.new.faults ≡ last_count) result piece.now }
 
         // Which call fails, and how many octets each other call takes.
         ensures answer { result ≡ taken_by self.old piece.now }

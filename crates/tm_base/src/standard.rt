@@ -1,5 +1,6 @@
 // A source and a sink over std's readers and writers. They do not say which octets.
-ghost use Rattle.std.specs.Prelude.{◌≡◌, ◌^◌, ◌-◌, None, false};
+ghost use Rattle.std.specs.Prelude.{◌≡◌, None, false};
+ghost use Rattle.tm_base.specs.Count.{last_count};
 
 use crate::{Failed, Sink, Source};
 use std::io::{Read, Write};
@@ -35,7 +36,7 @@ impl<R: Read> Source for StdSource<R> {
 
     ghost faults = { λ s. s.faults };
 
-    ghost is_last = { λ s. s.faults ≡ 2 ^ 64 - 1 };
+    ghost is_last = { λ s. s.faults ≡ last_count };
 
     fn read(&mut self, buf: &mut [u8]) -> Result<usize, Failed> {
         let Ok(count) = self.reader.read(buf) else {
@@ -70,7 +71,7 @@ impl<W: Write> Sink for StdSink<W> {
 
     ghost faults = { λ s. s.faults };
 
-    ghost is_last = { λ s. s.faults ≡ 2 ^ 64 - 1 };
+    ghost is_last = { λ s. s.faults ≡ last_count };
 
     fn write(&mut self, piece: &[u8]) -> Result<usize, Failed> {
         let Ok(count) = self.writer.write(piece) else {
