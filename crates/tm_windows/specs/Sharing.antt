@@ -39,3 +39,7 @@ most_windows = 2 ^ 17
 -- the most octets that windows are decoded from at a time
 abbrev pub most_octets : ℕ
 most_octets = 2 ^ 62
+
+-- there is room for no more windows than this
+abbrev pub most_candidates : ℕ
+most_candidates = 2 ^ 32

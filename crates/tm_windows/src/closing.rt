@@ -1,9 +1,10 @@
 // How windows are decoded that close: side by side, by many workers, or one after another, with no thread.
-ghost use Rattle.std.specs.Prelude.{◌≡◌, ◌+◌, ◌*◌, ◌^◌, ◌<◌, ◌≤◌, ℕ, length};
+ghost use Rattle.std.specs.Prelude.{◌≡◌, ◌+◌, ◌*◌, ◌<◌, ◌≤◌, ℕ, length};
 ghost use Rattle.std.specs.List.{All};
 ghost use Rattle.tm_base.specs.Limits.{most_workers};
 ghost use Rattle.tm_viterbi.specs.WindowSizes.{window_bound};
 ghost use Rattle.tm_windows.specs.Candidates.{AreCandidates, HaveRoom, HoldsWindows};
+ghost use Rattle.tm_windows.specs.Sharing.{most_candidates};
 
 use crate::candidate::Candidate;
 use crate::decoding::decode_run;
@@ -27,7 +28,7 @@ pub(crate) trait Closing {
         requires ready { is_ready self.now (length from.now.octets.now) }
         requires some { (0 < length decoders.old) × (length decoders.old ≤ most_workers) }
         requires shape { All (λ d. d ≡ from.now.shape) decoders.old }
-        requires most { length run.old ≤ 2 ^ 32 }
+        requires most { length run.old ≤ most_candidates }
         requires bits { HaveRoom (from.now.shape.keep + from.now.shape.ahead) run.old }
         requires room { HoldsWindows from.now (length run.old) }
         requires few { from.now.t + length run.old * from.now.shape.keep < window_bound }

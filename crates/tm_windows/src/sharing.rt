@@ -1,5 +1,5 @@
 // Windows decoded side by side.
-ghost use Rattle.std.specs.Prelude.{◌≡◌, ◌+◌, ◌*◌, ◌^◌, ◌<◌, ◌≤◌, drop, length};
+ghost use Rattle.std.specs.Prelude.{◌≡◌, ◌+◌, ◌*◌, ◌<◌, ◌≤◌, drop, length};
 ghost use Rattle.std.specs.List.{All};
 ghost use Rattle.std.specs.Option.{ForSome};
 ghost use Rattle.std.specs.Thread.{IsSend, IsSync};
@@ -7,7 +7,7 @@ ghost use Rattle.tm_base.specs.Limits.{most_workers};
 ghost use Rattle.tm_conv.specs.Path.{steps_size};
 ghost use Rattle.tm_viterbi.specs.WindowSizes.{window_bound};
 ghost use Rattle.tm_windows.specs.Candidates.{AreCandidates, HaveRoom};
-ghost use Rattle.tm_windows.specs.Sharing.{most_octets};
+ghost use Rattle.tm_windows.specs.Sharing.{most_octets, most_candidates};
 
 use crate::candidate::Candidate;
 use crate::decoding::decode_run;
@@ -71,7 +71,7 @@ pub(crate) fn decode_evenly<R: Threads + Sync, G: Gate + Sync>(
     requires some { (0 < length decoders.old) × (length decoders.old ≤ most_workers) }
     requires shape { All (λ d. d ≡ shape) decoders.old }
     requires bits { HaveRoom (shape.keep + shape.ahead) candidates.old }
-    requires long { (length candidates.old ≤ 2 ^ 32) × (length octets.now ≤ most_octets) }
+    requires long { (length candidates.old ≤ most_candidates) × (length octets.now ≤ most_octets) }
     requires start { ForSome known (λ starts. ForSome starts (λ register. register < 64)) }
     requires within { at ≤ length octets.now }
     requires room { at + steps_size shape.rate t
@@ -128,12 +128,12 @@ fn decode_both<R: Threads + Sync, G: Gate + Sync>(
     requires start { ForSome known (λ starts. ForSome starts (λ register. register < 64)) }
     requires long { length octets.now ≤ most_octets }
     requires first { ((0 < length first.old) × (length first.old ≤ most_workers)) × All (λ d. d ≡ shape) first.old }
-    requires first_part { HaveRoom (shape.keep + shape.ahead) first_part.old × (length first_part.old ≤ 2 ^ 32)
+    requires first_part { HaveRoom (shape.keep + shape.ahead) first_part.old × (length first_part.old ≤ most_candidates)
         × (at ≤ length octets.now)
         × (at + steps_size shape.rate t (length first_part.old * shape.keep + shape.ahead + 1) ≤ length octets.now)
         × (t + length first_part.old * shape.keep < window_bound) }
     requires others { ((0 < length others.old) × (length others.old ≤ most_workers)) × All (λ d. d ≡ shape) others.old }
-    requires other_part { HaveRoom (shape.keep + shape.ahead) other_part.old × (length other_part.old ≤ 2 ^ 32)
+    requires other_part { HaveRoom (shape.keep + shape.ahead) other_part.old × (length other_part.old ≤ most_candidates)
         × (place ≤ length octets.now)
         × (place + steps_size shape.rate after (length other_part.old * shape.keep + shape.ahead + 1)
         ≤ length octets.now)
@@ -147,7 +147,7 @@ fn decode_both<R: Threads + Sync, G: Gate + Sync>(
         requires { IsSync R.row × IsSync G.row × ForSome known (λ starts. ForSome starts (λ register. register < 64))
             × (length octets.now ≤ most_octets)
             × ((0 < length first.now) × (length first.now ≤ most_workers)) × All (λ d. d ≡ shape) first.now
-            × HaveRoom (shape.keep + shape.ahead) first_part.now × (length first_part.now ≤ 2 ^ 32)
+            × HaveRoom (shape.keep + shape.ahead) first_part.now × (length first_part.now ≤ most_candidates)
             × (at ≤ length octets.now)
             × (at + steps_size shape.rate t (length first_part.now * shape.keep + shape.ahead + 1) ≤ length octets.now)
             × (t + length first_part.now * shape.keep < window_bound) }
@@ -157,7 +157,7 @@ fn decode_both<R: Threads + Sync, G: Gate + Sync>(
     let mut decode_other = ||
         requires { IsSync R.row × IsSync G.row × (length octets.now ≤ most_octets)
             × ((0 < length others.now) × (length others.now ≤ most_workers)) × All (λ d. d ≡ shape) others.now
-            × HaveRoom (shape.keep + shape.ahead) other_part.now × (length other_part.now ≤ 2 ^ 32)
+            × HaveRoom (shape.keep + shape.ahead) other_part.now × (length other_part.now ≤ most_candidates)
             × (place ≤ length octets.now)
             × (place + steps_size shape.rate after
             (length other_part.now * shape.keep + shape.ahead + 1) ≤ length octets.now)
@@ -165,6 +165,10 @@ fn decode_both<R: Threads + Sync, G: Gate + Sync>(
         ensures { AreCandidates shape after (drop place octets.entry.now) 0
             (length other_part.entry.now) other_part.exit.now
             × HaveRoom (shape.keep + shape.ahead) other_part.exit.now × All (λ d. d ≡ shape) others.exit.now }
-    { decode_evenly(rt, gate, shape, others, None, after, octets, place, other_part) };
+    {
+        decode_evenly(
+            rt, gate, shape, others, None, after, octets, place, other_part,
+        )
+    };
     join_mut(rt, &mut decode_first, &mut decode_other);
 }

@@ -1,5 +1,5 @@
 // Workers, with all that they need, that close several windows side by side.
-ghost use Rattle.std.specs.Prelude.{◌≡◌, ◌+◌, ◌*◌, ◌^◌, ◌<◌, ◌≤◌, IfOk, OnErr, OnOk, length, vec_len};
+ghost use Rattle.std.specs.Prelude.{◌≡◌, ◌+◌, ◌*◌, ◌<◌, ◌≤◌, IfOk, OnErr, OnOk, length, vec_len};
 ghost use Rattle.std.specs.List.{All};
 ghost use Rattle.std.specs.Option.{ForSome};
 ghost use Rattle.tm_base.specs.Calls.{taker_call};
@@ -12,7 +12,7 @@ ghost use Rattle.tm_viterbi.specs.WindowSizes.{most_window, window_bound};
 ghost use Rattle.tm_windows.specs.Candidates.{HaveRoom, HoldsWindows, ClosesWith};
 ghost use Rattle.tm_windows.specs.ClosedRun.{CanClose, ClosedRun};
 ghost use Rattle.tm_windows.specs.Followed.{dropped_at};
-ghost use Rattle.tm_windows.specs.Sharing.{most_octets};
+ghost use Rattle.tm_windows.specs.Sharing.{most_octets, most_candidates};
 
 use crate::candidate::Candidate;
 use crate::closing::Closing;
@@ -35,19 +35,19 @@ pub struct WindowWorkers {
 }
 
 impl Model for WindowWorkers {
-    ghost use Rattle.std.specs.Prelude.{◌≡◌, ◌+◌, ◌<◌, ◌≤◌, ◌^◌, vec_len};
+    ghost use Rattle.std.specs.Prelude.{◌≡◌, ◌+◌, ◌<◌, ◌≤◌, vec_len};
     ghost use Rattle.std.specs.List.{All};
     ghost use Rattle.tm_base.specs.Limits.{most_workers};
     ghost use Rattle.tm_viterbi.specs.WindowSizes.{most_window};
     ghost use Rattle.tm_windows.specs.Candidates.{HaveRoom};
-    ghost use Rattle.tm_windows.specs.Sharing.{Sharing};
+    ghost use Rattle.tm_windows.specs.Sharing.{Sharing, most_candidates};
 
     ghost Value = { Sharing };
 
     ghost view = { λ w. record { shape = w.shape; most = vec_len w.candidates; workers = vec_len w.decoders } };
 
     ghost invariant = { λ w. (w.shape.keep + w.shape.ahead ≤ most_window)
-        × ((0 < vec_len w.decoders) × (vec_len w.decoders ≤ most_workers)) × (vec_len w.candidates ≤ 2 ^ 32)
+        × ((0 < vec_len w.decoders) × (vec_len w.decoders ≤ most_workers)) × (vec_len w.candidates ≤ most_candidates)
         × All (λ d. d ≡ w.shape) w.decoders.items × HaveRoom (w.shape.keep + w.shape.ahead) w.candidates.items };
 }
 
@@ -101,7 +101,7 @@ fn close_run<C: Closing, B: BlockTaker>(
     requires ready { C.is_ready by.now (length from.now.octets.now) }
     requires shape { All (λ d. d ≡ from.now.shape) decoders.old }
     requires small { from.now.shape.keep + from.now.shape.ahead ≤ most_window }
-    requires most { (count ≤ length candidates.old) × (length candidates.old ≤ 2 ^ 32) }
+    requires most { (count ≤ length candidates.old) × (length candidates.old ≤ most_candidates) }
     requires bits { HaveRoom (from.now.shape.keep + from.now.shape.ahead) candidates.old }
     requires room { HoldsWindows from.now count }
     requires few { from.now.t + count * from.now.shape.keep < window_bound }
@@ -132,7 +132,7 @@ fn close_side_by_side<R: Threads + Sync, B: BlockTaker, G: Gate + Sync>(
     requires long { length octets.now ≤ most_octets }
     requires shape { All (λ d. d ≡ shape) decoders.old }
     requires small { shape.keep + shape.ahead ≤ most_window }
-    requires most { (count ≤ length candidates.old) × (length candidates.old ≤ 2 ^ 32) }
+    requires most { (count ≤ length candidates.old) × (length candidates.old ≤ most_candidates) }
     requires bits { HaveRoom (shape.keep + shape.ahead) candidates.old }
     requires start { ForSome starts (λ register. register < 64) }
     requires room { steps_size shape.rate t (count * shape.keep + shape.ahead + 1) ≤ length octets.now }
@@ -164,7 +164,7 @@ impl WindowWorkers {
     ) -> Result<WindowWorkers, NoMemory>
         requires steps { shape.keep + shape.ahead ≤ most_window }
         requires workers { (0 < workers) × (workers ≤ most_workers) }
-        requires most { most ≤ 2 ^ 32 }
+        requires most { most ≤ most_candidates }
         ensures { IfOk result (λ w. w ≡ record { shape = shape; most = most; workers = workers }) }
     {
         let Ok(decoders) = new_decoders(alloc, shape, usize::from(workers)) else {
