@@ -5,7 +5,7 @@ use Rattle.tm_base.specs.Limits.{most_workers}
 use denote.Param.Members.{Shared}
 use denote.Ref.{Bor, MutBor}
 use Rattle.tm_rs_code.specs.Code.{Code}
-use Rattle.tm_workers.specs.Batch.{EachBecomes}
+use Rattle.tm_workers.specs.Batch.{EachBecomes, words_bound}
 use Rattle.tm_workers.specs.Words.{Decodes}
 use Rattle.tm_workers.specs.declared.words.Word.{Word}
 
@@ -16,7 +16,8 @@ abbrev pub DecodesWords : {F : Type 0}
     × (MutBor (List Word) × Unit {0})) → F → Type 0
 DecodesWords g f = (alloc : Global) (params : Bor Code) (repair : ℕ) (words : MutBor (List Word))
     (workers : ℕ)
-    → repair ≤ params.now.e → length words.now < 2 ^ 32 → (0 < workers) × (workers ≤ most_workers)
+    → repair ≤ params.now.e → length words.now < words_bound
+    → (0 < workers) × (workers ≤ most_workers)
     → g.pre f (alloc, (params, (repair, (words, (workers, tt)))))
     × ((left : MutBor (List Word))
     → g.post f (alloc, (params, (repair, (words, (workers, tt))))) (tt, (left, tt))

@@ -9,7 +9,7 @@ ghost use Rattle.tm_inner.specs.Inner.{inner_bits};
 ghost use Rattle.tm_inner.specs.Phase.{IsChosen};
 ghost use Rattle.tm_inner.specs.Handing.{AreHanded, AreHandedDue};
 ghost use Rattle.tm_inner.specs.Receiving.{InnerReceiverStandsFor};
-ghost use Rattle.tm_workers.specs.Batch.{EachBecomes};
+ghost use Rattle.tm_workers.specs.Batch.{EachBecomes, words_bound};
 ghost use Rattle.tm_workers.specs.Words.{Decodes};
 ghost use Rattle.tm_channel.specs.Handing.{totals_of};
 ghost use Rattle.tm_channel.specs.OctetReceiving.{Keeps, KeepsPhase};
@@ -76,7 +76,7 @@ pub trait Workers {
     fn decode(&self, alloc: Global, params: &Params, repair: u8, words: &mut [Word], workers: u8)
         requires ready { is_ready self.now }
         requires bound { repair ≤ params.now.e }
-        requires count { length words.old < 2 ^ 32 }
+        requires count { length words.old < words_bound }
         requires workers { (0 < workers) × (workers ≤ most_workers) }
         ensures { EachBecomes (Decodes params.now repair) words.old words.new };
 }

@@ -10,13 +10,17 @@ EachBecomes becomes [] (w' ∷ ws') = ⊥
 EachBecomes becomes (w ∷ ws) [] = ⊥
 EachBecomes becomes (w ∷ ws) (w' ∷ ws') = becomes w w' × EachBecomes becomes ws ws'
 
+-- a batch has fewer words than this
+abbrev pub words_bound : ℕ
+words_bound = 2 ^ 32
+
 -- a batch of so many words that workers are to decode: the repair bound is at most that of the code
 pub record IsBatch (e repair words workers : ℕ) : Type 0 where
   pub bound : repair ≤ e
-  pub count : words < 2 ^ 32
+  pub count : words < words_bound
   pub some : (0 < workers) × (workers ≤ most_workers)
 
 -- so many words of a batch, of which this is the first one's number
 pub record IsPart (e repair first words : ℕ) : Type 0 where
   pub bound : repair ≤ e
-  pub count : first + words < 2 ^ 32
+  pub count : first + words < words_bound

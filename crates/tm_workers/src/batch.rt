@@ -1,6 +1,6 @@
 // Batches of words.
-ghost use Rattle.std.specs.Prelude.{All, ◌≡◌, ◌<◌, ◌≤◌, ◌^◌, length, OnOk, OnErr, slice_index_or};
-ghost use Rattle.tm_workers.specs.Batch.{EachBecomes, IsBatch};
+ghost use Rattle.std.specs.Prelude.{All, ◌≡◌, ◌<◌, ◌≤◌, length, OnOk, OnErr, slice_index_or};
+ghost use Rattle.tm_workers.specs.Batch.{EachBecomes, IsBatch, words_bound};
 ghost use Rattle.tm_workers.specs.Words.{Decodes, DecodesErased};
 ghost use Rattle.tm_workers.specs.Working.{all_drawn, put_all};
 
@@ -123,7 +123,7 @@ pub fn decode_erased_batch<R: Threads + Sync, G: Gate + Sync>(
 /// enters no gate and takes no memory. The words are fewer than 2^32, and `repair` at most e.
 pub fn decode_in_order(params: &Params, repair: u8, words: &mut [Word])
     requires bound { repair ≤ params.now.e }
-    requires count { length words.old < 2 ^ 32 }
+    requires count { length words.old < words_bound }
     ensures { EachBecomes (Decodes params.now repair) words.old words.new }
 {
     decode_part(&OpenGate, params, repair, 0, words);

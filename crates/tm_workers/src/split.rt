@@ -1,7 +1,7 @@
 // The words in nearly equal parts, one for each worker.
-ghost use Rattle.std.specs.Prelude.{◌≡◌, ◌+◌, ◌<◌, ◌≤◌, ◌^◌, length};
+ghost use Rattle.std.specs.Prelude.{◌≡◌, ◌+◌, ◌<◌, ◌≤◌, length};
 ghost use Rattle.std.specs.Thread.{IsSend, IsSync};
-ghost use Rattle.tm_workers.specs.Batch.{EachBecomes, IsPart};
+ghost use Rattle.tm_workers.specs.Batch.{EachBecomes, IsPart, words_bound};
 
 use crate::words::InPlace;
 use std::thread::{Threads, join_mut};
@@ -67,7 +67,7 @@ fn split_both<R: Threads + Sync, G: Gate + Sync, W: InPlace + Send>(
 )
     requires bound { repair ≤ params.now.e }
     requires workers { 2 ≤ workers }
-    requires count { first + length first_half.old + length other_half.old < 2 ^ 32 }
+    requires count { first + length first_half.old + length other_half.old < words_bound }
     ensures first_half { EachBecomes (W.becomes params.now repair) first_half.old first_half.new }
     ensures other_half { EachBecomes (W.becomes params.now repair) other_half.old other_half.new }
 {
@@ -76,12 +76,12 @@ fn split_both<R: Threads + Sync, G: Gate + Sync, W: InPlace + Send>(
     let after = first + first_half.len() as u32;
     let mut decode_first = ||
         requires { IsSync R.row × IsSync G.row × IsSend W.row × (repair ≤ params.now.e)
-            × (first + length first_half.now < 2 ^ 32) }
+            × (first + length first_half.now < words_bound) }
         ensures { EachBecomes (W.becomes params.entry.now repair) first_half.entry.now first_half.exit.now }
     { split_evenly(rt, gate, params, repair, first, some, first_half) };
     let mut decode_other = ||
         requires { IsSync R.row × IsSync G.row × IsSend W.row × (repair ≤ params.now.e)
-            × (after + length other_half.now < 2 ^ 32) }
+            × (after + length other_half.now < words_bound) }
         ensures { EachBecomes (W.becomes params.entry.now repair) other_half.entry.now other_half.exit.now }
     { split_evenly(rt, gate, params, repair, after, others, other_half) };
     join_mut(rt, &mut decode_first, &mut decode_other);

@@ -1,5 +1,6 @@
 // The numbers below a limit, drawn from a counter.
 ghost use Rattle.std.specs.Prelude.{◌≡◌, ◌<◌, ◌^◌};
+ghost use Rattle.tm_workers.specs.Batch.{words_bound};
 
 use crate::rule::{Both, Counts, Draws, EachOnce, cut_shares};
 use crate::seats::{Seat, View};
@@ -16,7 +17,7 @@ pub struct Tickets {
     pub(crate) limit: u32,
     ghost limit_is: { limit ≡ table.shared.key },
     ghost one_word: { table.shared.table_id.words ≡ 1 },
-    ghost small: { limit < 2 ^ 32 },
+    ghost small: { limit < words_bound },
     ghost no_slots: { table.shared.table_id.slots ≡ 0 },
 }
 
