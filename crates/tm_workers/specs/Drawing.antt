@@ -16,9 +16,13 @@ view limit drawn shares spent = record {
   spent = spent;
 }
 
+-- how many shares there are: no more seats draw than this
+abbrev pub all_shares : ℕ
+all_shares = 64
+
 -- what the first seat knows: it has all shares
 abbrev pub first_view : ℕ → View
-first_view limit = view limit [] 64 false
+first_view limit = view limit [] all_shares false
 
 -- the shares of a seat that may still draw
 abbrev pub live_shares : View → ℕ
@@ -39,8 +43,8 @@ pub record Fits (n counter : ℕ) (v : View) : Type 0 where
 pub record HoldsWhile (n counter : ℕ) (views : List View) : Type 0 where
   pub each_once : EachOnce n counter views
   pub fits : (id : ℕ) (v : View) → get_elem? views id ≡ some v → Fits n counter v
-  pub shares : total (λ v. v.shares) views ≡ 64
-  pub never_wraps : counter - n + total live_shares views ≤ 64
+  pub shares : total (λ v. v.shares) views ≡ all_shares
+  pub never_wraps : counter - n + total live_shares views ≤ all_shares
 
 -- the rule: word 0 is the counter
 abbrev pub Rule : ℕ → State (Unit {0}) View → Type 0
@@ -74,4 +78,4 @@ left_view = view 0 [] 0 false
 
 -- a load that tells that no seat has more than all shares
 abbrev pub Counted : Step (Unit {0}) → Me (Unit {0}) View → ℕ → Me (Unit {0}) View → Type 0
-Counted step me found me' = (me' ≡ me) × (me.0.shares ≤ 64)
+Counted step me found me' = (me' ≡ me) × (me.0.shares ≤ all_shares)

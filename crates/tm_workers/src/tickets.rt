@@ -1,6 +1,7 @@
 // The numbers below a limit, drawn from a counter.
 ghost use Rattle.std.specs.Prelude.{◌≡◌, ◌<◌, ◌^◌};
 ghost use Rattle.tm_workers.specs.Batch.{words_bound};
+ghost use Rattle.tm_workers.specs.Drawing.{all_shares};
 
 use crate::rule::{Both, Counts, Draws, EachOnce, cut_shares};
 use crate::seats::{Seat, View};
@@ -30,7 +31,7 @@ impl Tickets {
     pub fn new(alloc: Global, n: u32) -> Result<(Tickets, Seat), NoMemory>
         ensures limit { IfOk result (λ r. limit_of r.0 ≡ n) }
         ensures of { IfOk result (λ r. IsOf r.0 r.1) }
-        ensures first { IfOk result (λ r. (numbers r.1 ≡ []) × (shares_of r.1 ≡ 64) × (is_spent r.1 ≡ false)) }
+        ensures first { IfOk result (λ r. (numbers r.1 ≡ []) × (shares_of r.1 ≡ all_shares) × (is_spent r.1 ≡ false)) }
     {
         match Table::of_words(alloc, &[0], &n) {
             Ok((table, place)) => Ok((
@@ -110,7 +111,7 @@ impl Tickets {
     /// How many numbers were drawn. The seat has all 64 shares, and so all numbers that were drawn.
     pub fn close(self, seat: Seat) -> u32
         requires of { IsOf self seat }
-        requires whole { shares_of seat ≡ 64 }
+        requires whole { shares_of seat ≡ all_shares }
         ensures each { (x : ℕ) → times x (numbers seat) ≡ once_below x result }
         ensures most { result ≤ limit_of self }
         ensures all { is_spent seat ≡ true → result ≡ limit_of self }
