@@ -1,5 +1,6 @@
 // Units of frames of generated octets, whose codeblocks are changed.
 ghost use Rattle.std.specs.Prelude.{◌≡◌, ◌+◌, ◌*◌, ◌<◌, ◌≤◌, length};
+ghost use Rattle.tm_rs_code.specs.Code.{most_checks};
 ghost use Rattle.tm_codeblock.specs.Cadu.{unit_size};
 ghost use Rattle.tm_config.specs.Configuration.{codeblock_length};
 ghost use Rattle.tm_cli.specs.Generated.{drawn, drawn_octets, changed_column, changed_columns, generated_unit, draw_count};
@@ -30,7 +31,7 @@ fn change_column(
     codeblock: &mut [u8],
 )
     requires column { column < config.now.depth }
-    requires hits { hits ≤ 32 }
+    requires hits { hits ≤ most_checks }
     requires size { length codeblock.old ≡ codeblock_length config.now }
     ensures changed { codeblock.new ≡ changed_column config.now column hits draws.old codeblock.old }
     ensures draws { draws.new ≡ drawn (hits + 1) draws.old }
@@ -48,7 +49,7 @@ fn change_column(
 
 // Changes `hits` symbols of each column of a codeblock.
 fn change_columns(draws: &mut Lcg64Xsh32, config: &Config, hits: u64, codeblock: &mut [u8])
-    requires hits { hits ≤ 32 }
+    requires hits { hits ≤ most_checks }
     requires size { length codeblock.old ≡ codeblock_length config.now }
     ensures changed { codeblock.new ≡ changed_columns config.now config.now.depth hits draws.old codeblock.old }
     ensures draws { draws.new ≡ drawn (config.now.depth * (hits + 1)) draws.old }
@@ -62,7 +63,7 @@ fn change_columns(draws: &mut Lcg64Xsh32, config: &Config, hits: u64, codeblock:
 /// Writes the unit of a frame of drawn octets, with `hits` symbols of each column of its codeblock changed by the draws
 /// after it.
 pub fn generate_unit(draws: &mut Lcg64Xsh32, config: &Config, hits: u64, unit: &mut [u8])
-    requires hits { hits ≤ 32 }
+    requires hits { hits ≤ most_checks }
     requires unit { length unit.old ≡ unit_size config.now }
     ensures unit { unit.new ≡ generated_unit config.now hits draws.old }
     ensures draws { draws.new ≡ drawn (draw_count config.now hits) draws.old }

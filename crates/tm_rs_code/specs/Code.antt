@@ -6,9 +6,22 @@ use Rattle.std.specs.List.{range_with_len, list_all, flat_map}
 use Rattle.tm_gf256.specs.Field.{power}
 use Rattle.tm_gf256.specs.Poly.{value_at}
 
+-- the most symbols that a code corrects in a word
+abbrev pub most_correctable : ℕ
+most_correctable = 16
+
 -- the numbers of symbols that the two codes correct in a word
 abbrev pub IsStrength : ℕ → Type 0
-IsStrength e = (e ≡ 16) ⊎ (e ≡ 8)
+IsStrength e = (e ≡ most_correctable) ⊎ (e ≡ 8)
+
+-- the most check symbols of a word, two for each of these
+abbrev pub most_checks : ℕ
+most_checks = 32
+
+-- the most coefficients of a polynomial whose values at the places of a word are found: those of
+-- the locator of as many places
+abbrev pub most_coefficients : ℕ
+most_coefficients = 33
 
 -- the most symbols of a word
 abbrev pub longest_word : ℕ

@@ -2,7 +2,7 @@
 ghost use Rattle.std.specs.Prelude.{◌≡◌, ◌<◌, ◌≤◌, ◌+◌, ◌*◌, ℕ, length, slice_index_or};
 ghost use Rattle.tm_gf256.specs.Field.{times};
 ghost use Rattle.tm_gf256.specs.Poly.{numbers, value_at};
-ghost use Rattle.tm_rs_code.specs.Code.{place_of};
+ghost use Rattle.tm_rs_code.specs.Code.{place_of, most_coefficients};
 ghost use Rattle.tm_rs_code.specs.Powers.{ArePowers};
 ghost use Rattle.tm_rs_code.specs.Register.{multiple};
 
@@ -59,7 +59,7 @@ fn powers_of(group: usize) -> (&'static [[u8; 16]; 33], &'static [[u8; 16]; 33])
 
 // The values at places 16 * group to 16 * group + 31, of which half stand in each vector.
 fn place_values(poly: &[Gf], group: usize) -> (u8x16, u8x16)
-    requires few { length poly.now ≤ 33 }
+    requires few { length poly.now ≤ most_coefficients }
     requires group { group + 2 ≤ 16 }
     ensures long { length result.0 ≡ 16 }
     ensures values { (m : ℕ) → m < 16
@@ -98,7 +98,7 @@ fn place_values(poly: &[Gf], group: usize) -> (u8x16, u8x16)
 
 // Writes the values at the places from 16 * first on, thirty-two of them a pair of groups.
 pub fn store_values(poly: &[Gf], first: usize, pairs: usize, out: &mut [u8])
-    requires few { length poly.now ≤ 33 }
+    requires few { length poly.now ≤ most_coefficients }
     requires known { first + 2 * pairs ≤ 16 }
     requires room { 32 * pairs ≤ length out.old }
     ensures size { length out.new ≡ length out.old }

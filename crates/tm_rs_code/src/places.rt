@@ -2,6 +2,7 @@
 ghost use Rattle.std.specs.Prelude.{◌≤◌, length};
 ghost use Rattle.tm_gf256.specs.Poly.{numbers};
 ghost use Rattle.tm_rs_code.specs.PlaceValues.{ArePlaceValues};
+ghost use Rattle.tm_rs_code.specs.Code.{most_coefficients};
 
 use crate::lanes::store_values;
 use tm_gf256::{Gf, eval};
@@ -9,7 +10,7 @@ use tm_gf256::{Gf, eval};
 /// The values of a polynomial of at most 33 coefficients, the highest power first, at the elements of
 /// the places below n: entry p is that at the place whose symbol is the coefficient of the power p.
 pub fn values_at_places(poly: &[Gf], n: usize) -> [u8; 256]
-    requires few { length poly.now ≤ 33 }
+    requires few { length poly.now ≤ most_coefficients }
     requires places { n ≤ 256 }
     ensures { ArePlaceValues (numbers poly.now) n result }
 {
@@ -20,7 +21,7 @@ pub fn values_at_places(poly: &[Gf], n: usize) -> [u8; 256]
 
 /// The same, place by place and power by power.
 pub fn plain_values_at_places(poly: &[Gf], n: usize) -> [u8; 256]
-    requires few { length poly.now ≤ 33 }
+    requires few { length poly.now ≤ most_coefficients }
     requires places { n ≤ 256 }
     ensures { ArePlaceValues (numbers poly.now) n result }
 {

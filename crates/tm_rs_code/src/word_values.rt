@@ -1,7 +1,7 @@
 // The values of a word at the roots, and the distance of two words.
 ghost use Rattle.std.specs.Prelude.{◌≡◌, ◌<◌, ◌≤◌, ◌*◌, ◌↔◌, ℕ, length, IsTrue};
 ghost use Rattle.tm_gf256.specs.Poly.{entry, numbers, value_at};
-ghost use Rattle.tm_rs_code.specs.Code.{IsCodeword, distance as distance_of, root, longest_word};
+ghost use Rattle.tm_rs_code.specs.Code.{IsCodeword, distance as distance_of, root, longest_word, most_checks, most_coefficients, most_correctable};
 ghost use Rattle.tm_rs_code.specs.Erasures.{count_erased as count_of_erased};
 
 use crate::Params;
@@ -10,8 +10,8 @@ use tm_gf256::{Gf, eval};
 
 // Root number k of the generator polynomial.
 fn root_of(e: u64, k: usize) -> Gf
-    requires code { e ≤ 16 }
-    requires count { k < 32 }
+    requires code { e ≤ most_correctable }
+    requires count { k < most_checks }
     ensures { result.0 ≡ root e k }
 {
     Gf::exp(11 * (128 - e as u32 + k as u32))
@@ -20,7 +20,7 @@ fn root_of(e: u64, k: usize) -> Gf
 /// The syndromes of a word: entry k below 2e is the value of the word's polynomial at root number k of
 /// the generator polynomial, and the other entries are 0 (CCSDS 131.0-B, Reed-Solomon Coding).
 pub fn syndromes(params: &Params, word: &[Gf]) -> [Gf; 32]
-    ensures size { length result ≡ 32 }
+    ensures size { length result ≡ most_checks }
     ensures values { (k : ℕ) → k < 2 * params.now.e
         → entry result k ≡ value_at (numbers word.now) (root params.now.e k) }
     ensures rest { (k : ℕ) → 2 * params.now.e ≤ k → entry result k ≡ 0 }
@@ -36,8 +36,8 @@ pub fn syndromes(params: &Params, word: &[Gf]) -> [Gf; 32]
 /// The syndromes of a word of at most 33 symbols, as what is left of a division by the generator
 /// polynomial: those that `syndromes` gives, sixteen at a time.
 pub fn short_syndromes(params: &Params, word: &[Gf]) -> [Gf; 32]
-    requires { length word.now ≤ 33 }
-    ensures size { length result ≡ 32 }
+    requires { length word.now ≤ most_coefficients }
+    ensures size { length result ≡ most_checks }
     ensures values { (k : ℕ) → k < 2 * params.now.e
         → entry result k ≡ value_at (numbers word.now) (root params.now.e k) }
     ensures rest { (k : ℕ) → 2 * params.now.e ≤ k → entry result k ≡ 0 }

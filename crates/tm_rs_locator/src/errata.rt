@@ -5,7 +5,7 @@ ghost use Rattle.tm_rs_code.specs.Erasures.{count_erased as count_of_erased, mar
 ghost use Rattle.tm_rs_code.specs.Pattern.{locator_of};
 ghost use Rattle.tm_rs_code.specs.PlaceValues.{AreValues};
 ghost use Rattle.tm_rs_code.specs.Recurrence.{discrepancy, listing};
-ghost use Rattle.tm_rs_code.specs.Code.{longest_word};
+ghost use Rattle.tm_rs_code.specs.Code.{longest_word, most_checks, most_coefficients};
 ghost use Rattle.tm_rs_locator.specs.Counts.{TakesAtLeast, TakesAtMost, most_products};
 ghost use Rattle.tm_rs_locator.specs.Locator.{AvoidsErased, LocatesErased, NoErasedPattern};
 
@@ -22,8 +22,8 @@ use tm_rs_code::{Params, count_erased, values_at_places};
 fn erasure_locator<L: Ledger>(erased: &[bool], count: usize, steps: &mut Steps<L>) -> [Gf; 33]
     requires short { length erased.now ≤ longest_word }
     requires counted { count ≡ count_of_erased erased.now }
-    requires few { count ≤ 32 }
-    ensures room { length result ≡ 33 }
+    requires few { count ≤ most_checks }
+    ensures room { length result ≡ most_coefficients }
     ensures locator { listing (entry result) 0 (suc count) ≡ locator_of (marks erased.now) }
     ensures beyond { (i : ℕ) → suc count ≤ i → entry result i ≡ 0 }
     ensures cost { 2 * steps.new ≡ 2 * steps.old + count * (count + 1) }
@@ -49,8 +49,8 @@ fn modified<L: Ledger>(
     syndromes: &[Gf; 32],
     steps: &mut Steps<L>,
 ) -> [Gf; 32]
-    requires { count + known ≤ 32 }
-    ensures room { length result ≡ 32 }
+    requires { count + known ≤ most_checks }
+    ensures room { length result ≡ most_checks }
     ensures values { (m : ℕ) → m < known
         → entry result m ≡ discrepancy (entry erasures.now) (entry syndromes.now) (m + count) (suc count) }
     ensures cost { steps.new ≡ steps.old + known * (count + 1) }
@@ -93,7 +93,7 @@ pub fn locate_erased<L: Ledger>(
     requires { length erased.now ≡ params.now.n }
     ensures none { IfNone result (NoErasedPattern params.now.e erased.now (entry syndromes.now)) }
     ensures some { IfSome result (λ l. LocatesErased params.now.e erased.now (entry syndromes.now) l.coefs l.degree) }
-    ensures room { length places.new ≡ 33 }
+    ensures room { length places.new ≡ most_coefficients }
     ensures places { IfSome result (λ l. listing (entry places.new) 0 (suc (count_of_erased erased.now))
         ≡ locator_of (marks erased.now)) }
     ensures beyond { IfSome result (λ l. (i : ℕ) → suc (count_of_erased erased.now) ≤ i → entry places.new i ≡ 0) }

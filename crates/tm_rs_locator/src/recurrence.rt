@@ -3,6 +3,7 @@ ghost use Rattle.std.specs.Prelude.{◌≡◌, ◌≢◌, ◌<◌, ◌≤◌, �
 ghost use Rattle.std.specs.Bool.{OnTrue, OnFalse};
 ghost use Rattle.tm_gf256.specs.Poly.{entry};
 ghost use Rattle.tm_rs_code.specs.Recurrence.{discrepancy, patched};
+ghost use Rattle.tm_rs_code.specs.Code.{most_checks};
 ghost use Rattle.tm_rs_locator.specs.State.{IsShortest, IsState, Unexplained};
 
 use crate::counter::Steps;
@@ -19,7 +20,7 @@ pub fn mismatch<L: Ledger>(
 ) -> Gf
     requires inside { len < length coefs.now }
     requires before { len ≤ k }
-    requires given { k < 32 }
+    requires given { k < most_checks }
     ensures value { result.0 ≡ discrepancy (entry coefs.now) (entry terms.now) k (suc len) }
     ensures cost { steps.new ≡ steps.old + len + 1 }
 {
@@ -75,7 +76,7 @@ fn advance<L: Ledger>(
         state.old.len state.old.gap state.old.scale.0 k }
     requires room { length state.old.current ≡ 17 }
     requires before { length state.old.previous ≡ 17 }
-    requires most { count ≤ 32 }
+    requires most { count ≤ most_checks }
     requires given { k < count }
     ensures room { length state.new.current ≡ 17 }
     ensures before { length state.new.previous ≡ 17 }
@@ -130,7 +131,7 @@ pub fn shortest<L: Ledger>(
     count: usize,
     steps: &mut Steps<L>,
 ) -> Option<Recurrence>
-    requires { count ≤ 32 }
+    requires { count ≤ most_checks }
     ensures none { IfNone result (Unexplained count (entry terms.now)) }
     ensures room { IfSome result (λ r. length r.current ≡ 17) }
     ensures some { IfSome result (λ r. IsShortest count (entry terms.now) (entry r.current) r.len) }

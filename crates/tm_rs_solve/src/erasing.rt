@@ -1,7 +1,7 @@
 // The nearest codeword of a word with erased places.
 ghost use Rattle.std.specs.Prelude.{◌≡◌, ◌<◌, ◌≤◌, ◌+◌, ◌*◌, ◌==◌, ◌&&◌, ℕ, suc, not, List, length, if◌then◌else◌, slice_index_or, false};
 ghost use Rattle.tm_gf256.specs.Poly.{entry, numbers, value_at};
-ghost use Rattle.tm_rs_code.specs.Code.{root, weight, longest_word};
+ghost use Rattle.tm_rs_code.specs.Code.{root, weight, longest_word, most_checks, most_coefficients, most_correctable};
 ghost use Rattle.tm_rs_code.specs.Erasures.{IsNearestErased, count_erased as count_of_erased, inside, marks, places_named};
 ghost use Rattle.tm_rs_code.specs.ErrorValues.{IsLocated, symbol_at};
 ghost use Rattle.tm_rs_code.specs.Pattern.{locator_of};
@@ -44,10 +44,10 @@ fn all_places<L: Ledger>(
     requires count { count ≡ count_of_erased erased.now }
     requires erasures { listing (entry erasures.now) 0 (suc count) ≡ locator_of (marks erased.now) }
     requires beyond { (i : ℕ) → suc count ≤ i → entry erasures.now i ≡ 0 }
-    requires degree { length poly.now ≤ 33 }
+    requires degree { length poly.now ≤ most_coefficients }
     requires short { length erased.now ≤ longest_word }
-    requires few { weight (places_named (numbers poly.now) erased.now) ≤ 32 }
-    ensures room { length result.coefs ≡ 33 }
+    requires few { weight (places_named (numbers poly.now) erased.now) ≤ most_checks }
+    ensures room { length result.coefs ≡ most_coefficients }
     ensures degree { result.degree ≡ weight (places_named (numbers poly.now) erased.now) }
     ensures locator { listing (entry result.coefs) 0 (suc result.degree)
         ≡ locator_of (places_named (numbers poly.now) erased.now) }
@@ -96,9 +96,9 @@ fn count_inside(
     syndromes: &[Gf; 32],
     e: usize,
 ) -> usize
-    requires most { e ≤ 16 }
+    requires most { e ≤ most_correctable }
     requires some { 1 ≤ length locator.now }
-    requires few { length locator.now ≤ 33 }
+    requires few { length locator.now ≤ most_coefficients }
     requires short { length erased.now ≤ longest_word }
     requires values { AreValues (numbers locator.now) (length erased.now) values.now }
     requires located { (u : List ℕ) × (w : List ℕ) × IsLocated e (entry syndromes.now) (numbers locator.now) u w }

@@ -1,7 +1,7 @@
 // The values of the wrong symbols.
 ghost use Rattle.std.specs.Prelude.{◌≡◌, ◌<◌, ◌≤◌, ◌+◌, ◌-◌, ℕ, List, length};
 ghost use Rattle.tm_gf256.specs.Poly.{entry, numbers, value_at};
-ghost use Rattle.tm_rs_code.specs.Code.{place_of, longest_word};
+ghost use Rattle.tm_rs_code.specs.Code.{place_of, longest_word, most_checks, most_coefficients, most_correctable};
 ghost use Rattle.tm_rs_code.specs.ErrorValues.{IsLocated, quotient_at, symbol_at};
 ghost use Rattle.tm_rs_code.specs.PlaceValues.{AreValues};
 ghost use Rattle.tm_rs_code.specs.Recurrence.{discrepancy, listing};
@@ -21,7 +21,7 @@ struct Parts {
 fn divide(locator: &[Gf], degree: usize, syndromes: &[Gf; 32], x: Gf) -> Parts
     requires size { length locator.now ≡ degree + 1 }
     requires some { 1 ≤ degree }
-    requires few { degree ≤ 32 }
+    requires few { degree ≤ most_checks }
     ensures sum { result.sum.0
         ≡ discrepancy (quotient_at (entry locator.now) x.0) (entry syndromes.now) (degree - 1) degree }
     ensures slope { result.slope.0 ≡ value_at (listing (quotient_at (entry locator.now) x.0) 0 degree) x.0 }
@@ -41,9 +41,9 @@ fn divide(locator: &[Gf], degree: usize, syndromes: &[Gf; 32], x: Gf) -> Parts
 // The symbol at place p, a root of the locator, of the error pattern with these syndromes, whose places
 // the locator names.
 fn value_at_root(locator: &[Gf], syndromes: &[Gf; 32], e: usize, p: usize) -> Gf
-    requires most { e ≤ 16 }
+    requires most { e ≤ most_correctable }
     requires some { 1 ≤ length locator.now }
-    requires few { length locator.now ≤ 33 }
+    requires few { length locator.now ≤ most_coefficients }
     requires inside { p < longest_word }
     requires root { value_at (numbers locator.now) (place_of p) ≡ 0 }
     requires located { (u : List ℕ) × (w : List ℕ) × IsLocated e (entry syndromes.now) (numbers locator.now) u w }
@@ -76,9 +76,9 @@ pub fn error_at(locator: &[Gf], value: u8, syndromes: &[Gf; 32], e: usize, p: us
 
 // Adds the error pattern to the word, given the locator's values at the word's places.
 pub fn correct(word: &mut [Gf], locator: &[Gf], values: &[u8; 256], syndromes: &[Gf; 32], e: usize)
-    requires most { e ≤ 16 }
+    requires most { e ≤ most_correctable }
     requires some { 1 ≤ length locator.now }
-    requires few { length locator.now ≤ 33 }
+    requires few { length locator.now ≤ most_coefficients }
     requires short { length word.old ≤ longest_word }
     requires values { AreValues (numbers locator.now) (length word.old) values.now }
     requires located { (u : List ℕ) × (w : List ℕ) × IsLocated e (entry syndromes.now) (numbers locator.now) u w }
