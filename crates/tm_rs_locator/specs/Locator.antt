@@ -6,9 +6,13 @@ use Rattle.tm_rs_code.specs.Code.{place_of, weight}
 use Rattle.tm_rs_code.specs.Erasures.{IsErasedPattern, outside}
 use Rattle.tm_rs_code.specs.Pattern.{IsPattern, locator_of}
 
+-- the coefficients of the longest locator
+abbrev pub locator_room : ℕ
+locator_room = 17
+
 -- the coefficients are those of the locator of w, the power 0 first, and after them zeros
 pub record IsLocatorOf (coefs : List Gf) (degree : ℕ) (w : List ℕ) : Type 0 where
-  pub room : length coefs ≡ 17
+  pub room : length coefs ≡ locator_room
   pub elements : (i : ℕ) → entry coefs i < 256
   pub places : degree ≡ weight w
   pub product : numbers (take (degree + 1) coefs) ≡ locator_of w

@@ -5,6 +5,7 @@ ghost use Rattle.tm_gf256.specs.Poly.{entry};
 ghost use Rattle.tm_rs_code.specs.Recurrence.{discrepancy, patched};
 ghost use Rattle.tm_rs_code.specs.Code.{most_checks};
 ghost use Rattle.tm_rs_locator.specs.State.{IsShortest, IsState, Unexplained};
+ghost use Rattle.tm_rs_locator.specs.Locator.{locator_room};
 
 use crate::counter::Steps;
 use std::sync::ledger::Ledger;
@@ -74,12 +75,12 @@ fn advance<L: Ledger>(
 ) -> bool
     requires held { IsState count (entry terms.now) (entry state.old.current) (entry state.old.previous)
         state.old.len state.old.gap state.old.scale.0 k }
-    requires room { length state.old.current ≡ 17 }
-    requires before { length state.old.previous ≡ 17 }
+    requires room { length state.old.current ≡ locator_room }
+    requires before { length state.old.previous ≡ locator_room }
     requires most { count ≤ most_checks }
     requires given { k < count }
-    ensures room { length state.new.current ≡ 17 }
-    ensures before { length state.new.previous ≡ 17 }
+    ensures room { length state.new.current ≡ locator_room }
+    ensures before { length state.new.previous ≡ locator_room }
     ensures held { OnTrue result (IsState count (entry terms.now) (entry state.new.current)
         (entry state.new.previous) state.new.len state.new.gap state.new.scale.0 (k + 1)) }
     ensures none { OnFalse result (Unexplained count (entry terms.now)) }
@@ -133,7 +134,7 @@ pub fn shortest<L: Ledger>(
 ) -> Option<Recurrence>
     requires { count ≤ most_checks }
     ensures none { IfNone result (Unexplained count (entry terms.now)) }
-    ensures room { IfSome result (λ r. length r.current ≡ 17) }
+    ensures room { IfSome result (λ r. length r.current ≡ locator_room) }
     ensures some { IfSome result (λ r. IsShortest count (entry terms.now) (entry r.current) r.len) }
     ensures cost { steps.new ≤ steps.old + count * (count + 3) }
     ensures later { steps.old ≤ steps.new }
