@@ -2,8 +2,12 @@
 use Rattle.std.specs.Prelude.{◌≡◌, ◌≢◌, ◌<◌, ℕ}
 use Rattle.tm_gf256.specs.Field.{power}
 
+-- what stands for the logarithm of 0: at it and after it the powers in the table are 0
+abbrev pub log_of_zero : ℕ
+log_of_zero = 510
+
 -- log is the power of alpha that a is, below 255, or 510 where a is 0
 pub record IsLogarithm (log a : ℕ) : Type 0 where
-  pub of_zero : a ≡ 0 → log ≡ 510
+  pub of_zero : a ≡ 0 → log ≡ log_of_zero
   pub small : a ≢ 0 → log < 255
   pub undoes : a ≢ 0 → power 2 log ≡ a

@@ -2,7 +2,7 @@
 
 ghost use Rattle.std.specs.Prelude.{◌≡◌, ◌<◌, ◌≤◌};
 ghost use Rattle.tm_gf256.specs.Field.{power};
-ghost use Rattle.tm_gf256.specs.Logarithm.{IsLogarithm};
+ghost use Rattle.tm_gf256.specs.Logarithm.{IsLogarithm, log_of_zero};
 
 // The powers 0 to 509 of alpha, which repeat after 255, and then zeros: the sum of the logarithms
 // of two elements, each below 255, leads to their product, and one that has the 510 of 0 leads to 0.
@@ -77,8 +77,8 @@ pub fn logarithm(a: u8) -> u16
 /// The power i of alpha for i below 510, and 0 from there on.
 pub fn power_or_zero(i: u16) -> u8
     requires { i < 1021 }
-    ensures low { i < 510 → result ≡ power 2 i }
-    ensures high { 510 ≤ i → result ≡ 0 }
+    ensures low { i < log_of_zero → result ≡ power 2 i }
+    ensures high { log_of_zero ≤ i → result ≡ 0 }
 {
     POWERS[i as usize]
 }
