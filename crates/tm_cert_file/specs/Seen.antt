@@ -11,7 +11,7 @@ use Rattle.tm_cert_file.specs.declared.seen.Reason.{Reason}
 use Rattle.tm_cert_file.specs.declared.seen.Reason.TheVariants.{Shape, Joint, Edge, Sum}
 use Rattle.tm_cert_file.specs.declared.seen.Seen.{Seen}
 use Rattle.tm_cert_file.specs.declared.seen.Seen.TheVariants.{More, Passed, Failed}
-use Rattle.tm_cert_file.specs.Window.{Window, window_in, window_size, bits_end, soft_end, steps_in, kept_in, start_in, bits_in, soft_in}
+use Rattle.tm_cert_file.specs.Window.{Window, window_in, window_size, bits_end, soft_end, steps_in, kept_in, start_in, bits_in, soft_in, header_size}
 use Rattle.tm_cert_file.specs.Before.{Rules, Before}
 
 abbrev pub is_due : Next → Bool
@@ -47,7 +47,7 @@ reason_in rules before (octet ∷ octets) =
     let all = octet ∷ octets in
     let steps = steps_in all in
     if is_over before.next then Some Shape
-    else if nat_lt (length all) 17 then None
+    else if nat_lt (length all) header_size then None
     else if not (has_shape rules before.next steps (kept_in all) (start_in all)) then Some Shape
     else if nat_lt (length all) (bits_end steps) then None
     else if not (are_bits (bits_in all)) then Some Shape

@@ -16,7 +16,7 @@ pub record Window : Type 0 where
   pub octets : List ℕ
   pub columns : List (List ℕ)
 
--- what stands before the bits: 17 octets
+-- what stands before the bits
 abbrev pub header_octets : (steps kept start metric : ℕ) → List ℕ
 header_octets steps kept start metric = to_be_bytes w32 steps ++ to_be_bytes w32 kept
     ++ start ∷ to_be_bytes w64 metric
@@ -29,6 +29,13 @@ window_octets w = header_octets w.steps w.kept w.start w.metric ++ w.bits ++ w.o
     ++ flat_map column_octets w.columns
 
 -- ---- the window that octets begin with
+
+-- how many octets stand before the bits, and how many a column has
+abbrev pub header_size : ℕ
+header_size = 17
+
+abbrev pub column_size : ℕ
+column_size = 256
 
 abbrev pub steps_in : List ℕ → ℕ
 steps_in octets = from_be_bytes w32 octets
@@ -45,17 +52,21 @@ metric_in octets = from_be_bytes w64 (drop 9 octets)
 -- how many octets come before the soft octets, and before the columns, of a window of so many steps
 -- from step t
 abbrev pub bits_end : ℕ → ℕ
-bits_end steps = 17 + steps
+bits_end steps = header_size + steps
 
 abbrev pub soft_end : Rate → ℕ → ℕ → ℕ
 soft_end rate t steps = bits_end steps + steps_size rate t steps
 
 -- how many octets the window has
 abbrev pub window_size : Rate → ℕ → ℕ → ℕ
-window_size rate t steps = soft_end rate t steps + 256 * (steps + 1)
+window_size rate t steps = soft_end rate t steps + column_size * (steps + 1)
+
+-- the most octets of a window of so many steps: of each its bit, two symbols and a column
+abbrev pub window_room : ℕ → ℕ
+window_room steps = header_size + column_size + 259 * steps
 
 abbrev pub bits_in : List ℕ → List ℕ
-bits_in octets = take (steps_in octets) (drop 17 octets)
+bits_in octets = take (steps_in octets) (drop header_size octets)
 
 abbrev pub soft_in : Rate → ℕ → List ℕ → List ℕ
 soft_in rate t octets = take (steps_size rate t (steps_in octets))
@@ -66,10 +77,10 @@ unfoldable pub numbers_in : ℕ → List ℕ → List ℕ
 numbers_in zero octets = []
 numbers_in (suc count) octets = from_be_bytes w32 octets ∷ numbers_in count (drop 4 octets)
 
--- the first columns of octets, 256 octets each
+-- the first columns of octets
 unfoldable pub columns_in : ℕ → List ℕ → List (List ℕ)
 columns_in zero octets = []
-columns_in (suc count) octets = numbers_in 64 octets ∷ columns_in count (drop 256 octets)
+columns_in (suc count) octets = numbers_in 64 octets ∷ columns_in count (drop column_size octets)
 
 abbrev pub window_in : Rate → ℕ → List ℕ → Window
 window_in rate t octets = record {

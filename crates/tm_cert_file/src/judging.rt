@@ -7,7 +7,7 @@ ghost use Rattle.tm_path_cert.specs.Checking.{IsVerdict};
 ghost use Rattle.tm_path_cert.specs.Claim.{AreRegisters, is_start};
 ghost use Rattle.tm_cert_file.specs.Before as before;
 ghost use Rattle.tm_cert_file.specs.Seen as seen;
-ghost use Rattle.tm_cert_file.specs.Window.{columns_in};
+ghost use Rattle.tm_cert_file.specs.Window.{columns_in, column_size};
 
 use crate::numbers::{COLUMN, read_column};
 use crate::seen::{Next, Reason, Seen};
@@ -98,7 +98,7 @@ pub(crate) fn verdict_on(
     requires first { first ≤ last_certified }
     requires starts { AreRegisters starts }
     requires soft { length soft.now ≡ steps_size rate first (length bits.now) }
-    requires columns { length columns.now ≡ 256 * (length bits.now + 1) }
+    requires columns { length columns.now ≡ column_size * (length bits.now + 1) }
     requires register { start < 64 }
     requires start { IsTrue (is_start starts start) }
     ensures { IsVerdict (record { rate = rate; invert = invert; first = first; starts = starts; soft = soft.now })

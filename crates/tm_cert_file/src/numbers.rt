@@ -1,7 +1,7 @@
 // Numbers as octets, the most significant octet first.
 ghost use Rattle.std.specs.Prelude.{◌≡◌, ◌≤◌, length};
 ghost use Rattle.std.specs.Int.{w32, w64, from_be_bytes};
-ghost use Rattle.tm_cert_file.specs.Window.{column_octets, header_octets, numbers_in};
+ghost use Rattle.tm_cert_file.specs.Window.{column_octets, header_octets, numbers_in, column_size};
 
 /// How many octets stand before the bits of a window.
 pub(crate) const HEADER: usize = 17;
@@ -53,7 +53,7 @@ pub(crate) fn read_u64(octets: &[u8]) -> u64
 
 /// The column of the first 256 octets.
 pub(crate) fn read_column(octets: &[u8]) -> [u32; 64]
-    requires { 256 ≤ length octets.now }
+    requires { column_size ≤ length octets.now }
     ensures { result ≡ numbers_in 64 octets.now }
 {
     let mut column = [0; 64];

@@ -3,7 +3,7 @@ ghost use Rattle.std.specs.Prelude.{◌≡◌, ◌++◌, ◌∷◌, ◌+◌, ◌
 ghost use Rattle.tm_conv.specs.Path.{register_after};
 ghost use Rattle.tm_viterbi.specs.WindowSizes.{most_keep, most_ahead};
 ghost use Rattle.tm_path_cert.specs.Claim.{AreRegisters};
-ghost use Rattle.tm_cert_file.specs.Window.{Window, steps_in, kept_in, metric_in, window_in};
+ghost use Rattle.tm_cert_file.specs.Window.{Window, steps_in, kept_in, metric_in, window_in, window_room};
 ghost use Rattle.tm_cert_file.specs.Before.{at_first, after_window, most_kept};
 ghost use Rattle.tm_cert_file.specs.Seen.{IsSeen};
 ghost use Rattle.tm_cert_file.specs.File.{is_cut, kept_octets};
@@ -49,6 +49,7 @@ impl Model for Reader {
     ghost use Rattle.tm_path_cert.specs.Claim.{AreRegisters};
     ghost use Rattle.tm_cert_file.specs.Reading.{Reading};
     ghost use Rattle.tm_cert_file.specs.Before.{most_kept};
+    ghost use Rattle.tm_cert_file.specs.Window.{window_room};
 
     ghost Value = { Reading };
 
@@ -59,7 +60,7 @@ impl Model for Reader {
     } };
 
     ghost invariant = { λ r. (r.keep ≤ most_keep) × (r.ahead ≤ most_ahead) × (r.t ≤ most_kept) × AreRegisters r.starts
-        × (2 * r.ahead ≤ r.tail.room) × (273 + 259 * (r.keep + r.ahead) ≤ r.octets.room) };
+        × (2 * r.ahead ≤ r.tail.room) × (window_room (r.keep + r.ahead) ≤ r.octets.room) };
 }
 
 impl Reader {
@@ -76,8 +77,13 @@ impl Reader {
         requires keep { keep ≤ most_keep }
         requires ahead { ahead ≤ most_ahead }
         requires start { AreRegisters starts }
-        ensures rules { IfOk result (λ r. r.rules ≡ record { rate = rate; invert = invert; starts = starts;
-            keep = keep; ahead = ahead }) }
+        ensures rules { IfOk result (λ r. r.rules ≡ record {
+          rate = rate;
+          invert = invert;
+          starts = starts;
+          keep = keep;
+          ahead = ahead;
+        }) }
         ensures fresh { IfOk result (λ r. (r.before ≡ at_first r.rules) × (r.octets ≡ []) × IsOpen r) }
         ensures stands { IfOk result (λ r. ReaderStandsFor r [] []) }
     {
@@ -137,7 +143,7 @@ impl Reader {
     fn goal(&self) -> usize
         requires { IsOpen self.now }
         ensures more { length self.now.octets < result }
-        ensures room { result ≤ 273 + 259 * (self.now.rules.keep + self.now.rules.ahead) }
+        ensures room { result ≤ window_room (self.now.rules.keep + self.now.rules.ahead) }
         ensures open { (more : List ℕ) → length self.now.octets + length more < result
             → IsSeen self.now.rules self.now.before (self.now.octets ++ more) Seen.More }
     {
