@@ -1,5 +1,5 @@
 -- What contracts see of a certificate that is being written.
-use Rattle.std.specs.Prelude.{◌≡◌, ℕ, ◌+◌, ◌<◌, ◌≤◌, Bool, List, [], ◌∷◌, ◌++◌, Option, length, take}
+use Rattle.std.specs.Prelude.{◌≡◌, ℕ, ◌+◌, ◌*◌, ◌<◌, ◌≤◌, Bool, List, [], ◌∷◌, ◌++◌, Option, length, take}
 use Rattle.tm_base.specs.Written.{Wrote, WrotePrefix}
 use Rattle.tm_conv.specs.declared.rates.Rate.{Rate}
 use Rattle.tm_conv.specs.Path.{steps_size}
@@ -8,6 +8,15 @@ use Rattle.tm_viterbi.specs.WindowBlock.{WindowBlock}
 use Rattle.tm_viterbi.specs.Due.{Place, after_block}
 use Rattle.tm_viterbi.specs.WindowSizes.{most_window}
 use Rattle.tm_cert_file.specs.Certificate.{IsCertified, AreCertified}
+
+-- the most octets that are given at a time
+abbrev pub most_given : ℕ
+most_given = 256
+
+-- how many octets there is room for where windows have so many steps: those of a window, of a step
+-- after it and of a piece, or those by which the symbol phase is chosen
+abbrev pub soft_room : ℕ → ℕ
+soft_room steps = 2 * steps + 8 + most_given
 
 -- where the next window begins, with the soft octets from there on, and how many octets there is
 -- room for

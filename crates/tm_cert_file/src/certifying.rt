@@ -5,7 +5,7 @@ ghost use Rattle.tm_conv.specs.Path.{steps_size};
 ghost use Rattle.tm_conv.specs.Columns.{last_certified};
 ghost use Rattle.tm_viterbi.specs.Starts.{first_start};
 ghost use Rattle.tm_viterbi.specs.WindowSizes.{most_keep, most_ahead};
-ghost use Rattle.tm_cert_file.specs.Certifying.{Fits, WroteBlock, WroteBlockPrefix, with_octets};
+ghost use Rattle.tm_cert_file.specs.Certifying.{Fits, WroteBlock, WroteBlockPrefix, with_octets, soft_room};
 
 use crate::writing::write_window;
 use std::alloc::Global;
@@ -70,7 +70,7 @@ impl Certifying {
           rate = shape.rate;
           invert = shape.invert;
           place = record { starts = first_start start; t = 0; octets = [] };
-          room = 2 * (shape.keep + shape.ahead) + 264;
+          room = soft_room (shape.keep + shape.ahead);
         }) }
     {
         // The octets of a window and of a step after it, or those by which the symbol phase is chosen, and a piece.

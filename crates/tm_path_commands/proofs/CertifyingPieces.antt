@@ -26,7 +26,7 @@ use Rattle.tm_inner.proofs.HandedBits.{needed-few}
 use Rattle.tm_inner.proofs.WithPhase.{choice-stays, settled-stays}
 use Rattle.tm_inner.proofs.PhasePieces.{PhaseStays, PhaseWithin, items_of-with_phase}
 use Rattle.tm_cert_file.specs.Certificate.{IsCertificate}
-use Rattle.tm_cert_file.specs.Certifying.{Certifying, with_octets}
+use Rattle.tm_cert_file.specs.Certifying.{Certifying, soft_room, with_octets}
 use Rattle.tm_driver.proofs.SinkTexts.{wrote-nothing, wrote-then, wrote-then_prefix}
 use Rattle.tm_path_commands.specs.Certify.{TextAt}
 use Rattle.tm_path_commands.specs.Certifying.{Certifies, CertifyFails, GavePiece, Goes, Waits, WritesAt}
@@ -74,14 +74,14 @@ no-soft_octets c phase = ap (map (soft_value c)) (ap (drop phase) (drop_all c.sk
 
 -- what is written before the first octet
 abbrev pub new-at : Configuration → Rate → Certifying
-new-at c rate = record { rate = rate; invert = is_inverted rate c.invert; place = first_place (settings_of c rate) []; room = 2 * (c.keep + c.ahead) + 264 }
+new-at c rate = record { rate = rate; invert = is_inverted rate c.invert; place = first_place (settings_of c rate) []; room = soft_room (c.keep + c.ahead) }
 
 pub new-is : (c : Configuration) (rate : Rate) (now : Certifying) (other : Rate) (invert : Bool) (start : Start) (keep ahead : ℕ)
-    → now ≡ record { rate = other; invert = invert; place = record { starts = first_start start; t = 0; octets = [] }; room = 2 * (keep + ahead) + 264 }
+    → now ≡ record { rate = other; invert = invert; place = record { starts = first_start start; t = 0; octets = [] }; room = soft_room (keep + ahead) }
     → other ≡ rate → invert ≡ is_inverted other c.invert → start ≡ (settings_of c rate).start → keep ≡ c.keep → ahead ≡ c.ahead → now ≡ new-at c rate
 new-is c rate now other invert start keep ahead is same inverts starts keeps aheads =
     let turns : invert ≡ is_inverted rate c.invert = inverts ∙ ap (λ r. is_inverted r c.invert) same in
-    is ∙ (λ i. record { rate = same i; invert = turns i; place = record { starts = first_start (starts i); t = 0; octets = [] }; room = 2 * (keeps i + aheads i) + 264 })
+    is ∙ (λ i. record { rate = same i; invert = turns i; place = record { starts = first_start (starts i); t = 0; octets = [] }; room = soft_room (keeps i + aheads i) })
 
 new-writes : (c : Configuration) (now : Certifying) (r : Option Rate) → ((rate : Rate) → r ≡ Some rate → now ≡ new-at c rate) → AreHandedDue c [] [] → WritesAt r c now [] [] []
 new-writes c now None each due = refl

@@ -20,7 +20,7 @@ use Rattle.tm_inner.specs.Phase.{IsChosenBy, phase_octets, skip_of, skipped_at, 
 use Rattle.tm_inner.proofs.GivenPieces.{soft-after}
 use Rattle.tm_inner.proofs.ReceivedBits.{kept-le, length-soft}
 use Rattle.tm_cert_file.specs.Certificate.{AreCertified, IsCertificate}
-use Rattle.tm_cert_file.specs.Certifying.{Certifying, AreNext, WroteBlocks, WroteBlocksPrefix, with_octets, with_place}
+use Rattle.tm_cert_file.specs.Certifying.{Certifying, AreNext, WroteBlocks, WroteBlocksPrefix, soft_room, with_octets, with_place}
 use Rattle.tm_path_commands.proofs.CertifierTook.{WroteHanded, WroteHandedPrefix, wrote-turn, wrote-items, prefix-turn, prefix-after}
 
 -- ---- closed windows, and those after them
@@ -139,7 +139,7 @@ pub record StoodGoing (c : Configuration) (rate : Rate) (now : Certifying) (octe
 pub record Stood (c : Configuration) (rate : Rate) (now : Certifying) (octets : List ℕ) (handed : List (Handed WindowBlock)) (text : List ℕ) : Type 0 where
   pub is_rate : now.rate ≡ rate
   pub is_invert : now.invert ≡ is_inverted rate c.invert
-  pub is_room : now.room ≡ 2 * (c.keep + c.ahead) + 264
+  pub is_room : now.room ≡ soft_room (c.keep + c.ahead)
   pub stood : StoodWaiting c rate now octets handed text ⊎ StoodGoing c rate now octets handed text
 
 -- from where the windows of what is handed over after are written, with so many octets skipped, once these are all of the blocks
@@ -150,7 +150,7 @@ pub record From (c : Configuration) (rate : Rate) (given : Certifying) (octets :
   pub from : Certifying
   pub is_rate : from.rate ≡ rate
   pub is_invert : from.invert ≡ is_inverted rate c.invert
-  pub is_room : from.room ≡ 2 * (c.keep + c.ahead) + 264
+  pub is_room : from.room ≡ soft_room (c.keep + c.ahead)
   pub closed : Closed rate (is_inverted rate c.invert) c.keep c.ahead (first_place (settings_of c rate) (soft_octets c skip octets)) items from.place
   pub is_text : IsCertificate (settings_of c rate) (soft_octets c skip octets) items text
   pub wrote : (now : Certifying) (taken taken_now : Option (List ℕ)) → WroteHanded given now more taken taken_now → WroteBlocks from now rest taken taken_now
@@ -288,7 +288,7 @@ module _ (c : Configuration) (rate : Rate) (given : Certifying) (octets : List �
     pub wrote : Wrote taken taken_now last
     pub is_rate : now.rate ≡ rate
     pub is_invert : now.invert ≡ is_inverted rate c.invert
-    pub is_room : now.room ≡ 2 * (c.keep + c.ahead) + 264
+    pub is_room : now.room ≡ soft_room (c.keep + c.ahead)
     pub place : now.place ≡ to
 
   -- the windows up to a place

@@ -14,7 +14,7 @@ use Rattle.tm_inner.specs.Phase.{WithPhase, IsSettled, phase_octets, skip_of}
 use Rattle.tm_inner.specs.Receiving.{InnerReceiving, InnerReceiverStandsFor}
 use Rattle.tm_inner.specs.Symbols.{is_inverted}
 use Rattle.tm_cert_file.specs.Certificate.{IsCertificate}
-use Rattle.tm_cert_file.specs.Certifying.{Certifying, with_octets}
+use Rattle.tm_cert_file.specs.Certifying.{Certifying, with_octets, soft_room, most_given}
 use Rattle.tm_path_commands.specs.Certify.{IsCertifiedAll, TextAt}
 use Rattle.tm_path_commands.specs.Tracing.{StandsAt}
 
@@ -44,7 +44,7 @@ abbrev pub WritesAt : Option Rate → Configuration → Certifying → List ℕ 
 WritesAt None c now octets handed text = text ≡ []
 WritesAt (Some rate) c now octets handed text =
     (now.rate ≡ rate) × (now.invert ≡ is_inverted rate c.invert)
-    × (now.room ≡ 2 * (c.keep + c.ahead) + 264)
+    × (now.room ≡ soft_room (c.keep + c.ahead))
     × (Waits c rate now octets handed text ⊎ Goes c rate now octets handed text)
 
 -- the receiver, which does not follow a phase, was given these octets, fewer than 2^44, and the
@@ -64,7 +64,7 @@ pub record Certifies (c : Configuration) (receiver : InnerReceiving) (now : Cert
 pub record GavePiece (receiver : InnerReceiving) (before now : Certifying)
     (piece : List ℕ) : Type 0 where
   pub soft : List ℕ
-  pub few : length soft ≤ 256
+  pub few : length soft ≤ most_given
   pub are_soft : (octets : List ℕ) (handed : List (Handed WindowBlock))
       → InnerReceiverStandsFor receiver octets handed
       → phase_octets receiver.config (octets ++ piece) ≡ phase_octets receiver.config octets ++ soft

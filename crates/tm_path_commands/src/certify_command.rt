@@ -1,5 +1,6 @@
 // The command `certify`: the certificate of the windows of the soft decoder.
 ghost use Rattle.std.specs.Prelude.{◌≡◌, ℕ, ◌+◌, ◌<◌, ◌≤◌, List, [], ◌++◌, length, Option, false, true, OnOk, OnErr, IfOk};
+ghost use Rattle.tm_cert_file.specs.Certifying.{most_given};
 ghost use Rattle.tm_base.specs.Outside.{HasCause};
 ghost use Rattle.tm_config.specs.Accepted.{IsAccepted};
 ghost use Rattle.tm_config.specs.Configuration.{Configuration};
@@ -37,7 +38,7 @@ fn open(alloc: Global, config: &Config) -> Result<Certifying, NoMemory>
 
 // Gives the soft octets of the next at most 256 octets, before a receiver is given these.
 fn give_piece(receiver: &InnerReceiver, certifying: &mut Certifying, piece: &[u8])
-    requires { length piece.now ≤ 256 }
+    requires { length piece.now ≤ most_given }
     ensures { GavePiece receiver.now certifying.old certifying.new piece.now }
 {
     let mut room = [0; PIECE];
@@ -55,7 +56,7 @@ fn certify_piece<O: Sink>(
     piece: &[u8],
 ) -> Result<(), Failed>
     requires ready { receiver.old.has_stopped ≡ false }
-    requires few { length piece.now ≤ 256 }
+    requires few { length piece.now ≤ most_given }
     ensures ready { OnOk result (receiver.new.has_stopped ≡ false) }
     ensures ok { OnOk result ((c : Configuration) (start : Option (List ℕ)) (given : List ℕ) → IsAccepted c
         → length given + length piece.now < last_certified
