@@ -3,6 +3,10 @@ use Rattle.std.specs.Prelude.{ℕ, ◌==◌, if◌then◌else◌, List, [], ◌�
 use Rattle.tm_driver.specs.declared.ending.Outcome.{Outcome}
 use Rattle.tm_driver.specs.declared.ending.Outcome.TheVariants.{Done, LeftOver}
 
+-- the most octets of a line
+abbrev pub line_room : ℕ
+line_room = 560
+
 -- how many octets follow the last whole frame or record; no line where there are none
 abbrev pub left_over_text : ℕ → List ℕ
 left_over_text rest = if rest == 0 then [] else codes "left over " ++ decimal rest ++ 10 ∷ []

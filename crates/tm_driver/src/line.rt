@@ -1,5 +1,6 @@
 // A line of text, made without memory and written at once.
 ghost use Rattle.std.specs.Prelude.{◌≡◌, ◌+◌, ◌≤◌, ◌++◌, [], length, decimal, OnOk, OnErr};
+ghost use Rattle.tm_driver.specs.Lines.{line_room};
 ghost use Rattle.tm_base.specs.Outside.{HasCause};
 ghost use Rattle.tm_base.specs.Written.{Wrote, WrotePrefix};
 
@@ -16,12 +17,13 @@ pub struct Line {
 
 impl Model for Line {
     ghost use Rattle.std.specs.Prelude.{ℕ, ◌≤◌, List, take};
+    ghost use Rattle.tm_driver.specs.Lines.{line_room};
 
     ghost Value = { List ℕ };
 
     ghost view = { λ l. take l.count l.room };
 
-    ghost invariant = { λ l. l.count ≤ 560 };
+    ghost invariant = { λ l. l.count ≤ line_room };
 }
 
 impl Line {
@@ -37,7 +39,7 @@ impl Line {
 
     /// Adds a text.
     pub fn text(&mut self, text: &[u8])
-        requires { length self.old + length text.now ≤ 560 }
+        requires { length self.old + length text.now ≤ line_room }
         ensures { self.new ≡ self.old ++ text.now }
     {
         let end = self.count + text.len();
@@ -47,7 +49,7 @@ impl Line {
 
     /// Adds a number in decimal, without leading zeros.
     pub fn number(&mut self, number: u64)
-        requires { length self.old + 20 ≤ 560 }
+        requires { length self.old + 20 ≤ line_room }
         ensures text { self.new ≡ self.old ++ decimal number }
         ensures length { length self.new ≤ length self.old + 20 }
     {
