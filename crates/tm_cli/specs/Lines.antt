@@ -1,12 +1,13 @@
 -- The lines of a report, and of a refusal, each ended by one line feed.
 use Rattle.std.specs.Prelude.{ℕ, Bool, if◌then◌else◌, List, [], ◌∷◌, ◌++◌, codes, decimal, flat_map}
+use Rattle.tm_driver.specs.Lines.{line_end}
 use Rattle.tm_rs_solve.specs.declared.answers.Answer.{Answer}
 use Rattle.tm_rs_solve.specs.declared.answers.Answer.TheVariants.{Fixed, Beyond}
 use Rattle.tm_channel.specs.Items.{ItemValue}
 
 -- that the words are refused, for this reason
 abbrev pub refusal_text : List ℕ → List ℕ
-refusal_text reason = codes "refused: " ++ reason ++ 10 ∷ []
+refusal_text reason = codes "refused: " ++ reason ++ line_end
 
 -- how a marker matched, and in which polarity
 abbrev pub marker_text : (bridged : Bool) (distance : ℕ) (inverted : Bool) → List ℕ
@@ -29,11 +30,11 @@ abbrev pub item_text : ℕ → ItemValue → List ℕ
 item_text number item =
     codes "frame " ++ decimal number ++ codes " at " ++ decimal item.found.place
     ++ marker_text item.found.bridged item.found.distance item.found.inverted
-    ++ answers_text item.answers ++ 10 ∷ []
+    ++ answers_text item.answers ++ line_end
 
 -- the end of a report: the codeblocks without and with an uncorrectable column, the symbols
 -- repaired, and the bits received
 abbrev pub report_end_text : (good bad fixed bits : ℕ) → List ℕ
 report_end_text good bad fixed bits =
     codes "frames " ++ decimal good ++ codes " bad " ++ decimal bad ++ codes " fixed "
-    ++ decimal fixed ++ codes " bits " ++ decimal bits ++ 10 ∷ []
+    ++ decimal fixed ++ codes " bits " ++ decimal bits ++ line_end

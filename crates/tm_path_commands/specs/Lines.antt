@@ -1,6 +1,6 @@
 -- The lines of a trace and of a certificate that is checked, each ended by one line feed.
 use Rattle.std.specs.Prelude.{ℕ, ◌+◌, ◌==◌, if◌then◌else◌, List, [], ◌∷◌, ◌++◌, Option, codes, decimal}
-use Rattle.tm_driver.specs.Lines.{slips_text}
+use Rattle.tm_driver.specs.Lines.{slips_text, line_end}
 use Rattle.tm_viterbi.specs.WindowBlock.{WindowBlock}
 use Rattle.tm_path_commands.specs.declared.tally.Tally.{Tally}
 use Rattle.tm_cert_file.specs.declared.seen.Reason.{Reason}
@@ -10,14 +10,14 @@ use Rattle.tm_cert_file.specs.declared.seen.Reason.TheVariants.{Shape, Joint, Ed
 abbrev pub window_text : (number steps kept metric : ℕ) → List ℕ
 window_text number steps kept metric =
     codes "block " ++ decimal number ++ codes " steps " ++ decimal steps
-    ++ codes " kept " ++ decimal kept ++ codes " metric " ++ decimal metric ++ 10 ∷ []
+    ++ codes " kept " ++ decimal kept ++ codes " metric " ++ decimal metric ++ line_end
 
 -- octets were dropped before a window, after so many bits; no line where none was
 abbrev pub slip_text : (dropped bits : ℕ) → List ℕ
 slip_text dropped bits =
     if dropped == 0
     then []
-    else codes "slip " ++ decimal dropped ++ codes " at " ++ decimal bits ++ 10 ∷ []
+    else codes "slip " ++ decimal dropped ++ codes " at " ++ decimal bits ++ line_end
 
 -- a window of the soft decoder, after so many windows and bits
 abbrev pub block_text : Tally → WindowBlock → List ℕ
@@ -35,7 +35,7 @@ no_blocks = record { blocks = 0; bits = 0 }
 abbrev pub trace_end_text : (blocks bits leftover : ℕ) → List ℕ
 trace_end_text blocks bits leftover =
     codes "blocks " ++ decimal blocks ++ codes " bits " ++ decimal bits
-    ++ codes " leftover " ++ decimal leftover ++ 10 ∷ []
+    ++ codes " leftover " ++ decimal leftover ++ line_end
 
 -- the same after bits that were written: with how often octets were dropped, where the phase is
 -- followed
@@ -53,8 +53,8 @@ reason_text (Sum sum) = codes "sum " ++ decimal sum
 -- the window of a certificate that fails, and why
 abbrev pub bad_text : ℕ → Reason → List ℕ
 bad_text number reason = codes "bad " ++ decimal number ++ codes " " ++ reason_text reason
-    ++ 10 ∷ []
+    ++ line_end
 
 -- the window of a certificate that is not whole or missing
 abbrev pub cut_text : ℕ → List ℕ
-cut_text number = codes "cut at block " ++ decimal number ++ 10 ∷ []
+cut_text number = codes "cut at block " ++ decimal number ++ line_end

@@ -1,11 +1,11 @@
 -- The command `erased`: records of words with erased symbols, a line for what is nearest to each,
 -- and at the end how many octets are left over.
-use Rattle.std.specs.Prelude.{◌≡◌, ◌⊎◌, ℕ, Bool, true, false, List, [], ◌∷◌, ◌++◌, map, flat_map, codes, decimal}
+use Rattle.std.specs.Prelude.{◌≡◌, ◌⊎◌, ℕ, Bool, true, false, List, [], ◌++◌, map, flat_map, codes, decimal}
 use Rattle.std.specs.List.{list_any}
 use Rattle.hex.specs.Hex.{encode_lower}
 use Rattle.tm_base.specs.Written.{Wrote}
 use Rattle.tm_config.specs.Configuration.{Configuration, correctable, word_length}
-use Rattle.tm_driver.specs.Lines.{left_over_text}
+use Rattle.tm_driver.specs.Lines.{left_over_text, line_end}
 use Rattle.tm_driver.specs.Meaning.{Meaning}
 use Rattle.tm_dual.specs.declared.basis.Basis.{Basis}
 use Rattle.tm_dual.specs.Octet.{sent_octet}
@@ -29,8 +29,8 @@ coding_of c = record {
 abbrev pub erased_text : ErasedAnswer → List ℕ → List ℕ
 erased_text (FixedBoth wrong differing) octets =
     codes "fixed " ++ decimal wrong ++ codes " " ++ decimal differing ++ codes " "
-    ++ encode_lower octets ++ 10 ∷ []
-erased_text BeyondBoth octets = codes "beyond" ++ 10 ∷ []
+    ++ encode_lower octets ++ line_end
+erased_text BeyondBoth octets = codes "beyond" ++ line_end
 
 -- the line of what is nearest to a record's word, with the codeword in this basis
 abbrev pub nearest_text : Basis → NearestErased → List ℕ

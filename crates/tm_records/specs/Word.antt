@@ -1,11 +1,12 @@
 -- The command `word`: a word that is given in hexadecimal, and what is nearest to it.
-use Rattle.std.specs.Prelude.{◌≡◌, ℕ, ◌+◌, ◌*◌, ◌/◌, ◌%◌, ◌==◌, ◌&&◌, Bool, if◌then◌else◌, nat_le, List, [], ◌∷◌, ◌++◌, length, map, codes, decimal, Option, Some, None}
+use Rattle.std.specs.Prelude.{◌≡◌, ℕ, ◌+◌, ◌*◌, ◌/◌, ◌%◌, ◌==◌, ◌&&◌, Bool, if◌then◌else◌, nat_le, List, [], ◌++◌, length, map, codes, decimal, Option, Some, None}
 use Rattle.std.specs.List.{list_all}
 use Rattle.std.specs.Result.{result_unwrap_or}
 use Rattle.hex.specs.Hex.{is_hex_digit, decode_of, encode_lower}
 use Rattle.tm_base.specs.Written.{Wrote}
 use Rattle.tm_config.specs.Configuration.{Configuration, correctable, is_uncoded}
 use Rattle.tm_driver.specs.Meaning.{Meaning}
+use Rattle.tm_driver.specs.Lines.{line_end}
 use Rattle.tm_dual.specs.Octet.{sent_octet, element_of}
 use Rattle.tm_rs_code.specs.Nearest.{IsNearest}
 use Rattle.tm_rs_code.specs.Nearest.Nearest.{Beyond as BeyondWord}
@@ -47,8 +48,8 @@ word_of c text = map (element_of c.basis) (octets_of_hex text)
 -- how many symbols were wrong, and the octets of the codeword; or that no codeword is near
 abbrev pub word_text : Answer → List ℕ → List ℕ
 word_text (Fixed distance) octets =
-    codes "fixed " ++ decimal distance ++ codes " " ++ encode_lower octets ++ 10 ∷ []
-word_text Beyond octets = codes "beyond" ++ 10 ∷ []
+    codes "fixed " ++ decimal distance ++ codes " " ++ encode_lower octets ++ line_end
+word_text Beyond octets = codes "beyond" ++ line_end
 
 -- the line of the codeword that is nearest to the word within the repair bound, in the basis, or of
 -- none
