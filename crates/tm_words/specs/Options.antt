@@ -1,12 +1,21 @@
 -- The options, and their values from texts to numbers.
-use Rattle.std.specs.Prelude.{ℕ, ◌-◌, ◌^◌, ◌&&◌, Bool, nat_le, min, length, List, [], ◌∷◌, Option, unwrap_or, option_map, codes, if◌then◌else◌}
+use Rattle.std.specs.Prelude.{ℕ, ◌-◌, ◌^◌, ◌&&◌, Bool, nat_le, min, length, List, [], ◌∷◌, Option, unwrap_or, option_map, codes, Some, None, true, false, if◌then◌else◌}
 use Rattle.std.specs.List.{list_all}
 use Rattle.std.specs.Char.{is_ascii_digit}
 use Rattle.std.specs.Str.{bytes_eq}
 use Rattle.std.specs.Str.Parse.{digits_value}
 use Rattle.clap.specs.Words.{Text, Row, first_of}
+use Rattle.tm_conv.specs.declared.rates.Rate.TheVariants.{R12, R23, R34, R56, R78}
+use Rattle.tm_dual.specs.declared.basis.Basis.TheVariants.{Dual, Poly}
+use Rattle.tm_viterbi.specs.declared.block.Start.TheVariants.{Zero, Any}
+use Rattle.tm_config.specs.declared.values.OuterCode.TheVariants.{Rs16, Rs8, Uncoded}
+use Rattle.tm_config.specs.declared.values.PhaseMode.TheVariants as mode
 use Rattle.tm_config.specs.declared.values.Raw.{Raw}
-use Rattle.tm_config.specs.Configuration.{default_raw}
+use Rattle.tm_config.specs.declared.values.SoftForm.TheVariants.{Unsigned, Signed}
+use Rattle.tm_config.specs.declared.values.Sought.TheVariants.{Given, Find}
+use Rattle.tm_config.specs.Configuration.{correctable, default_raw, number_of_basis, number_of_form}
+use Rattle.tm_config.specs.Configuration.{number_of_mode, number_of_rate, number_of_sought}
+use Rattle.tm_config.specs.Configuration.{number_of_start, number_of_switch}
 
 -- stands for each text that is no number and no word of its option, and is outside every list and
 -- range
@@ -33,40 +42,60 @@ abbrev pub OptionRow : Type 0
 OptionRow = Text × List (Text × ℕ)
 
 abbrev pub switch_words : List (Text × ℕ)
-switch_words = (codes "on", 1) ∷ (codes "off", 0) ∷ []
+switch_words = (codes "on", number_of_switch true) ∷ (codes "off", number_of_switch false) ∷ []
 
 abbrev pub sought_words : List (Text × ℕ)
-sought_words = (codes "given", 0) ∷ (codes "find", 1) ∷ []
+sought_words = (codes "given", number_of_sought Given) ∷ (codes "find", number_of_sought Find) ∷ []
 
 abbrev pub phase_words : List (Text × ℕ)
-phase_words = (codes "given", 0) ∷ (codes "find", 1) ∷ (codes "follow", 2) ∷ []
+phase_words =
+    (codes "given", number_of_mode mode.Given)
+    ∷ (codes "find", number_of_mode mode.Find)
+    ∷ (codes "follow", number_of_mode mode.Follow)
+    ∷ []
 
 -- the rates of the convolutional code by their two digits, or no code
 abbrev pub rate_words : List (Text × ℕ)
 rate_words =
-    (codes "none", 0)
-    ∷ (codes "1/2", 12)
-    ∷ (codes "2/3", 23)
-    ∷ (codes "3/4", 34)
-    ∷ (codes "5/6", 56)
-    ∷ (codes "7/8", 78)
+    (codes "none", number_of_rate None)
+    ∷ (codes "1/2", number_of_rate (Some R12))
+    ∷ (codes "2/3", number_of_rate (Some R23))
+    ∷ (codes "3/4", number_of_rate (Some R34))
+    ∷ (codes "5/6", number_of_rate (Some R56))
+    ∷ (codes "7/8", number_of_rate (Some R78))
     ∷ []
 
--- the options of every command; the Reed-Solomon codes of the standard stand under the symbol
--- errors that each corrects
+-- the Reed-Solomon codes of the standard by the symbol errors that each corrects, or no code
+abbrev pub code_words : List (Text × ℕ)
+code_words =
+    (codes "rs16", correctable Rs16)
+    ∷ (codes "rs8", correctable Rs8)
+    ∷ (codes "none", correctable Uncoded)
+    ∷ []
+
+abbrev pub basis_words : List (Text × ℕ)
+basis_words = (codes "dual", number_of_basis Dual) ∷ (codes "poly", number_of_basis Poly) ∷ []
+
+abbrev pub form_words : List (Text × ℕ)
+form_words = (codes "u8", number_of_form Unsigned) ∷ (codes "i8", number_of_form Signed) ∷ []
+
+abbrev pub start_words : List (Text × ℕ)
+start_words = (codes "zero", number_of_start Zero) ∷ (codes "any", number_of_start Any) ∷ []
+
+-- the options of every command
 abbrev pub options : List OptionRow
 options =
-    (codes "code", (codes "rs16", 16) ∷ (codes "rs8", 8) ∷ (codes "none", 0) ∷ [])
+    (codes "code", code_words)
     ∷ (codes "depth", [])
     ∷ (codes "length", [])
     ∷ (codes "inner", rate_words)
     ∷ (codes "invert", switch_words)
     ∷ (codes "randomize", switch_words)
-    ∷ (codes "basis", (codes "dual", 0) ∷ (codes "poly", 1) ∷ [])
+    ∷ (codes "basis", basis_words)
     ∷ (codes "tolerance", [])
     ∷ (codes "repair", [])
-    ∷ (codes "soft", (codes "u8", 0) ∷ (codes "i8", 1) ∷ [])
-    ∷ (codes "start", (codes "zero", 0) ∷ (codes "any", 1) ∷ [])
+    ∷ (codes "soft", form_words)
+    ∷ (codes "start", start_words)
     ∷ (codes "skip", [])
     ∷ (codes "workers", [])
     ∷ (codes "limit", [])
