@@ -22,9 +22,9 @@ plain_job kind rows = record {
 abbrev pub job_of : JobKind → List Row → Job
 job_of Word rows = record (plain_job Word rows) { hex = unwrap_or (first_of (codes "hex") rows) [] }
 job_of Soak rows = record (plain_job Soak rows) {
-  seed = unwrap_or (number_given (codes "seed") rows) 1;
-  frames = unwrap_or (number_given (codes "frames") rows) 100;
-  hits = unwrap_or (number_given (codes "hits") rows) 0;
+  seed = unwrap_or (number_given (codes "seed") rows) (plain_job Soak rows).seed;
+  frames = unwrap_or (number_given (codes "frames") rows) (plain_job Soak rows).frames;
+  hits = unwrap_or (number_given (codes "hits") rows) (plain_job Soak rows).hits;
 }
 job_of kind rows = plain_job kind rows
 
