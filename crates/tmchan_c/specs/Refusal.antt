@@ -1,5 +1,6 @@
 -- When a call is refused, what that promises, and the numbers that calls answer.
 use Rattle.std.specs.Prelude.{◌≡◌, ℕ, ◌+◌, ◌*◌, ◌==◌, ℤ, pos, negsuc, [], ◌∷◌, Option, Some, None, option_map, nat_lt, nat_le, if◌then◌else◌}
+use Rattle.tm_rs_code.specs.Code.{longest_word}
 use Rattle.tm_config.specs.Accepted.{is_number, is_within, place_of, refusal_of_raw}
 use Rattle.tm_config.specs.Configuration.{correctable, number_of_basis, all_bases}
 use Rattle.tm_config.specs.declared.error.ConfigError.{ConfigError}
@@ -54,7 +55,7 @@ values_refusal raw = option_map (λ error. Value error) (refusal_of_raw raw)
 abbrev pub word_refusal : ℕ → ℕ → ℕ → ℕ → Option Refusal → Option Refusal
 word_refusal code n basis repair other =
     if is_number correctable (Rs16 ∷ Rs8 ∷ []) code then
-    if is_within (2 * code + 1) 255 n then
+    if is_within (2 * code + 1) longest_word n then
     if is_number number_of_basis all_bases basis then
     if nat_le repair code then other
     else Some (Value Repair)

@@ -2,6 +2,7 @@
 use Rattle.std.specs.Int.{from_bool}
 use Rattle.std.specs.Prelude.{◌≡◌, ℕ, ◌+◌, ◌≤◌, ◌==◌, ◌&&◌, nat_le, ℤ, pos, Bool, true, List, [], ◌++◌, length, Option, Some, None, if◌then◌else◌}
 use Rattle.tm_base.specs.Marker.{most_tolerance}
+use Rattle.tm_config.specs.Accepted.{sought_fits}
 use Rattle.tm_config.specs.Configuration.{most_fly, most_verify}
 use Rattle.tm_config.specs.declared.error.ConfigError.TheVariants.{Tolerance, Fly, Polarity, Verify}
 use Rattle.tm_sync.specs.declared.found.Found.{Found}
@@ -72,7 +73,7 @@ abbrev pub rules_refusal : ℕ → ℕ → ℕ → ℕ → Option Refusal
 rules_refusal tolerance fly either verify =
     if nat_le tolerance most_tolerance then
     if nat_le fly most_fly then
-    if nat_le either 1 then
+    if sought_fits either then
     if nat_le verify most_verify then None
     else Some (Value Verify)
     else Some (Value Polarity)

@@ -161,7 +161,7 @@ fn rules_refusal(tolerance: u32, fly: u32, either: u32, verify: u32) -> Option<R
     if fly > MOST_FLY {
         return Some(Refusal::Value(ConfigError::Fly));
     }
-    if either > 1 {
+    if either != 0 && either != 1 {
         return Some(Refusal::Value(ConfigError::Polarity));
     }
     if verify > MOST_VERIFY {
