@@ -1,6 +1,6 @@
 -- The values of the options, as a program in C passes them.
 use Rattle.std.specs.Prelude.{ℕ, ◌-◌, ◌^◌, ◌==◌, Option, Some, None, if◌then◌else◌}
-use Rattle.tm_config.specs.Configuration.{Configuration, configuration_of}
+use Rattle.tm_config.specs.Configuration.{Configuration, configuration_of, default_raw}
 use Rattle.tm_config.specs.declared.values.Raw.{Raw}
 use Rattle.tmchan_c.specs.declared.config.Options.{Options}
 
@@ -9,7 +9,7 @@ abbrev pub given : ℕ → Option ℕ
 given value = if value == 2 ^ 64 - 1 then None else Some value
 
 abbrev pub raw_of : Options → Raw
-raw_of options = record {
+raw_of options = record default_raw {
   code = options.code;
   depth = options.depth;
   length = given options.length;

@@ -138,5 +138,6 @@ pub fn raw(options: &Options) -> Raw
         batch: options.batch,
         pack: options.pack,
         verify: options.verify,
+        ..Raw::default()
     }
 }
