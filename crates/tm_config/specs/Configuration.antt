@@ -30,7 +30,7 @@ deepest = 8
 
 -- the most octets of a codeblock: those of so many of the longest words
 abbrev pub longest_codeblock : ℕ
-longest_codeblock = 2040
+longest_codeblock = deepest * longest_word
 
 -- the most symbols that are dropped first
 abbrev pub most_skip : ℕ
