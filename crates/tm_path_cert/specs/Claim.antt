@@ -1,11 +1,18 @@
 -- What a certificate speaks of: soft octets, the step at which they begin, and the registers that a
 -- path may start from.
-use Rattle.std.specs.Prelude.{ℕ, ◌+◌, ◌<◌, ◌==◌, Bool, true, List, take, drop}
+use Rattle.std.specs.Prelude.{ℕ, ◌+◌, ◌*◌, ◌^◌, ◌<◌, ◌==◌, Bool, true, List, take, drop}
 use Rattle.tm_conv.specs.declared.rates.Rate.{Rate}
 use Rattle.tm_conv.specs.Path.{step_size, steps_size, step_symbols, path}
 use Rattle.tm_conv.specs.Cost.{cost}
 use Rattle.tm_path_cert.specs.declared.verdicts.Starts.{Starts}
 use Rattle.tm_path_cert.specs.declared.verdicts.Starts.TheVariants.{Any, One}
+
+-- the most steps of a path, and the most soft octets
+abbrev pub most_steps : ℕ
+most_steps = 2 ^ 24
+
+abbrev pub most_soft : ℕ
+most_soft = 2 * most_steps
 
 pub record Claim : Type 0 where
   pub rate : Rate

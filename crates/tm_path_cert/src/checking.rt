@@ -3,7 +3,7 @@ ghost use Rattle.std.specs.Prelude.{◌≡◌, ◌↔◌, ℕ, ◌+◌, ◌-◌,
 ghost use Rattle.tm_conv.specs.Path.{AreBits, steps_size};
 ghost use Rattle.tm_conv.specs.Best.{IsCandidate};
 ghost use Rattle.tm_conv.specs.Columns.{last_certified};
-ghost use Rattle.tm_path_cert.specs.Claim.{AreRegisters, is_start, path_cost};
+ghost use Rattle.tm_path_cert.specs.Claim.{AreRegisters, is_start, path_cost, most_steps};
 ghost use Rattle.tm_path_cert.specs.Tests.{HoldsAt, IsFirstFailing, first_place};
 
 use crate::columns::{first_less, first_start_wrong, first_undercut};
@@ -31,7 +31,7 @@ impl<'a> Model for Check<'a> {
     ghost use Rattle.std.specs.Prelude.{◌≡◌, ◌≤◌, ◌-◌, ◌^◌, length};
     ghost use Rattle.tm_conv.specs.Path.{steps_size};
     ghost use Rattle.tm_conv.specs.Columns.{last_certified};
-    ghost use Rattle.tm_path_cert.specs.Claim.{AreRegisters};
+    ghost use Rattle.tm_path_cert.specs.Claim.{AreRegisters, most_soft};
     ghost use Rattle.tm_path_cert.specs.Checking.{Checking};
 
     ghost Value = { Checking };
@@ -43,7 +43,7 @@ impl<'a> Model for Check<'a> {
       wrong = c.wrong;
     } };
 
-    ghost invariant = { λ c. (c.place ≡ steps_size c.rate c.first (c.count - 1)) × (length c.soft.now ≤ 2 ^ 25)
+    ghost invariant = { λ c. (c.place ≡ steps_size c.rate c.first (c.count - 1)) × (length c.soft.now ≤ most_soft)
         × (c.first ≤ last_certified) };
 }
 
@@ -53,11 +53,16 @@ impl<'a> Check<'a> {
     /// A check of soft octets, which are the symbols of whole steps from step `first` on, at most 2^24 steps.
     /// It was given no column yet.
     pub fn new(rate: Rate, invert: bool, first: u64, start: Starts, soft: &'a [u8]) -> Check<'a>
-        requires steps { (steps : ℕ) × (steps ≤ 2 ^ 24) × (length soft.now ≡ steps_size rate first steps) }
+        requires steps { (steps : ℕ) × (steps ≤ most_steps) × (length soft.now ≡ steps_size rate first steps) }
         requires first { first ≤ last_certified }
         requires start { AreRegisters start }
-        ensures claim { result.claim ≡ record { rate = rate; invert = invert; first = first; starts = start;
-            soft = soft.now } }
+        ensures claim { result.claim ≡ record {
+          rate = rate;
+          invert = invert;
+          first = first;
+          starts = start;
+          soft = soft.now;
+        } }
         ensures count { result.count ≡ 0 }
         ensures stands { CheckStandsFor result [] }
     {

@@ -1,5 +1,6 @@
 // What the steps of a path cost.
 ghost use Rattle.std.specs.Prelude.{◌≡◌, ℕ, ◌+◌, ◌*◌, ◌≤◌, ◌<◌, ◌^◌, length, slice_index};
+ghost use Rattle.tm_path_cert.specs.Claim.{most_soft};
 ghost use Rattle.tm_conv.specs.Path.{c1, c2, sent, step_size, step_symbols, steps_size, AreBits, path};
 ghost use Rattle.tm_conv.specs.Cost as metric;
 ghost use Rattle.tm_conv.specs.Columns.{last_certified};
@@ -98,7 +99,7 @@ pub(crate) fn path_sum(
     requires register { register < 64 }
     requires bits { AreBits bits.now }
     requires first { first ≤ last_certified }
-    requires few { length soft.now ≤ 2 ^ 25 }
+    requires few { length soft.now ≤ most_soft }
     requires steps { length soft.now ≡ steps_size rate first (length bits.now) }
     ensures { result ≡ metric.cost (path rate invert first register bits.now) soft.now }
 {
