@@ -5,14 +5,14 @@ use Rattle.tm_conv.specs.declared.rates.Rate.{Rate}
 use Rattle.tm_inner.specs.Inner.{plain_count}
 use Rattle.tm_codeblock.specs.ReceivedCodeblock.{rules_of}
 use Rattle.tm_channel.specs.Items.{ItemValue, frames_of}
-use Rattle.tm_channel.specs.Receiving.{waiting_bits}
+use Rattle.tm_channel.specs.Receiving.{held_bits, waiting_bits}
 
 -- how many bits come of so many octets, or of none at the end: those of the blocks that wait, of
 -- the octets that wait for the phase, of a window and of these octets; with no inner code those
 -- that the octets hold
 abbrev pub most_bits_at : Option Rate → Configuration → ℕ → ℕ
 most_bits_at None c octets = plain_count c octets
-most_bits_at (Some rate) c octets = waiting_bits c c.batch + 3 * (c.keep + c.ahead) + 7 + octets
+most_bits_at (Some rate) c octets = held_bits (waiting_bits c c.batch) c + octets
 
 abbrev pub most_bits : Configuration → ℕ → ℕ
 most_bits c = most_bits_at c.inner c

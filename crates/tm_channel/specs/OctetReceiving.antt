@@ -21,7 +21,7 @@ use Rattle.tm_channel.specs.Due.{due, due_count}
 use Rattle.tm_channel.specs.declared.totals.Totals.{Totals}
 use Rattle.tm_channel.specs.Handing.{phase_of, totals_of, AreReceived, AreReceivedDue, AreReceivedFirst, AreReceivedPrefix}
 use Rattle.tm_channel.specs.Most.{AreFew}
-use Rattle.tm_channel.specs.Receiving.{Batching, Stands, HoldsMore, waiting_bits, GoesOn, AreDue, AreFirstDue, AreFurther, AreFirstFurther, AreLast, AreFirstLast}
+use Rattle.tm_channel.specs.Receiving.{Batching, Stands, HoldsMore, waiting_bits, GoesOn, AreDue, AreFirstDue, AreFurther, AreFirstFurther, AreLast, AreFirstLast, held_bits}
 
 -- what contracts see of a receiver of bits
 pub record BitReceiving : Type 0 where
@@ -263,7 +263,7 @@ AreWaiting c given done waiting = AreHandedDue c given (done ++ map Item waiting
 -- phase, of a window and of so many octets
 abbrev pub HasRoom : Configuration → List WindowBlock → ℕ → ℕ → Type 0
 HasRoom c waiting count room =
-    length (kept_bits waiting) + 3 * (c.keep + c.ahead) + 7 + count ≤ room
+    held_bits (length (kept_bits waiting)) c + count ≤ room
 
 -- whatever octets the first stage was given, fewer than 2^60 with these, it took these too, and
 -- the blocks that wait now keep at most so many bits

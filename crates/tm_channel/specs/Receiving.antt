@@ -159,6 +159,10 @@ pub record IsReady (s : Searching) (room : List ℕ) (b : Batching) : Type 0 whe
 abbrev pub waiting_bits : Configuration → ℕ → ℕ
 waiting_bits c count = if nat_lt 1 c.workers then count * (32 + (rules_of c).block_bits) else 0
 
+-- beside bits that wait, those of the octets that wait for the phase and of a window
+abbrev pub held_bits : ℕ → Configuration → ℕ
+held_bits waiting c = waiting + 3 * (c.keep + c.ahead) + 7
+
 -- ---- bits that are taken
 
 -- the bits of octets after the first `from` ones, up to bit `to`

@@ -69,7 +69,7 @@ pub struct Receiver {
 impl Model for Receiver {
     ghost use Rattle.std.specs.Prelude.{◌≡◌, ◌≤◌, ◌+◌, ◌*◌, false};
     ghost use Rattle.tm_config.specs.Accepted.{IsAccepted};
-    ghost use Rattle.tm_channel.specs.Receiving.{waiting_bits, piece_size};
+    ghost use Rattle.tm_channel.specs.Receiving.{held_bits, waiting_bits, piece_size};
     ghost use Rattle.tm_channel.specs.OctetReceiving.{OctetReceiving};
 
     ghost Value = { OctetReceiving };
@@ -82,8 +82,8 @@ impl Model for Receiver {
 
     ghost invariant = { λ r. (r.inner.config ≡ r.config) × (r.stream.batch.config ≡ r.config)
         × (r.has_stopped ≡ false → r.inner.has_stopped ≡ false)
-        × (waiting_bits r.inner.config r.inner.config.batch + 3 * (r.inner.config.keep + r.inner.config.ahead) + 7
-        + piece_size ≤ r.kept.size) × IsAccepted r.config };
+        × (held_bits (waiting_bits r.inner.config r.inner.config.batch) r.inner.config + piece_size
+        ≤ r.kept.size) × IsAccepted r.config };
 }
 
 impl Receiver {

@@ -9,7 +9,7 @@ ghost use Rattle.tm_inner.specs.Phase.{IsChosen, with_phase};
 ghost use Rattle.tm_inner.specs.Receiving.{HandsPrefix, InnerReceiverStandsFor};
 ghost use Rattle.tm_viterbi.specs.WindowBlock.{WindowBlock};
 ghost use Rattle.tm_channel.specs.Calls.{TakesBits, TakesOctets};
-ghost use Rattle.tm_channel.specs.Receiving.{waiting_bits, piece_size};
+ghost use Rattle.tm_channel.specs.Receiving.{held_bits, waiting_bits, piece_size};
 ghost use Rattle.tm_channel.specs.OctetReceiving.{Ends, FirstWith, Gathers, Grows, Received, ReceivedPart, StagesFor, StagesHand, received_bits};
 
 use crate::bit_stream::BitStream;
@@ -39,9 +39,8 @@ pub fn take<P: Workers, T: ItemTaker>(
     requires workers { P.is_ready by.now }
     requires fresh { inner.old.has_stopped ≡ false }
     requires of { stream.old.batch.config ≡ inner.old.config }
-    requires room { waiting_bits inner.old.config inner.old.config.batch + 3
-        * (inner.old.config.keep + inner.old.config.ahead)
-        + 7 + piece_size ≤ kept.old.size }
+    requires room { held_bits (waiting_bits inner.old.config inner.old.config.batch) inner.old.config
+        + piece_size ≤ kept.old.size }
     ensures { TakesOctets (on_handed T.took_phase T.took) (on_handed T.broke_phase T.broke) T.faults T.is_last
         (record { inner = inner.old; bits = stream.old }) (record { inner = inner.new; bits = stream.new })
         kept.old.size kept.new.size taker.old taker.new octets.now result }
@@ -73,9 +72,8 @@ fn take_piece<P: Workers, T: ItemTaker>(
     requires fresh { inner.old.has_stopped ≡ false }
     requires of { stream.old.batch.config ≡ inner.old.config }
     requires most { length octets.now ≤ piece_size }
-    requires room { waiting_bits inner.old.config inner.old.config.batch + 3
-        * (inner.old.config.keep + inner.old.config.ahead)
-        + 7 + length octets.now ≤ kept.old.size }
+    requires room { held_bits (waiting_bits inner.old.config inner.old.config.batch) inner.old.config
+        + length octets.now ≤ kept.old.size }
     ensures inner { inner.new.config ≡ inner.old.config }
     ensures fresh { inner.new.has_stopped ≡ false }
     ensures room { kept.new.size ≡ kept.old.size }
