@@ -1,5 +1,5 @@
 -- The totals that the decoder's path metrics are.
-use Rattle.std.specs.Prelude.{ℕ, ◌≡◌, ◌+◌, ◌*◌, ◌<◌, ◌≤◌, List, Bool, reverse, slice_index}
+use Rattle.std.specs.Prelude.{ℕ, ◌≡◌, ◌+◌, ◌*◌, ◌^◌, ◌<◌, ◌≤◌, List, Bool, reverse, slice_index}
 use Rattle.tm_conv.specs.declared.rates.Rate.{Rate}
 use Rattle.tm_conv.specs.Path.{path, sent}
 use Rattle.tm_conv.specs.Cost.{cost}
@@ -46,3 +46,7 @@ most_spread = 4096
 -- for how many steps they go in sixteen bits at most
 abbrev pub most_narrow : ℕ
 most_narrow = 120
+
+-- they go in sixteen bits in steps before this one
+abbrev pub narrow_bound : ℕ
+narrow_bound = 2 ^ 63

@@ -3,7 +3,7 @@ ghost use Rattle.std.specs.Prelude.{◌≡◌, ◌++◌, Bool, ℕ, ◌+◌, ◌
 ghost use Rattle.tm_conv.specs.Path.{step_size, steps_size};
 ghost use Rattle.tm_conv.specs.Cost.{most_branch_metric};
 ghost use Rattle.tm_viterbi.specs.AddCompareSelect.{AreSortedPlaces};
-ghost use Rattle.tm_viterbi.specs.Totals.{StepsTo, AreAtMost, most_spread, most_narrow};
+ghost use Rattle.tm_viterbi.specs.Totals.{StepsTo, AreAtMost, most_spread, most_narrow, narrow_bound};
 ghost use Rattle.tm_viterbi.specs.Carries.{Carries, lifted};
 ghost use Rattle.tm_viterbi.specs.Masks.{two_step_masks};
 
@@ -46,7 +46,7 @@ fn narrow_run(
 ) -> (Simd<u16, 32>, Simd<u16, 32>, usize)
     requires size { steps_size rate t (length survivors.old) ≤ length soft.now }
     requires few { length survivors.old ≤ most_narrow }
-    requires first { t + length survivors.old < 2 ^ 63 }
+    requires first { t + length survivors.old < narrow_bound }
     requires room { AreAtMost (2 ^ 16 - 1 - most_branch_metric * length survivors.old) (first_low ++ first_high) }
     ensures taken { result.2 ≡ steps_size rate t (length survivors.new) }
     ensures carries { (base : ℕ) → Carries rate invert t (take result.2 soft.now)
@@ -161,7 +161,7 @@ fn narrow_half_rate(
 ) -> (Simd<u16, 32>, Simd<u16, 32>, usize)
     requires size { steps_size Rate.R12 t (length survivors.old) ≤ length soft.now }
     requires few { length survivors.old ≤ most_narrow }
-    requires first { t + length survivors.old < 2 ^ 63 }
+    requires first { t + length survivors.old < narrow_bound }
     requires room { AreAtMost (2 ^ 16 - 1 - most_branch_metric * length survivors.old) (first_low ++ first_high) }
     ensures taken { result.2 ≡ steps_size Rate.R12 t (length survivors.new) }
     ensures carries { (base : ℕ) → Carries Rate.R12 invert t (take result.2 soft.now)
@@ -214,7 +214,7 @@ pub(crate) fn narrow_at(
 ) -> (Simd<u16, 32>, Simd<u16, 32>, usize)
     requires size { steps_size rate t (length survivors.old) ≤ length soft.now }
     requires few { length survivors.old ≤ most_narrow }
-    requires first { t + length survivors.old < 2 ^ 63 }
+    requires first { t + length survivors.old < narrow_bound }
     requires bounded { AreAtMost most_spread (low ++ high) }
     ensures taken { result.2 ≡ steps_size rate t (length survivors.new) }
     ensures carries { (base : ℕ) → Carries rate invert t (take result.2 soft.now)

@@ -2,7 +2,7 @@
 ghost use Rattle.std.specs.Prelude.{◌≡◌, ◌++◌, min, IsTrue, ℕ, ◌+◌, ◌-◌, ◌*◌, ◌/◌, ◌%◌, ◌^◌, ◌<◌, ◌≤◌, List, take, drop, reverse, length, slice_index, nat_lt, if◌then◌else◌};
 ghost use Rattle.tm_conv.specs.Path.{step_size, steps_size, farthest_step};
 ghost use Rattle.tm_conv.specs.Cost.{most_branch_metric};
-ghost use Rattle.tm_viterbi.specs.Totals.{StepsTo, AreAtMost, most_spread, most_narrow};
+ghost use Rattle.tm_viterbi.specs.Totals.{StepsTo, AreAtMost, most_spread, most_narrow, narrow_bound};
 ghost use Rattle.tm_viterbi.specs.Carries.{Carries};
 
 use crate::costs::{step_costs, wide_costs};
@@ -49,7 +49,7 @@ fn narrow_block(
 ) -> usize
     requires size { steps_size rate t (length survivors.old) ≤ length soft.now }
     requires few { length survivors.old ≤ most_narrow }
-    requires first { t + length survivors.old < 2 ^ 63 }
+    requires first { t + length survivors.old < narrow_bound }
     requires room { least + 65536 < 2 ^ 32 }
     requires least { (s : ℕ) → s < 64 → least ≤ slice_index sums.old s }
     requires close { (s : ℕ) → s < 64 → slice_index sums.old s ≤ least + most_spread }
