@@ -1,6 +1,7 @@
 -- A sender whose symbols go to a buffer.
 use Rattle.std.specs.Prelude.{◌≡◌, ℕ, ◌+◌, ◌*◌, ◌/◌, nat_le, false, if◌then◌else◌, List, Option, Some, None}
 use Rattle.std.specs.Option.{is_some}
+use Rattle.tm_conv.specs.Octets.{most_octet_symbols}
 use Rattle.tm_codeblock.specs.Cadu.{unit_size}
 use Rattle.tm_base.specs.Bits.{AreOctets}
 use Rattle.tm_config.specs.Configuration.{Configuration, codeblock_length}
@@ -10,7 +11,7 @@ use Rattle.tm_buffers.specs.Buffer.{most_taken}
 -- how many symbols an octet comes to at most: two for each of its bits, or with no inner code
 -- itself, or one for each bit where these are not packed
 abbrev pub most_symbols : Configuration → ℕ
-most_symbols c = if is_some c.inner then 16 else if c.pack then 1 else 8
+most_symbols c = if is_some c.inner then most_octet_symbols else if c.pack then 1 else 8
 
 -- For how many symbols there has to be room where so many more octets are given: for those of a
 -- unit for each frame that may become whole, and one more. No more than 2^40 octets are taken at a

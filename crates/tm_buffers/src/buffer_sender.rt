@@ -1,5 +1,6 @@
 // Frames in, symbols out into a buffer.
 ghost use Rattle.std.specs.Prelude.{◌≡◌, ℕ, ◌^◌, ◌+◌, ◌<◌, ◌≤◌, List, [], ◌++◌, length, None, true, false, IfSome};
+ghost use Rattle.tm_conv.specs.Octets.{most_octet_symbols};
 ghost use Rattle.tm_base.specs.Pieces.{further};
 ghost use Rattle.tm_config.specs.Accepted.{IsAccepted};
 ghost use Rattle.tm_config.specs.Configuration.{codeblock_length};
@@ -115,7 +116,7 @@ fn unit_length(config: &Config) -> u64
 // How many symbols an octet comes to at most.
 fn most_symbols(config: &Config) -> u64
     ensures value { result ≡ most_symbols config.now }
-    ensures most { result ≤ 16 }
+    ensures most { result ≤ most_octet_symbols }
 {
     if config.values().inner.is_some() {
         16

@@ -3,6 +3,7 @@ ghost use Rattle.std.specs.Prelude.{◌≡◌, ◌<◌, ◌≤◌, ◌*◌, Bool
 ghost use Rattle.tm_base.specs.Bits.{bit_number, bits_of};
 ghost use Rattle.tm_conv.specs.Path.{c1, c2, sent, step_symbols, next_register};
 ghost use Rattle.tm_conv.specs.Encoding.{EncoderStandsFor, sent_for, symbol_list, levels};
+ghost use Rattle.tm_conv.specs.Octets.{most_octet_symbols};
 
 use crate::octets::encode_octets;
 use crate::rates::{Rate, kept, period};
@@ -75,7 +76,7 @@ impl Encoder {
     /// at most 16 for each octet. `out` has at least 16 octets for each octet; what follows the symbols there means
     /// nothing (CCSDS 131.0-B, Convolutional Coding).
     pub fn encode(&mut self, octets: &[u8], low: u8, out: &mut [u8]) -> usize
-        requires room { 16 * length octets.now ≤ length out.old }
+        requires room { most_octet_symbols * length octets.now ≤ length out.old }
         ensures rate { self.new.rate ≡ self.old.rate }
         ensures invert { self.new.invert ≡ self.old.invert }
         ensures stands { (given : List Bool) → EncoderStandsFor self.old given
@@ -83,7 +84,7 @@ impl Encoder {
         ensures sent { (given : List Bool) → EncoderStandsFor self.old given
             → levels low (sent_for self.old.rate self.old.invert (given ++ bits_of octets.now))
             ≡ levels low (sent_for self.old.rate self.old.invert given) ++ take result out.new }
-        ensures at_most { result ≤ 16 * length octets.now }
+        ensures at_most { result ≤ most_octet_symbols * length octets.now }
         ensures length { length out.new ≡ length out.old }
     {
         let (count, register, position) = encode_octets(

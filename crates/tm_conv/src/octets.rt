@@ -5,7 +5,7 @@ ghost use Rattle.tm_base.specs.Bits.{bits_of, bits_of_octet};
 ghost use Rattle.tm_conv.specs.declared.rates.Rate.TheVariants.{R12};
 ghost use Rattle.tm_conv.specs.Path.{path, period, register_after};
 ghost use Rattle.tm_conv.specs.Encoding.{bit_numbers, levels};
-ghost use Rattle.tm_conv.specs.Octets.{AreKept};
+ghost use Rattle.tm_conv.specs.Octets.{AreKept, most_octet_symbols};
 
 mod tables;
 
@@ -92,7 +92,7 @@ fn octet_symbols(
     requires position { position < period rate }
     requires register { register < 64 }
     ensures long { length result.0 ≡ 16 }
-    ensures at_most { result.1 ≤ 16 }
+    ensures at_most { result.1 ≤ most_octet_symbols }
     ensures kept { take result.1 result.0 ≡ levels low
         (path rate invert position register (bit_numbers (bits_of_octet octet))) }
 {
@@ -137,10 +137,10 @@ fn encode_from(
 ) -> (usize, u8, u8)
     requires position { first_position < period rate }
     requires register { first_register < 64 }
-    requires room { 16 * length octets.now ≤ length out.old }
+    requires room { most_octet_symbols * length octets.now ≤ length out.old }
     ensures sent { take result.0 out.new
         ≡ levels low (path rate invert first_position first_register (bit_numbers (bits_of octets.now))) }
-    ensures at_most { result.0 ≤ 16 * length octets.now }
+    ensures at_most { result.0 ≤ most_octet_symbols * length octets.now }
     ensures register { (result.1 ≡ register_after first_register (bit_numbers (bits_of octets.now))) × (result.1 < 64) }
     ensures position { (result.2 ≡ (first_position + 8 * length octets.now) % period rate) × (result.2 < period rate) }
     ensures length { length out.new ≡ length out.old }
@@ -171,10 +171,10 @@ pub fn encode_octets(
 ) -> (usize, u8, u8)
     requires position { position < period rate }
     requires register { register < 64 }
-    requires room { 16 * length octets.now ≤ length out.old }
+    requires room { most_octet_symbols * length octets.now ≤ length out.old }
     ensures sent { take result.0 out.new
         ≡ levels low (path rate invert position register (bit_numbers (bits_of octets.now))) }
-    ensures at_most { result.0 ≤ 16 * length octets.now }
+    ensures at_most { result.0 ≤ most_octet_symbols * length octets.now }
     ensures register { (result.1 ≡ register_after register (bit_numbers (bits_of octets.now))) × (result.1 < 64) }
     ensures position { (result.2 ≡ (position + 8 * length octets.now) % period rate) × (result.2 < period rate) }
     ensures length { length out.new ≡ length out.old }

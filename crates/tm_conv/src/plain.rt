@@ -2,12 +2,13 @@
 ghost use Rattle.std.specs.Prelude.{◌≡◌, ◌+◌, ◌*◌, ◌≤◌, Bool, List, ◌++◌, length, take};
 ghost use Rattle.tm_base.specs.Bits.{bit_number, bits_of};
 ghost use Rattle.tm_conv.specs.Encoding.{EncoderStandsFor, sent_for, symbol_list, level, levels};
+ghost use Rattle.tm_conv.specs.Octets.{most_octet_symbols};
 
 use crate::encoder::{Encoder, Symbols};
 
 /// What `Encoder::encode` does, by one step for each bit.
 pub fn plain_encode(encoder: &mut Encoder, octets: &[u8], low: u8, out: &mut [u8]) -> usize
-    requires room { 16 * length octets.now ≤ length out.old }
+    requires room { most_octet_symbols * length octets.now ≤ length out.old }
     ensures rate { encoder.new.rate ≡ encoder.old.rate }
     ensures invert { encoder.new.invert ≡ encoder.old.invert }
     ensures stands { (given : List Bool) → EncoderStandsFor encoder.old given
@@ -15,7 +16,7 @@ pub fn plain_encode(encoder: &mut Encoder, octets: &[u8], low: u8, out: &mut [u8
     ensures sent { (given : List Bool) → EncoderStandsFor encoder.old given
         → levels low (sent_for encoder.old.rate encoder.old.invert (given ++ bits_of octets.now))
         ≡ levels low (sent_for encoder.old.rate encoder.old.invert given) ++ take result out.new }
-    ensures at_most { result ≤ 16 * length octets.now }
+    ensures at_most { result ≤ most_octet_symbols * length octets.now }
     ensures length { length out.new ≡ length out.old }
 {
     let mut count = 0;
