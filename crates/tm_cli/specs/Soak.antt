@@ -15,6 +15,10 @@ use Rattle.tm_cli.specs.declared.counts.Counts.{Counts}
 use Rattle.tm_cli.specs.declared.soak_refusal.SoakRefusal.{SoakRefusal}
 use Rattle.tm_cli.specs.declared.soak_refusal.SoakRefusal.TheVariants.{Seed, Frames, Hits}
 
+-- seeds are below this
+abbrev pub seed_bound : ℕ
+seed_bound = 2 ^ 63
+
 -- the most frames that are generated
 abbrev pub most_frames : ℕ
 most_frames = 1000000
@@ -23,7 +27,7 @@ most_frames = 1000000
 -- than it has check symbols
 abbrev pub soak_refusal : Configuration → (seed frames hits : ℕ) → Option SoakRefusal
 soak_refusal c seed frames hits =
-    if nat_lt seed (2 ^ 63) then if nat_le frames most_frames then if nat_le hits
+    if nat_lt seed seed_bound then if nat_le frames most_frames then if nat_le hits
     (2 * correctable c.code) then None else Some Hits else Some Frames else Some Seed
 
 -- the reason that the line gives
