@@ -10,6 +10,10 @@ marker = 0x1A ∷ 0xCF ∷ 0xFC ∷ 0x1D ∷ []
 abbrev pub marker_octets : ℕ
 marker_octets = 4
 
+-- how many bits it has
+abbrev pub marker_size : ℕ
+marker_size = 32
+
 -- the most of its bits that may be wrong
 abbrev pub most_tolerance : ℕ
 most_tolerance = 8

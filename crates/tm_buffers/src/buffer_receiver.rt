@@ -1,6 +1,7 @@
 // Received octets in, frames and reports out into buffers.
 ghost use Rattle.std.specs.Prelude.{◌≡◌, ℕ, ◌+◌, ◌^◌, ◌<◌, ◌≤◌, List, [], length, IfOk, IfSome, None, Some, if◌then◌else◌};
 ghost use Rattle.tm_base.specs.Handed.{Handed};
+ghost use Rattle.tm_base.specs.Marker.{marker_size};
 ghost use Rattle.tm_viterbi.specs.WindowSizes.{stream_bound};
 ghost use Rattle.tm_config.specs.Accepted.{IsAccepted};
 ghost use Rattle.tm_codeblock.specs.ReceivedCodeblock.{rules_of};
@@ -182,7 +183,7 @@ fn waiting_bits(config: &Config) -> u64
 
 // The bits of a marker and a codeblock.
 fn unit_bits(config: &Config) -> u64
-    ensures value { result ≡ 32 + (rules_of config.now).block_bits }
+    ensures value { result ≡ marker_size + (rules_of config.now).block_bits }
     ensures most { result ≤ 2 ^ 15 }
 {
     32 + 8 * codeblock_size(config) as u64

@@ -2,6 +2,7 @@
 -- inverted unit.
 use Rattle.std.specs.Prelude.{ℕ, Bool, true, false, List, [], ◌∷◌, ◌++◌, None, replicate}
 use Rattle.tm_base.specs.Bits.{bits_of}
+use Rattle.tm_base.specs.Marker.{marker_size}
 use Rattle.tm_config.specs.Configuration.{Configuration, configuration_of, default_raw}
 use Rattle.tm_config.specs.declared.values.OuterCode.TheVariants.{Rs8}
 use Rattle.tm_config.specs.declared.values.Sought.TheVariants.{Find}
@@ -50,7 +51,7 @@ units =
     ∷ record {
       received = record {
         gap = [];
-        marker = replicate 32 false;
+        marker = replicate marker_size false;
         block = replicate 136 false;
       };
       frame = frame;

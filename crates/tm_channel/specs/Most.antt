@@ -1,5 +1,6 @@
 -- How many bits and items come of received octets at most, whatever was received before.
 use Rattle.std.specs.Prelude.{ℕ, ◌+◌, ◌*◌, ◌/◌, ◌≤◌, List, length, Option, Some, None}
+use Rattle.tm_base.specs.Marker.{marker_size}
 use Rattle.tm_config.specs.Configuration.{Configuration}
 use Rattle.tm_conv.specs.declared.rates.Rate.{Rate}
 use Rattle.tm_inner.specs.Inner.{plain_count}
@@ -21,7 +22,8 @@ most_bits c = most_bits_at c.inner c
 -- codeblocks in these bits, that of the codeblock under way, those that wait for their batch to be
 -- full, and those that the bits verify
 abbrev pub most_items : Configuration → ℕ → ℕ
-most_items c octets = most_bits c octets / (32 + (rules_of c).block_bits) + c.batch + c.verify
+most_items c octets =
+    most_bits c octets / (marker_size + (rules_of c).block_bits) + c.batch + c.verify
 
 -- these are no more items than that, and their frames have no more octets than as many frames
 abbrev pub AreFew : Configuration → ℕ → List ItemValue → Type 0

@@ -1,6 +1,7 @@
 -- What a receiver keeps of the bits that it was given, and which items it has handed over of them.
 use Rattle.std.specs.Prelude.{◌≡◌, ℕ, ◌+◌, ◌-◌, ◌*◌, ◌<◌, ◌≤◌, Bool, false, List, [], ◌∷◌, ◌++◌, length, take, drop, map, get_or, unwrap_or, nat_lt, if◌then◌else◌, ◌⊎◌}
 use Rattle.tm_base.specs.Bits.{bits_of}
+use Rattle.tm_base.specs.Marker.{marker_size}
 use Rattle.tm_config.specs.Configuration.{Configuration, codeblock_length}
 use Rattle.tm_sync.specs.declared.found.Found.{Found}
 use Rattle.tm_sync.specs.Places.{places, verify_bits}
@@ -67,7 +68,8 @@ stored_of c f bits = record { found = f; codeblock = codeblock_in c f.inverted b
 
 -- the codeblock of a place in these bits
 abbrev pub stored_at : Configuration → List Bool → Found → StoredCodeblock
-stored_at c bits f = stored_of c f (take (8 * codeblock_length c) (drop (f.place + 32) bits))
+stored_at c bits f = stored_of c f
+    (take (8 * codeblock_length c) (drop (f.place + marker_size) bits))
 
 -- the item of a codeblock that is stored
 abbrev pub IsItemAt : Configuration → List StoredCodeblock → ℕ → ItemValue → Type 0
@@ -136,7 +138,7 @@ abbrev pub IsGathered : Searching → List Bool → Type 0
 IsGathered s part = let inside = unwrap_or (inside_of s) 0 in
     ((inside ≤ s.rules.block_bits) × (length part ≡ inside))
     ⊎ ((part ≡ []) × ((count : ℕ) × (count ≤ s.rules.verify)
-    × (inside ≡ count * (32 + s.rules.block_bits))))
+    × (inside ≡ count * (marker_size + s.rules.block_bits))))
 
 -- a search, its room and a batch agree, whatever bits were given, and codeblocks may be whole
 pub record Agree (s : Searching) (room : List ℕ) (b : Batching) : Type 0 where
@@ -157,7 +159,8 @@ pub record IsReady (s : Searching) (room : List ℕ) (b : Batching) : Type 0 whe
 -- how many bits may wait at most where a batch lacks so many codeblocks: as many as these have with
 -- their markers, and none where one worker decodes
 abbrev pub waiting_bits : Configuration → ℕ → ℕ
-waiting_bits c count = if nat_lt 1 c.workers then count * (32 + (rules_of c).block_bits) else 0
+waiting_bits c count =
+    if nat_lt 1 c.workers then count * (marker_size + (rules_of c).block_bits) else 0
 
 -- beside bits that wait, those of the octets that wait for the phase and of a window
 abbrev pub held_bits : ℕ → Configuration → ℕ

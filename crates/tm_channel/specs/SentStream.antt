@@ -3,6 +3,7 @@
 use Rattle.std.specs.Prelude.{◌≡◌, ℕ, ◌+◌, ◌*◌, ◌≤◌, Bool, false, if◌then◌else◌, nat_le, List, [], ◌∷◌, ◌++◌, length, map, None, replicate}
 use Rattle.std.specs.List.{AllByRecursion}
 use Rattle.tm_base.specs.Bits.{AreOctets, bits_of}
+use Rattle.tm_base.specs.Marker.{marker_size}
 use Rattle.tm_config.specs.Configuration.{Configuration, codeblock_length, is_uncoded}
 use Rattle.tm_config.specs.declared.values.OuterCode.TheVariants.{Uncoded}
 use Rattle.tm_rs_code.specs.Code.{distance}
@@ -111,7 +112,7 @@ clean_items c at (frame ∷ frames) = record {
   found = record { place = at; distance = 0; bridged = false; inverted = false };
   answers = clean_answers c;
   frame = frame;
-} ∷ clean_items c (at + 32 + 8 * codeblock_length c) frames
+} ∷ clean_items c (at + marker_size + 8 * codeblock_length c) frames
 
 -- the frames that are found of these where they are sent so: none of 1 up to as many as further
 -- markers are to verify the first

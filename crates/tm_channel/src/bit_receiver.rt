@@ -3,6 +3,7 @@ ghost use Rattle.std.specs.Prelude.{◌≡◌, ◌≢◌, ◌<◌, ◌≤◌, �
 ghost use Rattle.tm_base.specs.Bits.{bits_of, bits_of_octet};
 ghost use Rattle.tm_base.specs.Outside.{HasCause};
 ghost use Rattle.tm_base.specs.Takers.{HandedOver, HandedPart};
+ghost use Rattle.tm_base.specs.Marker.{marker_size};
 ghost use Rattle.tm_sync.specs.declared.found.Found.{Found};
 ghost use Rattle.tm_sync.specs.Places.{places};
 ghost use Rattle.tm_sync.specs.Searching.{inside_of, waiting_of};
@@ -255,7 +256,7 @@ impl BitReceiver {
         ensures part { ((length self.old.batch.part ≡ 8 * codeblock_length self.old.batch.config)
             × (self.new.batch.part ≡ self.old.batch.part))
             ⊎ ((length self.old.batch.part < 8 * codeblock_length self.old.batch.config)
-            × (self.new.batch.part ≡ room_bits self.old.room.items ((place + 32) % 2 ^ 64)
+            × (self.new.batch.part ≡ room_bits self.old.room.items ((place + marker_size) % 2 ^ 64)
             (8 * codeblock_length self.old.batch.config))) }
     {
         if self.batch.lacking() == 0 {

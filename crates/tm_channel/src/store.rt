@@ -1,6 +1,7 @@
 // The codeblock under way, and those of a batch that are whole.
 ghost use Rattle.std.specs.Prelude.{◌≡◌, ◌<◌, ◌≤◌, ◌+◌, ◌-◌, ◌*◌, [], ◌∷◌, ◌++◌, IfOk, length};
 ghost use Rattle.tm_base.specs.Bits.{bits_of, low_bits};
+ghost use Rattle.tm_base.specs.Marker.{marker_size};
 ghost use Rattle.tm_config.specs.Configuration.{longest_codeblock, most_batch, codeblock_length};
 ghost use Rattle.tm_codeblock.specs.RoomBits.{room_bits};
 ghost use Rattle.tm_channel.specs.Receiving.{AreItemsFor, IsItemAt, stored_of, waiting_bits};
@@ -171,7 +172,7 @@ impl Codeblocks {
     pub fn bits_lacking(&self) -> u64
         ensures value { result ≡ waiting_bits self.now.config (self.now.config.batch - length self.now.stored) }
         ensures all { self.now.stored ≡ [] → result ≡ waiting_bits self.now.config self.now.config.batch }
-        ensures most { result ≤ most_batch * (32 + 8 * longest_codeblock) }
+        ensures most { result ≤ most_batch * (marker_size + 8 * longest_codeblock) }
     {
         if self.config.workers() < 2 {
             return 0;

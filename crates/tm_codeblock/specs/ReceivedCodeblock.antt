@@ -3,6 +3,7 @@
 use Rattle.std.specs.Prelude.{ℕ, ◌+◌, ◌*◌, Bool, if◌then◌else◌, List, [], map, take, drop}
 use Rattle.std.specs.List.{range_with_len}
 use Rattle.tm_base.specs.Bits.{octets_of}
+use Rattle.tm_base.specs.Marker.{marker_size}
 use Rattle.tm_config.specs.Configuration.{Configuration, data_length, codeblock_length, is_uncoded, is_sought}
 use Rattle.tm_dual.specs.Octet.{sent_octet, element_of}
 use Rattle.tm_interleave.specs.Column.{column}
@@ -33,7 +34,7 @@ codeblock_in c inverted bits = unmasked c (octets_of (in_polarity inverted bits)
 -- the codeblock after the marker of a place
 abbrev pub codeblock_at : Configuration → List Bool → Found → List ℕ
 codeblock_at c bits f = codeblock_in c f.inverted
-    (take (8 * codeblock_length c) (drop (f.place + 32) bits))
+    (take (8 * codeblock_length c) (drop (f.place + marker_size) bits))
 
 -- how many columns a codeblock is repaired as: none with no outer code
 abbrev pub column_count : Configuration → ℕ

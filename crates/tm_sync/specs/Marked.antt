@@ -1,5 +1,6 @@
 -- A stream of bits in which marked codeblocks were sent: gaps, marker parts and codeblocks.
 use Rattle.std.specs.Prelude.{◌≡◌, ℕ, ◌+◌, ◌≤◌, ◌<◌, Bool, true, false, List, [], ◌∷◌, ◌++◌, length, drop, Option, Some, None, MatchOption, ◌⊎◌, take}
+use Rattle.tm_base.specs.Marker.{marker_size}
 use Rattle.tm_sync.specs.declared.found.Found.{Found}
 use Rattle.tm_sync.specs.declared.found.Before.{Before}
 use Rattle.tm_sync.specs.Bits.{marker_bits}
@@ -27,7 +28,7 @@ ready (b ∷ gap) before = None
 -- and elsewhere in none that further markers verify.
 abbrev pub HasNoMarker : Rules → Option Before → List Bool → List Bool → Type 0
 HasNoMarker rules before gap bits = (q : ℕ) → q < length gap
-    → q + 32 + rules.block_bits ≤ length bits
+    → q + marker_size + rules.block_bits ≤ length bits
     → place_polarity rules (ready (take q gap) before) (drop q bits) ≡ None
 
 -- a gap directly follows a codeblock only where no place may be bridged there, or no codeblock
@@ -36,7 +37,7 @@ abbrev pub MayGap : Rules → Option Before → List Bool → List Bool → Type
 MayGap rules before [] bits = Unit {0}
 MayGap rules None (b ∷ gap) bits = Unit {0}
 MayGap rules (Some before) (b ∷ gap) bits =
-    (rules.fly ≤ before.bridged) ⊎ (length bits < 32 + rules.block_bits)
+    (rules.fly ≤ before.bridged) ⊎ (length bits < marker_size + rules.block_bits)
 
 -- An entry whose marker part matches in no way is bridged: it directly follows another one, and
 -- fewer than `fly` places in a row were bridged before it.
@@ -59,13 +60,14 @@ place_of rules at before e = place_by_marker (at + length e.gap) before e (match
 abbrev pub places_of : Rules → ℕ → Option Before → List Entry → List Found
 places_of rules at before [] = []
 places_of rules at before (e ∷ entries) =
-    let f = place_of rules at before e in f ∷ places_of rules (f.place + 32 + rules.block_bits)
+    let f = place_of rules at before e in
+    f ∷ places_of rules (f.place + marker_size + rules.block_bits)
     (Some (before_next before f)) entries
 
 -- an entry at the start of these bits
 pub record IsEntry (rules : Rules) (before : Option Before) (e : Entry)
     (bits : List Bool) : Type 0 where
-  pub marker : length e.marker ≡ 32
+  pub marker : length e.marker ≡ marker_size
   pub block : length e.block ≡ rules.block_bits
   pub gap : HasNoMarker rules before e.gap bits
   pub waits : MayGap rules before e.gap bits
@@ -81,7 +83,7 @@ AreEntries rules at before [] last = HasNoMarker rules before last last
 AreEntries rules at before (e ∷ entries) last =
     let f = place_of rules at before e in
     IsEntry rules before e (joined (e ∷ entries) last)
-    × AreEntries rules (f.place + 32 + rules.block_bits)
+    × AreEntries rules (f.place + marker_size + rules.block_bits)
     (Some (before_next before f)) entries last
 
 -- the bits are a marked stream of these entries
@@ -101,4 +103,4 @@ abbrev pub clean_places : ℕ → ℕ → List (List Bool) → List Found
 clean_places block_bits at [] = []
 clean_places block_bits at (block ∷ blocks) =
     record { place = at; distance = 0; bridged = false; inverted = false }
-    ∷ clean_places block_bits (at + 32 + block_bits) blocks
+    ∷ clean_places block_bits (at + marker_size + block_bits) blocks

@@ -2,6 +2,7 @@
 -- Synchronization).
 use Rattle.std.specs.Prelude.{ℕ, zero, suc, ◌+◌, ◌*◌, Bool, true, false, if◌then◌else◌, ◌&&◌, nat_le, nat_lt, List, [], ◌∷◌, length, take, drop, Option, Some, None}
 use Rattle.std.specs.Option.{option_map_or}
+use Rattle.tm_base.specs.Marker.{marker_size}
 use Rattle.tm_sync.specs.declared.found.Found.{Found}
 use Rattle.tm_sync.specs.declared.found.Before.{Before}
 use Rattle.tm_sync.specs.Bits.{flip, differences, in_polarity, marker_bits}
@@ -21,7 +22,7 @@ pub record Rules : Type 0 where
 
 -- the number of the first 32 bits that differ from the marker, or from the inverted marker
 unfoldable pub wrong_bits : Bool → List Bool → ℕ
-wrong_bits inverted bits = differences (take 32 bits) (in_polarity inverted marker_bits)
+wrong_bits inverted bits = differences (take marker_size bits) (in_polarity inverted marker_bits)
 
 -- the polarity in which the first 32 bits match, upright (false) or inverted (true); None where
 -- they match in no way
@@ -41,8 +42,8 @@ matches_in (Some false) inverted = flip inverted
 unfoldable pub are_verified : Rules → Bool → ℕ → List Bool → Bool
 are_verified rules inverted zero bits = true
 are_verified rules inverted (suc count) bits =
-    let next = drop (32 + rules.block_bits) bits in
-    nat_le 32 (length next) && (matches_in (match_of rules next) inverted
+    let next = drop (marker_size + rules.block_bits) bits in
+    nat_le marker_size (length next) && (matches_in (match_of rules next) inverted
     && are_verified rules inverted count next)
 
 -- a match, where the markers after it verify it
@@ -59,12 +60,12 @@ place_polarity rules (Some before) bits = match_of rules bits
 
 -- the bits from a place up to the last marker that verifies it
 abbrev pub verify_bits : Rules → ℕ
-verify_bits rules = rules.verify * (32 + rules.block_bits)
+verify_bits rules = rules.verify * (marker_size + rules.block_bits)
 
 -- how many bits, from a place on, have room for its codeblock and for the markers that verify it
 abbrev pub settled_by : ℕ → ℕ → ℕ
-settled_by zero size = 32 + size
-settled_by (suc count) size = suc count * (32 + size) + 32
+settled_by zero size = marker_size + size
+settled_by (suc count) size = suc count * (marker_size + size) + marker_size
 
 -- the place whose 32 bits these are
 abbrev pub found_at : ℕ → Bool → Bool → List Bool → Found
@@ -87,7 +88,7 @@ place_by rules at None bits None = None
 -- the place at the start of the bits, which follow `at` others, where they have room for its
 -- codeblock
 unfoldable pub place_at : Rules → ℕ → Option Before → List Bool → Option Found
-place_at rules at before bits = if nat_le (32 + rules.block_bits) (length bits)
+place_at rules at before bits = if nat_le (marker_size + rules.block_bits) (length bits)
     then place_by rules at before bits (place_polarity rules before bits) else None
 
 -- what stands before the first bit after a place's codeblock

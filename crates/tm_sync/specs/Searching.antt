@@ -3,6 +3,7 @@
 use Rattle.std.specs.Prelude.{◌≡◌, ℕ, zero, suc, ◌+◌, ◌-◌, ◌*◌, ◌/◌, ◌%◌, ◌^◌, ◌<◌, ◌≤◌, Bool, true, false, ◌==◌, List, [], ◌∷◌, ◌++◌, length, take, drop, slice_index, slice_index_or, if◌then◌else◌, nat_le, Option, Some, None, unwrap_or, bit_or, ◌⊎◌}
 use Rattle.std.specs.Option.{option_map, option_map_or, option_or}
 use Rattle.tm_base.specs.Bits.{bit_number, number_of}
+use Rattle.tm_base.specs.Marker.{marker_size}
 use Rattle.tm_sync.specs.declared.found.Found.{Found}
 use Rattle.tm_sync.specs.declared.found.Before.{Before}
 use Rattle.tm_sync.specs.declared.found.Awaited.{Awaited}
@@ -33,12 +34,12 @@ is_pending s = option_map_or (λ count. nat_le s.rules.block_bits count) (inside
 -- how many of the bits given may be part of the marker or the codeblock of the next place: those
 -- from that marker on, or else fewer than decide whether a place stands at their start
 abbrev pub begun_of : Searching → ℕ
-begun_of s = option_map_or (λ count. 32 + count) (inside_of s) (31 + verify_bits s.rules)
+begun_of s = option_map_or (λ count. marker_size + count) (inside_of s) (31 + verify_bits s.rules)
 
 -- the most bits after the marker of a place that was not given yet
 abbrev pub inside_by : ℕ → ℕ → ℕ
 inside_by zero size = size
-inside_by (suc count) size = suc count * (32 + size)
+inside_by (suc count) size = suc count * (marker_size + size)
 
 abbrev pub most_inside : Rules → ℕ
 most_inside rules = inside_by rules.verify rules.block_bits
@@ -46,7 +47,8 @@ most_inside rules = inside_by rules.verify rules.block_bits
 -- how many bits stand after the next marker once a place is given that had so many after its own
 abbrev pub inside_next : Rules → ℕ → Option ℕ
 inside_next rules count =
-    if nat_le (32 + rules.block_bits) count then Some (count - (32 + rules.block_bits)) else None
+    if nat_le (marker_size + rules.block_bits) count
+    then Some (count - (marker_size + rules.block_bits)) else None
 
 -- a place that was just found has no bits after its marker, or those by which it is verified
 abbrev pub IsNewlyFound : Searching → Type 0
@@ -54,13 +56,15 @@ IsNewlyFound s = (unwrap_or (inside_of s) 0 ≡ 0) ⊎ (inside_of s ≡ Some (ve
 
 -- how many codeblocks are whole and were not given
 abbrev pub waiting_of : Searching → ℕ
-waiting_of s = option_map_or (λ count. (count + 32) / (32 + s.rules.block_bits)) (inside_of s) 0
+waiting_of s =
+    option_map_or (λ count. (count + marker_size) / (marker_size + s.rules.block_bits))
+    (inside_of s) 0
 
 -- ---- over whole lists
 -- the bits up to the end of the last codeblock of these places
 abbrev pub end_of : Rules → List Found → ℕ
 end_of rules [] = 0
-end_of rules (f ∷ []) = f.place + 32 + rules.block_bits
+end_of rules (f ∷ []) = f.place + marker_size + rules.block_bits
 end_of rules (f ∷ g ∷ found) = end_of rules (g ∷ found)
 
 -- what follows that codeblock
@@ -70,8 +74,8 @@ before_past before (f ∷ found) = before_past (Some (before_next before f)) fou
 
 -- the bits that decide whether a place stands at their start
 abbrev pub deciding_bits : Rules → Option Before → ℕ
-deciding_bits rules None = 32 + verify_bits rules
-deciding_bits rules (Some before) = 32
+deciding_bits rules None = marker_size + verify_bits rules
+deciding_bits rules (Some before) = marker_size
 
 -- the first place in the bits after `at` others whose 32 bits are there, with those that verify
 -- it, whether or not its codeblock is
@@ -90,7 +94,7 @@ place_ahead rules bits found = first_place rules (end_of rules found) (before_pa
 
 -- the bits after the marker of that place; None where there is no such place
 abbrev pub inside_ahead : Rules → List Bool → List Found → Option ℕ
-inside_ahead rules bits found = option_map (λ f. length bits - (f.place + 32))
+inside_ahead rules bits found = option_map (λ f. length bits - (f.place + marker_size))
     (place_ahead rules bits found)
 
 -- a place, and what stands before the first bit after its codeblock
@@ -114,15 +118,15 @@ search_of rules bits found = record {
 abbrev pub IsRun : Searching → List Bool → Option Awaited → Type 0
 IsRun s bits None = Unit {0}
 IsRun s bits (Some m) = (s.after ≤ s.rules.block_bits)
-    ⊎ ((count : ℕ) × (s.after ≡ count * (32 + s.rules.block_bits))
+    ⊎ ((count : ℕ) × (s.after ≡ count * (marker_size + s.rules.block_bits))
     × (are_verified s.rules m.found.inverted count (drop m.found.place bits) ≡ true))
 
 -- ---- the room
 -- A room holds the bits before the last 32, from one on, as many as it has octets: each as 0 or 1,
 -- bit i in octet i % size.
 abbrev pub IsRecent : List ℕ → List Bool → ℕ → Type 0
-IsRecent room bits from = (i : ℕ) → from ≤ i → i + 32 < length bits
-    → length bits ≤ i + 32 + length room
+IsRecent room bits from = (i : ℕ) → from ≤ i → i + marker_size < length bits
+    → length bits ≤ i + marker_size + length room
     → slice_index room (i % length room) ≡ bit_number (slice_index_or bits i false)
 
 -- from which bit on the room has to hold what was given
@@ -165,9 +169,9 @@ pub record Counts (s s' : Searching) (bit : Bool) : Type 0 where
 -- whether the last 32 bits directly follow a codeblock, where so many bits stand after its end
 abbrev pub is_right_after : ℕ → Option Before → Bool
 is_right_after since None = false
-is_right_after since (Some before) = since == 32
+is_right_after since (Some before) = since == marker_size
 
 -- how many numbers, from one more than the tolerance on, show that 32 bits match in no way, where
 -- so many of them differ from the marker
 abbrev pub far_count : ℕ → Bool → ℕ
-far_count tolerance either = if either then 31 - 2 * tolerance else 32 - tolerance
+far_count tolerance either = if either then 31 - 2 * tolerance else marker_size - tolerance

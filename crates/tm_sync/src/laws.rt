@@ -1,7 +1,7 @@
 // Laws of the places in a list of bits.
 ghost use Rattle.std.specs.Prelude.{◌≡◌, ◌≢◌, ◌≤◌, ◌<◌, ◌+◌, ◌*◌, ◌⊎◌, ℕ, Bool, true, false, List, [], ◌++◌, length, drop, map, Option, Some, None};
 ghost use Rattle.std.specs.List.{AllByRecursion};
-ghost use Rattle.tm_base.specs.Marker.{most_tolerance};
+ghost use Rattle.tm_base.specs.Marker.{most_tolerance, marker_size};
 ghost use Rattle.tm_sync.specs.declared.found.Before.{Before};
 ghost use Rattle.tm_sync.specs.Bits.{complement};
 ghost use Rattle.tm_sync.specs.Places.{Rules, wrong_bits, match_of, place_polarity, settled_by, places, complemented_place};
@@ -9,7 +9,7 @@ ghost use Rattle.tm_sync.specs.Marked.{Entry, IsMarked, joined, places_of, clean
 
 /// With a tolerance of at most 8 no 32 bits match both upright and inverted.
 pub fn one_polarity_law()
-    ensures { (bits : List Bool) (tolerance : ℕ) → length bits ≡ 32 → tolerance ≤ most_tolerance
+    ensures { (bits : List Bool) (tolerance : ℕ) → length bits ≡ marker_size → tolerance ≤ most_tolerance
         → wrong_bits false bits ≤ tolerance → tolerance < wrong_bits true bits }
 {}
 
@@ -49,7 +49,7 @@ pub fn longer_law()
         → places rules (bits ++ more) ≡ places rules bits
         ++ drop (length (places rules bits)) (places rules (bits ++ more)) }
     ensures within { (rules : Rules) (bits : List Bool)
-        → AllByRecursion (λ f. f.place + 32 + rules.block_bits ≤ length bits) (places rules bits) }
+        → AllByRecursion (λ f. f.place + marker_size + rules.block_bits ≤ length bits) (places rules bits) }
     ensures after { (rules : Rules) (bits more : List Bool)
         → AllByRecursion (λ f. length bits < f.place + settled_by rules.verify rules.block_bits)
         (drop (length (places rules bits)) (places rules (bits ++ more))) }
@@ -59,9 +59,9 @@ pub fn longer_law()
 /// them bring only so many more, and those that they verify.
 pub fn few_places_law()
     ensures all { (rules : Rules) (bits : List Bool)
-        → length (places rules bits) * (32 + rules.block_bits) ≤ length bits }
+        → length (places rules bits) * (marker_size + rules.block_bits) ≤ length bits }
     ensures more { (rules : Rules) (bits more : List Bool) (count : ℕ)
-        → length more ≤ count * (32 + rules.block_bits)
+        → length more ≤ count * (marker_size + rules.block_bits)
         → length (places rules (bits ++ more)) ≤ length (places rules bits) + count + rules.verify }
 {}
 

@@ -2,7 +2,7 @@
 ghost use Rattle.std.specs.Prelude.{◌≡◌, ◌<◌, ◌≤◌, ◌^◌, ◌+◌, ◌-◌, ◌*◌, ◌/◌, ◌%◌, ◌↔◌, ◌⊎◌, ℕ, Bool, true, false, List, [], ◌∷◌, ◌++◌, length, take, drop, slice_index_or, IsTrue, IsSome, IfSome, IfNone, Some, None, Option, count_ones, unwrap_or};
 ghost use Rattle.std.specs.Option.{option_map};
 ghost use Rattle.tm_base.specs.Bits.{number_of, bits_of, bits_of_octet};
-ghost use Rattle.tm_base.specs.Marker.{most_tolerance};
+ghost use Rattle.tm_base.specs.Marker.{most_tolerance, marker_size};
 ghost use Rattle.tm_sync.specs.declared.found.Found.{Found};
 ghost use Rattle.tm_sync.specs.declared.found.Before.{Before};
 ghost use Rattle.tm_sync.specs.Places.{Rules, wrong_bits, match_of, are_verified, place_polarity, verify_bits, found_at, place_by, places};
@@ -43,7 +43,7 @@ pub struct Search {
 
 impl Model for Search {
     ghost use Rattle.std.specs.Prelude.{◌≡◌, ◌<◌, ◌≤◌, ◌+◌, ◌-◌, None};
-    ghost use Rattle.tm_base.specs.Marker.{most_tolerance};
+    ghost use Rattle.tm_base.specs.Marker.{most_tolerance, marker_size};
     ghost use Rattle.tm_sync.specs.Searching.{Searching, far_count, inside_by};
 
     ghost Value = { Searching };
@@ -66,7 +66,8 @@ impl Model for Search {
 
     ghost invariant = { λ s. (s.after ≤ inside_by s.verify s.block_bits) × (s.tolerance ≤ most_tolerance)
         × (s.too_many ≡ s.tolerance + 1)
-        × (0 < s.far → (s.far ≡ far_count s.tolerance s.either) × (s.awaited ≡ None) × (s.start + 32 ≤ s.pushed)) };
+        × (0 < s.far → (s.far ≡ far_count s.tolerance s.either) × (s.awaited ≡ None)
+        × (s.start + marker_size ≤ s.pushed)) };
 }
 
 impl Search {
@@ -120,7 +121,9 @@ impl Search {
         ensures some { IfSome result (λ search. search ≡ resumed paused.now) }
         ensures valid { IsTrue (is_resumable paused.now) ↔ IsSome result }
     {
-        if paused.tolerance > MOST_TOLERANCE || paused.after > most_after(paused.verify, paused.block_bits) {
+        if paused.tolerance > MOST_TOLERANCE
+            || paused.after > most_after(paused.verify, paused.block_bits)
+        {
             return None;
         }
         Some(Search {
@@ -357,10 +360,11 @@ impl Search {
     // The place `lag` bits before the last 32, where the markers after it verify it.
     fn place_verified(&self, room: &[u8], lag: u64) -> Option<Awaited>
         requires { lag ≡ verify_bits self.now.rules }
-        ensures { (bits : List Bool) (from : ℕ) → Recalls self.now room.now bits from → from + 32 + lag ≤ length bits
-            → result ≡ option_map (awaited_at None) (place_by self.now.rules (length bits - (32 + lag)) None
-            (drop (length bits - (32 + lag)) bits)
-            (place_polarity self.now.rules None (drop (length bits - (32 + lag)) bits))) }
+        ensures { (bits : List Bool) (from : ℕ) → Recalls self.now room.now bits from
+            → from + marker_size + lag ≤ length bits
+            → result ≡ option_map (awaited_at None) (place_by self.now.rules (length bits - (marker_size + lag)) None
+            (drop (length bits - (marker_size + lag)) bits)
+            (place_polarity self.now.rules None (drop (length bits - (marker_size + lag)) bits))) }
     {
         let word = self.word_at(room, lag);
         let place = self.pushed.wrapping_sub(32 + lag);
@@ -373,9 +377,9 @@ impl Search {
     // Whether the markers up to the last 32 bits match in this polarity.
     fn is_verified(&self, room: &[u8], inverted: bool) -> bool
         ensures { (bits : List Bool) (from : ℕ) → Recalls self.now room.now bits from
-            → from + 32 + verify_bits self.now.rules ≤ length bits
+            → from + marker_size + verify_bits self.now.rules ≤ length bits
             → result ≡ are_verified self.now.rules inverted self.now.rules.verify
-            (drop (length bits - (32 + verify_bits self.now.rules)) bits) }
+            (drop (length bits - (marker_size + verify_bits self.now.rules)) bits) }
     {
         let mut left = self.verify;
         while left > 0 {
@@ -393,8 +397,9 @@ impl Search {
     #[inline(never)]
     fn word_at(&self, room: &[u8], back: u64) -> u32
         ensures { (bits : List Bool) (from : ℕ) → Recalls self.now room.now bits from
-            → (back ≡ 0) ⊎ ((32 ≤ back) × (back ≤ verify_bits self.now.rules)) → from + 32 + back ≤ length bits
-            → result ≡ number_of (take 32 (drop (length bits - (32 + back)) bits)) }
+            → (back ≡ 0) ⊎ ((marker_size ≤ back) × (back ≤ verify_bits self.now.rules))
+            → from + marker_size + back ≤ length bits
+            → result ≡ number_of (take marker_size (drop (length bits - (marker_size + back)) bits)) }
     {
         if back == 0 || room.is_empty() {
             return self.word;
@@ -451,7 +456,7 @@ impl Search {
             → SearchStandsFor self.new room.now bits (found ++ f ∷ [])
             × ((rest : List Found) × (places self.old.rules bits ≡ found ++ f ∷ rest)
             × (length rest ≡ waiting_of self.new))
-            × (f.place + 32 + unwrap_or (inside_of self.old) 0 ≡ length bits)) }
+            × (f.place + marker_size + unwrap_or (inside_of self.old) 0 ≡ length bits)) }
     {
         if !self.pending() {
             return None;
@@ -491,7 +496,7 @@ impl Search {
 
 // The bits of so many codeblocks with their markers.
 fn verified_by(count: u8, block_bits: u32) -> u64
-    ensures value { result ≡ count * (32 + block_bits) }
+    ensures value { result ≡ count * (marker_size + block_bits) }
     ensures few { result < 2 ^ 42 }
 {
     u64::from(count) * (32 + u64::from(block_bits))
@@ -511,7 +516,7 @@ fn most_after(verify: u8, block_bits: u32) -> u64
 fn remember(room: &mut [u8], pushed: u64, oldest: bool)
     ensures size { length room.new ≡ length room.old }
     ensures remembers { (bits : List Bool) (bit : Bool) → pushed ≡ length bits
-        → (32 ≤ length bits → oldest ≡ slice_index_or bits (length bits - 32) false)
+        → (marker_size ≤ length bits → oldest ≡ slice_index_or bits (length bits - marker_size) false)
         → Remembers room.old room.new bits bit }
 {
     if !room.is_empty() && pushed >= 32 {
@@ -544,7 +549,7 @@ fn window(bits: u64, left: u32) -> u32
 // place: none while a place is awaited, or may directly follow the last codeblock found.
 fn far_while(awaited: Option<Awaited>, start: u64, pushed: u64, tolerance: u8, either: bool) -> u8
     requires { tolerance ≤ most_tolerance }
-    ensures { 0 < result → (result ≡ far_count tolerance either) × (awaited ≡ None) × (start + 32 ≤ pushed) }
+    ensures { 0 < result → (result ≡ far_count tolerance either) × (awaited ≡ None) × (start + marker_size ≤ pushed) }
 {
     if awaited.is_some() || pushed < 32 || pushed - 32 < start {
         0
@@ -558,7 +563,7 @@ fn far_while(awaited: Option<Awaited>, start: u64, pushed: u64, tolerance: u8, e
 // Whether the last 32 bits match in no way.
 fn is_far(word: u32, too_many: u8, far: u8) -> bool
     ensures { IsTrue result → (0 < far) × ((rules : Rules) (bits : List Bool) → rules.tolerance ≤ most_tolerance
-        → too_many ≡ rules.tolerance + 1 → far ≡ far_count rules.tolerance rules.either → length bits ≡ 32
+        → too_many ≡ rules.tolerance + 1 → far ≡ far_count rules.tolerance rules.either → length bits ≡ marker_size
         → word ≡ number_of bits → match_of rules bits ≡ None) }
 {
     wrong_count(word).wrapping_sub(too_many) < far
@@ -576,17 +581,18 @@ fn right_after(since: u64, before: Option<Before>) -> bool
 
 // The number of the last 32 bits that differ from the marker.
 fn wrong_count(word: u32) -> u8
-    ensures few { result ≤ 32 }
-    ensures upright { (bits : List Bool) → length bits ≡ 32 → word ≡ number_of bits → result ≡ wrong_bits false bits }
+    ensures few { result ≤ marker_size }
+    ensures upright { (bits : List Bool) → length bits ≡ marker_size → word ≡ number_of bits
+        → result ≡ wrong_bits false bits }
 {
     (word ^ u32::from_be_bytes(MARKER)).count_ones() as u8
 }
 
 // The polarity in which 32 bits match of which `wrong` differ from the marker.
 fn polarity_of(wrong: u8, tolerance: u8, either: bool) -> Option<bool>
-    requires { wrong ≤ 32 }
+    requires { wrong ≤ marker_size }
     ensures { (rules : Rules) (bits : List Bool) → rules.tolerance ≡ tolerance → rules.either ≡ either
-        → length bits ≡ 32 → wrong ≡ wrong_bits false bits → result ≡ match_of rules bits }
+        → length bits ≡ marker_size → wrong ≡ wrong_bits false bits → result ≡ match_of rules bits }
 {
     if wrong <= tolerance {
         return Some(false);
@@ -602,8 +608,8 @@ fn polarity_of(wrong: u8, tolerance: u8, either: bool) -> Option<bool>
 
 // The number of 32 bits that differ from the marker, or from the inverted one, where `wrong` differ from the marker.
 fn distance_of(wrong: u8, inverted: bool) -> u8
-    requires { wrong ≤ 32 }
-    ensures { (bits : List Bool) → length bits ≡ 32 → wrong ≡ wrong_bits false bits
+    requires { wrong ≤ marker_size }
+    ensures { (bits : List Bool) → length bits ≡ marker_size → wrong ≡ wrong_bits false bits
         → result ≡ wrong_bits inverted bits }
 {
     if inverted { 32 - wrong } else { wrong }
@@ -611,7 +617,7 @@ fn distance_of(wrong: u8, inverted: bool) -> u8
 
 // The place after `place` bits whose 32 bits are `word`, which match in this polarity.
 fn matched(word: u32, place: u64, inverted: bool) -> Awaited
-    ensures { (before : Option Before) (bits : List Bool) → length bits ≡ 32 → word ≡ number_of bits
+    ensures { (before : Option Before) (bits : List Bool) → length bits ≡ marker_size → word ≡ number_of bits
         → result ≡ awaited_at before (found_at place false inverted bits) }
 {
     Awaited {
@@ -638,7 +644,7 @@ fn place_of(
     either: bool,
 ) -> Option<Awaited>
     ensures { (rules : Rules) (bits : List Bool) → rules.tolerance ≡ tolerance → rules.fly ≡ fly
-        → rules.either ≡ either → length bits ≡ 32 → word ≡ number_of bits
+        → rules.either ≡ either → length bits ≡ marker_size → word ≡ number_of bits
         → result ≡ option_map (awaited_at before) (place_by rules place before bits (match_of rules bits)) }
 {
     let wrong = wrong_count(word);
