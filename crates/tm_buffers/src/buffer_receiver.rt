@@ -53,7 +53,7 @@ impl BufferReceiver {
     /// Takes the next octets, and writes the frames of the items that are due with them to the start of `frames`, one
     /// after the other, and what else is said of each to `reports`. Answers how many items these are; or None where
     /// there was no room for all: from the first one on that did not fit they are lost. With the room that `items_room`
-    /// tells there is room for all. What follows is left open.
+    /// answers there is room for all. What follows is left open.
     ///
     /// The octets given in all are to be below 2^60.
     pub fn feed(

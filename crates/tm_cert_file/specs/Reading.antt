@@ -22,8 +22,8 @@ pub record HasPassed (r : Reading) : Type 0 where
   pub passed : IsSeen r.rules r.before r.octets Passed
   pub just : length r.octets ≡ window_size r.rules.rate r.before.t (steps_in r.octets)
 
--- a certificate that was given these octets and no others, in which these windows passed and were
--- left behind
+-- a certificate that was given these octets and no others, in which these windows passed and
+-- were dropped
 abbrev pub ReaderStandsFor : Reading → List ℕ → List Window → Type 0
 ReaderStandsFor r given windows =
     ArePassed r.rules (at_first r.rules) given windows r.before r.octets

@@ -51,7 +51,7 @@ pub enum RecvError {
     Stopped,
 }
 
-/// Turns received octets into what is said of each codeblock that is found in them, piece by piece (CCSDS 131.0-B,
+/// Takes received octets, and hands over what is said of each codeblock that is found in them (CCSDS 131.0-B,
 /// Convolutional Coding, Frame Synchronization, Pseudo-Randomizer and Reed-Solomon Coding). Codeblocks are repaired in
 /// batches as large as its configuration says, by its workers or by the caller alone. It takes all its memory at
 /// `open`.

@@ -1,6 +1,6 @@
--- The units that `soak` sends. Each frame takes its draws in turn from one generator: one for each
--- octet of the frame, and then for each column of its codeblock one that says where the changes of
--- the column begin, and one for each change.
+-- The units that `soak` sends. One frame after another takes its draws from one generator: one for
+-- each octet of the frame, and then for each column of its codeblock one that says where the
+-- changes of the column begin, and one for each change.
 use Rattle.std.specs.Prelude.{ℕ, zero, suc, ◌+◌, ◌*◌, ◌%◌, List, [], ◌++◌, map, slice_index, slice_set, bit_xor}
 use Rattle.std.specs.List.{range_with_len}
 use Rattle.rand_pcg.specs.Lcg.{Lcg, started, advance, increment_of}

@@ -1,4 +1,4 @@
--- Bits that are kept in a room, in turn.
+-- Bits that are kept in a room, one after another.
 use Rattle.std.specs.Prelude.{◌==◌, ℕ, zero, suc, ◌+◌, ◌%◌, Bool, List, [], ◌∷◌, length, get_or}
 
 -- so many bits from number `from` on, out of a room that holds bit i as 0 or 1 in octet i % size

@@ -34,7 +34,7 @@ pub fn finds_polarity(config: &Config) -> bool
     }
 }
 
-// Turns each bit of octets over.
+// Complements each bit of octets.
 fn complement_octets(octets: &mut [u8])
     ensures { octets.new ≡ octets_of (complement (bits_of octets.old)) }
 {

@@ -16,7 +16,7 @@ pub enum Symbols {
     Two(bool, bool),
 }
 
-/// Turns bits into symbols, one step after another. The register and the position in the puncture pattern run on over
+/// Makes symbols of bits, one step after another. The register and the position in the puncture pattern run on over
 /// all bits.
 #[derive(Drop)]
 pub struct Encoder {

@@ -16,9 +16,9 @@ pub record BrokeText (before now : SinkState) (is_last : Type 0)
   pub later : before.faults ≤ now.faults
   pub rose : Rose before.faults now.faults is_last
 
--- Two sinks that take turns took what stands before. Then the first took a part of what comes next,
--- and the second nothing more; or the first took that whole, and the second a part of what it is
--- given after it.
+-- Two sinks, one written after the other, took what stands before. Then the first took a part of
+-- what comes next, and the second nothing more; or the first took that whole, and the second a part
+-- of what it is given after it.
 abbrev pub StopsAt : (before noted_before next after : List ℕ)
     → (taken taken_now noted noted_now : Option (List ℕ)) → Type 0
 StopsAt before noted_before next after taken taken_now noted noted_now =

@@ -269,7 +269,7 @@ fn feed_signed<F: Feeding<B>, B: BlockTaker>(
     feed(by, decoder, &[], blocks)
 }
 
-// Turns signed octets to unsigned ones.
+// Converts signed octets to unsigned ones.
 pub fn to_unsigned(octets: &mut [u8])
     ensures { octets.new ≡ from_form true octets.old }
 {

@@ -43,7 +43,7 @@ pub struct InnerEnd {
     pub leftover: u8,
 }
 
-/// Turns octets that are received into the blocks of the inner code, piece by piece (CCSDS 131.0-B, Convolutional
+/// Makes the blocks of the inner code of octets that are received, piece by piece (CCSDS 131.0-B, Convolutional
 /// Coding): it drops the octets that are to be skipped, undoes the soft form, finds the symbol phase where it isn't
 /// given, and decodes. With no inner code the octets hold the bits themselves, and no block comes. It takes all its
 /// memory at `open`.
@@ -127,6 +127,7 @@ impl InnerReceiver {
         self.feed_by(&WithWorkers { rt }, octets, blocks)
     }
 
+    // Does what `feed` does, in this way.
     fn feed_by<F: Feeding<B>, B: BlockTaker>(
         &mut self,
         by: &F,
@@ -249,6 +250,7 @@ impl InnerReceiver {
         self.finish_by(&WithWorkers { rt }, blocks)
     }
 
+    // Does what `finish` does, in this way.
     fn finish_by<F: Feeding<B>, B: BlockTaker>(
         &mut self,
         by: &F,
@@ -329,7 +331,7 @@ impl InnerReceiver {
     }
 
     /// Whether octets hold eight bits each where there is no inner code. Else each is one bit, which `nearest_bits`
-    /// tells.
+    /// says.
     pub fn is_packed(&self) -> bool
         ensures { result ≡ self.now.config.pack }
     {

@@ -31,7 +31,7 @@ pub enum SendError {
     Stopped,
 }
 
-/// Turns octets into the symbols that are sent, piece by piece, and writes them.
+/// Makes the symbols that are sent of octets, piece by piece, and writes them.
 #[derive(Drop)]
 pub struct InnerSender {
     config: Config,

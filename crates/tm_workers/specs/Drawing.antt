@@ -1,4 +1,4 @@
--- The rule of the tickets, and what its steps tell. Word 0 is the counter.
+-- The rule of the tickets, and what its steps say. Word 0 is the counter.
 use Rattle.std.specs.Prelude.{◌≡◌, ℕ, ◌+◌, ◌-◌, ◌<◌, ◌≤◌, ◌||◌, nat_lt, cond, min, Bool, true, false, List, [], ◌∷◌, ◌++◌, length, slice_index}
 use mathlib.Core.Option.{some}
 use lib.ListN.{get_elem?}
@@ -55,7 +55,7 @@ abbrev pub drawn_at : ℕ → View → View
 drawn_at found v = cond (nat_lt found v.limit)
     (view v.limit (v.drawn ++ found ∷ []) v.shares v.spent) (view v.limit v.drawn v.shares true)
 
--- what a draw tells; the seat has at most as many numbers as there are
+-- what a draw says; the seat has at most as many numbers as there are
 abbrev pub Drew : Step (Unit {0}) → Me (Unit {0}) View → ℕ → Me (Unit {0}) View → Type 0
 Drew step me found me' = (me'.0 ≡ drawn_at found me.0) × (me'.1 ≡ me.1)
     × (length me'.0.drawn ≤ me'.0.limit)
@@ -76,6 +76,6 @@ both_parts v w = view v.limit (v.drawn ++ w.drawn) (v.shares + w.shares) (v.spen
 abbrev pub left_view : View
 left_view = view 0 [] 0 false
 
--- a load that tells that no seat has more than all shares
+-- a load that says that no seat has more than all shares
 abbrev pub Counted : Step (Unit {0}) → Me (Unit {0}) View → ℕ → Me (Unit {0}) View → Type 0
 Counted step me found me' = (me' ≡ me) × (me.0.shares ≤ all_shares)

@@ -1,4 +1,4 @@
-// The rule of the tickets' table, and what its steps tell.
+// The rule of the tickets' table, and what its steps say.
 ghost use Rattle.std.specs.Prelude.{◌≡◌, ◌<◌, ℕ, []};
 ghost use Rattle.tm_workers.specs.Drawing.{Rule, Drew, Counted, remaining_part, cut_part, both_parts, first_view, left_view};
 
@@ -22,7 +22,7 @@ impl Play<(), View> for Draws {
     ghost then = { Drew };
 }
 
-/// A load, which tells that a seat has at most all shares.
+/// A load, which says that a seat has at most all shares.
 pub struct Counts;
 
 impl Play<(), View> for Counts {

@@ -1,5 +1,5 @@
 // The numbers below a limit, drawn from a counter.
-ghost use Rattle.std.specs.Prelude.{◌≡◌, ◌<◌, ◌^◌};
+ghost use Rattle.std.specs.Prelude.{◌≡◌, ◌<◌};
 ghost use Rattle.tm_workers.specs.Batch.{words_bound};
 ghost use Rattle.tm_workers.specs.Drawing.{all_shares};
 
@@ -102,7 +102,7 @@ impl Tickets {
             spent,
         } = other;
         self.table.shared.join_seat::<Both>(&mut seat.place, place);
-        // It tells that the sum of the shares is at most 64.
+        // It says that the sum of the shares is at most 64.
         self.table.shared.load::<Counts>(&mut seat.place, 0);
         seat.shares += shares;
         seat.spent |= spent;
