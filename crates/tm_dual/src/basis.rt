@@ -74,7 +74,7 @@ impl Basis {
     }
 }
 
-/// That each of the two turns undoes the other, in either basis, and that octets of elements are
+/// That each of the two conversions undoes the other, in either basis, and that octets of elements are
 /// octets and elements of octets elements. It does nothing.
 pub fn basis_laws()
     ensures octet_is_octet { (b : Basis) (u : ℕ) → u < 256 → sent_octet b u < 256 }

@@ -37,7 +37,7 @@ fn mapped(low: [u8; 16], high: [u8; 16], octets: u8x16) -> u8x16
     by_low ^ by_high
 }
 
-// Turns the sixteen elements from place `at` on.
+// Converts the sixteen elements from place `at` on.
 fn put_octets(elements: &[Gf], at: usize, octets: &mut [u8])
     requires same { length octets.old ≡ length elements.now }
     requires room { at + 16 ≤ length elements.now }
@@ -49,7 +49,7 @@ fn put_octets(elements: &[Gf], at: usize, octets: &mut [u8])
     mapped(LOW_OCTETS, HIGH_OCTETS, u8x16::from_array(sixteen)).copy_to_slice(&mut octets[at..]);
 }
 
-// Turns the sixteen octets from place `at` on.
+// Converts the sixteen octets from place `at` on.
 fn put_elements(octets: &[u8], at: usize, elements: &mut [Gf])
     requires same { length elements.old ≡ length octets.now }
     requires room { at + 16 ≤ length octets.now }

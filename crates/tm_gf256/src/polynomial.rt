@@ -45,6 +45,7 @@ fn product_coefficient(a: &[Gf], b: &[Gf], place: usize) -> Gf
     sum
 }
 
+// The coefficient at a place, or 0 where the polynomial has none.
 fn coefficient_or_zero(poly: &[Gf], place: usize) -> Gf
     ensures { result.0 ≡ slice_index_or (numbers poly.now) place 0 }
 {
@@ -80,7 +81,7 @@ pub fn product_law()
 {}
 
 /// Shows a proof that each symbol of a word is below 256: a clause on a slice says nothing of the
-/// range of its numbers, and reading one tells it of that one alone. It does nothing else, and the
+/// range of its numbers, and reading one shows it of that one alone. It does nothing else, and the
 /// compiler leaves it out.
 pub fn see_range(word: &[Gf])
     ensures { (k : ℕ) → k < length word.now → entry word.now k < 256 }
