@@ -6,7 +6,7 @@ use Rattle.tm_path_cert.specs.declared.verdicts.Starts.TheVariants.{Any, One}
 use Rattle.tm_viterbi.specs.declared.block.Start.{Start}
 use Rattle.tm_viterbi.specs.declared.block.Start.TheVariants.{Zero as FromZero, Any as FromAny}
 use Rattle.tm_viterbi.specs.Settings.{Settings}
-use Rattle.tm_viterbi.specs.WindowBlock.{WindowBlock}
+use Rattle.tm_viterbi.specs.WindowBlock.{WindowBlock, undropped_block}
 use Rattle.tm_cert_file.specs.Window.{Window}
 use Rattle.tm_cert_file.specs.Before.{Rules}
 
@@ -26,12 +26,5 @@ rules_by s = record {
 
 -- the block of a window
 abbrev pub block_of : Window → WindowBlock
-block_of w = record {
-  start = w.start;
-  steps = w.steps;
-  kept = w.kept;
-  metric = w.metric;
-  bits = w.bits;
-  end_state = register_after w.start (take w.kept w.bits);
-  dropped = 0;
-}
+block_of w = undropped_block w.start w.steps w.kept w.metric w.bits
+    (register_after w.start (take w.kept w.bits))

@@ -11,3 +11,16 @@ pub record WindowBlock : Type 0 where
   pub bits : List ℕ
   pub end_state : ℕ
   pub dropped : ℕ
+
+-- a block before whose window no octet was dropped
+abbrev pub undropped_block : (start steps kept metric : ℕ) → (bits : List ℕ) → (end_state : ℕ)
+    → WindowBlock
+undropped_block start steps kept metric bits end_state = record {
+  start = start;
+  steps = steps;
+  kept = kept;
+  metric = metric;
+  bits = bits;
+  end_state = end_state;
+  dropped = 0;
+}

@@ -54,7 +54,7 @@ fn zeros(alloc: Global, count: usize) -> Result<Vec<u64>, AllocError>
 
 impl Window {
     ghost use Rattle.tm_viterbi.specs.Filling.{Holds};
-    ghost use Rattle.tm_viterbi.specs.WindowBlock.{WindowBlock};
+    ghost use Rattle.tm_viterbi.specs.WindowBlock.{undropped_block};
     ghost use Rattle.tm_viterbi.specs.Blocks.{IsBlock, window_steps, kept_steps};
 
     /// The first window, from step 0, with nothing filled. It takes its memory here.
@@ -135,15 +135,7 @@ impl Window {
             → kept ≡ kept_steps self.now.keep self.now.ahead remaining
             → IsBlock self.now.rate self.now.invert self.now.keep self.now.ahead self.now.starts self.now.t remaining
             (given ++ after)
-            (record {
-              start = result.start;
-              steps = self.now.filled;
-              kept = kept;
-              metric = result.metric;
-              bits = bits.new;
-              end_state = result.end_state;
-              dropped = 0;
-            }) }
+            (undropped_block result.start self.now.filled kept result.metric bits.new result.end_state) }
         ensures register { result.end_state < 64 }
     {
         let last = least_register(&self.sums);

@@ -22,7 +22,7 @@ pub(crate) struct Flow {
 
 impl Flow {
     ghost use Rattle.tm_viterbi.specs.Flowing.{Keeps};
-    ghost use Rattle.tm_viterbi.specs.WindowBlock.{WindowBlock};
+    ghost use Rattle.tm_viterbi.specs.WindowBlock.{undropped_block};
     ghost use Rattle.tm_viterbi.specs.Blocks.{IsBlock};
     ghost use Rattle.tm_viterbi.specs.Due.{Place, Closes};
 
@@ -98,9 +98,8 @@ impl Flow {
             ≤ length (given ++ after)
             → Closes self.old.window.rate self.old.window.invert self.old.window.keep self.old.window.ahead
             (record { starts = self.old.window.starts; t = self.old.window.t; octets = given ++ after })
-            (record { start = result.start; steps = self.old.window.keep + self.old.window.ahead;
-            kept = self.old.window.keep; metric = result.metric; bits = bits.new; end_state = result.end_state;
-            dropped = 0 }) }
+            (undropped_block result.start (self.old.window.keep + self.old.window.ahead) self.old.window.keep
+            result.metric bits.new result.end_state) }
         ensures keeps { (given : List ℕ) → Keeps self.old given
             → Keeps self.new (drop (steps_size self.old.window.rate self.old.window.t self.old.window.keep) given) }
         ensures place { (self.new.window.t ≡ self.old.window.t + self.old.window.keep)
@@ -123,9 +122,8 @@ impl Flow {
         ensures block { (given after : List ℕ) → Keeps self.now given
             → IsBlock self.now.window.rate self.now.window.invert self.now.window.keep self.now.window.ahead
             self.now.window.starts self.now.window.t self.now.window.filled (given ++ after)
-            (record { start = result.start; steps = self.now.window.filled; kept = self.now.window.filled;
-            metric = result.metric; bits = take self.now.window.filled bits.new; end_state = result.end_state;
-            dropped = 0 }) }
+            (undropped_block result.start self.now.window.filled self.now.window.filled result.metric
+            (take self.now.window.filled bits.new) result.end_state) }
         ensures long { length bits.new ≡ length bits.old }
     {
         let filled = self.window.filled;

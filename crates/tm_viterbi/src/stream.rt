@@ -6,7 +6,7 @@ ghost use Rattle.tm_base.specs.Outside.{HasCause};
 ghost use Rattle.tm_conv.specs.Path.{period, step_size, steps_size, farthest_step};
 ghost use Rattle.tm_viterbi.specs.Starts.{starts_from, first_start};
 ghost use Rattle.tm_viterbi.specs.NextSteps.{AreNextSteps};
-ghost use Rattle.tm_viterbi.specs.WindowBlock.{WindowBlock};
+ghost use Rattle.tm_viterbi.specs.WindowBlock.{WindowBlock, undropped_block};
 ghost use Rattle.tm_viterbi.specs.WindowSizes.{least_keep, most_window, stream_bound};
 
 use crate::block::{Block, BlockTaker, Start, first_start};
@@ -82,11 +82,11 @@ fn hand_over<B: BlockTaker>(
 ) -> Result<(), Failed>
     requires bits { steps ≤ length bits.now }
     requires few { (steps < 2 ^ 32) × (kept < 2 ^ 32) }
-    ensures ok { OnOk result (B.took blocks.old (record { start = found.now.start; steps = steps; kept = kept;
-        metric = found.now.metric; bits = take steps bits.now; end_state = found.now.end_state; dropped = 0 })
+    ensures ok { OnOk result (B.took blocks.old
+        (undropped_block found.now.start steps kept found.now.metric (take steps bits.now) found.now.end_state)
         blocks.new) }
-    ensures err { OnErr result (B.broke blocks.old (record { start = found.now.start; steps = steps; kept = kept;
-        metric = found.now.metric; bits = take steps bits.now; end_state = found.now.end_state; dropped = 0 })
+    ensures err { OnErr result (B.broke blocks.old
+        (undropped_block found.now.start steps kept found.now.metric (take steps bits.now) found.now.end_state)
         blocks.new) }
     ensures cause { HasCause (B.faults blocks.old) (B.faults blocks.new) (B.is_last blocks.new) result }
 {

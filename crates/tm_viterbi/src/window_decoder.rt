@@ -3,6 +3,7 @@ ghost use Rattle.std.specs.Prelude.{◌≡◌, ℕ, ◌+◌, ◌<◌, ◌≤◌,
 ghost use Rattle.std.specs.Option.{ForSome};
 ghost use Rattle.tm_conv.specs.Path.{steps_size};
 ghost use Rattle.tm_viterbi.specs.Blocks.{IsBlock, window_steps, kept_steps};
+ghost use Rattle.tm_viterbi.specs.WindowBlock.{undropped_block};
 ghost use Rattle.tm_viterbi.specs.WindowSizes.{most_window, window_bound};
 
 use crate::filling::{BestPath, Window};
@@ -76,8 +77,7 @@ impl WindowDecoder {
         ensures block { (remaining : ℕ) → length bits.old ≡ window_steps self.old.keep self.old.ahead remaining
             → kept ≡ kept_steps self.old.keep self.old.ahead remaining
             → IsBlock self.old.rate self.old.invert self.old.keep self.old.ahead starts t remaining octets.now
-            (record { start = result.start; steps = length bits.old; kept = kept; metric = result.metric;
-            bits = bits.new; end_state = result.end_state; dropped = 0 }) }
+            (undropped_block result.start (length bits.old) kept result.metric bits.new result.end_state) }
         ensures same { self.new ≡ self.old }
     {
         let steps = bits.len();

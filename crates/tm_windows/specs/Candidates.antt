@@ -2,7 +2,7 @@
 use Rattle.std.specs.Prelude.{ℕ, ◌≡◌, ◌+◌, ◌*◌, ◌<◌, ◌≤◌, List, Option, drop, length, slice_index_or, vec_len}
 use Rattle.std.specs.List.{All}
 use Rattle.tm_conv.specs.Path.{steps_size}
-use Rattle.tm_viterbi.specs.WindowBlock.{WindowBlock}
+use Rattle.tm_viterbi.specs.WindowBlock.{WindowBlock, undropped_block}
 use Rattle.tm_viterbi.specs.Blocks.{IsBlock}
 use Rattle.tm_viterbi.specs.Due.{Place, Closes, Closed}
 use Rattle.tm_viterbi.specs.declared.window_decoder.WindowShape.{WindowShape}
@@ -20,16 +20,8 @@ ClosedWith shape from blocks to = Closed shape.rate shape.invert shape.keep shap
 
 -- the block that a candidate is, all of whose steps but those ahead are kept
 abbrev pub block_of : WindowShape → Candidate → WindowBlock
-block_of shape c =
-    record {
-      start = c.path.start;
-      steps = shape.keep + shape.ahead;
-      kept = shape.keep;
-      metric = c.path.metric;
-      bits = c.bits.items;
-      end_state = c.path.end_state;
-      dropped = 0;
-    }
+block_of shape c = undropped_block c.path.start (shape.keep + shape.ahead) shape.keep c.path.metric
+    c.bits.items c.path.end_state
 
 -- it is the block of the window from step t on with the octets, from the registers that were taken
 -- to be its start set
