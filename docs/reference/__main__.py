@@ -28,9 +28,9 @@ def decode(data, ended, c):
     found = list(items(r.bits, c))
     found = found if ended else found[:len(found) // c.batch * c.batch]
     last = r.slips + [last_line(found, r.bits)] if ended else []
-    told = r.head + [line for _, line, _ in found] + last
+    shown = r.head + [line for _, line, _ in found] + last
     frames = [frame for frame, _, _ in found if frame is not None]
-    return b"".join(frames), lines(told), 1 if len(frames) < len(found) else 0
+    return b"".join(frames), lines(shown), 1 if len(frames) < len(found) else 0
 
 def report(data, ended, c):
     _, notes, status = decode(data, ended, c)
@@ -38,11 +38,11 @@ def report(data, ended, c):
 
 def trace(data, ended, c):
     r = received(data, ended, c)
-    told, kept = r.head, 0
+    shown, kept = r.head, 0
     for k, w in enumerate(r.windows):
-        told = told + [f"slip {w.dropped} at {kept}"] * (w.dropped > 0)
-        told, kept = told + [BLOCK(k, len(w.soft), w.kept, w.metric)], kept + w.kept
-    return lines(told + [r.end] * ended), b"", 0
+        shown = shown + [f"slip {w.dropped} at {kept}"] * (w.dropped > 0)
+        shown, kept = shown + [BLOCK(k, len(w.soft), w.kept, w.metric)], kept + w.kept
+    return lines(shown + [r.end] * ended), b"", 0
 
 def bits(data, ended, c):
     r = received(data, ended, c)
@@ -54,17 +54,17 @@ def certify(data, ended, c):
     return b"".join(certificate(w) for w in received(data, ended, c).windows), b"", 0
 
 def check(data, ended, c):
-    output, told, count, status = b"", [], 0, 0
+    output, shown, count, status = b"", [], 0, 0
     try:
         for steps, kept, metric, soft in checked_windows(data, c):
             output, count = output + soft, count + kept
-            told.append(BLOCK(len(told), steps, kept, metric))
-        last = f"blocks {len(told)} bits {count} leftover 0"
+            shown.append(BLOCK(len(shown), steps, kept, metric))
+        last = f"blocks {len(shown)} bits {count} leftover 0"
     except Refused as reason:
-        return output, lines(told + [f"bad {len(told)} {reason}"]), 1
+        return output, lines(shown + [f"bad {len(shown)} {reason}"]), 1
     except EOFError:
-        last, status = f"cut at block {len(told)}", 6
-    return output, lines(told + [last] * ended), status
+        last, status = f"cut at block {len(shown)}", 6
+    return output, lines(shown + [last] * ended), status
 
 def nearest_line(octets, flags, c):
     lost = [i for i, flag in enumerate(flags) if flag]
@@ -78,9 +78,9 @@ def erased(data, ended, c):
     n, left = c.codeword, len(data) % (2 * c.codeword)
     records = [data[at:at + 2 * n] for at in range(0, len(data) - left, 2 * n)]
     records = records if ended else records[:len(records) // 256 * 256]
-    told = [nearest_line(record[:n], record[n:], c) for record in records]
+    shown = [nearest_line(record[:n], record[n:], c) for record in records]
     notes = [f"left over {left}"] if ended and left else []
-    return lines(told), lines(notes), 6 if left else 1 if "beyond" in told else 0
+    return lines(shown), lines(notes), 6 if left else 1 if "beyond" in shown else 0
 
 def word(c):
     line = nearest_line(c.word, b"", c)

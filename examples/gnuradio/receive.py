@@ -75,7 +75,7 @@ class Receive(gr.sync_block):
         self.stream, self.frames, self.reports = Stream(), [], []
         octets = ctypes.c_uint64()
         room = LIBRARY.tmchan_receiver_room(ctypes.byref(made), SIZE(self.PIECE), ctypes.byref(octets))
-        self.octets, self.told = (ctypes.c_uint8 * octets.value)(), (Report * room)()
+        self.octets, self.room = (ctypes.c_uint8 * octets.value)(), (Report * room)()
         if LIBRARY.tmchan_receiver_open(ctypes.byref(self.stream), ctypes.byref(made)):
             raise MemoryError
 
@@ -83,14 +83,14 @@ class Receive(gr.sync_block):
         if count < 0:
             raise RuntimeError(f"refused: {count}")
         at = 0
-        for report in self.told[:count]:
+        for report in self.room[:count]:
             self.reports.append((report.place, report.distance, list(report.repaired[:report.columns])))
             if report.frame_length:
                 self.frames.append(bytes(self.octets[at:at + report.frame_length]))
             at += report.frame_length
 
     def arrays(self):
-        return self.octets, SIZE(len(self.octets)), self.told, SIZE(len(self.told))
+        return self.octets, SIZE(len(self.octets)), self.room, SIZE(len(self.room))
 
     def work(self, input_items, output_items):
         octets = numpy.ascontiguousarray(input_items[0][:self.PIECE])
