@@ -376,7 +376,7 @@ fn check_punctured_windows(rt: &impl Abort, alloc: Global) -> Result<(), Fail> {
     check_decoded(rt, alloc, any, more, &blocks, 0)
 }
 
-// Sums and costs that are drawn, each below 2^(31 - shift), and the next number of the sequence.
+// Sums and branch metrics that are drawn, each below 2^(31 - shift), and the next number of the sequence.
 fn drawn_sums(seed: u64, shift: u32) -> ([u32; 64], [u32; 4], u64) {
     let mut now = seed;
     let mut sums = [0; 64];
@@ -384,12 +384,12 @@ fn drawn_sums(seed: u64, shift: u32) -> ([u32; 64], [u32; 4], u64) {
         now = next_number(now);
         *sum = ((now >> 33) as u32).wrapping_shr(shift);
     }
-    let mut costs = [0; 4];
-    for cost in costs.iter_mut() {
+    let mut metrics = [0; 4];
+    for metric in metrics.iter_mut() {
         now = next_number(now);
-        *cost = ((now >> 33) as u32).wrapping_shr(shift);
+        *metric = ((now >> 33) as u32).wrapping_shr(shift);
     }
-    (sums, costs, now)
+    (sums, metrics, now)
 }
 
 // Whether each of the numbers is below 2^31.
@@ -400,22 +400,22 @@ fn are_small(numbers: &[u32]) -> bool
 }
 
 // Both forms of a column: the sums and the survivors.
-fn columns(sums: &[u32; 64], costs: &[u32; 4]) -> [([u32; 64], u64); 2]
+fn columns(sums: &[u32; 64], metrics: &[u32; 4]) -> [([u32; 64], u64); 2]
     requires sums { All (λ n. n < 2 ^ 31) sums.now }
-    requires costs { All (λ n. n < 2 ^ 31) costs.now }
+    requires metrics { All (λ n. n < 2 ^ 31) metrics.now }
 {
     let mut plain = [1; 64];
-    let plain_survivors = plain_column(sums, costs, &mut plain);
+    let plain_survivors = plain_column(sums, metrics, &mut plain);
     let mut lanes = [2; 64];
-    let lane_survivors = lane_column(sums, costs, &mut lanes);
+    let lane_survivors = lane_column(sums, metrics, &mut lanes);
     [(plain, plain_survivors), (lanes, lane_survivors)]
 }
 
 #[test]
 fn columns_of_zeros(rt: HostRuntime) {
-    let (sums, costs) = ([0; 64], [0; 4]);
-    assert!(rt; are_small(&sums) && are_small(&costs));
-    let [plain, lanes] = columns(&sums, &costs);
+    let (sums, metrics) = ([0; 64], [0; 4]);
+    assert!(rt; are_small(&sums) && are_small(&metrics));
+    let [plain, lanes] = columns(&sums, &metrics);
     assert_eq!(rt; plain, ([0; 64], 0));
     assert_eq!(rt; lanes, ([0; 64], 0));
 }
@@ -426,11 +426,11 @@ fn columns_by_lanes(rt: HostRuntime) {
     let mut seed = 3000u64;
     for shift in [0, 15, 23, 28, 29, 30] {
         for _ in 0..100 {
-            let (sums, costs, next) = drawn_sums(seed, shift);
+            let (sums, metrics, next) = drawn_sums(seed, shift);
             seed = next;
-            assert!(rt; are_small(&sums) && are_small(&costs));
-            let [plain, lanes] = columns(&sums, &costs);
-            assert_eq!(rt; lanes, plain, "{sums:?} {costs:?}");
+            assert!(rt; are_small(&sums) && are_small(&metrics));
+            let [plain, lanes] = columns(&sums, &metrics);
+            assert_eq!(rt; lanes, plain, "{sums:?} {metrics:?}");
         }
     }
 }

@@ -14,43 +14,44 @@ pair_other : (i : ℕ) → i < 32 → 2 * c1 (2 * i + 1) 1 + c2 (2 * i + 1) 1 �
 pair_other i lt = omega arith
 
 -- what the lanes hold
-pub record AreLanes (sums costs even odd near far : List ℕ) : Type 0 where
+pub record AreLanes (sums metrics even odd near far : List ℕ) : Type 0 where
   pub evens : IsEach even (λ i. get_or sums (2 * i) 0)
   pub odds : IsEach odd (λ i. get_or sums (2 * i + 1) 0)
-  pub nears : IsEach near (λ i. get_or costs (2 * c1 (2 * i) 0 + c2 (2 * i) 0) 0)
-  pub fars : IsEach far (λ i. get_or costs (2 * c1 (2 * i + 1) 0 + c2 (2 * i + 1) 0) 0)
+  pub nears : IsEach near (λ i. get_or metrics (2 * c1 (2 * i) 0 + c2 (2 * i) 0) 0)
+  pub fars : IsEach far (λ i. get_or metrics (2 * c1 (2 * i + 1) 0 + c2 (2 * i + 1) 0) 0)
 
 -- the path metrics into register s, in lane i
-pub record AreMetrics (sums costs : List ℕ) (s one other : ℕ) : Type 0 where
-  pub first : first_metric sums costs s ≡ one
-  pub second : second_metric sums costs s ≡ other
+pub record AreMetrics (sums metrics : List ℕ) (s one other : ℕ) : Type 0 where
+  pub first : first_metric sums metrics s ≡ one
+  pub second : second_metric sums metrics s ≡ other
 
-pub low_metrics : (sums costs even odd near far : List ℕ) → AreLanes sums costs even odd near far → (s : ℕ) → s < 32
-    → AreMetrics sums costs s (get_or even s 0 + get_or near s 0) (get_or odd s 0 + get_or far s 0)
-low_metrics sums costs even odd near far h s lt =
+pub low_metrics : (sums metrics even odd near far : List ℕ) → AreLanes sums metrics even odd near far → (s : ℕ) → s < 32
+    → AreMetrics sums metrics s (get_or even s 0 + get_or near s 0) (get_or odd s 0 + get_or far s 0)
+low_metrics sums metrics even odd near far h s lt =
     let q : s / 32 ≡ 0 = omega arith in
     let m : s % 32 ≡ s = omega arith in
-    let F : ℕ → ℕ → ℕ = λ i b. sum_via sums costs (2 * i) b in
-    let G : ℕ → ℕ → ℕ = λ i b. sum_via sums costs (2 * i + 1) b in
+    let F : ℕ → ℕ → ℕ = λ i b. sum_via sums metrics (2 * i) b in
+    let G : ℕ → ℕ → ℕ = λ i b. sum_via sums metrics (2 * i + 1) b in
     record {
       first = ap (λ v. F v (s / 32)) m ∙ ap (λ v. F s v) q ∙ omega (arith, h.evens.each s lt, h.nears.each s lt);
       second = ap (λ v. G v (s / 32)) m ∙ ap (λ v. G s v) q ∙ omega (arith, h.odds.each s lt, h.fars.each s lt);
     }
 
-pub high_metrics : (sums costs even odd near far : List ℕ) → AreLanes sums costs even odd near far → (s i : ℕ) → i < 32
+pub high_metrics : (sums metrics even odd near far : List ℕ) → AreLanes sums metrics even odd near far → (s i : ℕ)
+    → i < 32
     → s ≡ 32 + i
-    → AreMetrics sums costs s (get_or even i 0 + get_or far i 0) (get_or odd i 0 + get_or near i 0)
-high_metrics sums costs even odd near far h s i lt e =
+    → AreMetrics sums metrics s (get_or even i 0 + get_or far i 0) (get_or odd i 0 + get_or near i 0)
+high_metrics sums metrics even odd near far h s i lt e =
     let q : s / 32 ≡ 1 = omega arith in
     let m : s % 32 ≡ i = omega arith in
-    let F : ℕ → ℕ → ℕ = λ i b. sum_via sums costs (2 * i) b in
-    let G : ℕ → ℕ → ℕ = λ i b. sum_via sums costs (2 * i + 1) b in
+    let F : ℕ → ℕ → ℕ = λ i b. sum_via sums metrics (2 * i) b in
+    let G : ℕ → ℕ → ℕ = λ i b. sum_via sums metrics (2 * i + 1) b in
     record {
       first = ap (λ v. F v (s / 32)) m ∙ ap (λ v. F i v) q
-          ∙ ap (λ v. get_or sums (2 * i) 0 + get_or costs v 0) (pair_one i lt)
+          ∙ ap (λ v. get_or sums (2 * i) 0 + get_or metrics v 0) (pair_one i lt)
           ∙ omega (arith, h.evens.each i lt, h.fars.each i lt);
       second = ap (λ v. G v (s / 32)) m ∙ ap (λ v. G i v) q
-          ∙ ap (λ v. get_or sums (2 * i + 1) 0 + get_or costs v 0) (pair_other i lt)
+          ∙ ap (λ v. get_or sums (2 * i + 1) 0 + get_or metrics v 0) (pair_other i lt)
           ∙ omega (arith, h.odds.each i lt, h.nears.each i lt);
     }
 
@@ -62,70 +63,71 @@ survivor_of : (first second one other : ℕ) → first ≡ one → second ≡ ot
     → ◌≡◌ {A = ℕ} (cond (ltb other one) 1 0) (cond (ltb second first) 1 0)
 survivor_of first second one other f s = ap (λ v. cond (ltb v one) 1 0) (sym s) ∙ ap (λ v. cond (ltb second v) 1 0) (sym f)
 
-pub IsNextSums-from_lanes : (sums costs even odd near far low high : List ℕ) → AreLanes sums costs even odd near far
+pub IsNextSums-from_lanes : (sums metrics even odd near far low high : List ℕ) → AreLanes sums metrics even odd near far
     → IsEach low (λ i. min (get_or even i 0 + get_or near i 0) (get_or odd i 0 + get_or far i 0))
     → IsEach high (λ i. min (get_or even i 0 + get_or far i 0) (get_or odd i 0 + get_or near i 0))
-    → IsNextSums sums costs (low ++ high)
-IsNextSums-from_lanes sums costs even odd near far low high h lows highs s lt =
+    → IsNextSums sums metrics (low ++ high)
+IsNextSums-from_lanes sums metrics even odd near far low high h lows highs s lt =
     elim (cases_lt s 32) [
-      | inl l ↦ (let w = low_metrics sums costs even odd near far h s l in
+      | inl l ↦ (let w = low_metrics sums metrics even odd near far h s l in
           get_or_append_left low high 0 s (omega (arith, lows.long)) ∙ lows.each s l
-          ∙ least_of (first_metric sums costs s) (second_metric sums costs s) _ _ w.first w.second)
+          ∙ least_of (first_metric sums metrics s) (second_metric sums metrics s) _ _ w.first w.second)
       | inr g ↦ (let i = s - 32 in
           let il : i < 32 = omega arith in
-          let w = high_metrics sums costs even odd near far h s i il (omega arith) in
+          let w = high_metrics sums metrics even odd near far h s i il (omega arith) in
           get_or-append_right low high 32 s 0 lows.long g ∙ highs.each i il
-          ∙ least_of (first_metric sums costs s) (second_metric sums costs s) _ _ w.first w.second)
+          ∙ least_of (first_metric sums metrics s) (second_metric sums metrics s) _ _ w.first w.second)
     ]
 
-pub AreSurvivors-from_lanes : (sums costs even odd near far : List ℕ) (low high : ℕ)
-    → AreLanes sums costs even odd near far
+pub AreSurvivors-from_lanes : (sums metrics even odd near far : List ℕ) (low high : ℕ)
+    → AreLanes sums metrics even odd near far
     → ((i : ℕ) → i < 32 → low / 2 ^ i % 2 ≡ cond
     (ltb (get_or odd i 0 + get_or far i 0) (get_or even i 0 + get_or near i 0)) 1 0)
     → ((i : ℕ) → i < 32 → high / 2 ^ i % 2 ≡ cond
     (ltb (get_or odd i 0 + get_or near i 0) (get_or even i 0 + get_or far i 0)) 1 0)
     → low < 2 ^ 32 → high < 2 ^ 32
-    → AreSurvivors sums costs (low + high * 2 ^ 32 % 2 ^ 64)
-AreSurvivors-from_lanes sums costs even odd near far low high h lows highs ll hl s lt =
+    → AreSurvivors sums metrics (low + high * 2 ^ 32 % 2 ^ 64)
+AreSurvivors-from_lanes sums metrics even odd near far low high h lows highs ll hl s lt =
     let whole : low + high * 2 ^ 32 % 2 ^ 64 ≡ high * 2 ^ 32 + low = omega arith in
     ap (λ v. v / 2 ^ s % 2) whole ∙
     elim (cases_lt s 32) as (λ _. (high * 2 ^ 32 + low) / 2 ^ s % 2 ≡ cond
-    (ltb (second_metric sums costs s) (first_metric sums costs s)) 1 0) [
-      | inl l ↦ (let w = low_metrics sums costs even odd near far h s l in
+    (ltb (second_metric sums metrics s) (first_metric sums metrics s)) 1 0) [
+      | inl l ↦ (let w = low_metrics sums metrics even odd near far h s l in
           bit_at_cat_low high 32 low s l ∙ lows s l
-          ∙ survivor_of (first_metric sums costs s) (second_metric sums costs s) _ _ w.first w.second)
+          ∙ survivor_of (first_metric sums metrics s) (second_metric sums metrics s) _ _ w.first w.second)
       | inr g ↦ (let i = s - 32 in
           let il : i < 32 = omega arith in
-          let w = high_metrics sums costs even odd near far h s i il (omega arith) in
+          let w = high_metrics sums metrics even odd near far h s i il (omega arith) in
           bit_at_cat_high high 32 low s ll g ∙ highs i il
-          ∙ survivor_of (first_metric sums costs s) (second_metric sums costs s) _ _ w.first w.second)
+          ∙ survivor_of (first_metric sums metrics s) (second_metric sums metrics s) _ _ w.first w.second)
     ]
 
 -- the same of the sums themselves
-pub low_metric : (sums costs : List ℕ) (s : ℕ) → s < 32
-    → AreMetrics sums costs s (get_or sums (2 * s) 0 + get_or costs (2 * c1 (2 * s) 0 + c2 (2 * s) 0) 0)
-    (get_or sums (2 * s + 1) 0 + get_or costs (2 * c1 (2 * s + 1) 0 + c2 (2 * s + 1) 0) 0)
-low_metric sums costs s lt =
+pub low_metric : (sums metrics : List ℕ) (s : ℕ) → s < 32
+    → AreMetrics sums metrics s (get_or sums (2 * s) 0 + get_or metrics (2 * c1 (2 * s) 0 + c2 (2 * s) 0) 0)
+    (get_or sums (2 * s + 1) 0 + get_or metrics (2 * c1 (2 * s + 1) 0 + c2 (2 * s + 1) 0) 0)
+low_metric sums metrics s lt =
     let q : s / 32 ≡ 0 = omega arith in
     let m : s % 32 ≡ s = omega arith in
-    let F : ℕ → ℕ → ℕ = λ i b. sum_via sums costs (2 * i) b in
-    let G : ℕ → ℕ → ℕ = λ i b. sum_via sums costs (2 * i + 1) b in
+    let F : ℕ → ℕ → ℕ = λ i b. sum_via sums metrics (2 * i) b in
+    let G : ℕ → ℕ → ℕ = λ i b. sum_via sums metrics (2 * i + 1) b in
     record {
       first = ap (λ v. F v (s / 32)) m ∙ ap (λ v. F s v) q;
       second = ap (λ v. G v (s / 32)) m ∙ ap (λ v. G s v) q;
     }
 
-pub high_metric : (sums costs : List ℕ) (i : ℕ) → i < 32
-    → AreMetrics sums costs (32 + i) (get_or sums (2 * i) 0 + get_or costs (2 * c1 (2 * i + 1) 0 + c2 (2 * i + 1) 0) 0)
-    (get_or sums (2 * i + 1) 0 + get_or costs (2 * c1 (2 * i) 0 + c2 (2 * i) 0) 0)
-high_metric sums costs i lt =
+pub high_metric : (sums metrics : List ℕ) (i : ℕ) → i < 32
+    → AreMetrics sums metrics (32 + i)
+    (get_or sums (2 * i) 0 + get_or metrics (2 * c1 (2 * i + 1) 0 + c2 (2 * i + 1) 0) 0)
+    (get_or sums (2 * i + 1) 0 + get_or metrics (2 * c1 (2 * i) 0 + c2 (2 * i) 0) 0)
+high_metric sums metrics i lt =
     let q : (32 + i) / 32 ≡ 1 = omega arith in
     let m : (32 + i) % 32 ≡ i = omega arith in
-    let F : ℕ → ℕ → ℕ = λ i b. sum_via sums costs (2 * i) b in
-    let G : ℕ → ℕ → ℕ = λ i b. sum_via sums costs (2 * i + 1) b in
+    let F : ℕ → ℕ → ℕ = λ i b. sum_via sums metrics (2 * i) b in
+    let G : ℕ → ℕ → ℕ = λ i b. sum_via sums metrics (2 * i + 1) b in
     record {
       first = ap (λ v. F v ((32 + i) / 32)) m ∙ ap (λ v. F i v) q
-          ∙ ap (λ v. get_or sums (2 * i) 0 + get_or costs v 0) (pair_one i lt);
+          ∙ ap (λ v. get_or sums (2 * i) 0 + get_or metrics v 0) (pair_one i lt);
       second = ap (λ v. G v ((32 + i) / 32)) m ∙ ap (λ v. G i v) q
-          ∙ ap (λ v. get_or sums (2 * i + 1) 0 + get_or costs v 0) (pair_other i lt);
+          ∙ ap (λ v. get_or sums (2 * i + 1) 0 + get_or metrics v 0) (pair_other i lt);
     }

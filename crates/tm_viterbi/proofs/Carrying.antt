@@ -11,7 +11,7 @@ use Rattle.tm_conv.specs.declared.rates.Rate.TheVariants.{R12}
 use Rattle.tm_conv.specs.Path.{c1, c2, step_size, steps_size}
 use Rattle.tm_viterbi.specs.Walk.{AreBest}
 use Rattle.tm_viterbi.specs.AddCompareSelect.{IsNextSums, first_metric, second_metric}
-use Rattle.tm_viterbi.specs.Totals.{total_of, StepsTo, AreCosts, AreAtMost}
+use Rattle.tm_viterbi.specs.Totals.{total_of, StepsTo, AreBranchMetrics, AreAtMost}
 use Rattle.tm_viterbi.proofs.Walk.{AreBest-more, AreBest-none}
 use Rattle.tm_viterbi.proofs.Totals.{Grows-total_of}
 use Rattle.tm_conv.proofs.Paths.{steps_size-more, steps_size-zero}
@@ -42,12 +42,13 @@ Carries-more rate invert t survivor octets piece sums middle next survivors h le
           let size : length (before ++ octets) ≡ steps_size rate first (i + n) =
           length-append before octets
           ∙ omega (arith, l, h.size, steps_size-add rate first i n, ap (λ (v : ℕ). steps_size rate v n) e) in
-          let costs : AreCosts rate invert (first + (i + n)) piece step.costs =
-          subst (λ (v : ℕ). AreCosts rate invert v piece step.costs) there step.are_costs in
-          let grows = Grows-total_of rate invert first (i + n) firsts (before ++ octets) piece step.costs size costs in
+          let metrics : AreBranchMetrics rate invert (first + (i + n)) piece step.metrics =
+          subst (λ (v : ℕ). AreBranchMetrics rate invert v piece step.metrics) there step.are_branch_metrics in
+          let grows = Grows-total_of rate invert first (i + n) firsts (before ++ octets) piece
+          step.metrics size metrics in
           let so : AreBest (total_of rate invert first firsts ((before ++ octets) ++ piece)) (i + n + 1) next
           (survivor ∷ (reverse survivors ++ past))
-          = AreBest-more _ _ (i + n) survivor middle step.costs next
+          = AreBest-more _ _ (i + n) survivor middle step.metrics next
           (reverse survivors ++ past) grows step.are_sums step.are_survivors
           (h.carries first i firsts before past e l best) in
           let count : i + n + 1 ≡ i + length (survivors ++ survivor ∷ []) = omega (arith, long) in
@@ -103,13 +104,13 @@ get_or-lifted base [] i lt = absurd (omega arith)
 get_or-lifted base (x ∷ xs) zero lt = refl
 get_or-lifted base (x ∷ xs) (suc i) lt = get_or-lifted base xs i (omega arith)
 
-first_lifted : (base : ℕ) (sums costs : List ℕ) (s : ℕ) → length sums ≡ 64 → s < 64
-    → first_metric (lifted base sums) costs s ≡ base + first_metric sums costs s
-first_lifted base sums costs s long lt = omega (arith, get_or-lifted base sums (2 * (s % 32)) (omega arith))
+first_lifted : (base : ℕ) (sums metrics : List ℕ) (s : ℕ) → length sums ≡ 64 → s < 64
+    → first_metric (lifted base sums) metrics s ≡ base + first_metric sums metrics s
+first_lifted base sums metrics s long lt = omega (arith, get_or-lifted base sums (2 * (s % 32)) (omega arith))
 
-second_lifted : (base : ℕ) (sums costs : List ℕ) (s : ℕ) → length sums ≡ 64 → s < 64
-    → second_metric (lifted base sums) costs s ≡ base + second_metric sums costs s
-second_lifted base sums costs s long lt = omega (arith, get_or-lifted base sums (2 * (s % 32) + 1) (omega arith))
+second_lifted : (base : ℕ) (sums metrics : List ℕ) (s : ℕ) → length sums ≡ 64 → s < 64
+    → second_metric (lifted base sums) metrics s ≡ base + second_metric sums metrics s
+second_lifted base sums metrics s long lt = omega (arith, get_or-lifted base sums (2 * (s % 32) + 1) (omega arith))
 
 lesser_lifted : (base a b c d n m : ℕ) → a ≡ base + c → b ≡ base + d → n ≡ base + m → m ≡ min c d → n ≡ min a b
 lesser_lifted base a b c d n m ea eb en em = omega arith
@@ -122,22 +123,22 @@ pub StepsTo-lifted : (rate : Rate) (invert : Bool) (t base survivor : ℕ) (octe
     → StepsTo rate invert t octets sums next survivor
     → StepsTo rate invert t octets (lifted base sums) (lifted base next) survivor
 StepsTo-lifted rate invert t base survivor octets sums next ls ln h = record {
-  costs = h.costs;
-  are_costs = h.are_costs;
+  metrics = h.metrics;
+  are_branch_metrics = h.are_branch_metrics;
   are_sums = λ s lt.
-      lesser_lifted base (first_metric (lifted base sums) h.costs s) (second_metric (lifted base sums) h.costs s)
-      (first_metric sums h.costs s) (second_metric sums h.costs s) (get_or (lifted base next) s 0) (get_or next s 0)
-      (first_lifted base sums h.costs s ls lt) (second_lifted base sums h.costs s ls lt)
+      lesser_lifted base (first_metric (lifted base sums) h.metrics s) (second_metric (lifted base sums) h.metrics s)
+      (first_metric sums h.metrics s) (second_metric sums h.metrics s) (get_or (lifted base next) s 0) (get_or next s 0)
+      (first_lifted base sums h.metrics s ls lt) (second_lifted base sums h.metrics s ls lt)
       (get_or-lifted base next s (omega arith)) (h.are_sums s lt);
   are_survivors = λ s lt. h.are_survivors s lt
-      ∙ less_lifted base (first_metric (lifted base sums) h.costs s) (second_metric (lifted base sums) h.costs s)
-      (first_metric sums h.costs s) (second_metric sums h.costs s)
-      (first_lifted base sums h.costs s ls lt) (second_lifted base sums h.costs s ls lt);
+      ∙ less_lifted base (first_metric (lifted base sums) h.metrics s) (second_metric (lifted base sums) h.metrics s)
+      (first_metric sums h.metrics s) (second_metric sums h.metrics s)
+      (first_lifted base sums h.metrics s ls lt) (second_lifted base sums h.metrics s ls lt);
 }
 
-pub at_most_next : (sums costs next : List ℕ) (most : ℕ) → IsNextSums sums costs next → AreAtMost most sums
-    → ((k : ℕ) → k < 4 → get_or costs k 0 ≤ 510) → AreAtMost (most + 510) next
-at_most_next sums costs next most h bound small s lt =
+pub at_most_next : (sums metrics next : List ℕ) (most : ℕ) → IsNextSums sums metrics next → AreAtMost most sums
+    → ((k : ℕ) → k < 4 → get_or metrics k 0 ≤ 510) → AreAtMost (most + 510) next
+at_most_next sums metrics next most h bound small s lt =
     omega (
       arith,
       h s lt,

@@ -146,11 +146,11 @@ odd_parts half places h =
 -- ---- the column of two halves
 
 -- what a half's lanes hold: register 2 * (from + i), the one after it, and what the two pairs of symbols cost
-pub record AreHalves (sums costs even odd near far : List ℕ) (from : ℕ) : Type 0 where
+pub record AreHalves (sums metrics even odd near far : List ℕ) (from : ℕ) : Type 0 where
   pub evens : IsHalf even (λ i. get_or sums (2 * (from + i)) 0)
   pub odds : IsHalf odd (λ i. get_or sums (2 * (from + i) + 1) 0)
-  pub nears : IsHalf near (λ i. get_or costs (near_at (from + i)) 0)
-  pub fars : IsHalf far (λ i. get_or costs (far_at (from + i)) 0)
+  pub nears : IsHalf near (λ i. get_or metrics (near_at (from + i)) 0)
+  pub fars : IsHalf far (λ i. get_or metrics (far_at (from + i)) 0)
 
 -- the halves of the list
 pub first_lanes : (low high lanes : List ℕ) (p q : ℕ → ℕ) → length low ≡ 32 → ((i : ℕ) → i < 16 → p i < 32)
@@ -172,26 +172,26 @@ second_lanes low high lanes p q long is h = record {
       ∙ sym (get_or-append_right low high 32 (q i) 0 long (omega (arith, is i lt)));
 }
 
-pub first_halves : (low high costs even odd near far : List ℕ) → length low ≡ 32
+pub first_halves : (low high metrics even odd near far : List ℕ) → length low ≡ 32
     → IsHalf even (λ i. get_or low (2 * i) 0) → IsHalf odd (λ i. get_or low (2 * i + 1) 0)
-    → IsHalf near (λ i. get_or costs (near_at i) 0) → IsHalf far (λ i. get_or costs (far_at i) 0)
-    → AreHalves (low ++ high) costs even odd near far 0
-first_halves low high costs even odd near far long a b n f =
+    → IsHalf near (λ i. get_or metrics (near_at i) 0) → IsHalf far (λ i. get_or metrics (far_at i) 0)
+    → AreHalves (low ++ high) metrics even odd near far 0
+first_halves low high metrics even odd near far long a b n f =
     let zeros : (i : ℕ) → i ≡ 0 + i = λ i. omega arith in
     record {
       evens = first_lanes low high even (λ i. 2 * i) (λ i. 2 * (0 + i)) long (λ i lt. omega arith)
           (λ i lt. omega arith) a;
       odds = first_lanes low high odd (λ i. 2 * i + 1) (λ i. 2 * (0 + i) + 1) long (λ i lt. omega arith)
           (λ i lt. omega arith) b;
-      nears = record { long = n.long; each = λ i lt. n.each i lt ∙ ap (λ v. get_or costs (near_at v) 0) (zeros i) };
-      fars = record { long = f.long; each = λ i lt. f.each i lt ∙ ap (λ v. get_or costs (far_at v) 0) (zeros i) };
+      nears = record { long = n.long; each = λ i lt. n.each i lt ∙ ap (λ v. get_or metrics (near_at v) 0) (zeros i) };
+      fars = record { long = f.long; each = λ i lt. f.each i lt ∙ ap (λ v. get_or metrics (far_at v) 0) (zeros i) };
     }
 
-pub second_halves : (low high costs even odd near far : List ℕ) → length low ≡ 32
+pub second_halves : (low high metrics even odd near far : List ℕ) → length low ≡ 32
     → IsHalf even (λ i. get_or high (2 * i) 0) → IsHalf odd (λ i. get_or high (2 * i + 1) 0)
-    → IsHalf near (λ i. get_or costs (near_at (16 + i)) 0) → IsHalf far (λ i. get_or costs (far_at (16 + i)) 0)
-    → AreHalves (low ++ high) costs even odd near far 16
-second_halves low high costs even odd near far long a b n f =
+    → IsHalf near (λ i. get_or metrics (near_at (16 + i)) 0) → IsHalf far (λ i. get_or metrics (far_at (16 + i)) 0)
+    → AreHalves (low ++ high) metrics even odd near far 16
+second_halves low high metrics even odd near far long a b n f =
     record {
       evens = second_lanes low high even (λ i. 2 * i) (λ i. 2 * (16 + i)) long (λ i lt. omega arith) a;
       odds = second_lanes low high odd (λ i. 2 * i + 1) (λ i. 2 * (16 + i) + 1) long (λ i lt. omega arith) b;
@@ -200,12 +200,13 @@ second_halves low high costs even odd near far long a b n f =
     }
 
 -- the path metrics fit, lane by lane
-half_fits : (sums costs lanes more : List ℕ) (p k : ℕ → ℕ)
-    → ((s j : ℕ) → s < 64 → j < 4 → get_or sums s 0 + get_or costs j 0 < 2 ^ 16)
-    → IsHalf lanes (λ i. get_or sums (p i) 0) → IsHalf more (λ i. get_or costs (k i) 0) → ((i : ℕ) → i < 16 → p i < 64)
+half_fits : (sums metrics lanes more : List ℕ) (p k : ℕ → ℕ)
+    → ((s j : ℕ) → s < 64 → j < 4 → get_or sums s 0 + get_or metrics j 0 < 2 ^ 16)
+    → IsHalf lanes (λ i. get_or sums (p i) 0) → IsHalf more (λ i. get_or metrics (k i) 0)
+    → ((i : ℕ) → i < 16 → p i < 64)
     → ((i : ℕ) → k i < 4)
     → (i : ℕ) → i < 16 → get_or lanes i 0 + get_or more i 0 < 2 ^ 16
-half_fits sums costs lanes more p k all a b pl kl i lt =
+half_fits sums metrics lanes more p k all a b pl kl i lt =
     omega (arith, a.each i lt, b.each i lt, all (p i) (k i) (pl i lt) (kl i))
 
 pub record Fit (even odd near far : List ℕ) : Type 0 where
@@ -214,87 +215,91 @@ pub record Fit (even odd near far : List ℕ) : Type 0 where
   pub odd_near : (i : ℕ) → i < 16 → get_or odd i 0 + get_or near i 0 < 2 ^ 16
   pub odd_far : (i : ℕ) → i < 16 → get_or odd i 0 + get_or far i 0 < 2 ^ 16
 
-pub fit : (sums costs even odd near far : List ℕ) (from : ℕ)
-    → ((s j : ℕ) → s < 64 → j < 4 → get_or sums s 0 + get_or costs j 0 < 2 ^ 16) → from < 17
-    → AreHalves sums costs even odd near far from → Fit even odd near far
-fit sums costs even odd near far from all small h =
+pub fit : (sums metrics even odd near far : List ℕ) (from : ℕ)
+    → ((s j : ℕ) → s < 64 → j < 4 → get_or sums s 0 + get_or metrics j 0 < 2 ^ 16) → from < 17
+    → AreHalves sums metrics even odd near far from → Fit even odd near far
+fit sums metrics even odd near far from all small h =
     let evens : (i : ℕ) → i < 16 → 2 * (from + i) < 64 = λ i lt. omega arith in
     let odds : (i : ℕ) → i < 16 → 2 * (from + i) + 1 < 64 = λ i lt. omega arith in
     let nears : (i : ℕ) → near_at (from + i) < 4 = λ i. omega arith in
     let fars : (i : ℕ) → far_at (from + i) < 4 = λ i. omega arith in
     record {
-      even_near = half_fits sums costs even near (λ i. 2 * (from + i))
+      even_near = half_fits sums metrics even near (λ i. 2 * (from + i))
           (λ i. near_at (from + i)) all h.evens h.nears evens nears;
-      even_far = half_fits sums costs even far (λ i. 2 * (from + i))
+      even_far = half_fits sums metrics even far (λ i. 2 * (from + i))
           (λ i. far_at (from + i)) all h.evens h.fars evens fars;
-      odd_near = half_fits sums costs odd near (λ i. 2 * (from + i) + 1)
+      odd_near = half_fits sums metrics odd near (λ i. 2 * (from + i) + 1)
           (λ i. near_at (from + i)) all h.odds h.nears odds nears;
-      odd_far = half_fits sums costs odd far (λ i. 2 * (from + i) + 1)
+      odd_far = half_fits sums metrics odd far (λ i. 2 * (from + i) + 1)
           (λ i. far_at (from + i)) all h.odds h.fars odds fars;
     }
 
-lesser_metric : (sums costs : List ℕ) (s one other a b x y m : ℕ) → AreMetrics sums costs s (a + x) (b + y)
+lesser_metric : (sums metrics : List ℕ) (s one other a b x y m : ℕ) → AreMetrics sums metrics s (a + x) (b + y)
     → m ≡ min (one) (other) → one ≡ a + x → other ≡ b + y
-    → m ≡ min (first_metric sums costs s) (second_metric sums costs s)
-lesser_metric sums costs s one other a b x y m w e f g =
-    e ∙ ap (λ v. min v other) (f ∙ sym w.first) ∙ ap (λ v. min (first_metric sums costs s) v) (g ∙ sym w.second)
+    → m ≡ min (first_metric sums metrics s) (second_metric sums metrics s)
+lesser_metric sums metrics s one other a b x y m w e f g =
+    e ∙ ap (λ v. min v other) (f ∙ sym w.first) ∙ ap (λ v. min (first_metric sums metrics s) v) (g ∙ sym w.second)
 
-less_metric : (sums costs : List ℕ) (s one other a b x y m : ℕ) → AreMetrics sums costs s (a + x) (b + y)
+less_metric : (sums metrics : List ℕ) (s one other a b x y m : ℕ) → AreMetrics sums metrics s (a + x) (b + y)
     → m ≡ cond (ltb other one) 1 0 → one ≡ a + x → other ≡ b + y
-    → m ≡ cond (ltb (second_metric sums costs s) (first_metric sums costs s)) 1 0
-less_metric sums costs s one other a b x y m w e f g =
+    → m ≡ cond (ltb (second_metric sums metrics s) (first_metric sums metrics s)) 1 0
+less_metric sums metrics s one other a b x y m w e f g =
     e ∙ ap (λ v. cond (ltb other v) 1 0) (f ∙ sym w.first)
-    ∙ ap (λ v. cond (ltb v (first_metric sums costs s)) 1 0) (g ∙ sym w.second)
+    ∙ ap (λ v. cond (ltb v (first_metric sums metrics s)) 1 0) (g ∙ sym w.second)
 
 -- a path metric, lane by lane
-lane_metric : (sums costs lanes more : List ℕ) (p k : ℕ → ℕ) → IsHalf lanes (λ i. get_or sums (p i) 0)
-    → IsHalf more (λ i. get_or costs (k i) 0)
-    → (i : ℕ) → i < 16 → get_or lanes i 0 + get_or more i 0 ≡ get_or sums (p i) 0 + get_or costs (k i) 0
-lane_metric sums costs lanes more p k a b i lt = omega (arith, a.each i lt, b.each i lt)
+lane_metric : (sums metrics lanes more : List ℕ) (p k : ℕ → ℕ) → IsHalf lanes (λ i. get_or sums (p i) 0)
+    → IsHalf more (λ i. get_or metrics (k i) 0)
+    → (i : ℕ) → i < 16 → get_or lanes i 0 + get_or more i 0 ≡ get_or sums (p i) 0 + get_or metrics (k i) 0
+lane_metric sums metrics lanes more p k a b i lt = omega (arith, a.each i lt, b.each i lt)
 
 -- what a half's lesser sums and survivor bits are
-pub low_sums : (sums costs even odd near far low : List ℕ) (from : ℕ) → AreHalves sums costs even odd near far from
+pub low_sums : (sums metrics even odd near far low : List ℕ) (from : ℕ) → AreHalves sums metrics even odd near far from
     → from < 17
     → IsHalf low (λ i. min (get_or even i 0 + get_or near i 0) (get_or odd i 0 + get_or far i 0))
-    → (i : ℕ) → i < 16 → get_or low i 0 ≡ min (first_metric sums costs (from + i)) (second_metric sums costs (from + i))
-low_sums sums costs even odd near far low from h small lows i lt =
-    lesser_metric sums costs (from + i) _ _ _ _ _ _ _ (low_metric sums costs (from + i) (omega arith)) (lows.each i lt)
-    (lane_metric sums costs even near (λ i. 2 * (from + i)) (λ i. near_at (from + i)) h.evens h.nears i lt)
-    (lane_metric sums costs odd far (λ i. 2 * (from + i) + 1) (λ i. far_at (from + i)) h.odds h.fars i lt)
+    → (i : ℕ) → i < 16 → get_or low i 0
+    ≡ min (first_metric sums metrics (from + i)) (second_metric sums metrics (from + i))
+low_sums sums metrics even odd near far low from h small lows i lt =
+    lesser_metric sums metrics (from + i) _ _ _ _ _ _ _
+    (low_metric sums metrics (from + i) (omega arith)) (lows.each i lt)
+    (lane_metric sums metrics even near (λ i. 2 * (from + i)) (λ i. near_at (from + i)) h.evens h.nears i lt)
+    (lane_metric sums metrics odd far (λ i. 2 * (from + i) + 1) (λ i. far_at (from + i)) h.odds h.fars i lt)
 
-pub high_sums : (sums costs even odd near far high : List ℕ) (from : ℕ) → AreHalves sums costs even odd near far from
+pub high_sums : (sums metrics even odd near far high : List ℕ) (from : ℕ)
+    → AreHalves sums metrics even odd near far from
     → from < 17
     → IsHalf high (λ i. min (get_or even i 0 + get_or far i 0) (get_or odd i 0 + get_or near i 0))
-    → (i : ℕ) → i < 16 → get_or high i 0 ≡ min (first_metric sums costs (32 + (from + i)))
-    (second_metric sums costs (32 + (from + i)))
-high_sums sums costs even odd near far high from h small highs i lt =
-    lesser_metric sums costs (32 + (from + i)) _ _ _ _ _ _ _ (high_metric sums costs (from + i) (omega arith))
+    → (i : ℕ) → i < 16 → get_or high i 0 ≡ min (first_metric sums metrics (32 + (from + i)))
+    (second_metric sums metrics (32 + (from + i)))
+high_sums sums metrics even odd near far high from h small highs i lt =
+    lesser_metric sums metrics (32 + (from + i)) _ _ _ _ _ _ _ (high_metric sums metrics (from + i) (omega arith))
     (highs.each i lt)
-    (lane_metric sums costs even far (λ i. 2 * (from + i)) (λ i. far_at (from + i)) h.evens h.fars i lt)
-    (lane_metric sums costs odd near (λ i. 2 * (from + i) + 1) (λ i. near_at (from + i)) h.odds h.nears i lt)
+    (lane_metric sums metrics even far (λ i. 2 * (from + i)) (λ i. far_at (from + i)) h.evens h.fars i lt)
+    (lane_metric sums metrics odd near (λ i. 2 * (from + i) + 1) (λ i. near_at (from + i)) h.odds h.nears i lt)
 
-pub low_bits : (sums costs even odd near far : List ℕ) (from bits : ℕ) → AreHalves sums costs even odd near far from
+pub low_bits : (sums metrics even odd near far : List ℕ) (from bits : ℕ) → AreHalves sums metrics even odd near far from
     → from < 17
     → ((i : ℕ) → i < 16 → bits / 2 ^ i % 2 ≡ cond
     (ltb (get_or odd i 0 + get_or far i 0) (get_or even i 0 + get_or near i 0)) 1 0)
     → (i : ℕ) → i < 16 → bits / 2 ^ i % 2 ≡ cond
-    (ltb (second_metric sums costs (from + i)) (first_metric sums costs (from + i))) 1 0
-low_bits sums costs even odd near far from bits h small lows i lt =
-    less_metric sums costs (from + i) _ _ _ _ _ _ _ (low_metric sums costs (from + i) (omega arith)) (lows i lt)
-    (lane_metric sums costs even near (λ i. 2 * (from + i)) (λ i. near_at (from + i)) h.evens h.nears i lt)
-    (lane_metric sums costs odd far (λ i. 2 * (from + i) + 1) (λ i. far_at (from + i)) h.odds h.fars i lt)
+    (ltb (second_metric sums metrics (from + i)) (first_metric sums metrics (from + i))) 1 0
+low_bits sums metrics even odd near far from bits h small lows i lt =
+    less_metric sums metrics (from + i) _ _ _ _ _ _ _ (low_metric sums metrics (from + i) (omega arith)) (lows i lt)
+    (lane_metric sums metrics even near (λ i. 2 * (from + i)) (λ i. near_at (from + i)) h.evens h.nears i lt)
+    (lane_metric sums metrics odd far (λ i. 2 * (from + i) + 1) (λ i. far_at (from + i)) h.odds h.fars i lt)
 
-pub high_bits : (sums costs even odd near far : List ℕ) (from bits : ℕ) → AreHalves sums costs even odd near far from
+pub high_bits : (sums metrics even odd near far : List ℕ) (from bits : ℕ)
+    → AreHalves sums metrics even odd near far from
     → from < 17
     → ((i : ℕ) → i < 16 → bits / 2 ^ i % 2 ≡ cond
     (ltb (get_or odd i 0 + get_or near i 0) (get_or even i 0 + get_or far i 0)) 1 0)
     → (i : ℕ) → i < 16 → bits / 2 ^ i % 2 ≡ cond
-    (ltb (second_metric sums costs (32 + (from + i))) (first_metric sums costs (32 + (from + i)))) 1 0
-high_bits sums costs even odd near far from bits h small highs i lt =
-    less_metric sums costs (32 + (from + i)) _ _ _ _ _ _ _
-        (high_metric sums costs (from + i) (omega arith)) (highs i lt)
-    (lane_metric sums costs even far (λ i. 2 * (from + i)) (λ i. far_at (from + i)) h.evens h.fars i lt)
-    (lane_metric sums costs odd near (λ i. 2 * (from + i) + 1) (λ i. near_at (from + i)) h.odds h.nears i lt)
+    (ltb (second_metric sums metrics (32 + (from + i))) (first_metric sums metrics (32 + (from + i)))) 1 0
+high_bits sums metrics even odd near far from bits h small highs i lt =
+    less_metric sums metrics (32 + (from + i)) _ _ _ _ _ _ _
+    (high_metric sums metrics (from + i) (omega arith)) (highs i lt)
+    (lane_metric sums metrics even far (λ i. 2 * (from + i)) (λ i. far_at (from + i)) h.evens h.fars i lt)
+    (lane_metric sums metrics odd near (λ i. 2 * (from + i) + 1) (λ i. near_at (from + i)) h.odds h.nears i lt)
 
 -- two halves, and two of those
 joined_at : (a b : List ℕ) (f : ℕ → ℕ) → length a ≡ 16 → ((i : ℕ) → i < 16 → get_or a i 0 ≡ f i)

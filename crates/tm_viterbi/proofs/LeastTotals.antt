@@ -58,7 +58,7 @@ pub best_more : (rate : Rate) (invert : Bool) (t n survivor : ℕ) (firsts octet
     → AreBest (total_of rate invert t firsts octets) n column survivors
     → AreBest (total_of rate invert t firsts (octets ++ piece)) (n + 1) next (survivor ∷ survivors)
 best_more rate invert t n survivor firsts octets piece column next survivors size step best =
-    AreBest-more _ _ n survivor column step.costs next survivors (Grows-total_of rate invert t n firsts octets piece step.costs size step.are_costs) step.are_sums step.are_survivors best
+    AreBest-more _ _ n survivor column step.metrics next survivors (Grows-total_of rate invert t n firsts octets piece step.metrics size step.are_branch_metrics) step.are_sums step.are_survivors best
 
 -- octets as many as the next step's symbols
 abbrev pub goal_size : Summing → List ℕ → Type 0

@@ -3,7 +3,7 @@ mod Survivors
 mod Walk
 mod Totals
 mod Final
-mod StepCosts
+mod BranchMetrics
 mod Vectors
 mod Places
 mod Butterfly

@@ -9,16 +9,17 @@ use Rattle.tm_conv.specs.Path.{c1, c2, step_symbols, steps_size, path, register_
 use Rattle.tm_conv.specs.Cost.{cost}
 use Rattle.tm_conv.specs.Best.{IsLexLe, register_bits}
 use Rattle.tm_viterbi.specs.Walk.{register_back, rank}
-use Rattle.tm_viterbi.specs.Totals.{total_of, AreCosts}
+use Rattle.tm_viterbi.specs.Totals.{total_of, AreBranchMetrics}
 use Rattle.tm_viterbi.proofs.Walk.{Grows, edge_cost}
 use Rattle.tm_conv.proofs.Paths.{path-push, cost-append, length-path}
 use Rattle.tm_conv.proofs.Words.{value, IsLexLe-from_value, register_bits_small}
 use Rattle.tm_viterbi.proofs.Back.{reverse_cons, register_after-reverse}
 
-pub Grows-total_of : (rate : Rate) (invert : Bool) (t n : ℕ) (firsts octets piece costs : List ℕ)
-    → length octets ≡ steps_size rate t n → AreCosts rate invert (t + n) piece costs
-    → Grows (total_of rate invert t firsts octets) (total_of rate invert t firsts (octets ++ piece)) n (edge_cost costs)
-Grows-total_of rate invert t n firsts octets piece costs long are = record {
+pub Grows-total_of : (rate : Rate) (invert : Bool) (t n : ℕ) (firsts octets piece metrics : List ℕ)
+    → length octets ≡ steps_size rate t n → AreBranchMetrics rate invert (t + n) piece metrics
+    → Grows (total_of rate invert t firsts octets)
+    (total_of rate invert t firsts (octets ++ piece)) n (edge_cost metrics)
+Grows-total_of rate invert t n firsts octets piece metrics long are = record {
   is = λ q past b l.
       let bits = reverse past in
       let lr : length bits ≡ n = length-reverse past ∙ l in
@@ -30,7 +31,7 @@ Grows-total_of rate invert t n firsts octets piece costs long are = record {
       = ap (λ v. cost (path rate invert t q v) (octets ++ piece)) (reverse_cons b past)
       ∙ ap (λ v. cost v (octets ++ piece)) p
       ∙ cost-append here octets step piece (length-path rate invert t q bits ∙ ap (steps_size rate t) lr ∙ sym long) in
-      let edge : edge_cost costs (register_back q past) b ≡ cost step piece
+      let edge : edge_cost metrics (register_back q past) b ≡ cost step piece
       = are (c1 (register_back q past) b) (c2 (register_back q past) b) (omega arith) (omega arith)
       ∙ ap (λ v. cost (step_symbols rate invert (t + n) v b) piece) (sym (register_after-reverse q past)) in
       omega (arith, whole, edge);

@@ -166,19 +166,19 @@ second_best total more n s edge lt grows x y r q past other a b less =
       best = rival total more n s edge lt grows (y + edge p1 d) q other b.is_path.long compare;
     }
 
--- what an edge costs, by the four costs of a step
+-- what an edge costs, by the four branch metrics of a step
 abbrev pub edge_cost : List ℕ → ℕ → ℕ → ℕ
-edge_cost costs p b = get_or costs (2 * c1 p b + c2 p b) 0
+edge_cost metrics p b = get_or metrics (2 * c1 p b + c2 p b) 0
 
-pub AreBest-more : (total more : ℕ → List ℕ → ℕ) (n survivor : ℕ) (sums costs next survivors : List ℕ)
-    → Grows total more n (edge_cost costs)
-    → IsNextSums sums costs next → AreSurvivors sums costs survivor
+pub AreBest-more : (total more : ℕ → List ℕ → ℕ) (n survivor : ℕ) (sums metrics next survivors : List ℕ)
+    → Grows total more n (edge_cost metrics)
+    → IsNextSums sums metrics next → AreSurvivors sums metrics survivor
     → AreBest total n sums survivors → AreBest more (n + 1) next (survivor ∷ survivors)
-AreBest-more total more n survivor sums costs next survivors grows is_next survive best s lt =
+AreBest-more total more n survivor sums metrics next survivors grows is_next survive best s lt =
     let p0 = 2 * (s % 32) in
     let p1 = 2 * (s % 32) + 1 in
-    let first : ℕ = first_metric sums costs s in
-    let second : ℕ = second_metric sums costs s in
+    let first : ℕ = first_metric sums metrics s in
+    let second : ℕ = second_metric sums metrics s in
     let a : IsBestTo total n p0 (get_or sums p0 0) (start_of survivors p0) (past_of survivors p0) = best p0 (omega arith) in
     let b : IsBestTo total n p1 (get_or sums p1 0) (start_of survivors p1) (past_of survivors p1) = best p1 (omega arith) in
     let P : ℕ → ℕ → Type 0 = λ v w. IsBestTo more (n + 1) s v (start_of survivors w) ((s / 32) ∷ past_of survivors w) in
@@ -189,10 +189,10 @@ AreBest-more total more n survivor sums costs next survivors grows is_next survi
     elim (cases_lt second first) as (λ _. P (get_or next s 0) (before survivor s)) [
       | inl h ↦ (let one : survivor / 2 ^ s % 2 ≡ 1 = chosen ∙ choice_second first second first second refl refl h in
           goes second p1 (omega (arith, least, h)) (omega (arith, one))
-          (second_best total more n s (edge_cost costs) lt grows _ _ _ _ _ _ a b h))
+          (second_best total more n s (edge_cost metrics) lt grows _ _ _ _ _ _ a b h))
       | inr h ↦ (let none : survivor / 2 ^ s % 2 ≡ 0 = chosen ∙ choice_first first second first second refl refl h in
           goes first p0 (omega (arith, least, h)) (omega (arith, none))
-          (first_best total more n s (edge_cost costs) lt grows _ _ _ _ _ _ a b h))
+          (first_best total more n s (edge_cost metrics) lt grows _ _ _ _ _ _ a b h))
     ]
 
 -- before any step each path is a register alone

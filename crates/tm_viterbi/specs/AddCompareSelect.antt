@@ -4,26 +4,26 @@ use Rattle.tm_conv.specs.Path.{c1, c2}
 
 -- the path metric of a path that comes to register p and goes on by bit b
 abbrev pub sum_via : List ℕ → List ℕ → ℕ → ℕ → ℕ
-sum_via sums costs p b = slice_index sums p + slice_index costs (2 * c1 p b + c2 p b)
+sum_via sums metrics p b = slice_index sums p + slice_index metrics (2 * c1 p b + c2 p b)
 
 -- the path metrics by the two branches into register s
 abbrev pub first_metric : List ℕ → List ℕ → ℕ → ℕ
-first_metric sums costs s = sum_via sums costs (2 * (s % 32)) (s / 32)
+first_metric sums metrics s = sum_via sums metrics (2 * (s % 32)) (s / 32)
 
 abbrev pub second_metric : List ℕ → List ℕ → ℕ → ℕ
-second_metric sums costs s = sum_via sums costs (2 * (s % 32) + 1) (s / 32)
+second_metric sums metrics s = sum_via sums metrics (2 * (s % 32) + 1) (s / 32)
 
 -- the lesser of the two at each register
 abbrev pub IsNextSums : List ℕ → List ℕ → List ℕ → Type 0
-IsNextSums sums costs next = (s : ℕ) → s < 64
-    → slice_index next s ≡ min (first_metric sums costs s) (second_metric sums costs s)
+IsNextSums sums metrics next = (s : ℕ) → s < 64
+    → slice_index next s ≡ min (first_metric sums metrics s) (second_metric sums metrics s)
 
 -- bit s is 1 exactly where the second is strictly less
 abbrev pub AreSurvivors : List ℕ → List ℕ → ℕ → Type 0
-AreSurvivors sums costs bits =
+AreSurvivors sums metrics bits =
     (s : ℕ) → s < 64
-    → bits / 2 ^ s % 2 ≡ (if nat_lt (second_metric sums costs s) (first_metric sums costs s) then 1
-    else 0)
+    → bits / 2 ^ s % 2
+    ≡ (if nat_lt (second_metric sums metrics s) (first_metric sums metrics s) then 1 else 0)
 
 -- 32 lanes, and what each is
 pub record IsEach (lanes : List ℕ) (value : ℕ → ℕ) : Type 0 where

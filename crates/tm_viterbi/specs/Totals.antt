@@ -13,9 +13,9 @@ total_of rate invert t firsts octets q past =
     slice_index firsts q + cost (path rate invert t q (reverse past)) octets
 
 -- the branch metrics of step t, by its four pairs of c1 and c2, before inversion
-abbrev pub AreCosts : Rate → Bool → ℕ → List ℕ → List ℕ → Type 0
-AreCosts rate invert t octets costs = (c d : ℕ) → c < 2 → d < 2
-    → slice_index costs (2 * c + d) ≡ cost (sent rate invert t c d) octets
+abbrev pub AreBranchMetrics : Rate → Bool → ℕ → List ℕ → List ℕ → Type 0
+AreBranchMetrics rate invert t octets metrics = (c d : ℕ) → c < 2 → d < 2
+    → slice_index metrics (2 * c + d) ≡ cost (sent rate invert t c d) octets
 
 -- the path metrics before any step
 abbrev pub AreFirsts : (ℕ → Bool) → List ℕ → Type 0
@@ -31,10 +31,10 @@ pub record IsFirstLeast (sums : List ℕ) (s : ℕ) : Type 0 where
 -- one step from path metrics to the next ones, which leaves these survivors
 pub record StepsTo (rate : Rate) (invert : Bool) (t : ℕ) (octets sums next : List ℕ)
     (survivor : ℕ) : Type 0 where
-  pub costs : List ℕ
-  pub are_costs : AreCosts rate invert t octets costs
-  pub are_sums : IsNextSums sums costs next
-  pub are_survivors : AreSurvivors sums costs survivor
+  pub metrics : List ℕ
+  pub are_branch_metrics : AreBranchMetrics rate invert t octets metrics
+  pub are_sums : IsNextSums sums metrics next
+  pub are_survivors : AreSurvivors sums metrics survivor
 
 abbrev pub AreAtMost : ℕ → List ℕ → Type 0
 AreAtMost most sums = (s : ℕ) → s < 64 → slice_index sums s ≤ most

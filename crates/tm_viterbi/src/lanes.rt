@@ -26,17 +26,17 @@ fn halves(sums: &[u32; 64]) -> (Simd<u32, 32>, Simd<u32, 32>)
 }
 
 // The branch metrics by bit 0 from registers 2 * i.
-fn near_costs(costs: &[u32; 4]) -> Simd<u32, 32>
-    ensures { IsEach result (λ i. slice_index costs.now (2 * c1 (2 * i) 0 + c2 (2 * i) 0)) }
+fn near_metrics(metrics: &[u32; 4]) -> Simd<u32, 32>
+    ensures { IsEach result (λ i. slice_index metrics.now (2 * c1 (2 * i) 0 + c2 (2 * i) 0)) }
 {
-    u32x4::from_array(*costs).swizzle(NEAR)
+    u32x4::from_array(*metrics).swizzle(NEAR)
 }
 
 // The branch metrics by bit 0 from registers 2 * i + 1.
-fn far_costs(costs: &[u32; 4]) -> Simd<u32, 32>
-    ensures { IsEach result (λ i. slice_index costs.now (2 * c1 (2 * i + 1) 0 + c2 (2 * i + 1) 0)) }
+fn far_metrics(metrics: &[u32; 4]) -> Simd<u32, 32>
+    ensures { IsEach result (λ i. slice_index metrics.now (2 * c1 (2 * i + 1) 0 + c2 (2 * i + 1) 0)) }
 {
-    u32x4::from_array(*costs).swizzle(FAR)
+    u32x4::from_array(*metrics).swizzle(FAR)
 }
 
 // The lesser of two path metrics, and where the second is strictly less.
@@ -72,14 +72,14 @@ fn store_halves(low: Simd<u32, 32>, high: Simd<u32, 32>, next: &mut [u32; 64])
 }
 
 /// The same as `plain_column`, by lanes of 32 registers.
-pub fn lane_column(sums: &[u32; 64], costs: &[u32; 4], next: &mut [u32; 64]) -> u64
-    requires { (s k : ℕ) → s < 64 → k < 4 → slice_index sums.now s + slice_index costs.now k < 2 ^ 32 }
-    ensures sums { IsNextSums sums.now costs.now next.new }
-    ensures survivors { AreSurvivors sums.now costs.now result }
+pub fn lane_column(sums: &[u32; 64], metrics: &[u32; 4], next: &mut [u32; 64]) -> u64
+    requires { (s k : ℕ) → s < 64 → k < 4 → slice_index sums.now s + slice_index metrics.now k < 2 ^ 32 }
+    ensures sums { IsNextSums sums.now metrics.now next.new }
+    ensures survivors { AreSurvivors sums.now metrics.now result }
 {
     let (even, odd) = halves(sums);
-    let near = near_costs(costs);
-    let far = far_costs(costs);
+    let near = near_metrics(metrics);
+    let far = far_metrics(metrics);
     let (low, low_bits) = lesser(even, near, odd, far);
     let (high, high_bits) = lesser(even, far, odd, near);
     store_halves(low, high, next);

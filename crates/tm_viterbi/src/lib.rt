@@ -4,8 +4,8 @@
 #![tactic(auto)]
 
 mod block;
+mod branch_metrics;
 mod clean_laws;
-mod costs;
 mod decoder;
 mod filling;
 mod flow;

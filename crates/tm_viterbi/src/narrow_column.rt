@@ -33,19 +33,19 @@ const WHOLE: [usize; 32] = [
 ];
 
 // The branch metrics by bit 0 from registers 2 * i and from registers 2 * i + 1, i below 16.
-fn first_half_costs(costs: Simd<u16, 4>) -> (Simd<u16, 16>, Simd<u16, 16>)
-    ensures near { IsHalf result.0 (λ i. slice_index costs (2 * c1 (2 * i) 0 + c2 (2 * i) 0)) }
-    ensures far { IsHalf result.1 (λ i. slice_index costs (2 * c1 (2 * i + 1) 0 + c2 (2 * i + 1) 0)) }
+fn first_half_metrics(metrics: Simd<u16, 4>) -> (Simd<u16, 16>, Simd<u16, 16>)
+    ensures near { IsHalf result.0 (λ i. slice_index metrics (2 * c1 (2 * i) 0 + c2 (2 * i) 0)) }
+    ensures far { IsHalf result.1 (λ i. slice_index metrics (2 * c1 (2 * i + 1) 0 + c2 (2 * i + 1) 0)) }
 {
-    (costs.swizzle(NEAR_FIRST), costs.swizzle(FAR_FIRST))
+    (metrics.swizzle(NEAR_FIRST), metrics.swizzle(FAR_FIRST))
 }
 
 // The same from the registers after those.
-fn second_half_costs(costs: Simd<u16, 4>) -> (Simd<u16, 16>, Simd<u16, 16>)
-    ensures near { IsHalf result.0 (λ i. slice_index costs (2 * c1 (2 * (16 + i)) 0 + c2 (2 * (16 + i)) 0)) }
-    ensures far { IsHalf result.1 (λ i. slice_index costs (2 * c1 (2 * (16 + i) + 1) 0 + c2 (2 * (16 + i) + 1) 0)) }
+fn second_half_metrics(metrics: Simd<u16, 4>) -> (Simd<u16, 16>, Simd<u16, 16>)
+    ensures near { IsHalf result.0 (λ i. slice_index metrics (2 * c1 (2 * (16 + i)) 0 + c2 (2 * (16 + i)) 0)) }
+    ensures far { IsHalf result.1 (λ i. slice_index metrics (2 * c1 (2 * (16 + i) + 1) 0 + c2 (2 * (16 + i) + 1) 0)) }
 {
-    (costs.swizzle(NEAR_SECOND), costs.swizzle(FAR_SECOND))
+    (metrics.swizzle(NEAR_SECOND), metrics.swizzle(FAR_SECOND))
 }
 
 // `SORTED`, to which a 0 is added that the compiler can't know. So it looks lanes up there, by one instruction for
@@ -71,21 +71,21 @@ fn evens_and_odds(half: Simd<u16, 32>, places: Simd<u16, 32>) -> (Simd<u16, 16>,
 // where the first is kept. Complemented they are survivors.
 fn lesser(
     first: Simd<u16, 16>,
-    first_costs: Simd<u16, 16>,
+    first_metrics: Simd<u16, 16>,
     second: Simd<u16, 16>,
-    second_costs: Simd<u16, 16>,
+    second_metrics: Simd<u16, 16>,
 ) -> (Simd<u16, 16>, u64)
-    requires first_fits { (i : ℕ) → i < 16 → slice_index first i + slice_index first_costs i < 2 ^ 16 }
-    requires second_fits { (i : ℕ) → i < 16 → slice_index second i + slice_index second_costs i < 2 ^ 16 }
-    ensures sums { IsHalf result.0 (λ i. min (slice_index first i + slice_index first_costs i)
-        (slice_index second i + slice_index second_costs i)) }
+    requires first_fits { (i : ℕ) → i < 16 → slice_index first i + slice_index first_metrics i < 2 ^ 16 }
+    requires second_fits { (i : ℕ) → i < 16 → slice_index second i + slice_index second_metrics i < 2 ^ 16 }
+    ensures sums { IsHalf result.0 (λ i. min (slice_index first i + slice_index first_metrics i)
+        (slice_index second i + slice_index second_metrics i)) }
     ensures bits { (i : ℕ) → i < 16 → (65535 - result.1) / 2 ^ i % 2
-        ≡ (if nat_lt (slice_index second i + slice_index second_costs i)
-        (slice_index first i + slice_index first_costs i) then 1 else 0) }
+        ≡ (if nat_lt (slice_index second i + slice_index second_metrics i)
+        (slice_index first i + slice_index first_metrics i) then 1 else 0) }
     ensures small { result.1 < 65536 }
 {
-    let one = first.strict_add(first_costs);
-    let other = second.strict_add(second_costs);
+    let one = first.strict_add(first_metrics);
+    let other = second.strict_add(second_metrics);
     let least = one.simd_min(other);
     (least, least.simd_eq(one).to_bitmask())
 }
@@ -103,21 +103,21 @@ fn joined(first: Simd<u16, 16>, second: Simd<u16, 16>) -> Simd<u16, 32>
 pub(crate) fn narrow_column(
     low: Simd<u16, 32>,
     high: Simd<u16, 32>,
-    costs: Simd<u16, 4>,
+    metrics: Simd<u16, 4>,
     places: Simd<u16, 32>,
 ) -> (Simd<u16, 32>, Simd<u16, 32>, u64)
-    requires fits { (s k : ℕ) → s < 64 → k < 4 → slice_index (low ++ high) s + slice_index costs k < 2 ^ 16 }
+    requires fits { (s k : ℕ) → s < 64 → k < 4 → slice_index (low ++ high) s + slice_index metrics k < 2 ^ 16 }
     requires places { AreSortedPlaces places }
-    ensures sums { IsNextSums (low ++ high) costs (result.0 ++ result.1) }
-    ensures survivors { AreSurvivors (low ++ high) costs result.2 }
+    ensures sums { IsNextSums (low ++ high) metrics (result.0 ++ result.1) }
+    ensures survivors { AreSurvivors (low ++ high) metrics result.2 }
     ensures long { (length result.0 ≡ 32) × (length result.1 ≡ 32) }
 {
     let (even_first, odd_first) = evens_and_odds(low, places);
     let (even_second, odd_second) = evens_and_odds(high, places);
-    let (near_first, far_first) = first_half_costs(costs);
+    let (near_first, far_first) = first_half_metrics(metrics);
     let (low_first, low_first_bits) = lesser(even_first, near_first, odd_first, far_first);
     let (high_first, high_first_bits) = lesser(even_first, far_first, odd_first, near_first);
-    let (near_second, far_second) = second_half_costs(costs);
+    let (near_second, far_second) = second_half_metrics(metrics);
     let (low_second, low_second_bits) = lesser(even_second, near_second, odd_second, far_second);
     let (high_second, high_second_bits) = lesser(even_second, far_second, odd_second, near_second);
     let next_low = joined(low_first, low_second);

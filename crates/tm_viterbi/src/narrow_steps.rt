@@ -7,7 +7,7 @@ ghost use Rattle.tm_viterbi.specs.Totals.{StepsTo, AreAtMost, most_spread, most_
 ghost use Rattle.tm_viterbi.specs.Carries.{Carries, lifted};
 ghost use Rattle.tm_viterbi.specs.Masks.{two_step_masks};
 
-use crate::costs::{step_costs, two_step_costs, two_step_masks};
+use crate::branch_metrics::{step_metrics, two_step_masks, two_step_metrics};
 use crate::narrow_column::{narrow_column, sorted_places};
 use std::simd::prelude::*;
 use tm_conv::{Rate, step_len};
@@ -30,7 +30,7 @@ fn narrow_step(
     ensures bounded { (m : ℕ) → AreAtMost m (low ++ high) → AreAtMost (m + most_branch_metric) (result.0 ++ result.1) }
     ensures long { (length result.0 ≡ 32) × (length result.1 ≡ 32) }
 {
-    narrow_column(low, high, step_costs(rate, invert, t, octets), places)
+    narrow_column(low, high, step_metrics(rate, invert, t, octets), places)
 }
 
 // As many steps as there are survivors: the path metrics after them, by halves, and how many octets they took.
@@ -97,12 +97,12 @@ fn two_steps(
         → AreAtMost (m + 2 * most_branch_metric) (result.0 ++ result.1) }
     ensures long { (length result.0 ≡ 32) × (length result.1 ≡ 32) }
 {
-    let (first_costs, second_costs) = two_step_costs(masks, octets);
-    let (low_between, high_between, first) = narrow_column(low, high, first_costs, places);
+    let (first_metrics, second_metrics) = two_step_metrics(masks, octets);
+    let (low_between, high_between, first) = narrow_column(low, high, first_metrics, places);
     let (next_low, next_high, second) = narrow_column(
         low_between,
         high_between,
-        second_costs,
+        second_metrics,
         places,
     );
     (next_low, next_high, first, second)

@@ -5,7 +5,7 @@ ghost use Rattle.tm_conv.specs.Cost.{most_branch_metric};
 ghost use Rattle.tm_viterbi.specs.Totals.{StepsTo, AreAtMost, most_spread, most_narrow, narrow_bound};
 ghost use Rattle.tm_viterbi.specs.Carries.{Carries};
 
-use crate::costs::{step_costs, wide_costs};
+use crate::branch_metrics::{step_metrics, wide_metrics};
 use crate::lanes::lane_column;
 use crate::narrow_steps::narrow_at;
 use crate::narrow_sums::{are_close, halves_of, least_sum, less_least, with_least};
@@ -29,9 +29,9 @@ pub(crate) fn step(
     ensures steps { StepsTo rate invert t octets.now sums.old sums.new result }
     ensures bounded { AreAtMost (most + most_branch_metric) sums.new }
 {
-    let costs = wide_costs(step_costs(rate, invert, t, octets));
+    let metrics = wide_metrics(step_metrics(rate, invert, t, octets));
     let mut next = [0u32; 64];
-    let survivor = lane_column(sums, &costs, &mut next);
+    let survivor = lane_column(sums, &metrics, &mut next);
     *sums = next;
     survivor
 }

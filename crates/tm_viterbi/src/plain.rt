@@ -16,26 +16,26 @@ fn branch_index(r: usize, b: usize) -> usize
 }
 
 // The path metric of the path to a register through register p before it, by bit b: that of p, and the branch metric.
-fn path_metric(sums: &[u32; 64], costs: &[u32; 4], p: usize, b: usize) -> u32
-    requires fit { (s k : ℕ) → s < 64 → k < 4 → slice_index sums.now s + slice_index costs.now k < 2 ^ 32 }
+fn path_metric(sums: &[u32; 64], metrics: &[u32; 4], p: usize, b: usize) -> u32
+    requires fit { (s k : ℕ) → s < 64 → k < 4 → slice_index sums.now s + slice_index metrics.now k < 2 ^ 32 }
     requires register { p < 64 }
     requires bit { b < 2 }
-    ensures { result ≡ sum_via sums.now costs.now p b }
+    ensures { result ≡ sum_via sums.now metrics.now p b }
 {
-    sums[p] + costs[branch_index(p, b)]
+    sums[p] + metrics[branch_index(p, b)]
 }
 
 /// The path metrics after `sums`, by the four branch metrics of a step, at index 2 * first + second.
 /// Answers the survivors: bit s says whether register s is reached at less cost from the odd one of its two registers.
-pub fn plain_column(sums: &[u32; 64], costs: &[u32; 4], next: &mut [u32; 64]) -> u64
-    requires { (s k : ℕ) → s < 64 → k < 4 → slice_index sums.now s + slice_index costs.now k < 2 ^ 32 }
-    ensures sums { IsNextSums sums.now costs.now next.new }
-    ensures survivors { AreSurvivors sums.now costs.now result }
+pub fn plain_column(sums: &[u32; 64], metrics: &[u32; 4], next: &mut [u32; 64]) -> u64
+    requires { (s k : ℕ) → s < 64 → k < 4 → slice_index sums.now s + slice_index metrics.now k < 2 ^ 32 }
+    ensures sums { IsNextSums sums.now metrics.now next.new }
+    ensures survivors { AreSurvivors sums.now metrics.now result }
 {
     let mut survivors = 0u64;
     for s in 0..64usize {
-        let first = path_metric(sums, costs, 2 * (s % 32), s / 32);
-        let second = path_metric(sums, costs, 2 * (s % 32) + 1, s / 32);
+        let first = path_metric(sums, metrics, 2 * (s % 32), s / 32);
+        let second = path_metric(sums, metrics, 2 * (s % 32) + 1, s / 32);
         next[s] = first.min(second);
         if second < first {
             survivors |= 1 << s;

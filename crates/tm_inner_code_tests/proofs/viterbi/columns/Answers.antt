@@ -3,15 +3,18 @@ use Rattle.std.proofs.lemmas.List.Elements.{All-get_or}
 use Rattle.tm_inner_code_tests.proofs.viterbi.columns.Goals as goal
 
 -- two numbers below 2^31 add up to less than 2^32
-fit : (sums costs : List ℕ) → length sums ≡ 64 → length costs ≡ 4 → All (λ n. n < 2 ^ 31) sums → All (λ n. n < 2 ^ 31) costs
-    → (s k : ℕ) → s < 64 → k < 4 → get_or sums s 0 + get_or costs k 0 < 2 ^ 32
-fit sums costs long short small few s k sl kl =
+fit : (sums metrics : List ℕ) → length sums ≡ 64 → length metrics ≡ 4
+    → All (λ n. n < 2 ^ 31) sums → All (λ n. n < 2 ^ 31) metrics
+    → (s k : ℕ) → s < 64 → k < 4 → get_or sums s 0 + get_or metrics k 0 < 2 ^ 32
+fit sums metrics long short small few s k sl kl =
     let sum : get_or sums s 0 < 2 ^ 31 = All-get_or (λ n. n < 2 ^ 31) sums s 0 (omega arith) small in
-    let cost : get_or costs k 0 < 2 ^ 31 = All-get_or (λ n. n < 2 ^ 31) costs k 0 (omega arith) few in
+    let metric : get_or metrics k 0 < 2 ^ 31 = All-get_or (λ n. n < 2 ^ 31) metrics k 0 (omega arith) few in
     omega arith
 
 pub plain_column-plain_survivors-requires : goal.plain_column-plain_survivors-requires
-plain_column-plain_survivors-requires c = fit c.args.sums.now c.args.costs.now (omega arith) (omega arith) c.requires.sums c.requires.costs
+plain_column-plain_survivors-requires c =
+    fit c.args.sums.now c.args.metrics.now (omega arith) (omega arith) c.requires.sums c.requires.metrics
 
 pub lane_column-lane_survivors-requires : goal.lane_column-lane_survivors-requires
-lane_column-lane_survivors-requires c = fit c.args.sums.now c.args.costs.now (omega arith) (omega arith) c.requires.sums c.requires.costs
+lane_column-lane_survivors-requires c =
+    fit c.args.sums.now c.args.metrics.now (omega arith) (omega arith) c.requires.sums c.requires.metrics

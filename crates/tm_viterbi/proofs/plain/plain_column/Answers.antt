@@ -7,10 +7,10 @@ use Rattle.tm_viterbi.proofs.plain.plain_column.Goals.{then-second-first, else-s
 pub loop-s-preserved : goal.loop-s-preserved
 loop-s-preserved c =
     let sums = c.args.sums.now in
-    let costs = c.args.costs.now in
+    let metrics = c.args.metrics.now in
     let s = c.loop-s.s in
-    let F = λ (k : ℕ). if nat_lt (second_metric sums costs k) (first_metric sums costs k) then 1 else 0 in
-    let G = λ (k : ℕ). min (first_metric sums costs k) (second_metric sums costs k) in
+    let F = λ (k : ℕ). if nat_lt (second_metric sums metrics k) (first_metric sums metrics k) then 1 else 0 in
+    let G = λ (k : ℕ). min (first_metric sums metrics k) (second_metric sums metrics k) in
     let P = λ (v : ℕ). HoldsBelow F v (s + 1) in
     record {
       sums = sum_more G c.loop-s.next s c.min.result (omega arith) (cc) c.loop-s.invariant.sums;

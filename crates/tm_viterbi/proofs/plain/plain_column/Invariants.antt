@@ -6,6 +6,6 @@ use Rattle.tm_viterbi.proofs.plain.plain_column.Given as goal
 abbrev pub invariant-loop-s : goal.invariant-loop-s
 invariant-loop-s l = record {
   sums : (k : ℕ) → k < l.s → slice_index l.next k
-      ≡ min (first_metric l.sums l.costs k) (second_metric l.sums l.costs k);
-  bits : HoldsBelow (λ k. if nat_lt (second_metric l.sums l.costs k) (first_metric l.sums l.costs k) then 1 else 0) l.survivors l.s;
+      ≡ min (first_metric l.sums l.metrics k) (second_metric l.sums l.metrics k);
+  bits : HoldsBelow (λ k. if nat_lt (second_metric l.sums l.metrics k) (first_metric l.sums l.metrics k) then 1 else 0) l.survivors l.s;
 }

@@ -2,10 +2,10 @@ use Rattle.std.proofs.Common.{◌≡◌, ◌+◌, ◌<◌, ◌^◌, ℕ, List, [
 use Rattle.std.specs.Prelude.{bit_xor}
 use lib.Lanes.{zip2}
 use Rattle.tm_conv.specs.declared.rates.Rate.TheVariants.{R12}
-use Rattle.tm_viterbi.specs.Totals.{AreCosts}
+use Rattle.tm_viterbi.specs.Totals.{AreBranchMetrics}
 use Rattle.tm_viterbi.specs.Masks.{two_step_masks}
-use Rattle.tm_viterbi.proofs.StepCosts.{xored_costs}
-use Rattle.tm_viterbi.proofs.costs.two_step_costs.Goals as goal
+use Rattle.tm_viterbi.proofs.BranchMetrics.{xored_metrics}
+use Rattle.tm_viterbi.proofs.branch_metrics.two_step_metrics.Goals as goal
 
 abbrev picked : List ℕ → List ℕ → List ℕ
 picked xs places = map (λ k. get_or (xs ++ xs) k 0) places
@@ -34,24 +34,27 @@ four P (a ∷ b ∷ c ∷ d ∷ []) l fits h = h a b c d (fits 0).fits (fits 1).
 four P (a ∷ b ∷ c ∷ d ∷ e ∷ es) l fits h =
     absurd (let e : suc (suc (suc (suc (suc (length es))))) ≡ 4 = l in omega arith)
 
-first_costs : (invert : Bool) (masks octets : List ℕ) (t : ℕ) → masks ≡ two_step_masks invert → length octets ≡ 4
+first_metrics : (invert : Bool) (masks octets : List ℕ) (t : ℕ) → masks ≡ two_step_masks invert → length octets ≡ 4
     → ((k : ℕ) → Fits w8 (get_or octets k 0))
-    → AreCosts R12 invert t (take 2 octets) (firsts octets masks)
-first_costs invert masks octets t e l fits =
-    four (λ v. AreCosts R12 invert t (take 2 v) (firsts v masks)) octets l fits
-    (λ a b c d al bl cl dl. subst (λ (v : List ℕ). AreCosts R12 invert t (a ∷ b ∷ []) (firsts (a ∷ b ∷ c ∷ d ∷ []) v))
-    (sym e) (xored_costs invert t a b al bl))
+    → AreBranchMetrics R12 invert t (take 2 octets) (firsts octets masks)
+first_metrics invert masks octets t e l fits =
+    four (λ v. AreBranchMetrics R12 invert t (take 2 v) (firsts v masks)) octets l fits
+    (λ a b c d al bl cl dl. subst
+    (λ (v : List ℕ). AreBranchMetrics R12 invert t (a ∷ b ∷ []) (firsts (a ∷ b ∷ c ∷ d ∷ []) v))
+    (sym e) (xored_metrics invert t a b al bl))
 
-second_costs : (invert : Bool) (masks octets : List ℕ) (t : ℕ) → masks ≡ two_step_masks invert → length octets ≡ 4
+second_metrics : (invert : Bool) (masks octets : List ℕ) (t : ℕ) → masks ≡ two_step_masks invert → length octets ≡ 4
     → ((k : ℕ) → Fits w8 (get_or octets k 0))
-    → AreCosts R12 invert t (drop 2 octets) (seconds octets masks)
-second_costs invert masks octets t e l fits =
-    four (λ v. AreCosts R12 invert t (drop 2 v) (seconds v masks)) octets l fits
-    (λ a b c d al bl cl dl. subst (λ (v : List ℕ). AreCosts R12 invert t (c ∷ d ∷ []) (seconds (a ∷ b ∷ c ∷ d ∷ []) v))
-    (sym e) (xored_costs invert t c d cl dl))
+    → AreBranchMetrics R12 invert t (drop 2 octets) (seconds octets masks)
+second_metrics invert masks octets t e l fits =
+    four (λ v. AreBranchMetrics R12 invert t (drop 2 v) (seconds v masks)) octets l fits
+    (λ a b c d al bl cl dl. subst
+    (λ (v : List ℕ). AreBranchMetrics R12 invert t (c ∷ d ∷ []) (seconds (a ∷ b ∷ c ∷ d ∷ []) v))
+    (sym e) (xored_metrics invert t c d cl dl))
 
 pub returns-clause-first : goal.returns-clause-first
-returns-clause-first c invert t e = first_costs invert c.args.masks c.args.octets.now t e c.requires c.type_inv.octets
+returns-clause-first c invert t e = first_metrics invert c.args.masks c.args.octets.now t e c.requires c.type_inv.octets
 
 pub returns-clause-second : goal.returns-clause-second
-returns-clause-second c invert t e = second_costs invert c.args.masks c.args.octets.now t e c.requires c.type_inv.octets
+returns-clause-second c invert t e =
+    second_metrics invert c.args.masks c.args.octets.now t e c.requires c.type_inv.octets

@@ -2,14 +2,14 @@
 ghost use Rattle.std.specs.Prelude.{◌≡◌, ◌++◌, min, IsTrue, Bool, ℕ, ◌+◌, ◌-◌, ◌*◌, ◌/◌, ◌%◌, ◌^◌, ◌<◌, ◌≤◌, List, take, drop, reverse, length, slice_index, nat_lt, if◌then◌else◌};
 ghost use Rattle.tm_conv.specs.Path.{keeps_c1, keeps_c2, sent_c2, step_size};
 ghost use Rattle.tm_conv.specs.Cost.{distance, most_branch_metric};
-ghost use Rattle.tm_viterbi.specs.Totals.{AreCosts};
+ghost use Rattle.tm_viterbi.specs.Totals.{AreBranchMetrics};
 ghost use Rattle.tm_viterbi.specs.Masks.{two_step_masks};
 
 use std::simd::prelude::*;
 use tm_conv::{Rate, kept};
 
 // What the first octet is from a 0 and from a 1, or nothing where c1 is not sent.
-fn c1_costs(is_sent: bool, octets: &[u8]) -> (u16, u16)
+fn c1_metrics(is_sent: bool, octets: &[u8]) -> (u16, u16)
     requires { IsTrue is_sent → 0 < length octets.now }
     ensures zero { result.0 ≡ (if is_sent then distance 0 (slice_index octets.now 0) else 0) }
     ensures one { result.1 ≡ (if is_sent then distance 1 (slice_index octets.now 0) else 0) }
@@ -23,7 +23,7 @@ fn c1_costs(is_sent: bool, octets: &[u8]) -> (u16, u16)
 }
 
 // The same of the last octet and c2 as it is sent.
-fn c2_costs(is_sent: bool, invert: bool, octets: &[u8]) -> (u16, u16)
+fn c2_metrics(is_sent: bool, invert: bool, octets: &[u8]) -> (u16, u16)
     requires { IsTrue is_sent → 0 < length octets.now }
     ensures zero { result.0 ≡ (if is_sent then distance (sent_c2 invert 0)
         (slice_index octets.now (length octets.now - 1)) else 0) }
@@ -43,24 +43,24 @@ fn c2_costs(is_sent: bool, invert: bool, octets: &[u8]) -> (u16, u16)
 
 // The branch metrics of step t, at index 2 * c1 + c2. They are summed by lanes, so that the lanes of all branches are
 // shuffled from them and not set one at a time.
-pub(crate) fn step_costs(rate: Rate, invert: bool, t: u64, octets: &[u8]) -> Simd<u16, 4>
+pub(crate) fn step_metrics(rate: Rate, invert: bool, t: u64, octets: &[u8]) -> Simd<u16, 4>
     requires { length octets.now ≡ step_size rate t }
-    ensures costs { AreCosts rate invert t octets.now result }
+    ensures metrics { AreBranchMetrics rate invert t octets.now result }
     ensures small { (k : ℕ) → k < 4 → slice_index result k ≤ most_branch_metric }
 {
     let (sends_first, sends_second) = kept(rate, t);
-    let first = c1_costs(sends_first, octets);
-    let second = c2_costs(sends_second, invert, octets);
+    let first = c1_metrics(sends_first, octets);
+    let second = c2_metrics(sends_second, invert, octets);
     let firsts = u16x4::from_array([first.0, first.0, first.1, first.1]);
     let seconds = u16x4::from_array([second.0, second.1, second.0, second.1]);
     firsts.strict_add(seconds)
 }
 
 // The same in thirty-two bits.
-pub(crate) fn wide_costs(costs: Simd<u16, 4>) -> [u32; 4]
-    ensures { result ≡ costs }
+pub(crate) fn wide_metrics(metrics: Simd<u16, 4>) -> [u32; 4]
+    ensures { result ≡ metrics }
 {
-    let each = costs.to_array();
+    let each = metrics.to_array();
     [
         u32::from(each[0]),
         u32::from(each[1]),
@@ -69,7 +69,7 @@ pub(crate) fn wide_costs(costs: Simd<u16, 4>) -> [u32; 4]
     ]
 }
 
-// What the lanes of `two_step_costs` are xored with. An octet is its own distance from a 0, and complemented its
+// What the lanes of `two_step_metrics` are xored with. An octet is its own distance from a 0, and complemented its
 // distance from a 1; c2 may be sent inverted.
 pub(crate) fn two_step_masks(invert: bool) -> Simd<u8, 16>
     ensures { result ≡ two_step_masks invert }
@@ -89,18 +89,18 @@ pub(crate) fn two_step_masks(invert: bool) -> Simd<u8, 16>
 const FOUR_TIMES: [usize; 16] = [0, 0, 0, 0, 2, 2, 2, 2, 1, 1, 1, 1, 3, 3, 3, 3];
 
 // The branch metrics of two steps at rate 1/2, where each sends both sums.
-pub(crate) fn two_step_costs(masks: Simd<u8, 16>, octets: &[u8]) -> (Simd<u16, 4>, Simd<u16, 4>)
+pub(crate) fn two_step_metrics(masks: Simd<u8, 16>, octets: &[u8]) -> (Simd<u16, 4>, Simd<u16, 4>)
     requires { length octets.now ≡ 4 }
     ensures first { (invert : Bool) (t : ℕ) → masks ≡ two_step_masks invert
-        → AreCosts Rate.R12 invert t (take 2 octets.now) result.0 }
+        → AreBranchMetrics Rate.R12 invert t (take 2 octets.now) result.0 }
     ensures second { (invert : Bool) (t : ℕ) → masks ≡ two_step_masks invert
-        → AreCosts Rate.R12 invert t (drop 2 octets.now) result.1 }
+        → AreBranchMetrics Rate.R12 invert t (drop 2 octets.now) result.1 }
     ensures first_small { (k : ℕ) → k < 4 → slice_index result.0 k ≤ most_branch_metric }
     ensures second_small { (k : ℕ) → k < 4 → slice_index result.1 k ≤ most_branch_metric }
 {
     let each = u8x4::from_slice(octets).swizzle(FOUR_TIMES) ^ masks;
     let firsts = each.extract::<0, 8>().cast::<u16>();
     let seconds = each.extract::<8, 8>().cast::<u16>();
-    let costs = firsts.strict_add(seconds);
-    (costs.extract::<0, 4>(), costs.extract::<4, 4>())
+    let metrics = firsts.strict_add(seconds);
+    (metrics.extract::<0, 4>(), metrics.extract::<4, 4>())
 }

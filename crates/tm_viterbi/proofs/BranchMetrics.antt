@@ -1,11 +1,11 @@
--- The four costs of a step.
+-- The four branch metrics of a step.
 use Rattle.std.proofs.Common.{◌%◌, ◌∙◌, sym, ap, eqb, ◌≡◌, ℕ, ◌+◌, ◌-◌, ◌*◌, ◌<◌, cond, arith, length, List, [], ◌∷◌, ◌++◌, zero, suc, refl, Bool, true, false, get_or}
 use Rattle.std.specs.Prelude.{bit_xor}
 use Rattle.std.proofs.lemmas.Bool.{eqb-true, agree_below, agree_below_at}
 use Rattle.tm_conv.specs.declared.rates.Rate.TheVariants.{R12}
 use Rattle.tm_conv.specs.Path.{keeps_c1, keeps_c2, c1_pattern, c2_pattern, sent, sent_c2}
 use Rattle.tm_conv.specs.Cost.{distance, cost}
-use Rattle.tm_viterbi.specs.Totals.{AreCosts}
+use Rattle.tm_viterbi.specs.Totals.{AreBranchMetrics}
 
 pub cost_of_pair : (k l : Bool) (c d : ℕ) (octets : List ℕ) → length octets ≡ cond k 1 0 + cond l 1 0
     → cost (cond k (c ∷ []) [] ++ cond l (d ∷ []) []) octets ≡ cond k (distance c (get_or octets 0 0)) 0 + cond l
@@ -69,12 +69,12 @@ half_cost invert t c d x y =
     ∙ ap (λ k. cost ((c ∷ []) ++ cond k (sent_c2 invert d ∷ []) []) (x ∷ y ∷ [])) (half_keeps t).1
     ∙ omega arith
 
-pub xored_costs : (invert : Bool) (t x y : ℕ) → x < 256 → y < 256
-    → AreCosts R12 invert t (x ∷ y ∷ [])
+pub xored_metrics : (invert : Bool) (t x y : ℕ) → x < 256 → y < 256
+    → AreBranchMetrics R12 invert t (x ∷ y ∷ [])
     ((bit_xor x 0 + bit_xor y (cond invert 255 0)) ∷ (bit_xor x 0 + bit_xor y
     (cond invert 0 255)) ∷ (bit_xor x 255 + bit_xor y (cond invert 255 0)) ∷ (bit_xor x 255 + bit_xor y
     (cond invert 0 255)) ∷ [])
-xored_costs invert t x y xl yl c d cl dl =
+xored_metrics invert t x y xl yl c d cl dl =
     at_pair (λ c. distance c x) (λ d. distance (sent_c2 invert d) y) _ _ _ _ (xor_none x xl) (xor_all x xl)
     (near_second invert y yl) (far_second invert y yl) c d cl dl
     ∙ sym (half_cost invert t c d x y)
