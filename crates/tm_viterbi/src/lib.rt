@@ -11,7 +11,7 @@ mod filling;
 mod flow;
 mod lanes;
 mod laws;
-mod narrow_column;
+mod narrow_metrics;
 mod narrow_steps;
 mod narrow_sums;
 mod passes;

@@ -8,7 +8,7 @@ ghost use Rattle.tm_viterbi.specs.Carries.{Carries, lifted};
 ghost use Rattle.tm_viterbi.specs.Masks.{two_step_masks};
 
 use crate::branch_metrics::{step_metrics, two_step_masks, two_step_metrics};
-use crate::narrow_column::{narrow_column, sorted_places};
+use crate::narrow_metrics::{narrow_metrics, sorted_places};
 use std::simd::prelude::*;
 use tm_conv::{Rate, step_len};
 
@@ -30,7 +30,7 @@ fn narrow_step(
     ensures bounded { (m : ℕ) → AreAtMost m (low ++ high) → AreAtMost (m + most_branch_metric) (result.0 ++ result.1) }
     ensures long { (length result.0 ≡ 32) × (length result.1 ≡ 32) }
 {
-    narrow_column(low, high, step_metrics(rate, invert, t, octets), places)
+    narrow_metrics(low, high, step_metrics(rate, invert, t, octets), places)
 }
 
 // As many steps as there are survivors: the path metrics after them, by halves, and how many octets they took.
@@ -98,8 +98,8 @@ fn two_steps(
     ensures long { (length result.0 ≡ 32) × (length result.1 ≡ 32) }
 {
     let (first_metrics, second_metrics) = two_step_metrics(masks, octets);
-    let (low_between, high_between, first) = narrow_column(low, high, first_metrics, places);
-    let (next_low, next_high, second) = narrow_column(
+    let (low_between, high_between, first) = narrow_metrics(low, high, first_metrics, places);
+    let (next_low, next_high, second) = narrow_metrics(
         low_between,
         high_between,
         second_metrics,

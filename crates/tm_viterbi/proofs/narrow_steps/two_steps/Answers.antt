@@ -9,57 +9,57 @@ fits : (sums metrics : List ℕ) → AreAtMost (2 ^ 16 - 511) sums → ((k : ℕ
     → (s k : ℕ) → s < 64 → k < 4 → get_or sums s 0 + get_or metrics k 0 < 2 ^ 16
 fits sums metrics room small s k sl kl = omega (arith, room s sl, small k kl)
 
-pub narrow_column-first-requires-clause-fits : goal.narrow_column-first-requires-clause-fits
-narrow_column-first-requires-clause-fits c =
+pub narrow_metrics-first-requires-clause-fits : goal.narrow_metrics-first-requires-clause-fits
+narrow_metrics-first-requires-clause-fits c =
     fits (c.args.low ++ c.args.high) c.two_step_metrics.result.0 (λ s lt. omega (arith, c.requires.room s lt))
     c.two_step_metrics.ensures.first_small
 
-pub narrow_column-second-requires-clause-fits : goal.narrow_column-second-requires-clause-fits
-narrow_column-second-requires-clause-fits c =
-    let between = c.narrow_column-first.result.0 ++ c.narrow_column-first.result.1 in
+pub narrow_metrics-second-requires-clause-fits : goal.narrow_metrics-second-requires-clause-fits
+narrow_metrics-second-requires-clause-fits c =
+    let between = c.narrow_metrics-first.result.0 ++ c.narrow_metrics-first.result.1 in
     let room = at_most_next (c.args.low ++ c.args.high) c.two_step_metrics.result.0 between (2 ^ 16 - 1021)
-    c.narrow_column-first.ensures.sums c.requires.room c.two_step_metrics.ensures.first_small in
+    c.narrow_metrics-first.ensures.sums c.requires.room c.two_step_metrics.ensures.first_small in
     fits between c.two_step_metrics.result.1 (λ s lt. omega (arith, room s lt)) c.two_step_metrics.ensures.second_small
 
 pub returns-clause-carries : goal.returns-clause-carries
 returns-clause-carries c invert t base e =
     let before = c.args.low ++ c.args.high in
-    let between = c.narrow_column-first.result.0 ++ c.narrow_column-first.result.1 in
-    let next = c.narrow_column-second.result.0 ++ c.narrow_column-second.result.1 in
+    let between = c.narrow_metrics-first.result.0 ++ c.narrow_metrics-first.result.1 in
+    let next = c.narrow_metrics-second.result.0 ++ c.narrow_metrics-second.result.1 in
     let lb : length before ≡ 64 = omega (arith, length-append c.args.low c.args.high, c.fits-low.0, c.fits-high.0) in
     let lm : length between ≡ 64 = omega (
       arith,
-      length-append c.narrow_column-first.result.0 c.narrow_column-first.result.1,
-      c.narrow_column-first.ensures.long,
+      length-append c.narrow_metrics-first.result.0 c.narrow_metrics-first.result.1,
+      c.narrow_metrics-first.ensures.long,
     ) in
     let ln : length next ≡ 64 = omega (
       arith,
-      length-append c.narrow_column-second.result.0 c.narrow_column-second.result.1,
-      c.narrow_column-second.ensures.long,
+      length-append c.narrow_metrics-second.result.0 c.narrow_metrics-second.result.1,
+      c.narrow_metrics-second.ensures.long,
     ) in
     Carries-two invert t _ _ c.args.octets.now (lifted base before) (lifted base between)
     (lifted base next) c.requires.size
     (StepsTo-lifted R12 invert t base _ _ before between lb lm (record {
       metrics = c.two_step_metrics.result.0;
       are_branch_metrics = c.two_step_metrics.ensures.first invert t e;
-      are_sums = c.narrow_column-first.ensures.sums;
-      are_survivors = c.narrow_column-first.ensures.survivors;
+      are_sums = c.narrow_metrics-first.ensures.sums;
+      are_survivors = c.narrow_metrics-first.ensures.survivors;
     }))
     (StepsTo-lifted R12 invert (t + 1) base _ _ between next lm ln (record {
       metrics = c.two_step_metrics.result.1;
       are_branch_metrics = c.two_step_metrics.ensures.second invert (t + 1) e;
-      are_sums = c.narrow_column-second.ensures.sums;
-      are_survivors = c.narrow_column-second.ensures.survivors;
+      are_sums = c.narrow_metrics-second.ensures.sums;
+      are_survivors = c.narrow_metrics-second.ensures.survivors;
     }))
 
 pub returns-clause-bounded : goal.returns-clause-bounded
 returns-clause-bounded c m h s lt =
-    let between = c.narrow_column-first.result.0 ++ c.narrow_column-first.result.1 in
-    let next = c.narrow_column-second.result.0 ++ c.narrow_column-second.result.1 in
+    let between = c.narrow_metrics-first.result.0 ++ c.narrow_metrics-first.result.1 in
+    let next = c.narrow_metrics-second.result.0 ++ c.narrow_metrics-second.result.1 in
     let first = at_most_next (c.args.low ++ c.args.high) c.two_step_metrics.result.0 between m
-    c.narrow_column-first.ensures.sums h c.two_step_metrics.ensures.first_small in
+    c.narrow_metrics-first.ensures.sums h c.two_step_metrics.ensures.first_small in
     omega (
       arith,
-      at_most_next between c.two_step_metrics.result.1 next (m + 510) c.narrow_column-second.ensures.sums first
+      at_most_next between c.two_step_metrics.result.1 next (m + 510) c.narrow_metrics-second.ensures.sums first
           c.two_step_metrics.ensures.second_small s lt,
     )

@@ -1,6 +1,6 @@
 use Rattle.std.proofs.Common.{◌++◌, arith, length-append}
 use Rattle.std.proofs.lemmas.Simd.{pick_l_whole}
-use Rattle.tm_viterbi.proofs.narrow_column.joined.Goals as goal
+use Rattle.tm_viterbi.proofs.narrow_metrics.joined.Goals as goal
 
 pub returns : goal.returns
 returns c = pick_l_whole 0 (c.args.first ++ c.args.second) 32

@@ -1,5 +1,5 @@
 use Rattle.tm_viterbi.proofs.Halves.{sorted_fits, even_parts, odd_parts}
-use Rattle.tm_viterbi.proofs.narrow_column.evens_and_odds.Goals as goal
+use Rattle.tm_viterbi.proofs.narrow_metrics.evens_and_odds.Goals as goal
 
 pub swizzle-sorted : goal.swizzle-sorted
 swizzle-sorted c = sorted_fits c.args.half c.args.places c.requires

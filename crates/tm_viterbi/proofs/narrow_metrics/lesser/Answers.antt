@@ -2,7 +2,7 @@ use Rattle.std.proofs.Common.{◌≡◌, ℕ, ◌+◌, ◌<◌, ◌∙◌, min, 
 use lib.Lanes.{zip2}
 use Rattle.std.proofs.lemmas.Simd.{length-zip2, get_or-zip2}
 use Rattle.tm_viterbi.proofs.NarrowLanes.{Each2-from_get_or, least_sums, lesser_bits, lesser_small}
-use Rattle.tm_viterbi.proofs.narrow_column.lesser.Goals as goal
+use Rattle.tm_viterbi.proofs.narrow_metrics.lesser.Goals as goal
 
 add : List ℕ → List ℕ → List ℕ
 add xs ys = zip2 (λ a b. a + b) xs ys

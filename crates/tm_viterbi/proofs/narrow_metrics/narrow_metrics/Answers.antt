@@ -1,7 +1,7 @@
 use Rattle.std.proofs.Common.{◌≡◌, ◌+◌, ◌-◌, ◌*◌, ◌/◌, ◌%◌, ◌^◌, ◌++◌, ◌∙◌, ℕ, min, ap, cond, ltb, get_or, arith}
 use Rattle.tm_viterbi.specs.AddCompareSelect.{first_metric, second_metric}
 use Rattle.tm_viterbi.proofs.Halves.{first_halves, second_halves, fit, low_sums, high_sums, low_bits, high_bits, four_sums, four_bits}
-use Rattle.tm_viterbi.proofs.narrow_column.narrow_column.Goals as goal
+use Rattle.tm_viterbi.proofs.narrow_metrics.narrow_metrics.Goals as goal
 
 pub lesser-low_first_bits-requires-clause-first_fits : goal.lesser-low_first_bits-requires-clause-first_fits
 lesser-low_first_bits-requires-clause-first_fits c =
