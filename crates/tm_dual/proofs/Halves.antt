@@ -1,4 +1,4 @@
--- Sixteen octets at once, each turned by its two halves.
+-- Sixteen octets at once, each converted by its two halves.
 use Rattle.std.proofs.Common.{◌≡◌, ◌<◌, ◌+◌, ◌*◌, ◌/◌, ◌%◌, ◌^◌, ◌∙◌, ℕ, List, [], ◌∷◌, get_or, length, refl, sym, ap, eqb, true, arith, w8}
 use Rattle.std.specs.Prelude.{bit_and, bit_xor, map}
 use Rattle.std.proofs.lemmas.List.{ext_get_or, get_or-map, length-map}

@@ -1,4 +1,4 @@
--- In either basis, octets and elements are turned into one another and back.
+-- In either basis, octets and elements are converted into one another and back.
 use Rattle.std.proofs.Common.{◌≡◌, ◌<◌, ℕ, refl}
 use Rattle.tm_dual.specs.Octet.{sent_octet, element_of}
 use Rattle.tm_dual.specs.declared.basis.Basis.{Basis}

@@ -1,4 +1,4 @@
--- Words turned sixteen at a time.
+-- Words converted sixteen at a time.
 use Rattle.std.proofs.Common.{◌≡◌, ◌≤◌, ◌+◌, ◌∙◌, ◌++◌, ℕ, List, suc, zero, [], ◌∷◌, take, drop, map, refl, sym, ap, take_all, length}
 use Rattle.std.proofs.Math.Seq.{take-add}
 use Rattle.std.proofs.lemmas.List.{map-append, take-take, take-map}

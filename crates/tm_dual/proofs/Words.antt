@@ -1,4 +1,4 @@
--- Words turned one element at a time.
+-- Words converted one element at a time.
 use Rattle.std.proofs.Common.{◌≡◌, ◌<◌, ◌≤◌, ◌+◌, ℕ, List, [], ◌∷◌, ◌++◌, length, get_or, map, take, set, refl, ap, sym, ◌∙◌, take_all}
 use Rattle.std.proofs.lemmas.List.{take_more, take_more_set, map-append}
 use Rattle.tm_gf256.specs.Poly.{numbers, entry}

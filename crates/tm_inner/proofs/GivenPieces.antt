@@ -105,19 +105,19 @@ pub taker_alone : {T : Type 0} (e : FeedError) → (IsErrOf {T = T} (Err e) Stop
 taker_alone Taker h = refl
 taker_alone Stopped h = absurd (h refl)
 
--- ---- octets that are turned one after another
+-- ---- octets that are converted one after another
 
-turned-next : (f : ℕ → ℕ) (k : ℕ) (xs : List ℕ) → k < length xs
+converted-next : (f : ℕ → ℕ) (k : ℕ) (xs : List ℕ) → k < length xs
     → slice_set (map f (take k xs) ++ drop k xs) k (f (slice_index_or (map f (take k xs) ++ drop k xs) k 0)) ≡ map f (take (suc k) xs) ++ drop (suc k) xs
-turned-next f k [] less = absurd (omega arith)
-turned-next f zero (x ∷ xs) less = refl
-turned-next f (suc k) (x ∷ xs) less = ap (λ l. f x ∷ l) (turned-next f k xs (omega arith))
+converted-next f k [] less = absurd (omega arith)
+converted-next f zero (x ∷ xs) less = refl
+converted-next f (suc k) (x ∷ xs) less = ap (λ l. f x ∷ l) (converted-next f k xs (omega arith))
 
-pub turned-more : (f : ℕ → ℕ) (k : ℕ) (xs ys : List ℕ) → k < length xs → ys ≡ map f (take k xs) ++ drop k xs
+pub converted-more : (f : ℕ → ℕ) (k : ℕ) (xs ys : List ℕ) → k < length xs → ys ≡ map f (take k xs) ++ drop k xs
     → slice_set ys k (f (slice_index_or ys k 0)) ≡ map f (take (k + 1) xs) ++ drop (k + 1) xs
-turned-more f k xs ys less is =
+converted-more f k xs ys less is =
     let next : suc k ≡ k + 1 = omega arith in
-    ap (λ l. slice_set l k (f (slice_index_or l k 0))) is ∙ turned-next f k xs less ∙ ap (λ n. map f (take n xs) ++ drop n xs) next
+    ap (λ l. slice_set l k (f (slice_index_or l k 0))) is ∙ converted-next f k xs less ∙ ap (λ n. map f (take n xs) ++ drop n xs) next
 
 -- ---- pieces of one list
 
@@ -176,11 +176,11 @@ phase_octets-more c given octets skipped is =
     ap (map (soft_value c)) (drop-split n given octets) ∙ map-append (soft_value c) (drop n given) (drop (n - length given) octets)
     ∙ ap (λ l. phase_octets c given ++ map (soft_value c) l) (sym (drop-least (n - length given) octets) ∙ ap (λ k. drop k octets) (sym is))
 
--- the next octets, turned
-pub soft-turned : (r : InnerReceiving) (signed : Bool) (skipped : ℕ) (given octets now : List ℕ) → signed ≡ is_signed r.config.soft → length given ≡ r.count
+-- the next octets, converted
+pub soft-converted : (r : InnerReceiving) (signed : Bool) (skipped : ℕ) (given octets now : List ℕ) → signed ≡ is_signed r.config.soft → length given ≡ r.count
     → skipped ≡ min (skipped_at r.config.inner r.config - r.count) (length now) → now ≡ from_form signed octets
     → phase_octets r.config (given ++ octets) ≡ phase_octets r.config given ++ drop skipped now
-soft-turned r signed skipped given octets now same count skip is =
+soft-converted r signed skipped given octets now same count skip is =
     let c = r.config in
     let form : now ≡ soft_form c octets = is ∙ ap (λ (b : Bool). from_form b octets) same in
     let size : length now ≡ length octets = ap length form ∙ length-map octets (soft_value c) in

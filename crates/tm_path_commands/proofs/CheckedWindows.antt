@@ -110,11 +110,11 @@ module _ (rules : Rules) (r : Reading) (p : Progress) (start taken taken_now was
   line-same = ap (λ n. window_text n (window_of r).steps (window_of r).kept (window_of r).metric) h.count
 
   -- it is taken to the others
-  pub passes-turned : (after : Reading) (now : Progress) → length given < 2 ^ 43 → after.rules ≡ r.rules
+  pub passes-now : (after : Reading) (now : Progress) → length given < 2 ^ 43 → after.rules ≡ r.rules
       → ((windows : List Window) → r.before.t + kept_in r.octets ≤ 2 ^ 43 → ReaderStandsFor r given windows → ReaderStandsFor after given (windows ++ window_of r ∷ []))
       → now.count ≡ min (p.count + 1) (2 ^ 64 - 1) → now.bits ≡ min (p.bits + kept_in r.octets) (2 ^ 64 - 1)
       → WroteWindow r p.count taken taken_now noted noted_now → Passes rules after now start taken_now was noted_now given
-  passes-turned after now short same stands count bits wrote = record {
+  passes-now after now short same stands count bits wrote = record {
     same = same ∙ h.same;
     windows = h.windows ++ window_of r ∷ [];
     stands = stands h.windows (omega (arith, at-place, few.0, keeps)) h.stands;

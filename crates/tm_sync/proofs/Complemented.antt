@@ -1,4 +1,4 @@
--- The places of bits that were all turned over.
+-- The places of bits that were all complemented.
 use Rattle.std.proofs.Common.{◌≡◌, ℕ, zero, suc, ◌+◌, ◌<◌, ◌≤◌, Bool, true, false, cond, ◌&&◌, nat_le, nat_lt, List, [], ◌∷◌, length, take, drop, map, refl, sym, ap, ◌∙◌, arith, Option, Some, None, ◌⊎◌, inl, inr, length-drop}
 use Rattle.std.specs.Option.{option_map}
 use Rattle.std.proofs.lemmas.Bool.{cases_lt}
@@ -116,15 +116,15 @@ are_verified-complemented rules inverted (suc count) bits either few =
         let left = length-drop (32 + rules.block_bits) bits in
         let polarity = match-complemented rules (drop (32 + rules.block_bits) bits) either few (omega arith) in
         are_verified-more rules (flip inverted) count (complement bits) (omega (arith, length-complement bits))
-        ∙ (λ i. matches_in (match_of rules (next i)) (flip inverted) && are_verified rules
-            (flip inverted) count (next i))
+        ∙ (λ i. matches_in (match_of rules (next i)) (flip inverted)
+        && are_verified rules (flip inverted) count (next i))
         ∙ (λ i. matches_in (polarity i) (flip inverted) && more i)
         ∙ ap (λ c. c && are_verified rules inverted count (drop (32 + rules.block_bits) bits)) (matches_in-complemented (match_of rules (drop (32 + rules.block_bits) bits)) inverted)
         ∙ sym (are_verified-more rules inverted count bits room)
 
 place_polarity-complemented : (rules : Rules) (before : Option Before) (bits : List Bool) → rules.either ≡ true → rules.tolerance ≤ 15 → 32 ≤ length bits
     → place_polarity rules (option_map turn before) (complement bits)
-        ≡ option_map flip (place_polarity rules before bits)
+    ≡ option_map flip (place_polarity rules before bits)
 place_polarity-complemented rules (Some before) bits either few long = match-complemented rules bits either few long
 place_polarity-complemented rules None bits either few long = ap (verified rules (complement bits)) (match-complemented rules bits either few long) ∙ go (match_of rules bits)
   where
