@@ -73,7 +73,7 @@ impl Held {
     }
 
     /// Drops the first octets, as many as there are.
-    pub fn drop_front(&mut self, count: usize)
+    pub fn drop_first(&mut self, count: usize)
         ensures octets { self.new.octets ≡ drop count self.old.octets }
         ensures room { self.new.room ≡ self.old.room }
     {

@@ -99,7 +99,7 @@ impl Certifying {
     pub fn skip(&mut self, count: u8)
         ensures { self.new ≡ with_octets self.old (drop count self.old.place.octets) }
     {
-        self.octets.drop_front(usize::from(count));
+        self.octets.drop_first(usize::from(count));
     }
 
     // Whether the octets of the block's window are there.
@@ -137,7 +137,7 @@ impl Certifying {
             block,
         )?;
         let kept = span(self.rate, self.t, u64::from(block.kept));
-        self.octets.drop_front(kept);
+        self.octets.drop_first(kept);
         self.start = Some(block.end_state);
         self.t += u64::from(block.kept);
         Ok(())

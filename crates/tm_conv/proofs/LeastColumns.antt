@@ -77,13 +77,13 @@ IsLeastTo-first starts rate invert t register small = record {
       omega (arith, costs);
 }
 
--- what is no more than any way by a step to a register is no more than any path to it
+-- what is at most each total by an edge into a register is at most that of each path to it
 least_more : (starts : ℕ → Bool) (rate : Rate) (invert : Bool) (t steps last low : ℕ) (octets here : List ℕ)
     → length octets ≡ steps_size rate t steps → length here ≡ step_size rate (t + steps)
     → ((from bit other : ℕ) (others : List ℕ) → from < 64 → bit < 2 → next_register from bit ≡ last → EndsIn rate invert t octets from other others
     → low ≤ total starts rate invert t octets other others + cost (step_symbols rate invert (t + steps) from bit) here)
     → (other : ℕ) (others : List ℕ) → EndsIn rate invert t (octets ++ here) last other others → low ≤ total starts rate invert t (octets ++ here) other others
-least_more starts rate invert t steps last low octets here size step ways other others is =
+least_more starts rate invert t steps last low octets here size step edges other others is =
     let count : length others ≡ steps + 1
     = EndsIn-steps rate invert t (steps + 1) last other (octets ++ here) others (length-more rate t steps octets here size step) is in
     let prefixes = take steps others in
@@ -101,12 +101,12 @@ least_more starts rate invert t steps last low octets here size step ways other 
       ends = refl;
     } in
     let sum = ap (total starts rate invert t (octets ++ here) other) whole ∙ total-push starts rate invert t steps bit other octets here prefixes size long in
-    omega (arith, sum, ways from bit other prefixes (register_after-small other prefixes is.register each) is_bit goes before)
+    omega (arith, sum, edges from bit other prefixes (register_after-small other prefixes is.register each) is_bit goes before)
 
 -- a register is reached from two, 2 * (register % 32) and the one after it, by the bit register / 32
-two_ways : (from bit last : ℕ) → from < 64 → bit < 2 → next_register from bit ≡ last
+two_edges : (from bit last : ℕ) → from < 64 → bit < 2 → next_register from bit ≡ last
     → ((from ≡ 2 * (last % 32)) ⊎ (from ≡ 2 * (last % 32) + 1)) × (bit ≡ last / 32)
-two_ways from bit last small is_bit goes =
+two_edges from bit last small is_bit goes =
     (elim (cases_lt (from % 2) 1) [ inl even ↦ inl (omega arith) | inr odd ↦ inr (omega arith) ], omega arith)
 
 abbrev LeastTo : (ℕ → Bool) → Rate → Bool → ℕ → List ℕ → ℕ → Type 0
@@ -121,7 +121,7 @@ least_to-more starts rate invert t steps octets here size step before last small
     let added : ℕ → ℕ = λ from. cost (step_symbols rate invert (t + steps) from bit) here in
     let a = before low (omega arith) in
     let b = before (low + 1) (omega arith) in
-    -- the lesser way
+    -- by the lesser of the two edges
     let by : (from entry : ℕ) → next_register from bit ≡ last → IsLeastTo starts rate invert t octets from entry
     → entry + added from ≤ a.0 + added low → entry + added from ≤ b.0 + added (low + 1) → LeastTo starts rate invert t (octets ++ here) last
     = λ from entry goes is at_low at_high. (
@@ -133,9 +133,10 @@ least_to-more starts rate invert t steps octets here size step before last small
             (EndsIn-push rate invert t steps from bit is.initial octets here is.bits size step (omega arith) is.path);
         reached = total-push starts rate invert t steps bit is.initial octets here is.bits size (EndsIn-steps rate invert t steps from is.initial octets is.bits size is.path)
             ∙ omega (arith, is.reached, ap added is.path.ends);
-        least = least_more starts rate invert t steps last (entry + added from) octets here size step (λ way bit' other others way_small is_bit way_goes ends.
-            (let two = two_ways way bit' last way_small is_bit way_goes in
-            let same : cost (step_symbols rate invert (t + steps) way bit') here ≡ added way = ap (λ c. cost (step_symbols rate invert (t + steps) way c) here) two.1 in
+        least = least_more starts rate invert t steps last (entry + added from) octets here size step
+            (λ from' bit' other others from_small is_bit from_goes ends.
+            (let two = two_edges from' bit' last from_small is_bit from_goes in
+            let same : cost (step_symbols rate invert (t + steps) from' bit') here ≡ added from' = ap (λ c. cost (step_symbols rate invert (t + steps) from' c) here) two.1 in
             elim two.0 [
               | inl is_low ↦ omega (arith, same, ap added is_low, at_low, a.1.least other others (subst (λ (r : ℕ). EndsIn rate invert t octets r other others) is_low ends))
               | inr is_high ↦ omega (arith, same, ap added is_high, at_high, b.1.least other others (subst (λ (r : ℕ). EndsIn rate invert t octets r other others) is_high ends))
@@ -193,15 +194,15 @@ pub IsColumn-edge : (starts : ℕ → Bool) (rate : Rate) (invert : Bool) (t ste
     → length octets ≡ steps_size rate t steps → length here ≡ step_size rate (t + steps) → from < 64 → bit < 2
     → slice_index after (next_register from bit) ≤ slice_index before from + cost (step_symbols rate invert (t + steps) from bit) here
 IsColumn-edge starts rate invert t steps from bit octets here before after b a size step small is_bit =
-    let way = b.each from small in
+    let least_path = b.each from small in
     let there = a.each (next_register from bit) (omega arith) in
-    let more = total-push starts rate invert t steps bit way.initial octets here way.bits size (EndsIn-steps rate invert t steps from way.initial octets way.bits size way.path) in
+    let more = total-push starts rate invert t steps bit least_path.initial octets here least_path.bits size (EndsIn-steps rate invert t steps from least_path.initial octets least_path.bits size least_path.path) in
     omega (
       arith,
       more,
-      way.reached,
-      ap (λ r. cost (step_symbols rate invert (t + steps) r bit) here) way.path.ends,
-      there.least way.initial (way.bits ++ bit ∷ []) (EndsIn-push rate invert t steps from bit way.initial octets here way.bits size step is_bit way.path),
+      least_path.reached,
+      ap (λ r. cost (step_symbols rate invert (t + steps) r bit) here) least_path.path.ends,
+      there.least least_path.initial (least_path.bits ++ bit ∷ []) (EndsIn-push rate invert t steps from bit least_path.initial octets here least_path.bits size step is_bit least_path.path),
     )
 
 pub IsColumn-least : (starts : ℕ → Bool) (rate : Rate) (invert : Bool) (t initial register : ℕ) (octets column bits : List ℕ)
@@ -209,14 +210,14 @@ pub IsColumn-least : (starts : ℕ → Bool) (rate : Rate) (invert : Bool) (t in
     → cost (path rate invert t initial bits) octets ≤ 2 ^ 30 → register < 64
     → cost (path rate invert t initial bits) octets ≤ slice_index column register
 IsColumn-least starts rate invert t initial register octets column bits is best low small =
-    let way = is.each register small in
-    elim (cases_Bool (starts way.initial)) [
+    let least_path = is.each register small in
+    elim (cases_Bool (starts least_path.initial)) [
       | inl starts_there ↦ omega (
         arith,
-        way.reached,
-        best.least way.initial way.bits (record { start = starts_there; register = way.path.register; each = way.path.each; covers = way.path.covers }),
+        least_path.reached,
+        best.least least_path.initial least_path.bits (record { start = starts_there; register = least_path.path.register; each = least_path.path.each; covers = least_path.path.covers }),
       )
-      | inr starts_not ↦ (let first : first_cost starts way.initial ≡ 2 ^ 30 = ap (λ b. cond b 0 (2 ^ 30)) starts_not in omega (arith, way.reached, first, low))
+      | inr starts_not ↦ (let first : first_cost starts least_path.initial ≡ 2 ^ 30 = ap (λ b. cond b 0 (2 ^ 30)) starts_not in omega (arith, least_path.reached, first, low))
     ]
 
 distance_le : (b : Bool) (octet : ℕ) → octet < 256 → cond b octet (255 - octet) ≤ 255
@@ -240,5 +241,5 @@ pub IsColumn-most : (starts : ℕ → Bool) (rate : Rate) (invert : Bool) (t reg
     → All (λ octet. octet < 256) octets → IsColumn starts rate invert t octets column → register < 64
     → slice_index column register ≤ 2 ^ 30 + 255 * length octets
 IsColumn-most starts rate invert t register octets column each is small =
-    let way = is.each register small in
-    omega (arith, way.reached, first_cost_le starts way.initial, cost_le (path rate invert t way.initial way.bits) octets each)
+    let least_path = is.each register small in
+    omega (arith, least_path.reached, first_cost_le starts least_path.initial, cost_le (path rate invert t least_path.initial least_path.bits) octets each)

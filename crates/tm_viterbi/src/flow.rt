@@ -83,7 +83,7 @@ impl Flow {
         let octets = self.tail.as_slice();
         self.window.take_steps(ahead, octets);
         let size = steps_len(self.window.rate, self.window.t, ahead.min(self.window.keep));
-        self.tail.drop_front(size);
+        self.tail.drop_first(size);
     }
 
     /// Closes a full window: answers its block, whose bits are written, and begins the next one. A window may be closed

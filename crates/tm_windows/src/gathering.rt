@@ -243,7 +243,7 @@ impl Gathering {
         }
         let count = slip(self.shape.rate, self.shape.invert, self.t, steps, octets);
         self.starts = starts_after(self.starts, count);
-        self.held.drop_front(usize::from(count));
+        self.held.drop_first(usize::from(count));
         self.dropped = Some(count);
         true
     }
@@ -292,7 +292,7 @@ impl Gathering {
         {
             Ok(next) => {
                 self.held
-                    .drop_front(steps_len(self.shape.rate, self.t, steps));
+                    .drop_first(steps_len(self.shape.rate, self.t, steps));
                 self.starts = next;
                 self.t += steps as u64;
                 self.dropped = undecided(self.seen);
@@ -360,7 +360,7 @@ impl Gathering {
             Ok(next) => {
                 let steps = self.shape.keep;
                 self.held
-                    .drop_front(steps_len(self.shape.rate, self.t, steps));
+                    .drop_first(steps_len(self.shape.rate, self.t, steps));
                 self.starts = Some(next);
                 self.t += steps as u64;
                 self.dropped = None;

@@ -27,7 +27,7 @@ returns-in-Ok g c =
     let ok = c.in-Ok.ensures.ok in
     let octets = c.as_slice-octets in
     let size = c.steps_len.result in
-    let left = c.drop_front.new.self.octets in
+    let left = c.drop_first.new.self.octets in
     let kept : ok.0.kept ≡ s.shape.keep = ok.3 ∙ ap (λ (v : WindowShape). v.keep) s.workers_shape in
     let some = steps_size-least s.shape.rate s.t s.shape.keep in
     let inside : size ≤ length s.held.octets = omega (
@@ -38,7 +38,7 @@ returns-in-Ok g c =
     ) in
     let cut : length left + size ≡ length s.held.octets = omega (
       arith,
-      ap length c.drop_front.ensures.octets,
+      ap length c.drop_first.ensures.octets,
       length-drop size s.held.octets,
       inside,
     ) in
@@ -55,7 +55,7 @@ returns-in-Ok g c =
             record {
               to = spot_after (settings_of s) b (dropped_at k ok.0);
               closed = followed-push w (first_spot w all) r.to done b (dropped_at k ok.0) r.closed begins closes;
-              at = next-spot (settings_of s) s.starts s.t k c.in-Ok.next size s.held.octets left rest ok.0 ok.2 kept c.steps_len.ensures c.drop_front.ensures.octets inside;
+              at = next-spot (settings_of s) s.starts s.t k c.in-Ok.next size s.held.octets left rest ok.0 ok.2 kept c.steps_len.ensures c.drop_first.ensures.octets inside;
               kept = omega (arith, r.kept, kept-append done (dropped_at k ok.0 ∷ []), kept);
               slips = omega (arith, r.slips, slips-append done (dropped_at k ok.0 ∷ []), c.slip_at.ensures.value);
             },

@@ -69,14 +69,14 @@ returns-in-Ok g c =
     let size = c.steps_len.result in
     let ok = c.in-Ok.ensures.closed.ok in
     let next = c.in-Ok.next in
-    let left = c.drop_front.new.self.octets in
+    let left = c.drop_first.new.self.octets in
     let cut = is_cut s count m size run.some run.room c.steps_len-size.ensures c.steps_len.ensures in
     let prefix = take m s.held.octets in
     let prefixes = told s.shape s.workers.shape s.starts s.t (take m c.as_slice.result.now) prefix ok.0
     (λ v o. after_windows v s.t o count next) s.workers_shape (ap (take m) c.as_slice.ensures.octets) ok.2 in
     let rest_is : length left + size ≡ length s.held.octets = omega (
       arith,
-      ap length c.drop_front.ensures.octets,
+      ap length c.drop_first.ensures.octets,
       length-drop size s.held.octets,
       cut.inside,
       cut.within,
@@ -89,7 +89,7 @@ returns-in-Ok g c =
             let at = place_of s.starts s.t (s.held.octets ++ rest) in
             let to = place_of next (s.t + count * s.shape.keep) (left ++ rest) in
             let here = closed_now s.shape s.starts next s.t m count s.held.octets left rest ok.0 (omega (arith, cut.within, c.steps_len.ensures)) cut.inside
-            (c.drop_front.ensures.octets ∙ ap (λ (n : ℕ). drop n s.held.octets) c.steps_len.ensures) prefixes in
+            (c.drop_first.ensures.octets ∙ ap (λ (n : ℕ). drop n s.held.octets) c.steps_len.ensures) prefixes in
             let there = runs s count m all rest done ok.0 (after_windows s.shape s.t prefix count next) to c.requires.undropped run.some run.room
             c.steps_len-size.ensures run.undropped r prefixes here in
             record {

@@ -24,12 +24,12 @@ returns-clause-reaches c = λ all rest done r.
     let steps = c.in-Some.steps in
     let octets = c.as_slice-octets in
     let k = c.slip-count.result in
-    let left = c.drop_front.new.self.octets in
+    let left = c.drop_first.new.self.octets in
     let now = c.starts_after-self.result in
     let many : octets_seen s.shape.rate s.t steps ≤ length s.held.octets =
     omega (arith, c.if-octets-enough.false, c.octets_seen-enough.ensures.value, ap length octets.ensures.octets) in
     let is_slip = subst (λ (o : List ℕ). IsSlip s.shape.rate s.shape.invert s.t steps o k) octets.ensures.octets c.slip-count.ensures.slip in
-    let cut : left ≡ drop k s.held.octets = c.drop_front.ensures.octets ∙ ap (λ (n : ℕ). drop n s.held.octets) c.from.ensures in
+    let cut : left ≡ drop k s.held.octets = c.drop_first.ensures.octets ∙ ap (λ (n : ℕ). drop n s.held.octets) c.from.ensures in
     let undecided = subst (λ (o : Option ℕ). IsAt w r.to o (place_of s.starts s.t (s.held.octets ++ rest))) c.in_default-dropped.is r.at in
     record {
       to = r.to;
@@ -42,4 +42,4 @@ returns-clause-reaches c = λ all rest done r.
 
 pub returns-clause-shorter : goal.returns-clause-shorter
 returns-clause-shorter c =
-    omega (arith, ap length c.drop_front.ensures.octets, length-drop c.from.result c.args.self.now.held.octets)
+    omega (arith, ap length c.drop_first.ensures.octets, length-drop c.from.result c.args.self.now.held.octets)
