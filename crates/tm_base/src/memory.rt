@@ -1,5 +1,5 @@
 // A source and a sink in memory, which fail where they are told to.
-ghost use Rattle.std.specs.Prelude.{◌≡◌, ◌==◌, ◌||◌, ◌<◌, ◌≤◌, ◌^◌, ◌-◌, ◌++◌, ℕ, Bool, List, [], Some, take, drop, length, IfOk, IsTrue, true, false, min, slice_get, if◌then◌else◌, ◌+◌, vec_len, vec_capacity};
+ghost use Rattle.std.specs.Prelude.{◌≡◌, ◌==◌, ◌||◌, ◌<◌, ◌≤◌, ◌-◌, ◌++◌, ℕ, Bool, List, [], Some, take, drop, length, IfOk, IsTrue, true, false, min, slice_get, if◌then◌else◌, ◌+◌, vec_len, vec_capacity};
 ghost use Rattle.std.specs.Io.{ReadsAtMost, WritesAtMost};
 ghost use Rattle.std.specs.Io.KnownBytes.{append_known, prepend_known, IsAtEnd};
 ghost use Rattle.tm_base.specs.Outside.{HasCause, HasWriteCause, moved, is_nothing};
@@ -171,7 +171,7 @@ impl MemSink {
 
     /// The octets that it has taken.
     pub fn octets(&self) -> &[u8]
-        ensures told { ⟦<MemSink as Sink>⟧.taken self.now ≡ Some result.now }
+        ensures says { ⟦<MemSink as Sink>⟧.taken self.now ≡ Some result.now }
         ensures octets { result.now ≡ self.now.octets }
     {
         &self.octets

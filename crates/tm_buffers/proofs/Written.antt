@@ -5,7 +5,7 @@ use Rattle.tm_base.specs.Outside.{Rose}
 use Rattle.tm_base.specs.Written.{WrotePrefix}
 use Rattle.tm_inner.specs.declared.inner_sender.SendError.{SendError}
 use Rattle.tm_inner.specs.declared.inner_sender.SendError.TheVariants.{Sink, Stopped}
-use Rattle.tm_buffers.specs.Buffer.{Fills, told}
+use Rattle.tm_buffers.specs.Buffer.{Fills, written_in}
 
 -- the loan is the same, and the start of its buffer is what was written
 pub record Held (name name' : ℕ) (buffer buffer' : List ℕ) (count : ℕ) (text : List ℕ) : Type 0 where
@@ -13,14 +13,14 @@ pub record Held (name name' : ℕ) (buffer buffer' : List ℕ) (count : ℕ) (te
   pub size : length buffer' ≡ length buffer
   pub prefix : take count buffer' ≡ text
 
-pub held : (name name' : ℕ) (buffer buffer' : List ℕ) (count : ℕ) (text : List ℕ) → Some (told name' buffer' count) ≡ append_known (Some (told name buffer 0)) text
+pub held : (name name' : ℕ) (buffer buffer' : List ℕ) (count : ℕ) (text : List ℕ) → Some (written_in name' buffer' count) ≡ append_known (Some (written_in name buffer 0)) text
     → Held name name' buffer buffer' count text
 held name name' buffer buffer' count text is =
     let same : name' ∷ length buffer' ∷ take count buffer' ≡ name ∷ length buffer ∷ text = cc in
     record { loan = cc; size = cc; prefix = cc }
 
 -- a buffer is not full of a prefix of what is shorter
-pub not-full : (name name' : ℕ) (buffer buffer' : List ℕ) (count : ℕ) (full : Bool) (text : List ℕ) → WrotePrefix (Some (told name buffer 0)) (Some (told name' buffer' count)) text
+pub not-full : (name name' : ℕ) (buffer buffer' : List ℕ) (count : ℕ) (full : Bool) (text : List ℕ) → WrotePrefix (Some (written_in name buffer 0)) (Some (written_in name' buffer' count)) text
     → (full ≡ true → count ≡ length buffer') → Rose 0 (if full then 1 else 0) (full ≡ true) → length text < length buffer → ⊥
 not-full name name' buffer buffer' count false text wrote at (inl more) short = absurd (omega arith)
 not-full name name' buffer buffer' count false text wrote at (inr never) short = absurd cc

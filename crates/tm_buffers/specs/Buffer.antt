@@ -3,8 +3,8 @@ use Rattle.std.specs.Prelude.{◌≡◌, ℕ, ◌^◌, Bool, false, nat_le, List
 
 -- what a sink over a buffer says: which loan of a buffer it is, for how many octets that has room,
 -- and the octets that were written
-abbrev pub told : ℕ → List ℕ → ℕ → List ℕ
-told name buffer count = (name ∷ length buffer ∷ []) ++ take count buffer
+abbrev pub written_in : ℕ → List ℕ → ℕ → List ℕ
+written_in name buffer count = (name ∷ length buffer ∷ []) ++ take count buffer
 
 -- whether there is as much room as is needed
 abbrev pub has_room : Option ℕ → ℕ → Bool

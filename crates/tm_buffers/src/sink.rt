@@ -16,10 +16,10 @@ pub struct BufferSink<'a> {
 
 impl<'a> Sink for BufferSink<'a> {
     ghost use Rattle.std.specs.Prelude.{◌≡◌, Some, true, if◌then◌else◌};
-    ghost use Rattle.tm_buffers.specs.Buffer.{told};
+    ghost use Rattle.tm_buffers.specs.Buffer.{written_in};
 
     // Which buffer it is comes first, so that who lends it knows that it is still lent.
-    ghost taken = { λ s. Some (told s.buffer.ghost_name s.buffer.now s.count) };
+    ghost taken = { λ s. Some (written_in s.buffer.ghost_name s.buffer.now s.count) };
 
     ghost faults = { λ s. if s.is_full then 1 else 0 };
 

@@ -38,20 +38,20 @@ staged-stays false false true false true true joined _ _ _ _ _ _ reason header b
 staged-stays false false true false true false joined _ _ _ _ _ _ reason header body soft shows =
     rw ((header refl).0, (header refl).1, (body refl).0, (body refl).1, (soft refl).0, (soft refl).1) shows
 
--- nothing is told, or one of two reasons is
-abbrev Tells : Option Reason → Type 0
-Tells found = (found ≡ None) ⊎ ((found ≡ Some Shape) ⊎ (found ≡ Some Joint))
+-- there is no reason, or it is one of two
+abbrev Cases : Option Reason → Type 0
+Cases found = (found ≡ None) ⊎ ((found ≡ Some Shape) ⊎ (found ≡ Some Joint))
 
-staged-tells : (over short shape few bits part joined : Bool) → Tells (staged over short shape few bits part joined)
+staged-cases : (over short shape few bits part joined : Bool) → Cases (staged over short shape few bits part joined)
 unfolding staged
-staged-tells true short shape few bits part joined = inr (inl refl)
-staged-tells false true shape few bits part joined = inl refl
-staged-tells false false false few bits part joined = inr (inl refl)
-staged-tells false false true true bits part joined = inl refl
-staged-tells false false true false false part joined = inr (inl refl)
-staged-tells false false true false true true joined = inl refl
-staged-tells false false true false true false true = inl refl
-staged-tells false false true false true false false = inr (inr refl)
+staged-cases true short shape few bits part joined = inr (inl refl)
+staged-cases false true shape few bits part joined = inl refl
+staged-cases false false false few bits part joined = inr (inl refl)
+staged-cases false false true true bits part joined = inl refl
+staged-cases false false true false false part joined = inr (inl refl)
+staged-cases false false true false true true joined = inl refl
+staged-cases false false true false true false true = inl refl
+staged-cases false false true false true false false = inr (inr refl)
 
 -- ---- the stages of octets
 
@@ -91,12 +91,12 @@ soft-stays rules before octets more enough =
 
 -- ---- the reason in octets
 
-pub reason_in-tells : (rules : Rules) (before : Before) (octets : List ℕ) → Tells (reason_in rules before octets)
+pub reason_in-cases : (rules : Rules) (before : Before) (octets : List ℕ) → Cases (reason_in rules before octets)
 unfolding reason_in
-reason_in-tells rules before [] = inl refl
-reason_in-tells rules before (octet ∷ octets) =
-    let told : Tells (staged_in rules before (octet ∷ octets)) = staged-tells _ _ _ _ _ _ _ in
-    subst Tells (sym (in-stages rules before (octet ∷ octets) (omega arith))) told
+reason_in-cases rules before [] = inl refl
+reason_in-cases rules before (octet ∷ octets) =
+    let it : Cases (staged_in rules before (octet ∷ octets)) = staged-cases _ _ _ _ _ _ _ in
+    subst Cases (sym (in-stages rules before (octet ∷ octets) (omega arith))) it
 
 pub reason_in-stays : (rules : Rules) (before : Before) (octets more : List ℕ) (reason : Reason)
     → reason_in rules before octets ≡ Some reason → reason_in rules before (octets ++ more) ≡ Some reason

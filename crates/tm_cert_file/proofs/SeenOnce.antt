@@ -12,7 +12,7 @@ use Rattle.tm_cert_file.specs.declared.seen.Seen.TheVariants.{More, Passed, Fail
 use Rattle.tm_cert_file.specs.Window.{window_in, window_size, steps_in}
 use Rattle.tm_cert_file.specs.Before.{Rules, Before}
 use Rattle.tm_cert_file.specs.Seen.{reason_in, IsJudged, IsSeen, seen_by}
-use Rattle.tm_cert_file.proofs.ReasonPrefix.{reason_in-tells, reason_in-stays}
+use Rattle.tm_cert_file.proofs.ReasonPrefix.{reason_in-cases, reason_in-stays}
 use Rattle.tm_cert_file.proofs.Passing.{judged-more}
 
 -- there is one answer on columns
@@ -33,7 +33,7 @@ judged-seen rules before octets (SumOf sum) judged = judged
 
 pub has-seen : HasVerdict → (rules : Rules) (before : Before) (octets : List ℕ) → (seen : Seen) × IsSeen rules before octets seen
 has-seen has rules before octets =
-    elim (reason_in-tells rules before octets) [
+    elim (reason_in-cases rules before octets) [
       | inl none ↦ elim (cases_lt (length octets) (window_size rules.rate before.t (steps_in octets))) [
         | inl part ↦ (More, (none, part))
         | inr whole ↦

@@ -6,7 +6,7 @@ use Rattle.tm_base.specs.Handed.{Handed, Item, items_of}
 use Rattle.tm_base.proofs.HandedItems.{items_of-append, items_of-items}
 use Rattle.tm_config.specs.Configuration.{Configuration, codeblock_length, correctable, data_length, is_uncoded}
 use Rattle.tm_config.specs.Accepted.{IsAccepted}
-use Rattle.tm_config.proofs.Choices.{uncoded_tells}
+use Rattle.tm_config.proofs.Choices.{uncoded_cases}
 use Rattle.tm_config.proofs.Lengths.{codeblock_length-is}
 use Rattle.tm_conv.specs.declared.rates.Rate.{Rate}
 use Rattle.tm_interleave.specs.Interleaved.{interleaved}
@@ -40,7 +40,7 @@ use Rattle.tm_channel.proofs.SentCodeblocks.{octets-received}
 
 frame-few : (c : Configuration) (codeblock : List ℕ) (words : List (List ℕ)) → IsAccepted c → length codeblock ≤ codeblock_length c → length (frame_of c codeblock words) ≤ c.frame_length
 unfolding frame_of
-frame-few c codeblock words ok few = elim (uncoded_tells c.code) as (λ _. length (cond (is_uncoded c.code) codeblock (interleaved c.depth (data_length c) (map (data_octets c) words))) ≤ c.frame_length) [
+frame-few c codeblock words ok few = elim (uncoded_cases c.code) as (λ _. length (cond (is_uncoded c.code) codeblock (interleaved c.depth (data_length c) (map (data_octets c) words))) ≤ c.frame_length) [
   | inl none ↦
       let checks : c.depth * (2 * correctable c.code) ≡ 0 = ap (λ code. c.depth * (2 * correctable code)) none.1 ∙ omega arith in
       rw none.0 (omega (arith, few, codeblock_length-is c ok, checks))

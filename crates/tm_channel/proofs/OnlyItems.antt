@@ -15,7 +15,7 @@ use Rattle.tm_sync.proofs.Longer.{places-end}
 use Rattle.tm_codeblock.specs.ReceivedCodeblock.{rules_of, codeblock_at, received_column, received_columns, frame_of}
 use Rattle.tm_channel.specs.Items.{ItemValue, AreNearest, are_fixed, IsItem, AreItemsOf, AreItems}
 use Rattle.tm_channel.proofs.SentCodeblocks.{coded, columns-coded, columns-uncoded, length-received, length-codeblock_in}
-use Rattle.tm_channel.proofs.Repairs.{found-tells}
+use Rattle.tm_channel.proofs.Repairs.{found-fixed}
 
 abbrev AreShort : List (List ℕ) → Type 0
 AreShort columns = AllByRecursion (λ column. length column ≤ 255) columns
@@ -27,7 +27,7 @@ is_beyond BeyondWord = true
 -- what is nearest tells the answer, and where that is not Beyond also the word
 found-same : (a b : Answer) (v w : List ℕ) → found a v ≡ found b w → (a ≡ b) × (are_fixed (a ∷ []) ≡ true → v ≡ w)
 unfolding is_beyond
-found-same (Fixed d) b v w same = let it = found-tells b w v d (sym same) in (sym it.0, λ _. sym it.1)
+found-same (Fixed d) b v w same = let it = found-fixed b w v d (sym same) in (sym it.0, λ _. sym it.1)
 found-same Beyond (Fixed d) v w same = absurd (let no : true ≡ false = ap is_beyond same in cc)
 found-same Beyond Beyond v w same = (refl, λ fixed. absurd (let no : false ≡ true = fixed in cc))
 

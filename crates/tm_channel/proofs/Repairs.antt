@@ -36,10 +36,10 @@ is_found (FixedWord c d) = true
 is_found BeyondWord = false
 
 -- an answer that says that this word is nearest
-pub found-tells : (answer : Answer) (word sent : List ℕ) (d : ℕ) → found answer word ≡ FixedWord sent d → (answer ≡ Fixed d) × (word ≡ sent)
+pub found-fixed : (answer : Answer) (word sent : List ℕ) (d : ℕ) → found answer word ≡ FixedWord sent d → (answer ≡ Fixed d) × (word ≡ sent)
 unfolding distance_in word_in is_found
-found-tells (Fixed e) word sent d same = (ap (λ n. Fixed (distance_in n)) same, ap word_in same)
-found-tells Beyond word sent d same = absurd (let no : false ≡ true = ap is_found same in cc)
+found-fixed (Fixed e) word sent d same = (ap (λ n. Fixed (distance_in n)) same, ap word_in same)
+found-fixed Beyond word sent d same = absurd (let no : false ≡ true = ap is_found same in cc)
 
 -- what is said of a column near to what was sent
 word-is : (c : Configuration) (column sent word : List ℕ) (answer : Answer) → IsAccepted c → length column ≤ 255
@@ -47,7 +47,7 @@ word-is : (c : Configuration) (column sent word : List ℕ) (answer : Answer) �
     → distance sent column ≤ c.repair → IsNearest (correctable c.code) c.repair column (found answer word)
     → (answer ≡ Fixed (distance sent column)) × (word ≡ sent)
 word-is c column sent word answer ok short code within nearest =
-    found-tells answer word sent (distance sent column)
+    found-fixed answer word sent (distance sent column)
     (nearest_only (correctable c.code) c.repair column (found answer word)
     (FixedWord sent (distance sent column)) ok.repair short nearest (code, refl, within))
 

@@ -10,7 +10,7 @@ use Rattle.tm_base.proofs.Octets.{are_octets}
 use Rattle.tm_config.specs.Configuration.{Configuration, correctable, data_length, word_length, codeblock_length}
 use Rattle.tm_config.specs.declared.values.OuterCode.TheVariants.{Uncoded}
 use Rattle.tm_config.specs.Accepted.{IsAccepted}
-use Rattle.tm_config.proofs.Choices.{uncoded_tells, uncoded_false}
+use Rattle.tm_config.proofs.Choices.{uncoded_cases, uncoded_false}
 use Rattle.tm_config.proofs.Lengths.{word_length-le}
 use Rattle.tm_dual.specs.Octet.{sent_octet, element_of}
 use Rattle.tm_dual.specs.declared.basis.Basis.{Basis}
@@ -57,7 +57,7 @@ read-sent b (x ∷ word) are = (λ t. element_of-sent_octet b x are.0 t ∷ read
 
 -- a configuration has no outer code, or one whose words have at most 255 symbols
 pub coded : (c : Configuration) → IsAccepted c → (c.code ≡ Uncoded) ⊎ ((c.code ≢ Uncoded) × (word_length c ≤ 255))
-coded c ok = elim (uncoded_tells c.code) [
+coded c ok = elim (uncoded_cases c.code) [
   | inl none ↦ inl none.1
   | inr some ↦ inr (some.1, word_length-le c ok some.1)
 ]

@@ -15,7 +15,7 @@ use Rattle.tm_config.specs.Configuration.{Configuration, configuration_of, unfol
 use Rattle.tm_config.specs.Configuration.{number_of_basis, all_bases, number_of_form, all_forms, number_of_start, all_starts}
 use Rattle.tm_config.specs.Configuration.{number_of_mode, all_modes}
 use Rattle.tm_config.specs.Accepted.{IsAccepted, is_listed, is_number, is_within, switch_fits, sought_fits, fits_if_given, depth_fits, length_fits, repair_fits, tests, first_error, refusal_of_raw}
-use Rattle.tm_config.proofs.Choices.{uncoded_tells}
+use Rattle.tm_config.proofs.Choices.{uncoded_cases}
 
 -- where no test fails, each passes
 abbrev EachPasses : List (Bool × ConfigError) → Type 0
@@ -111,7 +111,7 @@ depth_listed depth fits = (grind (arith, nat_tests), grind (arith, nat_tests))
 
 by_code : (P : Bool → Type 0) (none some : Bool) (code : OuterCode) → P (if is_uncoded code then none else some)
     → ((code ≡ Uncoded) × P none) ⊎ ((code ≢ Uncoded) × P some)
-by_code P none some code fits = elim (uncoded_tells code) [
+by_code P none some code fits = elim (uncoded_cases code) [
   | inl is ↦ inl (is.1, (rw is.0 at fits))
   | inr is ↦ inr (is.1, (rw is.0 at fits))
 ]

@@ -7,11 +7,11 @@ use Rattle.tm_config.specs.declared.values.Sought.TheVariants.{Given, Find}
 use Rattle.tm_config.specs.Configuration.{correctable, is_uncoded}
 
 -- there is no code, or there is one
-pub uncoded_tells : (code : OuterCode)
+pub uncoded_cases : (code : OuterCode)
     → ((is_uncoded code ≡ true) × (code ≡ Uncoded)) ⊎ ((is_uncoded code ≡ false) × (code ≢ Uncoded))
-uncoded_tells Rs16 = inr (refl, λ is. cc)
-uncoded_tells Rs8 = inr (refl, λ is. cc)
-uncoded_tells Uncoded = inl (refl, refl)
+uncoded_cases Rs16 = inr (refl, λ is. cc)
+uncoded_cases Rs8 = inr (refl, λ is. cc)
+uncoded_cases Uncoded = inl (refl, refl)
 
 -- it is given, or to be found
 pub given_or_find : (sought : Sought) → (sought ≡ Given) ⊎ (sought ≡ Find)

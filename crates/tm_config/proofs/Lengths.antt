@@ -7,7 +7,7 @@ use Rattle.tm_config.specs.declared.values.OuterCode.{OuterCode}
 use Rattle.tm_config.specs.declared.values.OuterCode.TheVariants.{Rs16, Rs8, Uncoded}
 use Rattle.tm_config.specs.Configuration.{Configuration, data_length, word_length, codeblock_length, most_data, correctable}
 use Rattle.tm_config.specs.Accepted.{IsAccepted}
-use Rattle.tm_config.proofs.Choices.{uncoded_tells}
+use Rattle.tm_config.proofs.Choices.{uncoded_cases}
 
 word-le : (code : OuterCode) (octets : ℕ) → code ≢ Uncoded → octets ≤ most_data code
     → octets + 2 * correctable code ≤ longest_word
@@ -35,7 +35,7 @@ without_code depth octets Uncoded one none fits = rw one (omega arith)
 -- a codeblock has at most 2,040 octets
 pub codeblock_length-le : (c : Configuration) → IsAccepted c → codeblock_length c ≤ longest_codeblock
 codeblock_length-le c accepted =
-    elim (uncoded_tells c.code) [
+    elim (uncoded_cases c.code) [
       | inl none ↦ without_code c.depth (data_length c) c.code (accepted.no_depth none.1) none.1 accepted.data_fits
       | inr some ↦ mul-le-mul accepted.depth (word_length-le c accepted some.1)
     ]
