@@ -1,5 +1,6 @@
 // A receiver by itself: what it hands over, and how it stops.
-ghost use Rattle.std.specs.Prelude.{◌≡◌, ◌-◌, ◌^◌};
+ghost use Rattle.std.specs.Prelude.{◌≡◌};
+ghost use Rattle.tm_base.specs.Count.{last_count};
 
 use crate::values::{M, UNIT};
 use std::alloc::Global;
@@ -40,7 +41,7 @@ impl Collector {
 impl ItemTaker for Collector {
     ghost faults = { λ c. c.faults };
 
-    ghost is_last = { λ c. c.faults ≡ 2 ^ 64 - 1 };
+    ghost is_last = { λ c. c.faults ≡ last_count };
 
     ghost took = { λ before item now. Unit {0} };
 

@@ -1,5 +1,6 @@
 // A taker that remembers of blocks a number to which every part of each of them, and their order, contribute.
-ghost use Rattle.std.specs.Prelude.{◌≡◌, ◌-◌, ◌^◌};
+ghost use Rattle.std.specs.Prelude.{◌≡◌};
+ghost use Rattle.tm_base.specs.Count.{last_count};
 
 use tm_base::Failed;
 use tm_viterbi::{Block, BlockTaker};
@@ -34,7 +35,7 @@ fn mixed(value: u64, part: u64) -> u64 {
 impl BlockTaker for Digest {
     ghost faults = { λ digest. digest.faults };
 
-    ghost is_last = { λ digest. digest.faults ≡ 2 ^ 64 - 1 };
+    ghost is_last = { λ digest. digest.faults ≡ last_count };
 
     ghost took = { λ before block now. Unit {0} };
 

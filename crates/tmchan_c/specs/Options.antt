@@ -4,9 +4,12 @@ use Rattle.tm_config.specs.Configuration.{Configuration, configuration_of, defau
 use Rattle.tm_config.specs.declared.values.Raw.{Raw}
 use Rattle.tmchan_c.specs.declared.config.Options.{Options}
 
--- a value that was given: any but the greatest number
+-- what stands for a value that is not given: the greatest number
+abbrev pub not_given : ℕ
+not_given = 2 ^ 64 - 1
+
 abbrev pub given : ℕ → Option ℕ
-given value = if value == 2 ^ 64 - 1 then None else Some value
+given value = if value == not_given then None else Some value
 
 abbrev pub raw_of : Options → Raw
 raw_of options = record default_raw {

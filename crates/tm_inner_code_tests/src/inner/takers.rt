@@ -1,5 +1,6 @@
 // A taker that keeps the phase and what blocks tell.
-ghost use Rattle.std.specs.Prelude.{◌≡◌, ◌-◌, ◌^◌};
+ghost use Rattle.std.specs.Prelude.{◌≡◌};
+ghost use Rattle.tm_base.specs.Count.{last_count};
 
 use std::alloc::Global;
 use tm_base::Failed;
@@ -49,7 +50,7 @@ impl Collector {
 impl BlockTaker for Collector {
     ghost faults = { λ c. c.faults };
 
-    ghost is_last = { λ c. c.faults ≡ 2 ^ 64 - 1 };
+    ghost is_last = { λ c. c.faults ≡ last_count };
 
     ghost took = { λ before block now. Unit {0} };
 
