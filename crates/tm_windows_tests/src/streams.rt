@@ -141,24 +141,26 @@ fn streams_are_those_of_one_thread(rt: HostRuntime) -> Result<(), Fail> {
                 keep,
                 ahead,
             };
-            let octets = octets_for(&rt, alloc, kind, shape)?;
-            let wanted = alone(&rt, alloc, shape, start, &octets, u64::MAX)?;
-            assert_eq!(rt; wanted.digest.blocks, WINDOWS as u64 + 1);
-            for workers in [1, 2, 7] {
-                for way in WAYS {
-                    let outcome = with_workers(
-                        &rt,
-                        alloc,
-                        shape,
-                        start,
-                        workers,
-                        &octets,
-                        way,
-                        u64::MAX,
-                    )?;
-                    assert_eq!(rt; outcome, wanted);
-                }
-            }
+            check_stream(&rt, alloc, kind, shape, start)?;
+        }
+    }
+    Ok(())
+}
+
+fn check_stream<R: Abort + Threads + Sync>(
+    rt: &R,
+    alloc: Global,
+    kind: Kind,
+    shape: WindowShape,
+    start: Start,
+) -> Result<(), Fail> {
+    let octets = octets_for(rt, alloc, kind, shape)?;
+    let wanted = alone(rt, alloc, shape, start, &octets, u64::MAX)?;
+    assert_eq!(rt; wanted.digest.blocks, WINDOWS as u64 + 1);
+    for workers in [1, 2, 7] {
+        for way in WAYS {
+            let outcome = with_workers(rt, alloc, shape, start, workers, &octets, way, u64::MAX)?;
+            assert_eq!(rt; outcome, wanted);
         }
     }
     Ok(())
