@@ -89,8 +89,8 @@ fn check_search(
     left: u64,
 ) -> Result<(), AllocError> {
     let (found, rest) = searched(rt, alloc, rules, bits)?;
-    assert_eq!(rt; found.as_slice(), places, "{rules:?}");
-    assert_eq!(rt; rest, left, "{rules:?}");
+    assert!(rt; found.as_slice() == places, "{rules:?}");
+    assert!(rt; rest == left, "{rules:?}");
     Ok(())
 }
 
@@ -264,7 +264,7 @@ fn inside_counts_after_each_kind_of_marker(rt: HostRuntime) -> Result<(), Fail> 
         given = u64::saturating_add(given, 1);
         check_bit(&rt, &mut search, bit, given);
     }
-    assert_eq!(rt; search.finish(), 0);
+    assert!(rt; search.finish() == 0);
     laws();
     Ok(())
 }
@@ -275,14 +275,13 @@ fn check_bit(rt: &impl Abort, search: &mut Search, bit: bool, given: u64) {
     assert!(rt; !search.pending());
     search.push_bit(&mut [], bit);
     let part = if given % 40 == 0 { 40 } else { given % 40 };
-    assert_eq!(rt;
-        search.inside(),
-        u64::checked_sub(part, 32),
+    assert!(rt;
+        search.inside() == u64::checked_sub(part, 32),
         "after {given} bits"
     );
-    assert_eq!(rt; search.pending(), part == 40, "after {given} bits");
+    assert!(rt; search.pending() == (part == 40), "after {given} bits");
     match search.next(&[]) {
-        Some(found) => assert_eq!(rt; found.bridged, given == 80),
+        Some(found) => assert!(rt; found.bridged == (given == 80)),
         None => {}
     }
 }
@@ -530,8 +529,11 @@ fn check_places(
 ) -> Result<(), AllocError> {
     let (found, rest) = searched(rt, alloc, rules, bits)?;
     let (wanted, after) = defined(alloc, rules, bits)?;
-    assert_eq!(rt; found.as_slice(), wanted.as_slice(), "{rules:?} at {seed}");
-    assert_eq!(rt; rest, after, "{rules:?} at {seed}");
+    assert!(rt;
+        found.as_slice() == wanted.as_slice(),
+        "{rules:?} at {seed}"
+    );
+    assert!(rt; rest == after, "{rules:?} at {seed}");
     for place in &found {
         seen.add(place, rules.verify);
     }
@@ -609,10 +611,10 @@ fn check_first(rt: &impl Abort, search: &mut Search)
     ensures { search.new.rules ≡ search.old.rules }
 {
     push_four(rt, search, MARKER);
-    assert_eq!(rt; search.inside(), Some(0));
+    assert!(rt; search.inside() == Some(0));
     search.push_octets(&[0xFF, 0x00, 0xFF]);
     search.push_octet(0x00);
-    assert_eq!(rt; search.inside(), Some(32));
+    assert!(rt; search.inside() == Some(32));
     search.push_bit(&mut [], true);
 }
 
@@ -620,9 +622,9 @@ fn check_first(rt: &impl Abort, search: &mut Search)
 fn octets_are_taken_as_their_bits(rt: HostRuntime) {
     let mut search = Search::new(0, 0, false, 33, 0);
     check_first(&rt, &mut search);
-    assert_eq!(rt; search.next(&[]), Some(plain(0, 0)));
+    assert!(rt; search.next(&[]) == Some(plain(0, 0)));
     push_four(&rt, &mut search, [0x0D, 0x67, 0xFE, 0x0E]);
-    assert_eq!(rt; search.inside(), None);
+    assert!(rt; search.inside() == None);
     push_octet(&rt, &mut search, 0xD5);
-    assert_eq!(rt; search.inside(), Some(7));
+    assert!(rt; search.inside() == Some(7));
 }

@@ -188,12 +188,12 @@ fn writes_the_line_of_an_item(rt: HostRuntime) -> Result<(), Fail> {
     for row in &ROWS {
         let item = item_of(&rt, row);
         let mut out = sink(&rt, rt.alloc(), 256);
-        assert_eq!(rt; frame_line(&mut out, row.number, &item), Ok(()));
-        assert_eq!(rt; out.octets(), row.line.as_bytes());
-        assert_eq!(rt; out.calls(), 1, "a line is one piece");
+        assert!(rt; frame_line(&mut out, row.number, &item) == Ok(()));
+        assert!(rt; out.octets() == row.line.as_bytes());
+        assert!(rt; out.calls() == 1, "a line is one piece");
         let mut narrow = sink(&rt, rt.alloc(), 9);
-        assert_eq!(rt; frame_line(&mut narrow, row.number, &item), Err(Failed));
-        assert_eq!(rt; narrow.octets().len(), 9);
+        assert!(rt; frame_line(&mut narrow, row.number, &item) == Err(Failed));
+        assert!(rt; narrow.octets().len() == 9);
         assert!(rt; row.line.as_bytes().starts_with(narrow.octets()));
     }
     Ok(())
@@ -202,25 +202,21 @@ fn writes_the_line_of_an_item(rt: HostRuntime) -> Result<(), Fail> {
 #[test]
 fn writes_the_other_lines(rt: HostRuntime) -> Result<(), Fail> {
     let mut out = sink(&rt, rt.alloc(), 1024);
-    assert_eq!(rt; frames_line(&mut out, 1, 0, 16, 296), Ok(()));
-    assert_eq!(rt; frames_line(&mut out, MOST, MOST, MOST, MOST), Ok(()));
-    assert_eq!(rt;
-        block_line(&mut out, after(1, 8192), &block_of(8448, 8192, 127)),
-        Ok(())
-    );
-    assert_eq!(rt;
+    assert!(rt; frames_line(&mut out, 1, 0, 16, 296) == Ok(()));
+    assert!(rt; frames_line(&mut out, MOST, MOST, MOST, MOST) == Ok(()));
+    assert!(rt; block_line(&mut out, after(1, 8192), &block_of(8448, 8192, 127)) == Ok(()));
+    assert!(rt;
         block_line(
             &mut out,
             after(MOST, MOST),
             &block_of(4_294_967_295, 4_294_967_295, MOST)
-        ),
-        Ok(())
+        ) == Ok(())
     );
-    assert_eq!(rt; blocks_line(&mut out, 2, 8449, 1), Ok(()));
-    assert_eq!(rt; blocks_line(&mut out, MOST, MOST, 255), Ok(()));
-    assert_eq!(rt; phase_line(&mut out, 1, 0), Ok(()));
-    assert_eq!(rt; phase_line(&mut out, 255, MOST), Ok(()));
-    assert_eq!(rt; out.calls(), 8, "a line is one piece");
+    assert!(rt; blocks_line(&mut out, 2, 8449, 1) == Ok(()));
+    assert!(rt; blocks_line(&mut out, MOST, MOST, 255) == Ok(()));
+    assert!(rt; phase_line(&mut out, 1, 0) == Ok(()));
+    assert!(rt; phase_line(&mut out, 255, MOST) == Ok(()));
+    assert!(rt; out.calls() == 8, "a line is one piece");
     let text = "frames 1 bad 0 fixed 16 bits 296\n\
         frames 18446744073709551615 bad 18446744073709551615 fixed 18446744073709551615 bits 18446744073709551615\n\
         block 1 steps 8448 kept 8192 metric 127\n\
@@ -229,7 +225,7 @@ fn writes_the_other_lines(rt: HostRuntime) -> Result<(), Fail> {
         blocks 18446744073709551615 bits 18446744073709551615 leftover 255\n\
         phase 1 cost 0\n\
         phase 255 cost 18446744073709551615\n";
-    assert_eq!(rt; out.octets(), text.as_bytes());
+    assert!(rt; out.octets() == text.as_bytes());
     Ok(())
 }
 
@@ -239,14 +235,14 @@ fn writes_where_octets_were_dropped(rt: HostRuntime) -> Result<(), Fail> {
     let mut out = sink(&rt, rt.alloc(), 1024);
     let mut block = block_of(8448, 8192, 127);
     block.dropped = 7;
-    assert_eq!(rt; block_line(&mut out, after(1, 8192), &block), Ok(()));
+    assert!(rt; block_line(&mut out, after(1, 8192), &block) == Ok(()));
     let mut trace = Trace {
         lines: &mut out,
         tally: after(0, 0),
     };
-    assert_eq!(rt; trace.block(&block_of(300, 64, 0)), Ok(()));
+    assert!(rt; trace.block(&block_of(300, 64, 0)) == Ok(()));
     block.dropped = 1;
-    assert_eq!(rt; trace.block(&block), Ok(()));
+    assert!(rt; trace.block(&block) == Ok(()));
     let counts = Counts {
         good: 1,
         bad: 0,
@@ -256,13 +252,13 @@ fn writes_where_octets_were_dropped(rt: HostRuntime) -> Result<(), Fail> {
         bits: 296,
         slips: Some(2),
     };
-    assert_eq!(rt; end_report(&mut out, counts, followed), Ok(true));
+    assert!(rt; end_report(&mut out, counts, followed) == Ok(true));
     let none = Totals {
         slips: Some(0),
         ..followed
     };
-    assert_eq!(rt; end_report(&mut out, counts, none), Ok(true));
-    assert_eq!(rt; out.calls(), 5, "both lines are one piece");
+    assert!(rt; end_report(&mut out, counts, none) == Ok(true));
+    assert!(rt; out.calls() == 5, "both lines are one piece");
     let text = "slip 7 at 8192\n\
         block 1 steps 8448 kept 8192 metric 127\n\
         block 0 steps 300 kept 64 metric 0\n\
@@ -272,21 +268,18 @@ fn writes_where_octets_were_dropped(rt: HostRuntime) -> Result<(), Fail> {
         frames 1 bad 0 fixed 16 bits 296\n\
         slips 0\n\
         frames 1 bad 0 fixed 16 bits 296\n";
-    assert_eq!(rt; out.octets(), text.as_bytes());
+    assert!(rt; out.octets() == text.as_bytes());
     Ok(())
 }
 
 #[test]
 fn lines_meet_a_full_sink(rt: HostRuntime) -> Result<(), Fail> {
     let mut out = sink(&rt, rt.alloc(), 3);
-    assert_eq!(rt; frames_line(&mut out, 1, 2, 3, 4), Err(Failed));
-    assert_eq!(rt;
-        block_line(&mut out, after(1, 2), &block_of(2, 2, 0)),
-        Err(Failed)
-    );
-    assert_eq!(rt; blocks_line(&mut out, 1, 2, 3), Err(Failed));
-    assert_eq!(rt; phase_line(&mut out, 1, 2), Err(Failed));
-    assert_eq!(rt; out.octets(), "fra".as_bytes());
+    assert!(rt; frames_line(&mut out, 1, 2, 3, 4) == Err(Failed));
+    assert!(rt; block_line(&mut out, after(1, 2), &block_of(2, 2, 0)) == Err(Failed));
+    assert!(rt; blocks_line(&mut out, 1, 2, 3) == Err(Failed));
+    assert!(rt; phase_line(&mut out, 1, 2) == Err(Failed));
+    assert!(rt; out.octets() == "fra".as_bytes());
     Ok(())
 }
 
@@ -302,7 +295,7 @@ fn decodes_frames_and_their_report(rt: HostRuntime) -> Result<(), Fail> {
         },
     };
     for row in &ROWS[..8] {
-        assert_eq!(rt; decoding.item(&item_of(&rt, row)), Ok(()));
+        assert!(rt; decoding.item(&item_of(&rt, row)) == Ok(()));
     }
     let counts = decoding.report.counts;
     let wanted = Counts {
@@ -310,15 +303,12 @@ fn decodes_frames_and_their_report(rt: HostRuntime) -> Result<(), Fail> {
         bad: 3,
         fixed: 62,
     };
-    assert_eq!(rt; counts, wanted);
-    assert_eq!(rt; end_report(&mut notes, counts, plain(1_000_296)), Ok(false));
-    assert_eq!(rt;
-        out.octets(),
-        [0x7B, 0x7C, 0x7D, 0x7E, 1, 2, 3, 4].as_slice()
-    );
+    assert!(rt; counts == wanted);
+    assert!(rt; end_report(&mut notes, counts, plain(1_000_296)) == Ok(false));
+    assert!(rt; out.octets() == [0x7B, 0x7C, 0x7D, 0x7E, 1, 2, 3, 4].as_slice());
     let mut text = lines_of(rt.alloc(), &ROWS[..8])?;
     text.extend_from_slice("frames 5 bad 3 fixed 62 bits 1000296\n".as_bytes())?;
-    assert_eq!(rt; notes.octets(), text.as_slice());
+    assert!(rt; notes.octets() == text.as_slice());
     Ok(())
 }
 
@@ -329,12 +319,12 @@ fn reports_after_the_phase(rt: HostRuntime) -> Result<(), Fail> {
         lines: &mut out,
         counts: Counts::new(),
     };
-    assert_eq!(rt; report.phase(1, 0), Ok(()));
-    assert_eq!(rt; report.item(&item_of(&rt, &ROWS[0])), Ok(()));
+    assert!(rt; report.phase(1, 0) == Ok(()));
+    assert!(rt; report.item(&item_of(&rt, &ROWS[0])) == Ok(()));
     let counts = report.counts;
-    assert_eq!(rt; end_report(&mut out, counts, plain(296)), Ok(true));
+    assert!(rt; end_report(&mut out, counts, plain(296)) == Ok(true));
     let text = "phase 1 cost 0\nframe 0 at 0 marker 0 words 0\nframes 1 bad 0 fixed 0 bits 296\n";
-    assert_eq!(rt; out.octets(), text.as_bytes());
+    assert!(rt; out.octets() == text.as_bytes());
     Ok(())
 }
 
@@ -345,20 +335,20 @@ fn traces_after_the_phase(rt: HostRuntime) -> Result<(), Fail> {
         lines: &mut out,
         tally: after(0, 0),
     };
-    assert_eq!(rt; trace.phase(0, 5), Ok(()));
-    assert_eq!(rt; trace.block(&block_of(8448, 8192, 0)), Ok(()));
-    assert_eq!(rt; trace.block(&block_of(257, 257, 9)), Ok(()));
+    assert!(rt; trace.phase(0, 5) == Ok(()));
+    assert!(rt; trace.block(&block_of(8448, 8192, 0)) == Ok(()));
+    assert!(rt; trace.block(&block_of(257, 257, 9)) == Ok(()));
     let tally = trace.tally;
-    assert_eq!(rt; tally, after(2, 8449));
-    assert_eq!(rt; end_trace(&mut out, tally, 8449, 0), Ok(()));
+    assert!(rt; tally == after(2, 8449));
+    assert!(rt; end_trace(&mut out, tally, 8449, 0) == Ok(()));
     let text = "phase 0 cost 5\n\
         block 0 steps 8448 kept 8192 metric 0\n\
         block 1 steps 257 kept 257 metric 9\n\
         blocks 2 bits 8449 leftover 0\n";
-    assert_eq!(rt; out.octets(), text.as_bytes());
+    assert!(rt; out.octets() == text.as_bytes());
     let mut empty = sink(&rt, rt.alloc(), 1024);
-    assert_eq!(rt; end_trace(&mut empty, after(0, 0), 0, 1), Ok(()));
-    assert_eq!(rt; empty.octets(), "blocks 0 bits 0 leftover 1\n".as_bytes());
+    assert!(rt; end_trace(&mut empty, after(0, 0), 0, 1) == Ok(()));
+    assert!(rt; empty.octets() == "blocks 0 bits 0 leftover 1\n".as_bytes());
     Ok(())
 }
 
@@ -373,12 +363,12 @@ fn out_fails_in_a_frame(rt: HostRuntime) -> Result<(), Fail> {
             counts: Counts::new(),
         },
     };
-    assert_eq!(rt; decoding.item(&item_of(&rt, &ROWS[0])), Ok(()));
-    assert_eq!(rt; decoding.item(&item_of(&rt, &ROWS[1])), Ok(()));
-    assert_eq!(rt; decoding.item(&item_of(&rt, &ROWS[2])), Err(Failed));
-    assert_eq!(rt; out.octets(), [0x7B, 0x7C].as_slice());
+    assert!(rt; decoding.item(&item_of(&rt, &ROWS[0])) == Ok(()));
+    assert!(rt; decoding.item(&item_of(&rt, &ROWS[1])) == Ok(()));
+    assert!(rt; decoding.item(&item_of(&rt, &ROWS[2])) == Err(Failed));
+    assert!(rt; out.octets() == [0x7B, 0x7C].as_slice());
     let text = lines_of(rt.alloc(), &ROWS[..2])?;
-    assert_eq!(rt; notes.octets(), text.as_slice());
+    assert!(rt; notes.octets() == text.as_slice());
     Ok(())
 }
 
@@ -393,12 +383,12 @@ fn notes_fail_in_a_line(rt: HostRuntime) -> Result<(), Fail> {
             counts: Counts::new(),
         },
     };
-    assert_eq!(rt; decoding.item(&item_of(&rt, &ROWS[0])), Ok(()));
-    assert_eq!(rt; decoding.item(&item_of(&rt, &ROWS[1])), Ok(()));
-    assert_eq!(rt; decoding.item(&item_of(&rt, &ROWS[2])), Err(Failed));
-    assert_eq!(rt; out.octets(), [0x7B, 0x7C, 0x7D].as_slice());
+    assert!(rt; decoding.item(&item_of(&rt, &ROWS[0])) == Ok(()));
+    assert!(rt; decoding.item(&item_of(&rt, &ROWS[1])) == Ok(()));
+    assert!(rt; decoding.item(&item_of(&rt, &ROWS[2])) == Err(Failed));
+    assert!(rt; out.octets() == [0x7B, 0x7C, 0x7D].as_slice());
     let text = lines_of(rt.alloc(), &ROWS[..3])?;
-    assert_eq!(rt; notes.octets().len(), 70);
+    assert!(rt; notes.octets().len() == 70);
     assert!(rt; text.starts_with(notes.octets()));
     Ok(())
 }

@@ -44,7 +44,7 @@ static HEADER: [u8; 20] = [
 fn a_window_is_written(rt: HostRuntime) {
     let out = certificate(&rt, rt.alloc());
     let octets = out.octets();
-    assert_eq!(rt; octets.len(), 532);
+    assert!(rt; octets.len() == 532);
     check_part(&rt, octets, 0, &HEADER);
     check_part(&rt, octets, 20, &[0, 0, 0, 0]);
     for s in 1..64usize {

@@ -365,8 +365,8 @@ fn check_end(rt: &impl Abort, end: InnerEnd, taker: &Collector, row: &Row<'_>) {
         slips: None,
         leftover: row.leftover,
     };
-    assert_eq!(rt; (end, taker.phase()), (wanted, row.chosen));
-    assert_eq!(rt; taker.kept(), row.blocks);
+    assert!(rt; (end, taker.phase()) == (wanted, row.chosen));
+    assert!(rt; taker.kept() == row.blocks);
 }
 
 fn check_stopped_threads<R: Abort + Threads + Sync>(
@@ -396,8 +396,8 @@ fn check_both_stopped(
     fed: Result<(), FeedError>,
     finished: Result<InnerEnd, FeedError>,
 ) {
-    assert_eq!(rt; fed, Err(FeedError::Stopped));
-    assert_eq!(rt; finished, Err(FeedError::Stopped));
+    assert!(rt; fed == Err(FeedError::Stopped));
+    assert!(rt; finished == Err(FeedError::Stopped));
 }
 
 #[test]
@@ -489,7 +489,7 @@ fn check_skipping(rt: &impl Abort, alloc: Global) -> Result<(), Fail> {
 }
 
 fn check_to_skip(rt: &impl Abort, receiver: &InnerReceiver, left: u64) {
-    assert_eq!(rt; receiver.bits_to_skip(), left);
+    assert!(rt; receiver.bits_to_skip() == left);
 }
 
 #[test]
@@ -516,7 +516,7 @@ fn check_fails(
     octets: &[u8],
     taker: &mut Collector,
 ) {
-    assert_eq!(rt; feed(receiver, octets, taker), Err(FeedError::Taker));
+    assert!(rt; feed(receiver, octets, taker) == Err(FeedError::Taker));
 }
 
 // An octet before the undisturbed symbols of the marker 1A CF FC 1D, with each second one inverted.
@@ -591,7 +591,7 @@ fn check_chosen(
         Some(Chosen { skip, cost }) => Some((skip, cost)),
         None => None,
     };
-    assert_eq!(rt; (chosen, taker.phase()), (wanted, wanted));
+    assert!(rt; (chosen, taker.phase()) == (wanted, wanted));
 }
 
 // No octets whose phase is to be found.
@@ -622,15 +622,15 @@ fn check_tie(rt: &impl Abort, alloc: Global) -> Result<(), Fail> {
         slips: None,
         leftover: 1,
     };
-    assert_eq!(rt; (end, taker.phase()), (wanted, Some((0, 0))));
-    assert_eq!(rt; taker.kept().len(), 1);
+    assert!(rt; (end, taker.phase()) == (wanted, Some((0, 0))));
+    assert!(rt; taker.kept().len() == 1);
     check_free(rt, taker.kept());
     Ok(())
 }
 
 fn check_free(rt: &impl Abort, blocks: &[Kept]) {
     for b in blocks {
-        assert_eq!(rt; b.metric, 0);
+        assert!(rt; b.metric == 0);
     }
 }
 
@@ -661,17 +661,14 @@ fn check_failing(rt: &impl Abort, alloc: Global, config: &Config) -> Result<(), 
     let mut taker = Collector::new(alloc, 0);
     let mut receiver = opened(alloc, config)?;
     check_fails(rt, &mut receiver, &[0x55], &mut taker);
-    assert_eq!(rt;
-        feed(&mut receiver, &[], &mut taker),
-        Err(FeedError::Stopped)
-    );
+    assert!(rt; feed(&mut receiver, &[], &mut taker) == Err(FeedError::Stopped));
     Ok(())
 }
 
 // Octets wait at a receiver of two workers, close three windows, and go on with a step.
 fn check_gathered(rt: &impl Abort, receiver: &mut InnerReceiver, octets: &[u8]) {
-    assert_eq!(rt; receiver.gather(octets), octets.len());
-    assert_eq!(rt; receiver.count_due(), 3);
+    assert!(rt; receiver.gather(octets) == octets.len());
+    assert!(rt; receiver.count_due() == 3);
 }
 
 // They are decoded with the next ones, though there are none, and then none waits.
@@ -681,7 +678,7 @@ fn check_fed<R: Abort + Threads + Sync>(
     taker: &mut Collector,
 ) -> Result<(), Fail> {
     feed_with(rt, receiver, &[], taker)?;
-    assert_eq!(rt; (taker.kept().len(), receiver.count_due()), (3, 0));
+    assert!(rt; (taker.kept().len(), receiver.count_due()) == (3, 0));
     Ok(())
 }
 
@@ -691,7 +688,7 @@ fn check_finished<R: Abort + Threads + Sync>(
     taker: &mut Collector,
 ) -> Result<(), Fail> {
     let end = finish_with(rt, receiver, taker)?;
-    assert_eq!(rt; (end.bits, taker.kept().len()), (3 * 1024 + 64 + 1, 4));
+    assert!(rt; (end.bits, taker.kept().len()) == (3 * 1024 + 64 + 1, 4));
     Ok(())
 }
 
@@ -723,7 +720,7 @@ fn config_of_windows(soft: u64) -> Result<Config, Fail> {
 }
 
 fn check_takes_none(rt: &impl Abort, receiver: &mut InnerReceiver, octets: &[u8]) {
-    assert_eq!(rt; receiver.gather(octets), 0);
+    assert!(rt; receiver.gather(octets) == 0);
 }
 
 // Octets that close three windows wait, signed or not, where there are two workers.

@@ -22,8 +22,8 @@ fn verdict(sum: u32, bit: u8, metric: u64) -> Verdict
 
 #[test]
 fn one_step(rt: HostRuntime) {
-    assert_eq!(rt; verdict(127, 1, 127), Verdict::Yes);
-    assert_eq!(rt; verdict(127, 0, 127), Verdict::Sum(383));
-    assert_eq!(rt; verdict(384, 1, 127), Verdict::No(1, 0));
-    assert_eq!(rt; verdict(127, 1, 128), Verdict::No(1, 0));
+    assert!(rt; verdict(127, 1, 127) == Verdict::Yes);
+    assert!(rt; verdict(127, 0, 127) == Verdict::Sum(383));
+    assert!(rt; verdict(384, 1, 127) == Verdict::No(1, 0));
+    assert!(rt; verdict(127, 1, 128) == Verdict::No(1, 0));
 }

@@ -37,7 +37,7 @@ fn symbols_after_an_octet(rt: HostRuntime) {
         };
     }
     let wanted = Chosen { skip: 1, cost: 0 };
-    assert_eq!(rt; choose(Rate::R12, true, 8448, &octets), wanted);
+    assert!(rt; choose(Rate::R12, true, 8448, &octets) == wanted);
 }
 
 // Both phases cost nothing.
@@ -45,8 +45,8 @@ fn symbols_after_an_octet(rt: HostRuntime) {
 fn tie(rt: HostRuntime) {
     let octets = [0xFF, 0x00, 0xFF, 0x00, 0xFF, 0x00, 0xFF];
     let wanted = Chosen { skip: 0, cost: 0 };
-    assert_eq!(rt; choose(Rate::R12, true, 8448, &octets), wanted);
-    assert_eq!(rt; choose(Rate::R12, true, 8448, &[]), wanted);
+    assert!(rt; choose(Rate::R12, true, 8448, &octets) == wanted);
+    assert!(rt; choose(Rate::R12, true, 8448, &[]) == wanted);
 }
 
 // The rate, whether it is inverted, the steps of a window, how many octets are drawn from which number on, and the
@@ -80,9 +80,8 @@ fn drawn_octets(rt: HostRuntime) {
         assert!(rt; count <= octets.len());
         assert!(rt; 1 <= window && window <= 69_632);
         let chosen = choose(rate, invert, window, &octets[..count]);
-        assert_eq!(rt;
-            chosen,
-            Chosen { skip, cost },
+        assert!(rt;
+            chosen == Chosen { skip, cost },
             "{rate:?}, {count} octets from {seed}"
         );
     }
@@ -98,9 +97,9 @@ fn octets_for_a_window(rt: HostRuntime) {
         (Rate::R78, 9, 9_662, 79_587),
     ];
     for (rate, one, default, most) in rows {
-        assert_eq!(rt; octets_needed(rate, 1), one);
-        assert_eq!(rt; octets_needed(rate, 8_448), default);
-        assert_eq!(rt; octets_needed(rate, 69_632), most);
+        assert!(rt; octets_needed(rate, 1) == one);
+        assert!(rt; octets_needed(rate, 8_448) == default);
+        assert!(rt; octets_needed(rate, 69_632) == most);
     }
 }
 
@@ -128,7 +127,7 @@ static SLIPS: [(Rate, bool, u64, usize, u64, u8); 15] = [
 fn slips_in_drawn_octets(rt: HostRuntime) {
     for &(rate, invert, t, steps, seed, dropped) in &SLIPS {
         let found = slip_in(&rt, rate, invert, t, steps, &drawn(seed));
-        assert_eq!(rt; found, dropped, "{rate:?}, {seed}");
+        assert!(rt; found == dropped, "{rate:?}, {seed}");
     }
 }
 
@@ -175,7 +174,7 @@ fn slips_of_lost_symbols(rt: HostRuntime) -> Result<(), Fail> {
             let from = at + usize::from(lost);
             assert!(rt; from <= octets.len());
             let found = slip_in(&rt, rate, false, 5, 400, &octets[from..]);
-            assert_eq!(rt; found, dropped, "{rate:?}, {lost}");
+            assert!(rt; found == dropped, "{rate:?}, {lost}");
         }
     }
     Ok(())
@@ -191,12 +190,12 @@ fn octets_for_a_slip(rt: HostRuntime) {
         (Rate::R78, 71, 1_177),
     ];
     for (rate, few, most) in rows {
-        assert_eq!(rt; octets_seen(rate, 0, 56), few);
-        assert_eq!(rt; octets_seen(rate, 5, 1024), most);
+        assert!(rt; octets_seen(rate, 0, 56) == few);
+        assert!(rt; octets_seen(rate, 5, 1024) == most);
     }
-    assert_eq!(rt; steps_seen(64, 0), 56);
-    assert_eq!(rt; steps_seen(1000, 31), 1023);
-    assert_eq!(rt; steps_seen(1000, 33), 1024);
+    assert!(rt; steps_seen(64, 0) == 56);
+    assert!(rt; steps_seen(1000, 31) == 1023);
+    assert!(rt; steps_seen(1000, 33) == 1024);
 }
 
 #[test]

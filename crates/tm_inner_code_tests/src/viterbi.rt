@@ -73,9 +73,9 @@ fn row(steps: u32, kept: u32, metric: u64) -> Expected {
 }
 
 fn check_expected(rt: &impl Abort, found: &[Kept], wanted: &[Expected]) {
-    assert_eq!(rt; found.len(), wanted.len());
+    assert!(rt; found.len() == wanted.len());
     for (block, expected) in found.iter().zip(wanted) {
-        assert_eq!(rt; row(block.steps, block.kept, block.metric), *expected);
+        assert!(rt; row(block.steps, block.kept, block.metric) == *expected);
     }
 }
 
@@ -158,8 +158,8 @@ fn finish(decoder: &mut Decoder, blocks: &mut Collector) -> Result<u8, FeedError
 }
 
 fn check_stopped(rt: &impl Abort, decoder: &mut Decoder, octets: &[u8], blocks: &mut Collector) {
-    assert_eq!(rt; feed(decoder, octets, blocks), Err(FeedError::Stopped));
-    assert_eq!(rt; finish(decoder, blocks), Err(FeedError::Stopped));
+    assert!(rt; feed(decoder, octets, blocks) == Err(FeedError::Stopped));
+    assert!(rt; finish(decoder, blocks) == Err(FeedError::Stopped));
 }
 
 // Feeds a new decoder the octets in pieces, and finishes it: the blocks, and the octets left over. A finished decoder
@@ -211,10 +211,10 @@ fn check_decoded(
 ) -> Result<(), Fail> {
     let (blocks, left) = decoded(rt, alloc, link, octets, Cuts::Even(4096))?;
     check_expected(rt, blocks.kept(), wanted);
-    assert_eq!(rt; left, wanted_left);
+    assert!(rt; left == wanted_left);
     let (blocks, left) = decoded_at_once(rt, alloc, link, octets)?;
     check_expected(rt, blocks.kept(), wanted);
-    assert_eq!(rt; left, wanted_left);
+    assert!(rt; left == wanted_left);
     Ok(())
 }
 
@@ -325,7 +325,7 @@ fn check_only(
     wanted: (u8, u8, u8),
 ) -> Result<(), Fail> {
     let (blocks, _) = decoded(rt, alloc, link, &octets, Cuts::Even(size))?;
-    assert_eq!(rt; blocks.only(rt), wanted);
+    assert!(rt; blocks.only(rt) == wanted);
     Ok(())
 }
 
@@ -347,12 +347,9 @@ fn check_default_windows(rt: &impl Abort, alloc: Global, long: &[u8]) -> Result<
 
 fn check_one_by_one(rt: &impl Abort, alloc: Global, long: &[u8]) -> Result<(), Fail> {
     let (blocks, left) = decoded(rt, alloc, DEFAULT, long, Cuts::Even(1))?;
-    assert_eq!(rt; left, 0);
-    assert_eq!(rt; blocks.kept().len(), 2);
-    assert_eq!(rt;
-        (blocks.kept()[1].start, blocks.kept()[1].end_state),
-        (0, 0)
-    );
+    assert!(rt; left == 0);
+    assert!(rt; blocks.kept().len() == 2);
+    assert!(rt; (blocks.kept()[1].start, blocks.kept()[1].end_state) == (0, 0));
     Ok(())
 }
 
@@ -416,8 +413,8 @@ fn columns_of_zeros(rt: HostRuntime) {
     let (sums, metrics) = ([0; 64], [0; 4]);
     assert!(rt; are_small(&sums) && are_small(&metrics));
     let [plain, lanes] = columns(&sums, &metrics);
-    assert_eq!(rt; plain, ([0; 64], 0));
-    assert_eq!(rt; lanes, ([0; 64], 0));
+    assert!(rt; plain == ([0; 64], 0));
+    assert!(rt; lanes == ([0; 64], 0));
 }
 
 // Each form of a column beside the other: sums up to the greatest, and small ones, many of which tie.
@@ -430,7 +427,7 @@ fn columns_by_lanes(rt: HostRuntime) {
             seed = next;
             assert!(rt; are_small(&sums) && are_small(&metrics));
             let [plain, lanes] = columns(&sums, &metrics);
-            assert_eq!(rt; lanes, plain, "{sums:?} {metrics:?}");
+            assert!(rt; lanes == plain, "{sums:?} {metrics:?}");
         }
     }
 }
@@ -447,10 +444,10 @@ fn cost_at(rate: Rate, invert: bool, start: Start, octets: [u8; 24]) -> u64 {
 
 #[test]
 fn least_costs(rt: HostRuntime) -> Result<(), Fail> {
-    assert_eq!(rt; cost_of_pair(true, Start::Zero, [0x80, 0x00]), 127);
-    assert_eq!(rt; cost_of_pair(true, Start::Zero, [0x00, 0x00]), 255);
-    assert_eq!(rt; cost_of_pair(false, Start::Zero, [0x00, 0x00]), 0);
-    assert_eq!(rt; cost_of_pair(true, Start::Any, [0x00, 0x00]), 0);
+    assert!(rt; cost_of_pair(true, Start::Zero, [0x80, 0x00]) == 127);
+    assert!(rt; cost_of_pair(true, Start::Zero, [0x00, 0x00]) == 255);
+    assert!(rt; cost_of_pair(false, Start::Zero, [0x00, 0x00]) == 0);
+    assert!(rt; cost_of_pair(true, Start::Any, [0x00, 0x00]) == 0);
     let mut seed = 2000u64;
     for (rate, steps) in RATES.into_iter().zip([12u32, 16, 18, 20, 21]) {
         for first in [Some(0), None] {
@@ -475,7 +472,7 @@ fn drawn_24(seed: u64) -> ([u8; 24], u64) {
 fn check_cost(rt: &impl Abort, rate: Rate, steps: u32, first: Option<u8>, octets: [u8; 24]) {
     let wanted = best_walked(rate, true, first, 0, &octets, steps).map(|path| path.cost);
     let found = cost_at(rate, true, start_of(first), octets);
-    assert_eq!(rt; Some(found), wanted);
+    assert!(rt; Some(found) == wanted);
 }
 
 // The sums before the first step of rate 1/2, and after it.
@@ -498,7 +495,7 @@ fn sums_of_second_sum(octet: u8) -> [u32; 64] {
 fn check_from_zero(rt: &impl Abort, before: &[u32; 64]) {
     for register in 0..64usize {
         let wanted = if register == 0 { 0 } else { 1 << 30 };
-        assert_eq!(rt; before[register], wanted);
+        assert!(rt; before[register] == wanted);
     }
 }
 
@@ -509,7 +506,7 @@ fn check_after_zero(rt: &impl Abort, after: &[u32; 64]) {
             assert!(rt; after[register] <= (1 << 30) + 128);
         }
     }
-    assert_eq!(rt; (after[0], after[32]), (0x17F, 0x7F));
+    assert!(rt; (after[0], after[32]) == (0x17F, 0x7F));
 }
 
 #[test]
@@ -518,9 +515,9 @@ fn sums_of_a_step(rt: HostRuntime) {
     check_from_zero(&rt, &before);
     check_after_zero(&rt, &after);
     let (before, after) = sums_of_pair(None, [0x00, 0x00]);
-    assert_eq!(rt; before, [0; 64]);
-    assert_eq!(rt; (after[0], after[1], after[32]), (255, 0, 255));
-    assert_eq!(rt; sums_of_second_sum(0x80), [127; 64]);
+    assert!(rt; before == [0; 64]);
+    assert!(rt; (after[0], after[1], after[32]) == (255, 0, 255));
+    assert!(rt; sums_of_second_sum(0x80) == [127; 64]);
 }
 
 #[test]
@@ -537,13 +534,10 @@ fn check_fails_in_between(rt: &impl Abort, alloc: Global) -> Result<(), Fail> {
     let octets = repeated(alloc, (0x00, 0xFF), 200)?;
     let mut blocks = Collector::new(alloc, 1);
     let mut decoder = opened(rt, alloc, LEAST)?;
-    assert_eq!(rt;
-        feed(&mut decoder, &octets, &mut blocks),
-        Err(FeedError::Taker)
-    );
-    assert_eq!(rt; blocks.kept().len(), 1);
+    assert!(rt; feed(&mut decoder, &octets, &mut blocks) == Err(FeedError::Taker));
+    assert!(rt; blocks.kept().len() == 1);
     check_stopped(rt, &mut decoder, &[], &mut blocks);
-    assert_eq!(rt; blocks.faults(), 1);
+    assert!(rt; blocks.faults() == 1);
     Ok(())
 }
 
@@ -554,8 +548,8 @@ fn check_fails_at_the_end(
 ) -> Result<(), Fail> {
     let mut decoder = opened(rt, alloc, LEAST)?;
     feed(&mut decoder, &[0, 255], blocks)?;
-    assert_eq!(rt; finish(&mut decoder, blocks), Err(FeedError::Taker));
-    assert_eq!(rt; feed(&mut decoder, &[], blocks), Err(FeedError::Stopped));
+    assert!(rt; finish(&mut decoder, blocks) == Err(FeedError::Taker));
+    assert!(rt; feed(&mut decoder, &[], blocks) == Err(FeedError::Stopped));
     Ok(())
 }
 
@@ -570,8 +564,8 @@ fn check_fails_at_once(rt: &impl Abort, alloc: Global, blocks: &mut Collector) {
         &[0, 255],
         blocks,
     );
-    assert_eq!(rt; all, Err(AllError::Taker));
-    assert_eq!(rt; blocks.faults(), 2);
+    assert!(rt; all == Err(AllError::Taker));
+    assert!(rt; blocks.faults() == 2);
 }
 
 fn start_of(first: Option<u8>) -> Start {
@@ -591,21 +585,21 @@ fn octets_of(rate: Rate, t: u64, steps: u32) -> usize {
 }
 
 fn check_block(rt: &impl Abort, block: &Kept, wanted: Option<plain::Path>, steps: u32, kept: u32) {
-    assert_eq!(rt; (block.steps, block.kept), (steps, kept));
-    assert_eq!(rt; block.bits.len(), steps as usize);
+    assert!(rt; (block.steps, block.kept) == (steps, kept));
+    assert!(rt; block.bits.len() == steps as usize);
     let Some(path) = wanted else {
         assert!(rt; false);
         return;
     };
     check_ends(rt, block, &path);
     for i in 0..block.bits.len() {
-        assert_eq!(rt; block.bits[i], path.bit(i as u32));
+        assert!(rt; block.bits[i] == path.bit(i as u32));
     }
 }
 
 fn check_ends(rt: &impl Abort, block: &Kept, path: &plain::Path) {
     let ends = (block.metric, block.start, block.end_state);
-    assert_eq!(rt; ends, (path.cost, path.start(), path.register(block.kept)));
+    assert!(rt; ends == (path.cost, path.start(), path.register(block.kept)));
 }
 
 // Each window with ties beside all of its candidates.
@@ -641,11 +635,11 @@ fn check_candidates(
         ..DEFAULT
     };
     let (blocks, left) = decoded(rt, alloc, link, &octets, Cuts::Even(2))?;
-    assert_eq!(rt; left, 0);
-    assert_eq!(rt; blocks.kept().len(), 1);
+    assert!(rt; left == 0);
+    assert!(rt; blocks.kept().len() == 1);
     let wanted = best_listed(rate, invert, first, 0, &octets, steps);
     check_block(rt, &blocks.kept()[0], wanted, steps, steps);
-    assert_eq!(rt; best_walked(rate, invert, first, 0, &octets, steps), wanted);
+    assert!(rt; best_walked(rate, invert, first, 0, &octets, steps) == wanted);
     Ok(())
 }
 
@@ -674,7 +668,7 @@ fn check_windows(rt: &impl Abort, link: Link, octets: &[u8], whole: u32, blocks:
         remaining = remaining.wrapping_sub(kept);
         t = t.wrapping_add(u64::from(kept));
     }
-    assert_eq!(rt; remaining, 0);
+    assert!(rt; remaining == 0);
 }
 
 #[test]
@@ -723,7 +717,7 @@ fn check_cut(
     cuts: Cuts,
 ) -> Result<(), Fail> {
     let (blocks, left) = decoded(rt, alloc, link, octets, cuts)?;
-    assert_eq!(rt; left, 0);
+    assert!(rt; left == 0);
     check_windows(rt, link, octets, 300, blocks.kept());
     Ok(())
 }

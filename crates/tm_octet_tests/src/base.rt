@@ -12,15 +12,15 @@ fn source_cuts_and_fails(rt: HostRuntime) -> Result<(), Fail> {
     let fails = [1].to_vec(rt.alloc())?;
     let mut source = MemSource::new(content, cuts, fails);
     let mut buf = [0; 3];
-    assert_eq!(rt; source.read(&mut buf), Ok(2));
-    assert_eq!(rt; buf, [1, 2, 0]);
-    assert_eq!(rt; source.read(&mut buf), Err(Failed));
-    assert_eq!(rt; source.read(&mut buf), Ok(1));
-    assert_eq!(rt; buf, [3, 2, 0]);
-    assert_eq!(rt; source.read(&mut buf), Ok(3));
-    assert_eq!(rt; buf, [4, 5, 6]);
-    assert_eq!(rt; source.read(&mut buf), Ok(0));
-    assert_eq!(rt; source.calls(), 5);
+    assert!(rt; source.read(&mut buf) == Ok(2));
+    assert!(rt; buf == [1, 2, 0]);
+    assert!(rt; source.read(&mut buf) == Err(Failed));
+    assert!(rt; source.read(&mut buf) == Ok(1));
+    assert!(rt; buf == [3, 2, 0]);
+    assert!(rt; source.read(&mut buf) == Ok(3));
+    assert!(rt; buf == [4, 5, 6]);
+    assert!(rt; source.read(&mut buf) == Ok(0));
+    assert!(rt; source.calls() == 5);
     Ok(())
 }
 
@@ -28,13 +28,13 @@ fn source_cuts_and_fails(rt: HostRuntime) -> Result<(), Fail> {
 fn sink_fills_and_fails(rt: HostRuntime) -> Result<(), Fail> {
     let fails = [1].to_vec(rt.alloc())?;
     let mut sink = MemSink::new(rt.alloc(), 3, fails).expect(&rt, "memory");
-    assert_eq!(rt; put_all(&mut sink, &[1, 2]), Ok(()));
-    assert_eq!(rt; put_all(&mut sink, &[3]), Err(Failed));
-    assert_eq!(rt; sink.write(&[3, 4]), Ok(1));
-    assert_eq!(rt; sink.write(&[]), Ok(0));
-    assert_eq!(rt; put_all(&mut sink, &[4]), Err(Failed));
-    assert_eq!(rt; sink.calls(), 5);
-    assert_eq!(rt; sink.octets(), [1, 2, 3].as_slice());
+    assert!(rt; put_all(&mut sink, &[1, 2]) == Ok(()));
+    assert!(rt; put_all(&mut sink, &[3]) == Err(Failed));
+    assert!(rt; sink.write(&[3, 4]) == Ok(1));
+    assert!(rt; sink.write(&[]) == Ok(0));
+    assert!(rt; put_all(&mut sink, &[4]) == Err(Failed));
+    assert!(rt; sink.calls() == 5);
+    assert!(rt; sink.octets() == [1, 2, 3].as_slice());
     Ok(())
 }
 
@@ -42,13 +42,13 @@ fn sink_fills_and_fails(rt: HostRuntime) -> Result<(), Fail> {
 fn sure_ones_never_fail(rt: HostRuntime) -> Result<(), Fail> {
     let mut source = SureSource::new([7, 8, 9].to_vec(rt.alloc())?);
     let mut buf = [0; 2];
-    assert_eq!(rt; source.read(&mut buf), Ok(2));
-    assert_eq!(rt; buf, [7, 8]);
-    assert_eq!(rt; source.read(&mut buf), Ok(1));
-    assert_eq!(rt; buf, [9, 8]);
+    assert!(rt; source.read(&mut buf) == Ok(2));
+    assert!(rt; buf == [7, 8]);
+    assert!(rt; source.read(&mut buf) == Ok(1));
+    assert!(rt; buf == [9, 8]);
     let mut sink = SureSink::new();
-    assert_eq!(rt; put_all(&mut sink, &[1, 2, 3]), Ok(()));
-    assert_eq!(rt; sink.count(), 3);
+    assert!(rt; put_all(&mut sink, &[1, 2, 3]) == Ok(()));
+    assert!(rt; sink.count() == 3);
     Ok(())
 }
 
@@ -56,11 +56,11 @@ fn sure_ones_never_fail(rt: HostRuntime) -> Result<(), Fail> {
 fn std_ones_read_and_write(rt: HostRuntime) -> Result<(), Fail> {
     let mut source = StdSource::new([7, 8].as_slice());
     let mut buf = [0; 4];
-    assert_eq!(rt; source.read(&mut buf), Ok(2));
-    assert_eq!(rt; buf, [7, 8, 0, 0]);
-    assert_eq!(rt; source.read(&mut buf), Ok(0));
+    assert!(rt; source.read(&mut buf) == Ok(2));
+    assert!(rt; buf == [7, 8, 0, 0]);
+    assert!(rt; source.read(&mut buf) == Ok(0));
     let mut sink = StdSink::new(Vec::<u8>::new(rt.alloc()));
-    assert_eq!(rt; put_all(&mut sink, &[1, 2, 3]), Ok(()));
+    assert!(rt; put_all(&mut sink, &[1, 2, 3]) == Ok(()));
     Ok(())
 }
 
@@ -71,7 +71,7 @@ fn bits_of_the_marker(rt: HostRuntime) {
     for _ in 0..32 {
         word = word << 1 | u32::from(bits.next().unwrap_or(0));
     }
-    assert_eq!(rt; word, 0x1ACF_FC1D);
-    assert_eq!(rt; bits.next(), None);
-    assert_eq!(rt; marker(), MARKER);
+    assert!(rt; word == 0x1ACF_FC1D);
+    assert!(rt; bits.next() == None);
+    assert!(rt; marker() == MARKER);
 }

@@ -18,6 +18,11 @@ pub fn number_at(text: &[u8], index: usize) -> u8
     16 * digit(text[2 * index]) + digit(text[2 * index + 1])
 }
 
+/// The number that a text has in decimal digits.
+pub fn number_of(text: &str) -> Option<u64> {
+    text.parse::<u64>().ok()
+}
+
 /// A flag at each index that a text names.
 pub fn flags_of(text: &[u8]) -> [bool; 255]
     ensures { length result ≡ 255 }

@@ -45,12 +45,12 @@ static ROWS: [(u8, u8); 33] = [
 fn rows_of_the_matrices(rt: HostRuntime) {
     for (number, octet) in ROWS {
         let element = Gf(number);
-        assert_eq!(rt; to_dual(element), octet, "octet of {number}");
-        assert_eq!(rt; from_dual(octet), element, "element of {octet}");
-        assert_eq!(rt; Basis::Dual.to_octet(element), octet);
-        assert_eq!(rt; Basis::Dual.from_octet(octet), element);
-        assert_eq!(rt; Basis::Poly.to_octet(element), number);
-        assert_eq!(rt; Basis::Poly.from_octet(number), element);
+        assert!(rt; to_dual(element) == octet, "octet of {number}");
+        assert!(rt; from_dual(octet) == element, "element of {octet}");
+        assert!(rt; Basis::Dual.to_octet(element) == octet);
+        assert!(rt; Basis::Dual.from_octet(octet) == element);
+        assert!(rt; Basis::Poly.to_octet(element) == number);
+        assert!(rt; Basis::Poly.from_octet(number) == element);
     }
     basis_laws();
 }
@@ -60,14 +60,14 @@ fn whole_words(rt: HostRuntime) {
     let elements = [Gf(0x01), Gf(0x5B), Gf(0x7F)];
     let mut octets = [0; 3];
     Basis::Dual.elements_to_octets(&elements, &mut octets);
-    assert_eq!(rt; octets, [0x7B, 0x47, 0x32]);
+    assert!(rt; octets == [0x7B, 0x47, 0x32]);
     let mut back = [Gf(0); 3];
     Basis::Dual.octets_to_elements(&octets, &mut back);
-    assert_eq!(rt; back, elements);
+    assert!(rt; back == elements);
     Basis::Poly.elements_to_octets(&elements, &mut octets);
-    assert_eq!(rt; octets, [0x01, 0x5B, 0x7F]);
+    assert!(rt; octets == [0x01, 0x5B, 0x7F]);
     Basis::Poly.octets_to_elements(&octets, &mut back);
-    assert_eq!(rt; back, elements);
+    assert!(rt; back == elements);
 }
 
 // Words are converted sixteen octets at a time, and the last of them perhaps twice.
@@ -82,16 +82,15 @@ fn words_beside_single_octets(rt: HostRuntime) {
             }
             basis.octets_to_elements(&octets[..n], &mut elements[..n]);
             for i in 0..n {
-                assert_eq!(rt;
-                    elements[i],
-                    basis.from_octet(octets[i]),
+                assert!(rt;
+                    elements[i] == basis.from_octet(octets[i]),
                     "element {i} of {n}"
                 );
             }
             let mut back = [0; 255];
             basis.elements_to_octets(&elements[..n], &mut back[..n]);
             for i in 0..n {
-                assert_eq!(rt; back[i], basis.to_octet(elements[i]), "octet {i} of {n}");
+                assert!(rt; back[i] == basis.to_octet(elements[i]), "octet {i} of {n}");
             }
         }
     }

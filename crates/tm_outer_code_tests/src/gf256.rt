@@ -23,27 +23,27 @@ static SOME_POWERS: [(u32, u8); 14] = [
 fn powers_of_alpha(rt: HostRuntime) {
     for (i, number) in SOME_POWERS {
         let element = Gf(number);
-        assert_eq!(rt; Gf::exp(i), element, "power {i}");
-        assert_eq!(rt; Gf(2).pow(i), element, "power {i} of 2");
+        assert!(rt; Gf::exp(i) == element, "power {i}");
+        assert!(rt; Gf(2).pow(i) == element, "power {i} of 2");
         if number != 0 {
-            assert_eq!(rt; element.log(), i, "logarithm {i}");
+            assert!(rt; element.log() == i, "logarithm {i}");
         }
     }
-    assert_eq!(rt; Gf::exp(255), Gf(1));
-    assert_eq!(rt; Gf::exp(4294967295), Gf(1));
+    assert!(rt; Gf::exp(255) == Gf(1));
+    assert!(rt; Gf::exp(4294967295) == Gf(1));
 }
 
 #[test]
 fn arithmetic(rt: HostRuntime) {
-    assert_eq!(rt; Gf(0x87).number(), 0x87);
-    assert_eq!(rt; Gf(0x87).add(Gf(0x89)), Gf(0x0E));
+    assert!(rt; Gf(0x87).number() == 0x87);
+    assert!(rt; Gf(0x87).add(Gf(0x89)) == Gf(0x0E));
     // alpha^8 alpha^248 = alpha^256 = alpha
-    assert_eq!(rt; Gf(0x87).mul(Gf(0xEE)), Gf(0x02));
-    assert_eq!(rt; Gf(0).mul(Gf(0x5B)), Gf(0));
+    assert!(rt; Gf(0x87).mul(Gf(0xEE)) == Gf(0x02));
+    assert!(rt; Gf(0).mul(Gf(0x5B)) == Gf(0));
     // alpha^254 is the inverse of alpha
-    assert_eq!(rt; Gf(2).inv(), Gf(0xC3));
-    assert_eq!(rt; Gf(0).pow(0), Gf(1));
-    assert_eq!(rt; Gf(0).pow(3), Gf(0));
+    assert!(rt; Gf(2).inv() == Gf(0xC3));
+    assert!(rt; Gf(0).pow(0) == Gf(1));
+    assert!(rt; Gf(0).pow(3) == Gf(0));
     field_laws();
 }
 
@@ -52,12 +52,12 @@ fn arithmetic(rt: HostRuntime) {
 fn polynomials(rt: HostRuntime) {
     let mut product = [Gf(0); 3];
     mul_into(&[Gf(1), Gf(1)], &[Gf(1), Gf(2)], &mut product);
-    assert_eq!(rt; product, [Gf(1), Gf(3), Gf(2)]);
-    assert_eq!(rt; eval(&product, Gf(2)), Gf(0));
-    assert_eq!(rt; eval(&product, Gf(0)), Gf(2));
+    assert!(rt; product == [Gf(1), Gf(3), Gf(2)]);
+    assert!(rt; eval(&product, Gf(2)) == Gf(0));
+    assert!(rt; eval(&product, Gf(0)) == Gf(2));
     let mut derivative = [Gf(9); 2];
     derivative_into(&product, &mut derivative);
-    assert_eq!(rt; derivative, [Gf(0), Gf(3)]);
+    assert!(rt; derivative == [Gf(0), Gf(3)]);
     product_law();
     see_range(&product);
 }

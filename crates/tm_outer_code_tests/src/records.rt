@@ -44,7 +44,7 @@ fn record_of(zeros: usize, erased: usize) -> [u8; 66] {
 fn take(rt: &impl Abort, records: &mut Records, piece: &[u8], count: usize)
     ensures { records.new.coding ≡ records.old.coding }
 {
-    assert_eq!(rt; records.take(piece), count);
+    assert!(rt; records.take(piece) == count);
 }
 
 // Decodes so many records.
@@ -52,7 +52,7 @@ fn decode(rt: &(impl Abort + Threads + Sync), records: &mut Records, count: usiz
     ensures { records.new.coding ≡ records.old.coding }
 {
     records.decode(rt, &OpenGate);
-    assert_eq!(rt; records.count(), count);
+    assert!(rt; records.count() == count);
 }
 
 // A record became A, with such changes.
@@ -61,15 +61,15 @@ fn check_answer(rt: &impl Abort, records: &Records, index: usize, wanted: Erased
 {
     assert!(rt; index < records.count());
     let mut octets = [0; 33];
-    assert_eq!(rt; records.answer(index, &mut octets), wanted);
-    assert_eq!(rt; octets, A);
+    assert!(rt; records.answer(index, &mut octets) == wanted);
+    assert!(rt; octets == A);
 }
 
 fn check_beyond(rt: &impl Abort, records: &Records, index: usize)
     requires { records.now.coding.params.n ≡ 33 }
 {
     assert!(rt; index < records.count());
-    assert_eq!(rt; records.answer(index, &mut [0; 33]), ErasedAnswer::Beyond);
+    assert!(rt; records.answer(index, &mut [0; 33]) == ErasedAnswer::Beyond);
 }
 
 #[test]
@@ -84,12 +84,12 @@ fn erased_symbols_are_filled_in(rt: HostRuntime) -> Result<(), Fail> {
     take(&rt, &mut records, &piece[..65], 65);
     assert!(rt; !records.is_full());
     decode(&rt, &mut records, 3);
-    assert_eq!(rt; records.left_over(), 65);
+    assert!(rt; records.left_over() == 65);
     check_answer(&rt, &records, 0, ErasedAnswer::Fixed(0, 32));
     check_answer(&rt, &records, 1, ErasedAnswer::Fixed(15, 2));
     check_beyond(&rt, &records, 2);
     records.clear();
-    assert_eq!(rt; records.left_over(), 0);
+    assert!(rt; records.left_over() == 0);
     Ok(())
 }
 

@@ -9,9 +9,8 @@ fn one_symbol(rt: HostRuntime) {
     let params = Params::new(16, 33).unwrap();
     let mut out = [Gf(0); 32];
     checks(&params, &[Gf(1)], &mut out);
-    assert_eq!(rt;
-        out,
-        [
+    assert!(rt;
+        out == [
             Gf(0x5B),
             Gf(0x7F),
             Gf(0x56),
@@ -54,9 +53,8 @@ fn one_symbol_of_the_short_code(rt: HostRuntime) {
     let params = Params::new(8, 17).unwrap();
     let mut out = [Gf(0); 16];
     checks(&params, &[Gf(1)], &mut out);
-    assert_eq!(rt;
-        out,
-        [
+    assert!(rt;
+        out == [
             Gf(0xA5),
             Gf(0x69),
             Gf(0x1B),
@@ -90,7 +88,7 @@ fn plain_form(rt: HostRuntime) {
         let mut plain = [Gf(9); 32];
         checks(&params, &info[..n as usize - 32], &mut fast);
         plain_checks(&params, &info[..n as usize - 32], &mut plain);
-        assert_eq!(rt; fast, plain, "at {n}");
+        assert!(rt; fast == plain, "at {n}");
     }
     for n in [17, 100, 255] {
         let params = Params::new(8, n).unwrap();
@@ -98,6 +96,6 @@ fn plain_form(rt: HostRuntime) {
         let mut plain = [Gf(9); 16];
         checks(&params, &info[..n as usize - 16], &mut fast);
         plain_checks(&params, &info[..n as usize - 16], &mut plain);
-        assert_eq!(rt; fast, plain, "at {n}");
+        assert!(rt; fast == plain, "at {n}");
     }
 }

@@ -1,7 +1,7 @@
 // The decoder against words and answers from outside.
 ghost use Rattle.std.specs.Prelude.{◌≡◌, ◌<◌, ◌≤◌, ◌+◌, ◌*◌, length};
 
-use crate::digits::{flags_of, number_at};
+use crate::digits::{flags_of, number_at, number_of};
 use std::marker::Brand;
 use std::process::Abort;
 use std::sync::ledger::{Blank, Ledger};
@@ -26,16 +26,21 @@ struct Row<'a> {
     word: &'a [u8],
 }
 
+// A count of symbols, where a text has one.
+fn count_of(text: &str) -> Option<u8> {
+    text.parse::<u8>().ok()
+}
+
 fn row_of(line: &str) -> Option<Row<'_>> {
     let (name, rest) = line.split_once(": ")?;
     let mut fields = rest.split_whitespace();
-    let e = fields.next()?.parse::<u64>().ok()?;
-    let repair = fields.next()?.parse::<u8>().ok()?;
+    let e = number_of(fields.next()?)?;
+    let repair = count_of(fields.next()?)?;
     let erased = fields.next()?.as_bytes();
-    let outside = fields.next()?.parse::<u8>();
-    let inside = fields.next()?.parse::<u8>();
+    let outside = count_of(fields.next()?);
+    let inside = count_of(fields.next()?);
     let answer = match (outside, inside) {
-        (Ok(outside), Ok(inside)) => ErasedAnswer::Fixed(outside, inside),
+        (Some(outside), Some(inside)) => ErasedAnswer::Fixed(outside, inside),
         _ => ErasedAnswer::Beyond,
     };
     Some(Row {
@@ -97,6 +102,18 @@ fn decode_with<L: Ledger>(
     decode_erased(params, repair, erased, word, steps)
 }
 
+// What was answered for the word of a row, and what is left of it.
+fn check_decoded(
+    rt: &impl Abort,
+    row: &Row<'_>,
+    answer: ErasedAnswer,
+    left: &[Gf; 255],
+    wanted: &[Gf; 255],
+) {
+    assert!(rt; answer == row.answer, "for {}", row.name);
+    assert!(rt; *left == *wanted, "for {}", row.name);
+}
+
 // The answer of a row, and the word that is left.
 fn test_places<L: Ledger>(
     rt: &impl Abort,
@@ -112,8 +129,7 @@ fn test_places<L: Ledger>(
     let erased = flags_of(row.erased);
     let mut left = *word;
     let answer = decode_with(params, row.repair, &erased[..n], &mut left[..n], steps);
-    assert_eq!(rt; answer, row.answer, "for {}", row.name);
-    assert_eq!(rt; left, *wanted, "for {}", row.name);
+    check_decoded(rt, row, answer, &left, wanted);
 }
 
 // The same by the call without erased places.
@@ -133,8 +149,7 @@ fn test_plain<L: Ledger>(
         Answer::Fixed(wrong) => ErasedAnswer::Fixed(wrong, 0),
         Answer::Beyond => ErasedAnswer::Beyond,
     };
-    assert_eq!(rt; answer, row.answer, "for {}", row.name);
-    assert_eq!(rt; left, *wanted, "for {}", row.name);
+    check_decoded(rt, row, answer, &left, wanted);
 }
 
 // A word without erased places is given to both calls.

@@ -31,10 +31,10 @@ fn the_layers_make_the_codeword(rt: HostRuntime) -> Result<(), Fail> {
     assert!(rt; is_codeword(&params, &word));
     let mut octets = [0; 33];
     Basis::Dual.elements_to_octets(&word, &mut octets);
-    assert_eq!(rt; octets, A);
+    assert!(rt; octets == A);
     let mut column = [0; 33];
     take_word(&A_AND_ZEROS, 2, 0, &mut column);
-    assert_eq!(rt; column, A);
+    assert!(rt; column == A);
     Ok(())
 }
 
@@ -42,16 +42,16 @@ fn the_layers_make_the_codeword(rt: HostRuntime) -> Result<(), Fail> {
 #[test]
 fn a_unit_is_its_parts(rt: HostRuntime) -> Result<(), Fail> {
     let config = config_of(rt.alloc(), "tmchan encode --inner none --length 1")?;
-    assert_eq!(rt; config.length(), 1);
-    assert_eq!(rt; config.depth(), 1);
-    assert_eq!(rt; config.word_length(), 33);
+    assert!(rt; config.length() == 1);
+    assert!(rt; config.depth() == 1);
+    assert!(rt; config.word_length() == 33);
     let mut unit = [0; 37];
     cadu(&config, &[0x7B], &mut unit);
     assert!(rt; unit.starts_with(&[0x1A, 0xCF, 0xFC, 0x1D, 0x84, 0x0F, 0x3C, 0x9F, 0x1C]));
     let mut codeblock = [0; 33];
     codeblock.copy_from_slice(&unit[4..]);
     mask(&mut codeblock);
-    assert_eq!(rt; codeblock, A);
+    assert!(rt; codeblock == A);
     Ok(())
 }
 
@@ -79,13 +79,13 @@ fn check_sent(
     let mut sender = Sender::new(config);
     let mut out = MemSink::new(alloc, 500, Vec::new(alloc))?;
     send(&mut sender, octets, size, &mut out)?;
-    assert_eq!(rt; sender.finish(), 1, "pieces of {size}");
+    assert!(rt; sender.finish() == 1, "pieces of {size}");
     check_units(rt, out.octets(), size);
     Ok(())
 }
 
 fn check_units(rt: &impl Abort, octets: &[u8], size: usize) {
-    assert_eq!(rt; octets.len(), 140, "pieces of {size}");
+    assert!(rt; octets.len() == 140, "pieces of {size}");
     for unit in octets.chunks(70) {
         assert!(rt; unit.starts_with(&M), "pieces of {size}");
         assert!(rt; unit.ends_with(&A_AND_ZEROS), "pieces of {size}");
@@ -110,11 +110,11 @@ fn a_sender_stops_after_a_fault(rt: HostRuntime) -> Result<(), Fail> {
     let mut sender = Sender::new(config);
     let mut inner = InnerSender::new(&config);
     let mut out = MemSink::new(alloc, 2, Vec::new(alloc))?;
-    assert_eq!(rt; sender.push(&[1], &mut out), Err(SendError::Sink));
-    assert_eq!(rt; sender.push(&[1], &mut out), Err(SendError::Stopped));
-    assert_eq!(rt; inner.push(&[1], &mut out), Err(SendError::Sink));
-    assert_eq!(rt; inner.push(&[], &mut out), Err(SendError::Stopped));
-    assert_eq!(rt; out.octets(), [0x1A, 0xCF].as_slice());
+    assert!(rt; sender.push(&[1], &mut out) == Err(SendError::Sink));
+    assert!(rt; sender.push(&[1], &mut out) == Err(SendError::Stopped));
+    assert!(rt; inner.push(&[1], &mut out) == Err(SendError::Sink));
+    assert!(rt; inner.push(&[], &mut out) == Err(SendError::Stopped));
+    assert!(rt; out.octets() == [0x1A, 0xCF].as_slice());
     Ok(())
 }
 
@@ -123,8 +123,8 @@ fn a_sender_stops_after_a_fault(rt: HostRuntime) -> Result<(), Fail> {
 fn no_octets_meet_no_fault(rt: HostRuntime) -> Result<(), Fail> {
     let fails = [0].to_vec(rt.alloc())?;
     let mut out = MemSink::new(rt.alloc(), 1, fails)?;
-    assert_eq!(rt; put_all(&mut out, &[]), Ok(()));
-    assert_eq!(rt; put_all(&mut out, &[1]), Err(Failed));
+    assert!(rt; put_all(&mut out, &[]) == Ok(()));
+    assert!(rt; put_all(&mut out, &[1]) == Err(Failed));
     assert!(rt; out.octets().is_empty());
     Ok(())
 }
@@ -157,7 +157,7 @@ fn an_inner_sender_takes_any_pieces(rt: HostRuntime) -> Result<(), Fail> {
         let mut inner = InnerSender::new(&config);
         let mut out = MemSink::new(alloc, 32, Vec::new(alloc))?;
         send_inner(&mut inner, &[0x1A, 0xCF], size, &mut out)?;
-        assert_eq!(rt; out.octets(), SYMBOLS.as_slice(), "pieces of {size}");
+        assert!(rt; out.octets() == SYMBOLS.as_slice(), "pieces of {size}");
     }
     Ok(())
 }
@@ -169,10 +169,10 @@ fn an_inner_sender_hands_octets_on(rt: HostRuntime) -> Result<(), Fail> {
     let config = config_of(alloc, "tmchan encode --inner none --length 1")?;
     let mut inner = InnerSender::new(&config);
     let mut out = MemSink::new(alloc, 100, Vec::new(alloc))?;
-    assert_eq!(rt; inner.push(&M, &mut out), Ok(()));
-    assert_eq!(rt; inner.push(&A, &mut out), Ok(()));
+    assert!(rt; inner.push(&M, &mut out) == Ok(()));
+    assert!(rt; inner.push(&A, &mut out) == Ok(()));
     assert!(rt; out.octets().starts_with(&M));
     assert!(rt; out.octets().ends_with(&A));
-    assert_eq!(rt; out.octets().len(), 37);
+    assert!(rt; out.octets().len() == 37);
     Ok(())
 }

@@ -133,10 +133,9 @@ fn check_pieces(
         feed(rt, receiver, piece, taker)?;
     }
     assert!(rt; taker.kept.is_empty(), "pieces of {size}");
-    assert_eq!(rt; finish(rt, receiver, taker), Ok(296), "pieces of {size}");
-    assert_eq!(rt;
-        taker.kept.as_slice(),
-        [FIRST].as_slice(),
+    assert!(rt; finish(rt, receiver, taker) == Ok(296), "pieces of {size}");
+    assert!(rt;
+        taker.kept.as_slice() == [FIRST].as_slice(),
         "pieces of {size}"
     );
     Ok(())
@@ -148,8 +147,8 @@ fn check_stopped(
     receiver: &mut Receiver,
     taker: &mut Collector,
 ) -> Result<(), Fail> {
-    assert_eq!(rt; feed(rt, receiver, &M, taker), Err(RecvError::Stopped));
-    assert_eq!(rt; finish(rt, receiver, taker), Err(RecvError::Stopped));
+    assert!(rt; feed(rt, receiver, &M, taker) == Err(RecvError::Stopped));
+    assert!(rt; finish(rt, receiver, taker) == Err(RecvError::Stopped));
     Ok(())
 }
 
@@ -167,7 +166,7 @@ fn a_receiver_takes_any_pieces(rt: HostRuntime) -> Result<(), Fail> {
 fn a_receiver_stops_at_its_end(rt: HostRuntime) -> Result<(), Fail> {
     let mut receiver = open(rt.alloc())?;
     let mut taker = Collector::new(rt.alloc(), 9);
-    assert_eq!(rt; finish(&rt, &mut receiver, &mut taker), Ok(0));
+    assert!(rt; finish(&rt, &mut receiver, &mut taker) == Ok(0));
     check_stopped(&rt, &mut receiver, &mut taker)
 }
 
@@ -177,7 +176,7 @@ fn check_fault_at_the_end(
     taker: &mut Collector,
 ) -> Result<(), Fail> {
     feed(rt, receiver, &UNIT, taker)?;
-    assert_eq!(rt; finish(rt, receiver, taker), Err(RecvError::Taker));
+    assert!(rt; finish(rt, receiver, taker) == Err(RecvError::Taker));
     check_stopped(rt, receiver, taker)
 }
 
@@ -196,7 +195,7 @@ fn check_fault_of_a_batch(
     for _ in 0..31 {
         feed(rt, receiver, &UNIT, taker)?;
     }
-    assert_eq!(rt; feed(rt, receiver, &UNIT, taker), Err(RecvError::Taker));
+    assert!(rt; feed(rt, receiver, &UNIT, taker) == Err(RecvError::Taker));
     check_stopped(rt, receiver, taker)
 }
 
@@ -220,8 +219,8 @@ fn check_received(
 ) -> Result<(), Fail> {
     let mut taker = Collector::new(alloc, room);
     let end = receive(rt, alloc, config(skip)?, octets, &mut taker);
-    assert_eq!(rt; end, wanted);
-    assert_eq!(rt; taker.kept.as_slice(), items);
+    assert!(rt; end == wanted);
+    assert!(rt; taker.kept.as_slice() == items);
     Ok(())
 }
 

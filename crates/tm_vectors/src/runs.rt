@@ -127,11 +127,13 @@ pub fn check_outcome(
     notes: &[u8],
 ) {
     let (cut, room) = (given.cut, given.notes_room);
-    assert_eq!(rt; outcome.status, status, "{name}, cut {cut}, room {room}");
-    assert_eq!(rt; outcome.out.octets(), out, "{name}, cut {cut}, room {room}");
-    assert_eq!(rt;
-        outcome.notes.octets(),
-        notes,
+    assert!(rt; outcome.status == status, "{name}, cut {cut}, room {room}");
+    assert!(rt;
+        outcome.out.octets() == out,
+        "{name}, cut {cut}, room {room}"
+    );
+    assert!(rt;
+        outcome.notes.octets() == notes,
         "{name}, cut {cut}, room {room}"
     );
 }

@@ -156,11 +156,11 @@ fn check_stream<R: Abort + Threads + Sync>(
 ) -> Result<(), Fail> {
     let octets = octets_for(rt, alloc, kind, shape)?;
     let wanted = alone(rt, alloc, shape, start, &octets, u64::MAX)?;
-    assert_eq!(rt; wanted.digest.blocks, WINDOWS as u64 + 1);
+    assert!(rt; wanted.digest.blocks == WINDOWS as u64 + 1);
     for workers in [1, 2, 7] {
         for way in WAYS {
             let outcome = with_workers(rt, alloc, shape, start, workers, &octets, way, u64::MAX)?;
-            assert_eq!(rt; outcome, wanted);
+            assert!(rt; outcome == wanted);
         }
     }
     Ok(())
@@ -188,7 +188,7 @@ fn more_workers_than_windows(rt: HostRuntime) -> Result<(), Fail> {
         Way::Gathered,
         u64::MAX,
     )?;
-    assert_eq!(rt; outcome, wanted);
+    assert!(rt; outcome == wanted);
     Ok(())
 }
 
@@ -198,11 +198,11 @@ fn a_taker_fails_at_each_block(rt: HostRuntime) -> Result<(), Fail> {
     let octets = octets_for(&rt, alloc, Kind::Noisy, SHARED)?;
     for room in 0..=WINDOWS as u64 {
         let wanted = alone(&rt, alloc, SHARED, Start::Zero, &octets, room)?;
-        assert_eq!(rt; wanted.digest.blocks, room);
-        assert_eq!(rt; wanted.answer, Err(FeedError::Taker));
+        assert!(rt; wanted.digest.blocks == room);
+        assert!(rt; wanted.answer == Err(FeedError::Taker));
         for way in WAYS {
             let outcome = with_workers(&rt, alloc, SHARED, Start::Zero, 3, &octets, way, room)?;
-            assert_eq!(rt; outcome, wanted);
+            assert!(rt; outcome == wanted);
         }
     }
     Ok(())
@@ -215,18 +215,15 @@ fn gathered_octets_wait(rt: HostRuntime) -> Result<(), Fail> {
     let mut decoder = opened(&rt, alloc, SHARED, Start::Zero, 2, false)?;
     let mut digest = empty();
     assert!(rt; decoder.gather(&octets));
-    assert_eq!(rt; decoder.count_closed(), WINDOWS);
+    assert!(rt; decoder.count_closed() == WINDOWS);
     decoder.feed(&rt, &[], &mut digest)?;
-    assert_eq!(rt; digest.blocks, WINDOWS as u64);
-    assert_eq!(rt; decoder.count_closed(), 0);
+    assert!(rt; digest.blocks == WINDOWS as u64);
+    assert!(rt; decoder.count_closed() == 0);
     decoder.finish(&rt, &mut digest)?;
-    assert_eq!(rt; digest.blocks, WINDOWS as u64 + 1);
+    assert!(rt; digest.blocks == WINDOWS as u64 + 1);
     assert!(rt; !decoder.gather(&[]));
-    assert_eq!(rt;
-        decoder.feed(&rt, &[], &mut digest),
-        Err(FeedError::Stopped)
-    );
-    assert_eq!(rt; decoder.finish(&rt, &mut digest), Err(FeedError::Stopped));
+    assert!(rt; decoder.feed(&rt, &[], &mut digest) == Err(FeedError::Stopped));
+    assert!(rt; decoder.finish(&rt, &mut digest) == Err(FeedError::Stopped));
     Ok(())
 }
 
@@ -244,12 +241,12 @@ fn room_ends_with_the_batch(rt: HostRuntime) -> Result<(), Fail> {
     let mut digest = empty();
     assert!(rt; !decoder.gather(&[127; 131]));
     assert!(rt; decoder.gather(&[127; 129]));
-    assert_eq!(rt; decoder.count_closed(), 0);
+    assert!(rt; decoder.count_closed() == 0);
     assert!(rt; decoder.gather(&[127]));
     assert!(rt; !decoder.gather(&[127]));
-    assert_eq!(rt; decoder.count_closed(), 1);
+    assert!(rt; decoder.count_closed() == 1);
     decoder.feed(&rt, &[127; 128], &mut digest)?;
-    assert_eq!(rt; digest.blocks, 2);
+    assert!(rt; digest.blocks == 2);
     Ok(())
 }
 
@@ -283,18 +280,18 @@ fn followed_streams_drop_octets(rt: HostRuntime) -> Result<(), Fail> {
     let mut octets = octets_for(&rt, alloc, Kind::Clean, UPRIGHT)?;
     let whole = alone(&rt, alloc, UPRIGHT, Start::Zero, &octets, u64::MAX)?;
     let (outcome, slips) = followed(&rt, alloc, 1, &octets, Way::Once, u64::MAX)?;
-    assert_eq!(rt; outcome, whole);
-    assert_eq!(rt; slips, 0);
+    assert!(rt; outcome == whole);
+    assert!(rt; slips == 0);
     assert!(rt; octets.len() > 3000);
     octets.remove(3000);
     let (wanted, slips) = followed(&rt, alloc, 1, &octets, Way::Once, u64::MAX)?;
-    assert_eq!(rt; wanted.digest.blocks, WINDOWS as u64 + 1);
-    assert_eq!(rt; slips, 1);
+    assert!(rt; wanted.digest.blocks == WINDOWS as u64 + 1);
+    assert!(rt; slips == 1);
     for workers in [1, 2, 7] {
         for way in WAYS {
             let (outcome, slips) = followed(&rt, alloc, workers, &octets, way, u64::MAX)?;
-            assert_eq!(rt; outcome, wanted);
-            assert_eq!(rt; slips, 1);
+            assert!(rt; outcome == wanted);
+            assert!(rt; slips == 1);
         }
     }
     Ok(())
@@ -308,14 +305,14 @@ fn followed_streams_are_shared_out(rt: HostRuntime) -> Result<(), Fail> {
     assert!(rt; octets.len() > 135_000);
     octets.remove(135_000);
     let (wanted, slips) = followed(&rt, alloc, 1, &octets, Way::Once, u64::MAX)?;
-    assert_eq!(rt; wanted.digest.blocks, 69);
-    assert_eq!(rt; slips, 1);
+    assert!(rt; wanted.digest.blocks == 69);
+    assert!(rt; slips == 1);
     let (outcome, slips) = followed(&rt, alloc, 3, &octets, Way::Gathered, u64::MAX)?;
-    assert_eq!(rt; outcome, wanted);
-    assert_eq!(rt; slips, 1);
+    assert!(rt; outcome == wanted);
+    assert!(rt; slips == 1);
     let (outcome, slips) = followed(&rt, alloc, 2, &octets, Way::Once, 40)?;
-    assert_eq!(rt; outcome.digest.blocks, 40);
-    assert_eq!(rt; outcome.answer, Err(FeedError::Taker));
-    assert_eq!(rt; slips, 0);
+    assert!(rt; outcome.digest.blocks == 40);
+    assert!(rt; outcome.answer == Err(FeedError::Taker));
+    assert!(rt; slips == 0);
     Ok(())
 }

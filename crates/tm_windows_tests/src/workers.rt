@@ -106,10 +106,10 @@ fn blocks_are_those_of_one_thread(rt: HostRuntime) -> Result<(), Fail> {
                 };
                 let octets = soft_octets(alloc, rate, kind, 18 * keep + ahead + 1)?;
                 let wanted = closed_by_one_thread(&rt, alloc, shape, start, &octets)?;
-                assert_eq!(rt; wanted.blocks, WINDOWS);
+                assert!(rt; wanted.blocks == WINDOWS);
                 for workers in [1, 2, 3, 7, 64] {
                     let digest = closed_by_workers(&rt, alloc, shape, start, workers, &octets)?;
-                    assert_eq!(rt; digest, wanted);
+                    assert!(rt; digest == wanted);
                 }
             }
         }

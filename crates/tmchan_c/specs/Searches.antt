@@ -86,7 +86,7 @@ abbrev pub span_refusal : SearchState → ℕ → ℕ → ℕ → ℕ → Option
 span_refusal s room at count size =
     if (s.is_open == 1) && is_resumable (paused_of s) then
     if (room == verify_bits (search_of s).rules)
-        && nat_le count most_taken && nat_le at size
+    && nat_le count most_taken && nat_le at size
     then None
     else Some Room
     else Some Closed

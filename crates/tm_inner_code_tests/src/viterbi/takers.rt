@@ -49,7 +49,7 @@ impl Collector {
 
     // Where the only block's path starts, its first bit, and its last register.
     pub(super) fn only(&self, rt: &impl Abort) -> (u8, u8, u8) {
-        assert_eq!(rt; self.kept.len(), 1);
+        assert!(rt; self.kept.len() == 1);
         assert!(rt; !self.kept[0].bits.is_empty());
         (
             self.kept[0].start,

@@ -23,7 +23,7 @@ returns-clause-pushed c = λ config given done is few.
           let receiver = subst (λ (o : Option Stream). IsReceiver o config given done) held is in
           let there = w.feed.ensures.received given done few receiver.1 in
           let written : HasWritten w.feed.result c.match-deref_mut.frames
-              c.match-deref_mut.reports (items_of there.more) =
+          c.match-deref_mut.reports (items_of there.more) =
           subst (λ reports. HasWritten w.feed.result c.match-deref_mut.frames reports (items_of there.more)) (sym w.reports-is)
           (subst (λ frames. HasWritten w.feed.result frames w.feed.new.reports (items_of there.more)) (sym w.frames-is) there.written) in
           record {
