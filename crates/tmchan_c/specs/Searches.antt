@@ -3,7 +3,7 @@ use Rattle.std.specs.Int.{from_bool}
 use Rattle.std.specs.Prelude.{◌≡◌, ℕ, ◌+◌, ◌≤◌, ◌==◌, ◌&&◌, nat_le, ℤ, pos, Bool, true, List, [], ◌++◌, length, Option, Some, None, if◌then◌else◌}
 use Rattle.tm_base.specs.Marker.{most_tolerance}
 use Rattle.tm_config.specs.Accepted.{sought_fits}
-use Rattle.tm_config.specs.Configuration.{most_fly, most_verify}
+use Rattle.tm_config.specs.Configuration.{most_fly, most_verify, is_sought, sought_of}
 use Rattle.tm_config.specs.declared.error.ConfigError.TheVariants.{Tolerance, Fly, Polarity, Verify}
 use Rattle.tm_sync.specs.declared.found.Found.{Found}
 use Rattle.tm_sync.specs.declared.found.Before.{Before}
@@ -44,7 +44,7 @@ abbrev pub paused_of : SearchState → Paused
 paused_of s = record {
   tolerance = s.tolerance;
   fly = s.fly;
-  either = s.either == 1;
+  either = is_sought (sought_of s.either);
   block_bits = s.block_bits;
   verify = s.verify;
   word = s.word;
@@ -63,7 +63,7 @@ abbrev pub rules_with : ℕ → ℕ → ℕ → ℕ → ℕ → Rules
 rules_with tolerance fly either block_bits verify = record {
   tolerance = tolerance;
   fly = fly;
-  either = either == 1;
+  either = is_sought (sought_of either);
   block_bits = block_bits;
   verify = verify;
 }

@@ -2,7 +2,7 @@
 ghost use Rattle.std.specs.Prelude.{◌≡◌, ◌*◌, ◌≤◌, None, Some, IfOk, IfErr, OnOk, length, pos};
 ghost use Rattle.tm_base.specs.Bits.{bits_of};
 ghost use Rattle.tm_base.specs.Marker.{most_tolerance};
-ghost use Rattle.tm_config.specs.Configuration.{most_fly, most_verify};
+ghost use Rattle.tm_config.specs.Configuration.{most_fly, most_verify, is_sought, sought_of};
 ghost use Rattle.tm_buffers.specs.Searching.{bits_in};
 ghost use Rattle.tm_buffers.specs.Buffer.{most_taken};
 ghost use Rattle.tmchan_c.specs.Refusal.{Refuses};
@@ -80,7 +80,7 @@ pub extern "C" fn tmchan_search_open(
             let begun = Search::new(
                 tolerance as u8,
                 fly as u8,
-                either == 1,
+                is_either(either),
                 block_bits,
                 verify as u8,
             );
@@ -152,7 +152,7 @@ pub extern "C" fn tmchan_search_octets(
 // The first reason to refuse the rules of a search, or none.
 fn rules_refusal(tolerance: u32, fly: u32, either: u32, verify: u32) -> Option<Refusal>
     ensures value { result ≡ rules_refusal tolerance fly either verify }
-    ensures fit { result ≡ None → (tolerance ≤ most_tolerance) × (fly ≤ most_fly) × (either ≤ 1)
+    ensures fit { result ≡ None → (tolerance ≤ most_tolerance) × (fly ≤ most_fly)
         × (verify ≤ most_verify) }
 {
     if tolerance > MOST_TOLERANCE {
@@ -168,6 +168,13 @@ fn rules_refusal(tolerance: u32, fly: u32, either: u32, verify: u32) -> Option<R
         return Some(Refusal::Value(ConfigError::Verify));
     }
     None
+}
+
+// Whether the polarity is to be found.
+fn is_either(either: u32) -> bool
+    ensures { result ≡ is_sought (sought_of either) }
+{
+    either == 1
 }
 
 // The search that goes on with a room of so many octets and an array of so many elements that has `size` bits, from bit
@@ -263,7 +270,7 @@ fn paused(search: &SearchState) -> Paused
     Paused {
         tolerance: search.tolerance,
         fly: search.fly,
-        either: search.either == 1,
+        either: is_either(u32::from(search.either)),
         block_bits: search.block_bits,
         verify: search.verify,
         word: search.word,
