@@ -1,10 +1,11 @@
 -- What contracts see of the decoder of the inner code, with one worker or with several.
-use Rattle.std.specs.Prelude.{◌≡◌, ℕ, Bool, List, Option, Some, None, IsTrue}
+use Rattle.std.specs.Prelude.{◌≡◌, ℕ, ◌+◌, ◌<◌, ◌≤◌, Bool, false, List, length, Option, Some, None, IsTrue}
 use Rattle.tm_config.specs.Configuration.{Configuration}
 use Rattle.tm_viterbi.specs.WindowBlock.{WindowBlock}
+use Rattle.tm_viterbi.specs.WindowSizes.{stream_bound}
 use Rattle.tm_viterbi.specs.Decoding.{DecoderStandsFor}
 use Rattle.tm_windows.specs.Followed.{Windows, slips_of, kept_of}
-use Rattle.tm_windows.specs.Gathered.{IsOpen}
+use Rattle.tm_windows.specs.Gathered.{IsOpen, room_of}
 use Rattle.tm_windows.specs.Sharing.{workers_for, windows_for}
 use Rattle.tm_windows.specs.ParallelDecoding.{ParallelStandsFor}
 use Rattle.tm_inner.specs.declared.inner_decoder.InnerDecoder.{InnerDecoder}
@@ -29,6 +30,13 @@ HasWorkers workers c (Some (Many decoder)) =
     (decoder.gathering.workers.workers ≡ workers_for workers c.keep c.ahead)
     × (decoder.gathering.workers.most ≡ windows_for (workers_for workers c.keep c.ahead) c.keep)
     × (workers ≡ 1 → IsTrue c.follow)
+
+-- it can take so many octets, all of them, and decode none yet
+abbrev pub CanGather : InnerDecoder → ℕ → Type 0
+CanGather (One decoder) count = ⊥
+CanGather (Many decoder) count =
+    (decoder.has_stopped ≡ false) × (decoder.count + count < stream_bound)
+    × (length decoder.gathering.held.octets + count ≤ room_of decoder.gathering)
 
 -- the octets that it holds close no window
 abbrev pub HasClosed : InnerDecoder → Type 0

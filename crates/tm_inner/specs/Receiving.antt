@@ -1,6 +1,6 @@
 -- What an inner receiver keeps, and for which octets, given so far, and which blocks, handed over
 -- so far, it stands.
-use Rattle.std.specs.Prelude.{◌≡◌, ◌⊎◌, ℕ, ◌+◌, ◌<◌, ◌≤◌, Bool, false, List, [], ◌++◌, length, map, drop, Option, Some, None}
+use Rattle.std.specs.Prelude.{◌≡◌, ◌⊎◌, ℕ, ◌+◌, ◌<◌, ◌≤◌, Bool, true, false, List, [], ◌++◌, length, map, drop, Option, Some, None}
 use Rattle.tm_base.specs.Handed.{Handed}
 use Rattle.tm_base.specs.Takers.{HandedOver, HandedPart}
 use Rattle.tm_config.specs.Configuration.{Configuration}
@@ -12,8 +12,8 @@ use Rattle.tm_inner.specs.declared.inner_decoder.InnerDecoder.{InnerDecoder}
 use Rattle.tm_windows.specs.declared.choosing.Chosen.{Chosen}
 use Rattle.tm_windows.specs.Windows.{AreFirstIn}
 use Rattle.tm_inner.specs.Inner.{windows_of, soft_value, soft_octets, unsigned_value}
-use Rattle.tm_inner.specs.InnerDecoding.{HasClosed, HasCounted, windows_in, has_stopped_in, StandsIn}
-use Rattle.tm_inner.specs.Phase.{IsChosenBy, IsSettledBy, phase_octets, skip_of, with_phase}
+use Rattle.tm_inner.specs.InnerDecoding.{CanGather, HasClosed, HasCounted, windows_in, has_stopped_in, StandsIn}
+use Rattle.tm_inner.specs.Phase.{IsChosenBy, IsSettledBy, phase_octets, skip_of, skipped_at, with_phase}
 
 -- the decoder is that of the configuration's inner code, and there is none where it has no inner
 -- code
@@ -26,6 +26,11 @@ IsDecoderOf c (Some decoder) = (rate : Rate) × (c.inner ≡ Some rate)
 abbrev pub HasStopped : Bool → Option InnerDecoder → Type 0
 HasStopped stopped None = Unit {0}
 HasStopped stopped (Some decoder) = has_stopped_in decoder ≡ stopped
+
+-- so many octets are left of those that were to be gathered: none, or more than a decoder can take
+abbrev pub HasGathered : Option InnerDecoder → ℕ → Type 0
+HasGathered None left = Unit {0}
+HasGathered (Some decoder) left = (left ≡ 0) ⊎ (CanGather decoder left → ⊥)
 
 -- what a decoder holds, where there is one, closes no window
 abbrev pub HasClosedAll : Option InnerDecoder → Type 0
@@ -111,6 +116,11 @@ pub record InnerReceiving : Type 0 where
   pub count : ℕ
   -- an earlier call answered Taker, or `finish` was called
   pub has_stopped : Bool
+
+-- it gathers nothing: it has stopped, octets are still to be skipped, or the phase is to be chosen
+abbrev pub GathersNothing : InnerReceiving → Type 0
+GathersNothing r = (r.has_stopped ≡ true) ⊎ (r.count < skipped_at r.config.inner r.config)
+    ⊎ ((r.phased.config.phase ≡ Find) × (r.phased.chosen ≡ None))
 
 -- an inner receiver that was given these octets and no others, fewer than 2^60, and has handed over
 -- this

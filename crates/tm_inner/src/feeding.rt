@@ -1,5 +1,5 @@
 // The decoder of a configuration's inner code, and soft octets of either form given to it.
-ghost use Rattle.std.specs.Prelude.{◌≡◌, ◌≢◌, ◌<◌, ◌≤◌, ◌++◌, ◌⊎◌, ℕ, ◌+◌, Bool, List, [], None, true, false, IfOk, IfSome, IsSome, OnOk, OnErr, length, take};
+ghost use Rattle.std.specs.Prelude.{◌≡◌, ◌≢◌, ◌<◌, ◌≤◌, ◌++◌, ◌⊎◌, ℕ, ◌+◌, ◌-◌, Bool, List, [], None, true, false, IfOk, IfSome, IsSome, OnOk, OnErr, length, take};
 ghost use Rattle.tm_base.specs.Outside.{HasCause};
 ghost use Rattle.tm_base.specs.Takers.{HandedOver, HandedPart};
 ghost use Rattle.tm_base.specs.Limits.{most_workers};
@@ -8,8 +8,8 @@ ghost use Rattle.tm_viterbi.specs.WindowBlock.{WindowBlock};
 ghost use Rattle.tm_windows.specs.Followed.{slips_of, kept_of};
 ghost use Rattle.tm_inner.specs.Calls.{GivesSoft};
 ghost use Rattle.tm_inner.specs.Inner.{AreInnerBlocks, AreInnerDue, soft_octets};
-ghost use Rattle.tm_inner.specs.InnerDecoding.{HasClosed, HasWorkers, windows_in, has_stopped_in, StandsIn};
-ghost use Rattle.tm_inner.specs.Receiving.{AreInnerFirst, HasClosedAll, HasCountedAll, IsCount, IsDecoderOf, HasStopped, DecodesFor, FindsFirst, Hands, HandsPrefix, from_form};
+ghost use Rattle.tm_inner.specs.InnerDecoding.{CanGather, HasClosed, HasWorkers, windows_in, has_stopped_in, StandsIn};
+ghost use Rattle.tm_inner.specs.Receiving.{AreInnerFirst, HasClosedAll, HasCountedAll, IsCount, IsDecoderOf, HasGathered, HasStopped, DecodesFor, FindsFirst, Hands, HandsPrefix, from_form};
 
 use crate::code::{rate_of, shape_of};
 use crate::inner_decoder::InnerDecoder;
@@ -92,6 +92,7 @@ pub fn gather_octets(decoder: &mut Option<InnerDecoder>, is_signed: bool, octets
     ensures of { (c : Configuration) → IsDecoderOf c decoder.old → IsDecoderOf c decoder.new }
     ensures stopped { (stopped : Bool) → HasStopped stopped decoder.old → HasStopped stopped decoder.new }
     ensures most { result ≤ length octets.now }
+    ensures all { HasGathered decoder.new (length octets.now - result) }
     ensures gathered { (soft : List ℕ) (done : List WindowBlock) → DecodesFor decoder.old soft done
         → DecodesFor decoder.new (soft ++ from_form is_signed (take result octets.now)) done }
 {
@@ -114,6 +115,7 @@ fn gather_signed(decoder: &mut InnerDecoder, octets: &[u8]) -> usize
     ensures windows { windows_in decoder.new ≡ windows_in decoder.old }
     ensures stopped { has_stopped_in decoder.new ≡ has_stopped_in decoder.old }
     ensures most { result ≤ length octets.now }
+    ensures all { (length octets.now - result ≡ 0) ⊎ (CanGather decoder.new (length octets.now - result) → ⊥) }
     ensures gathered { (soft : List ℕ) (done : List WindowBlock) → StandsIn decoder.old soft done
         → StandsIn decoder.new (soft ++ from_form true (take result octets.now)) done }
 {

@@ -1,5 +1,5 @@
 // The receiver's first stage.
-ghost use Rattle.std.specs.Prelude.{◌≡◌, ◌↔◌, ◌++◌, ℕ, ◌+◌, ◌-◌, ◌<◌, ◌≤◌, ◌==◌, IsTrue, List, [], true, false, IfOk, OnOk, IsErrOf, None, length, drop, map, min, take};
+ghost use Rattle.std.specs.Prelude.{◌≡◌, ◌↔◌, ◌++◌, ℕ, ◌+◌, ◌-◌, ◌<◌, ◌≤◌, ◌==◌, ◌⊎◌, IsTrue, List, [], true, false, IfOk, OnOk, IsErrOf, None, length, drop, map, min, take};
 ghost use Rattle.std.specs.Option.{is_some};
 ghost use Rattle.tm_base.specs.Calls.{taker_call};
 ghost use Rattle.tm_base.specs.Handed.{Handed, Item, items_of, on_handed};
@@ -14,7 +14,7 @@ ghost use Rattle.tm_windows.specs.Followed.{slips_of};
 ghost use Rattle.tm_inner.specs.Inner.{AreInnerBlocks, inner_bits, nearest_bit, plain_bits, plain_count, reported_slips};
 ghost use Rattle.tm_inner.specs.Phase.{IsChosen, IsChosenSoFar, phase_octets, skip_of, skipped_at};
 ghost use Rattle.tm_inner.specs.InnerDecoding.{HasWorkers};
-ghost use Rattle.tm_inner.specs.Receiving.{HasCountedAll, IsCount, InnerReceiverStandsFor};
+ghost use Rattle.tm_inner.specs.Receiving.{GathersNothing, HasCountedAll, HasGathered, IsCount, InnerReceiverStandsFor};
 ghost use Rattle.tm_inner.specs.Calls.{Calls, Feeds, Finishes};
 ghost use Rattle.tm_inner.specs.Handing.{AreHanded, AreHandedDue, AreHandedFirst, AreHandedPrefix};
 
@@ -171,10 +171,10 @@ impl InnerReceiver {
         }
     }
 
-    /// Takes of the next octets the first ones, as many as it can hold, and decodes none: the blocks that are due with
-    /// them are handed over by the next call that is not of this kind. Answers how many octets it took. With one worker
-    /// or no inner code, while octets are to be skipped or the symbol phase is to be chosen, where an earlier call
-    /// answered `Taker`, and after `finish` these are none.
+    /// Takes of the next octets the first ones, all or so many that it has no room for all others, and decodes none:
+    /// the blocks that are due with them are handed over by the next call that is not of this kind. Answers how many
+    /// octets it took. With one worker or no inner code, while octets are to be skipped or the symbol phase is to be
+    /// chosen, where an earlier call answered `Taker`, and after `finish` these are none.
     ///
     /// The octets given in all are to be below 2^60.
     pub fn gather(&mut self, octets: &[u8]) -> usize
@@ -182,6 +182,8 @@ impl InnerReceiver {
         ensures stopped { self.new.has_stopped ≡ self.old.has_stopped }
         ensures chosen { self.new.phased.chosen ≡ self.old.phased.chosen }
         ensures most { result ≤ length octets.now }
+        ensures all { GathersNothing self.old
+            ⊎ HasGathered self.new.phased.decoder (length octets.now - result) }
         ensures gathered { (given : List ℕ) (done : List (Handed WindowBlock)) → length given + result < stream_bound
             → InnerReceiverStandsFor self.old given done
             → InnerReceiverStandsFor self.new (given ++ take result octets.now) done }

@@ -1,5 +1,5 @@
 // The decoder of the inner code after the choice of the symbol phase.
-ghost use Rattle.std.specs.Prelude.{◌≡◌, ◌≢◌, ◌↔◌, ◌++◌, ◌+◌, ◌<◌, ◌≤◌, ◌⊎◌, ℕ, List, [], None, false, IfOk, IfSome, IsSome, IsTrue, OnOk, OnErr, length, map, take};
+ghost use Rattle.std.specs.Prelude.{◌≡◌, ◌≢◌, ◌↔◌, ◌++◌, ◌+◌, ◌-◌, ◌<◌, ◌≤◌, ◌⊎◌, ℕ, List, [], None, false, IfOk, IfSome, IsSome, IsTrue, OnOk, OnErr, length, map, take};
 ghost use Rattle.tm_base.specs.Handed.{Handed, Item, items_of, on_handed};
 ghost use Rattle.tm_base.specs.Outside.{HasCause};
 ghost use Rattle.tm_base.specs.Takers.{HandedOver, HandedPart};
@@ -10,7 +10,7 @@ ghost use Rattle.tm_viterbi.specs.WindowSizes.{stream_bound};
 ghost use Rattle.tm_windows.specs.Followed.{slips_of, kept_of};
 ghost use Rattle.tm_inner.specs.Phase.{IsChosenBy, IsSoFarBy, PhaseAt, needed_at, phase_octets, skip_of};
 ghost use Rattle.tm_inner.specs.InnerDecoding.{HasWorkers};
-ghost use Rattle.tm_inner.specs.Receiving.{HasClosedAll, HasCountedAll, IsCount, IsDecoderOf, HasStopped, Hands, HandsPrefix, PhasesFor, Waits, Goes, IsPrefixBy, IsFirstBy, soft_form};
+ghost use Rattle.tm_inner.specs.Receiving.{HasClosedAll, HasCountedAll, IsCount, IsDecoderOf, HasGathered, HasStopped, Hands, HandsPrefix, PhasesFor, Waits, Goes, IsPrefixBy, IsFirstBy, soft_form};
 ghost use Rattle.tm_inner.specs.Handing.{AreHanded, AreHandedDue, AreHandedPrefix};
 
 use crate::code::{is_inverted, is_signed, rate_of};
@@ -131,6 +131,8 @@ impl Phased {
         ensures fresh { HasStopped false self.old.decoder → HasStopped false self.new.decoder }
         ensures chosen { self.new.chosen ≡ self.old.chosen }
         ensures most { result ≤ length octets.now }
+        ensures all { ((self.old.config.phase ≡ Sought.Find) × (self.old.chosen ≡ None))
+            ⊎ HasGathered self.new.decoder (length octets.now - result) }
         ensures gathered { (soft : List ℕ) (done : List (Handed WindowBlock)) → PhasesFor self.old soft done
             → PhasesFor self.new (soft ++ soft_form self.old.config (take result octets.now)) done }
     {

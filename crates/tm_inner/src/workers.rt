@@ -7,7 +7,7 @@ ghost use Rattle.tm_viterbi.specs.WindowBlock.{WindowBlock};
 ghost use Rattle.tm_viterbi.specs.WindowSizes.{stream_bound};
 ghost use Rattle.tm_windows.specs.Followed.{slips_of, kept_of};
 ghost use Rattle.tm_windows.specs.Windows.{AreBlocksIn, AreDueIn, AreFirstIn};
-ghost use Rattle.tm_inner.specs.InnerDecoding.{HasClosed, HasCounted, windows_in, has_stopped_in, StandsIn};
+ghost use Rattle.tm_inner.specs.InnerDecoding.{CanGather, HasClosed, HasCounted, windows_in, has_stopped_in, StandsIn};
 
 use crate::inner_decoder::InnerDecoder;
 use std::thread::Threads;
@@ -64,6 +64,7 @@ pub trait Feeding<B: BlockTaker> {
 
 /// Takes the next soft octets, where the decoder can hold them all, and decodes none. Answers whether it took them.
 pub fn gather(decoder: &mut InnerDecoder, piece: &[u8]) -> bool
+    ensures fits { IsTrue result ↔ CanGather decoder.old (length piece.now) }
     ensures unchanged { result ≡ false → decoder.new ≡ decoder.old }
     ensures windows { (windows_in decoder.new ≡ windows_in decoder.old)
         × (has_stopped_in decoder.new ≡ has_stopped_in decoder.old) }
