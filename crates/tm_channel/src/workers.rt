@@ -1,5 +1,5 @@
 // Who decodes windows and words: workers side by side, or the caller alone.
-ghost use Rattle.std.specs.Prelude.{◌≡◌, ◌<◌, ◌≤◌, ◌+◌, ◌^◌, ◌++◌, ℕ, List, length, take, false};
+ghost use Rattle.std.specs.Prelude.{◌≡◌, ◌<◌, ◌≤◌, ◌+◌, ◌-◌, ◌^◌, ◌++◌, ◌⊎◌, ℕ, List, length, take, false};
 ghost use Rattle.tm_base.specs.Handed.{Handed, items_of, on_handed};
 ghost use Rattle.tm_base.specs.Takers.{HandedOver};
 ghost use Rattle.tm_base.specs.Limits.{most_workers};
@@ -8,7 +8,7 @@ ghost use Rattle.tm_viterbi.specs.WindowSizes.{stream_bound};
 ghost use Rattle.tm_inner.specs.Inner.{inner_bits};
 ghost use Rattle.tm_inner.specs.Phase.{IsChosen};
 ghost use Rattle.tm_inner.specs.Handing.{AreHanded, AreHandedDue};
-ghost use Rattle.tm_inner.specs.Receiving.{InnerReceiverStandsFor};
+ghost use Rattle.tm_inner.specs.Receiving.{GathersNothing, HasGathered, InnerReceiverStandsFor};
 ghost use Rattle.tm_workers.specs.Batch.{EachBecomes, words_bound};
 ghost use Rattle.tm_workers.specs.Words.{Decodes};
 ghost use Rattle.tm_channel.specs.Handing.{totals_of};
@@ -33,12 +33,17 @@ pub trait Workers {
     /// What a call needs to be known of them.
     ghost is_ready: { Self → Type 0 };
 
-    /// Lets the first stage take of the next octets the first ones, as many as it can hold, and decodes none. Answers
-    /// how many these are.
+    /// They let octets wait in the first stage.
+    ghost lets_wait: { Self → Type 0 };
+
+    /// Lets the first stage take of the next octets the first ones, and decodes none. Answers how many these are: all
+    /// or so many that it has no room for all others, or none where no octets wait.
     fn gather(&self, inner: &mut InnerReceiver, octets: &[u8]) -> usize
         ensures config { inner.new.config ≡ inner.old.config }
         ensures stopped { inner.new.has_stopped ≡ inner.old.has_stopped }
         ensures most { result ≤ length octets.now }
+        ensures all { lets_wait self.now → GathersNothing inner.old
+            ⊎ HasGathered inner.new.phased.decoder (length octets.now - result) }
         ensures gathered { (given : List ℕ) (done : List (Handed WindowBlock)) → length given + result < stream_bound
             → InnerReceiverStandsFor inner.old given done
             → InnerReceiverStandsFor inner.new (given ++ take result octets.now) done };
@@ -90,10 +95,13 @@ pub struct SideBySide<'a, R: Threads + Sync, F> {
 
 impl<'a, R: Threads + Sync, F: Fn(Global, &Params, u8, &mut [Word], u8)> Workers
     for SideBySide<'a, R, F> {
+    ghost use Rattle.std.specs.Prelude.{⊤};
     ghost use Rattle.std.specs.Thread.{IsSync};
     ghost use Rattle.tm_channel.specs.Workers.{DecodesWords};
 
     ghost is_ready = { λ w. IsSync R.row × DecodesWords F.Fn w.decode };
+
+    ghost lets_wait = { λ w. ⊤ };
 
     fn gather(&self, inner: &mut InnerReceiver, octets: &[u8]) -> usize {
         inner.gather(octets)
@@ -125,6 +133,8 @@ impl Workers for InOrder {
     ghost use Rattle.std.specs.Prelude.{⊤};
 
     ghost is_ready = { λ by. ⊤ };
+
+    ghost lets_wait = { λ by. ⊥ };
 
     fn gather(&self, _inner: &mut InnerReceiver, _octets: &[u8]) -> usize {
         0
