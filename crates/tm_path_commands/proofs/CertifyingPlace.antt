@@ -1,5 +1,5 @@
 -- Where the next window begins, and what is written, once more was handed over.
-use Rattle.std.proofs.Common.{◌≡◌, ◌⊎◌, inl, inr, ℕ, ◌+◌, ◌-◌, ◌*◌, ◌<◌, ◌≤◌, ◌^◌, List, [], ◌∷◌, ◌++◌, length, drop, map, Option, Some, None, Bool, refl, sym, ap, ◌∙◌, subst, arith, length-drop}
+use Rattle.std.proofs.Common.{◌≡◌, ◌⊎◌, inl, inr, ℕ, ◌+◌, ◌-◌, ◌<◌, ◌≤◌, ◌^◌, List, [], ◌∷◌, ◌++◌, length, drop, map, Option, Some, None, Bool, refl, sym, ap, ◌∙◌, subst, arith, length-drop}
 use Rattle.std.proofs.lemmas.List.{drop-append-le}
 use Rattle.tm_base.specs.Handed.{Handed, Item}
 use Rattle.tm_base.specs.Written.{Wrote, WrotePrefix}

@@ -1,5 +1,5 @@
 -- The lines of a trace and of a certificate that is checked, each ended by one line feed.
-use Rattle.std.specs.Prelude.{ℕ, ◌+◌, ◌==◌, if◌then◌else◌, List, [], ◌∷◌, ◌++◌, Option, codes, decimal}
+use Rattle.std.specs.Prelude.{ℕ, ◌+◌, ◌==◌, if◌then◌else◌, List, [], ◌++◌, Option, codes, decimal}
 use Rattle.tm_driver.specs.Lines.{slips_text, line_end}
 use Rattle.tm_viterbi.specs.WindowBlock.{WindowBlock}
 use Rattle.tm_path_commands.specs.declared.tally.Tally.{Tally}
