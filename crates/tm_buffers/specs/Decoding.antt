@@ -1,5 +1,5 @@
 -- A decoder of the inner code whose bits go to a buffer.
-use Rattle.std.specs.Prelude.{◌≡◌, ℕ, ◌+◌, ◌*◌, ◌≤◌, nat_le, false, if◌then◌else◌, List, ◌++◌, length, take, Option, Some, None}
+use Rattle.std.specs.Prelude.{◌≡◌, ℕ, ◌+◌, ◌≤◌, nat_le, false, if◌then◌else◌, List, ◌++◌, length, take, Option, Some, None}
 use Rattle.tm_base.specs.Handed.{Handed, items_of}
 use Rattle.tm_config.specs.Configuration.{Configuration}
 use Rattle.tm_inner.specs.Handing.{AreHanded, AreHandedDue}
@@ -7,13 +7,14 @@ use Rattle.tm_inner.specs.Phase.{IsChosen}
 use Rattle.tm_inner.specs.Receiving.{InnerReceiving, InnerReceiverStandsFor}
 use Rattle.tm_viterbi.specs.Clean.{kept_bits}
 use Rattle.tm_viterbi.specs.WindowBlock.{WindowBlock}
+use Rattle.tm_channel.specs.Receiving.{held_bits}
 use Rattle.tm_buffers.specs.Buffer.{Fills, most_taken}
 
 -- For how many bits there has to be room where so many more octets are given, or with none at the
 -- end: for those of a window, of the octets that wait for the phase, and of these. No more than
 -- 2^40 octets are taken at a time.
 abbrev pub bits_room : Configuration → ℕ → Option ℕ
-bits_room c count = if nat_le count most_taken then Some (3 * (c.keep + c.ahead) + 7 + count)
+bits_room c count = if nat_le count most_taken then Some (held_bits c + count)
     else None
 
 -- the bits that a block keeps follow the others, where there is room for them

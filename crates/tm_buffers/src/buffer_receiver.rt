@@ -161,7 +161,7 @@ fn most_bits(config: &Config, count: u64) -> u64
     ensures most { result ≤ 2 ^ 44 }
 {
     if config.values().inner.is_some() {
-        waiting_bits(config) + 3 * (config.keep() + config.ahead()) + 7 + count
+        waiting_bits(config) + (3 * (config.keep() + config.ahead()) + 7) + count
     } else if config.values().pack {
         8 * count
     } else {

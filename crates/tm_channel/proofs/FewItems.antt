@@ -30,7 +30,7 @@ use Rattle.tm_channel.specs.Items.{ItemValue, IsItem, AreItemsOf, are_fixed, fra
 use Rattle.tm_channel.specs.Due.{due}
 use Rattle.tm_channel.specs.Handing.{phase_of}
 use Rattle.tm_channel.specs.Most.{AreFew, most_bits, most_bits_at, most_items}
-use Rattle.tm_channel.specs.Receiving.{waiting_bits}
+use Rattle.tm_channel.specs.Receiving.{held_bits, waiting_bits}
 use Rattle.tm_channel.specs.OctetReceiving.{BitReceiving, Ends, Received, ReceivedLast, Stages, StagesFor, StagesOn, bits_found}
 use Rattle.tm_channel.proofs.Batches.{batches-le, length-due}
 use Rattle.tm_channel.proofs.GivenOctets.{IsOf, IsRoomy, ended, further-at, items-ended, turn-items}
@@ -110,14 +110,14 @@ items-few c bits piece before items fs octets ok were are within few =
 
 -- ---- the bits that come
 
-found-few : (rate : Option Rate) (c : Configuration) (skip : ℕ) (kept octets : List ℕ) → length kept ≤ waiting_bits c c.batch + 3 * (c.keep + c.ahead) + 7 + length octets
+found-few : (rate : Option Rate) (c : Configuration) (skip : ℕ) (kept octets : List ℕ) → length kept ≤ waiting_bits c c.batch + held_bits c + length octets
     → length (bits_found c rate skip kept octets) ≤ most_bits_at rate c (length octets)
 found-few None c skip kept octets few = omega (arith, length-drop skip (plain_bits c octets), length-plain c octets)
 found-few (Some rate) c skip kept octets few = omega (arith, few, length-map kept (λ bit. bit == 1))
 
 -- at the end with no inner code none
 last-few : (rate : Option Rate) (c : Configuration) (given : List ℕ) (blocks last : List WindowBlock) (piece : List Bool) → bits_at rate c given (blocks ++ last) ≡ bits_at rate c given blocks ++ piece
-    → length (kept_bits last) ≤ waiting_bits c c.batch + 3 * (c.keep + c.ahead) + 7 → length piece ≤ most_bits_at rate c 0
+    → length (kept_bits last) ≤ waiting_bits c c.batch + held_bits c → length piece ≤ most_bits_at rate c 0
 last-few None c given blocks last piece is few = omega (arith, ap length is, length-append (drop c.skip (plain_bits c given)) piece)
 last-few (Some rate) c given blocks last piece is few =
     omega (

@@ -34,7 +34,7 @@ use Rattle.tm_channel.specs.Items.{ItemValue, AreItemsOf, AreFirstItemsOf, AreIt
 use Rattle.tm_channel.specs.Due.{due}
 use Rattle.tm_channel.specs.declared.totals.Totals.{Totals}
 use Rattle.tm_channel.specs.Handing.{totals_of, phase_from, phase_of, AreReceived, AreReceivedDue, AreReceivedFirst, AreReceivedPrefix}
-use Rattle.tm_channel.specs.Receiving.{beyond, waiting_bits, AreFurther, AreFirstFurther, AreFirstDue}
+use Rattle.tm_channel.specs.Receiving.{beyond, held_bits, waiting_bits, AreFurther, AreFirstFurther, AreFirstDue}
 use Rattle.tm_channel.specs.OctetReceiving.{BitReceiving, OctetReceiving, ReceiverStandsFor, FirstWith, BitReceiverStandsFor, Stages, StagesFor, StagesHand, StagesOn, Keeping, Keeps, KeepsPhase, AreSpare, AreWaiting, Gathers, Grows, Ends, Received, ReceivedPart, ReceivedLast, ReceivedLastPart, bits_found, received_bits}
 use Rattle.tm_channel.proofs.Streaming.{first-longer, first-more, first-then, items-then}
 use Rattle.tm_channel.proofs.AllBits.{beyond-nil, all-items, some-items, few-items, due-nil}
@@ -340,7 +340,7 @@ record Onward (s : Stages) (now : InnerReceiving) (given octets : List ℕ) (han
 
 -- there is room for the bits of the blocks that wait, and of so many octets
 abbrev pub IsRoomy : Stages → ℕ → ℕ → Type 0
-IsRoomy s count room = waiting_bits s.inner.config s.inner.config.batch + 3 * (s.inner.config.keep + s.inner.config.ahead) + 7 + count ≤ room
+IsRoomy s count room = waiting_bits s.inner.config s.inner.config.batch + held_bits s.inner.config + count ≤ room
 
 onward : (s : Stages) (now : InnerReceiving) (room : ℕ) (octets : List ℕ) (phase : Option Chosen) (piece : List Bool) → IsRoomy s (length octets) room → Grows s.inner now room octets phase piece
     → (given : List ℕ) (done : List (Handed ItemValue)) → length given + length octets < 2 ^ 60 → (stood : StagesFor s given done) → Onward s now given octets stood.handed phase piece

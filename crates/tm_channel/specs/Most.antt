@@ -13,7 +13,7 @@ use Rattle.tm_channel.specs.Receiving.{held_bits, waiting_bits}
 -- that the octets hold
 abbrev pub most_bits_at : Option Rate → Configuration → ℕ → ℕ
 most_bits_at None c octets = plain_count c octets
-most_bits_at (Some rate) c octets = held_bits (waiting_bits c c.batch) c + octets
+most_bits_at (Some rate) c octets = waiting_bits c c.batch + held_bits c + octets
 
 abbrev pub most_bits : Configuration → ℕ → ℕ
 most_bits c = most_bits_at c.inner c

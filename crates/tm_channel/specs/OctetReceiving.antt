@@ -263,7 +263,7 @@ AreWaiting c given done waiting = AreHandedDue c given (done ++ map Item waiting
 -- phase, of a window and of so many octets
 abbrev pub HasRoom : Configuration → List WindowBlock → ℕ → ℕ → Type 0
 HasRoom c waiting count room =
-    held_bits (length (kept_bits waiting)) c + count ≤ room
+    length (kept_bits waiting) + held_bits c + count ≤ room
 
 -- whatever octets the first stage was given, fewer than 2^60 with these, it took these too, and
 -- the blocks that wait now keep at most so many bits

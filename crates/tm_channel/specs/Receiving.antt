@@ -162,9 +162,9 @@ abbrev pub waiting_bits : Configuration → ℕ → ℕ
 waiting_bits c count =
     if nat_lt 1 c.workers then count * (marker_size + (rules_of c).block_bits) else 0
 
--- beside bits that wait, those of the octets that wait for the phase and of a window
-abbrev pub held_bits : ℕ → Configuration → ℕ
-held_bits waiting c = waiting + 3 * (c.keep + c.ahead) + 7
+-- how many bits come at most of the octets that wait for the phase and of a window
+abbrev pub held_bits : Configuration → ℕ
+held_bits c = 3 * (c.keep + c.ahead) + 7
 
 -- ---- bits that are taken
 

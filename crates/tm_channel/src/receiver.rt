@@ -82,7 +82,7 @@ impl Model for Receiver {
 
     ghost invariant = { λ r. (r.inner.config ≡ r.config) × (r.stream.batch.config ≡ r.config)
         × (r.has_stopped ≡ false → r.inner.has_stopped ≡ false)
-        × (held_bits (waiting_bits r.inner.config r.inner.config.batch) r.inner.config + piece_size
+        × (waiting_bits r.inner.config r.inner.config.batch + held_bits r.inner.config + piece_size
         ≤ r.kept.size) × IsAccepted r.config };
 }
 

@@ -39,7 +39,7 @@ pub fn take<P: Workers, T: ItemTaker>(
     requires workers { P.is_ready by.now }
     requires fresh { inner.old.has_stopped ≡ false }
     requires of { stream.old.batch.config ≡ inner.old.config }
-    requires room { held_bits (waiting_bits inner.old.config inner.old.config.batch) inner.old.config
+    requires room { waiting_bits inner.old.config inner.old.config.batch + held_bits inner.old.config
         + piece_size ≤ kept.old.size }
     ensures { TakesOctets (on_handed T.took_phase T.took) (on_handed T.broke_phase T.broke) T.faults T.is_last
         (record { inner = inner.old; bits = stream.old }) (record { inner = inner.new; bits = stream.new })
@@ -72,7 +72,7 @@ fn take_piece<P: Workers, T: ItemTaker>(
     requires fresh { inner.old.has_stopped ≡ false }
     requires of { stream.old.batch.config ≡ inner.old.config }
     requires most { length octets.now ≤ piece_size }
-    requires room { held_bits (waiting_bits inner.old.config inner.old.config.batch) inner.old.config
+    requires room { waiting_bits inner.old.config inner.old.config.batch + held_bits inner.old.config
         + length octets.now ≤ kept.old.size }
     ensures inner { inner.new.config ≡ inner.old.config }
     ensures fresh { inner.new.has_stopped ≡ false }

@@ -20,7 +20,7 @@ use Rattle.tm_channel.proofs.receiver.Receiver.finish_by.Goals as goal
 use Rattle.tm_channel.proofs.receiver.Receiver.finish_by.Goals.{in-Ok-hand_last, in-Err-hand_last}
 
 -- there is room for the end, which has no further octets
-roomy : (room spare window : ℕ) → spare + 3 * window + 7 + 4096 ≤ room → spare + 3 * window + 7 + 0 ≤ room
+roomy : (room spare window : ℕ) → spare + (3 * window + 7) + 4096 ≤ room → spare + (3 * window + 7) + 0 ≤ room
 roomy room spare window most = omega arith
 
 -- the taker failed at the phase
