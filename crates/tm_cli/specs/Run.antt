@@ -4,7 +4,7 @@ use Rattle.clap.specs.Words.{Text}
 use Rattle.tm_base.specs.Outside.{Rose}
 use Rattle.tm_base.specs.Written.{Gave, Wrote, WrotePrefix}
 use Rattle.tm_config.specs.Configuration.{Configuration}
-use Rattle.tm_driver.specs.Courses.{SourceState, SinkState, SourceCourse, SinkCourse, SinksCourse}
+use Rattle.tm_driver.specs.Courses.{SourceState, SinkState, SourceCourse, SinkCourse, SinksCourse, StopsAtSink}
 use Rattle.tm_driver.specs.Meaning.{Ends, taken_by}
 use Rattle.tm_driver.specs.Statuses.{is_sink_fault, status_of}
 use Rattle.tm_driver.specs.declared.ending.Ending.{Ending}
@@ -50,14 +50,12 @@ pub record HasNoFault (call : Call) : Type 0 where
   pub out : Rose call.out.faults call.out_now.faults call.out_last → ⊥
   pub notes : Rose call.notes.faults call.notes_now.faults call.notes_last → ⊥
 
--- At a fault of a sink `encode` stops: the output failed, the end of the input was not reported yet
--- and the notes are as they were; or the notes failed, and all was read and sent.
+-- at a fault of a sink `encode` stops
 abbrev pub StopsEncoding : Call → Type 0
-StopsEncoding call =
-    (SinkCourse true call.out call.out_now call.out_last
-    × (call.source_now.ended ≡ call.source.ended) × (call.notes_now ≡ call.notes))
-    ⊎ (SinkCourse true call.notes call.notes_now call.notes_last × (call.source_now.ended ≡ true)
-    × (call.out_now.faults ≡ call.out.faults))
+StopsEncoding call = StopsAtSink
+    (record { before = call.source; now = call.source_now; is_last = call.source_last })
+    (record { before = call.out; now = call.out_now; is_last = call.out_last })
+    (record { before = call.notes; now = call.notes_now; is_last = call.notes_last })
 
 -- What a command did in a call by which words asked for it, and the status by that. The source gave
 -- octets, at most one past the limit; some commands read none.

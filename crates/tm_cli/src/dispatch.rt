@@ -1,9 +1,9 @@
 // Does what a command asks for.
-ghost use Rattle.std.specs.Prelude.{◌≡◌, ◌⊎◌, true, false, None, IfOk, OnErr};
+ghost use Rattle.std.specs.Prelude.{◌≡◌, false, None, IfOk, OnErr};
 ghost use Rattle.tm_cli.specs.Commands.{command_of, meaning_of, reads};
 ghost use Rattle.tm_cli.specs.Refusal.{refusal_of_command};
 ghost use Rattle.tm_driver.specs.Answered.{Answered};
-ghost use Rattle.tm_driver.specs.Courses.{SinkWent, sink_call, source_call};
+ghost use Rattle.tm_driver.specs.Courses.{StopsAtSink, sink_call, source_call};
 
 use crate::decode_command::{decode, report};
 use crate::encode_command::encode;
@@ -37,10 +37,9 @@ pub fn dispatch<R: Threads + Sync, S: Source, O: Sink, N: Sink>(
     ensures memory { OnErr result ((source.new ≡ source.old) × (out.new ≡ out.old) × (notes.new ≡ notes.old)) }
     ensures unread { reads (command_of job.now) ≡ false → (source.new ≡ source.old) × (notes.new ≡ notes.old) }
     ensures stops { job.now.kind ≡ JobKind.Encode → IfOk result (λ ending. ending ≡ Ending.SinkFault
-        → (SinkWent true (sink_call O.taken O.faults O.is_last out.old out.new)
-        × (S.ended source.new ≡ S.ended source.old) × (notes.new ≡ notes.old))
-        ⊎ (SinkWent true (sink_call N.taken N.faults N.is_last notes.old notes.new)
-        × (S.ended source.new ≡ true) × (O.faults out.new ≡ O.faults out.old))) }
+        → StopsAtSink (source_call S.given S.left S.ended S.faults S.is_last source.old source.new)
+        (sink_call O.taken O.faults O.is_last out.old out.new)
+        (sink_call N.taken N.faults N.is_last notes.old notes.new)) }
     ensures not_bad { job.now.kind ≡ JobKind.Check → IfOk result (λ ending. ending ≡ Ending.Bad → ⊥) }
 {
     match job.kind {

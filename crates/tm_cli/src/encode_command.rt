@@ -1,8 +1,8 @@
 // The command `encode`: frames from a source to symbols on a sink.
-ghost use Rattle.std.specs.Prelude.{◌≡◌, ◌⊎◌, true};
+ghost use Rattle.std.specs.Prelude.{◌≡◌, true};
 ghost use Rattle.tm_cli.specs.Encode.{encode_meaning};
 ghost use Rattle.tm_driver.specs.Answered.{Answered};
-ghost use Rattle.tm_driver.specs.Courses.{SinkWent, sink_call, source_call};
+ghost use Rattle.tm_driver.specs.Courses.{StopsAtSink, sink_call, source_call};
 ghost use Rattle.tm_driver.specs.declared.ending.Ending.TheVariants.{SinkFault};
 
 use tm_base::{Failed, Sink, Source};
@@ -109,10 +109,9 @@ pub fn encode<S: Source, O: Sink, N: Sink>(
         (sink_call O.taken O.faults O.is_last out.old out.new)
         (sink_call N.taken N.faults N.is_last notes.old notes.new) }
     ensures stops { result ≡ SinkFault
-        → (SinkWent true (sink_call O.taken O.faults O.is_last out.old out.new)
-        × (S.ended source.new ≡ S.ended source.old) × (notes.new ≡ notes.old))
-        ⊎ (SinkWent true (sink_call N.taken N.faults N.is_last notes.old notes.new)
-        × (S.ended source.new ≡ true) × (O.faults out.new ≡ O.faults out.old)) }
+        → StopsAtSink (source_call S.given S.left S.ended S.faults S.is_last source.old source.new)
+        (sink_call O.taken O.faults O.is_last out.old out.new)
+        (sink_call N.taken N.faults N.is_last notes.old notes.new) }
 {
     let mut sender = Sender::new(*config);
     let mut encoding = Encoding {

@@ -102,3 +102,10 @@ SinkWent failed sink = SinkCourse failed sink.before sink.now sink.is_last
 abbrev pub SinksWent : (failed : Bool) → (out notes : SinkCall) → Type 0
 SinksWent failed out notes =
     SinksCourse failed out.before out.now out.is_last notes.before notes.now notes.is_last
+
+-- A sink failed, and nothing went on: the output did, the end of the input was not reported yet and
+-- the notes are as they were; or the notes did, and all was read and sent.
+abbrev pub StopsAtSink : SourceCall → (out notes : SinkCall) → Type 0
+StopsAtSink source out notes =
+    (SinkWent true out × (source.now.ended ≡ source.before.ended) × (notes.now ≡ notes.before))
+    ⊎ (SinkWent true notes × (source.now.ended ≡ true) × (out.now.faults ≡ out.before.faults))

@@ -1,6 +1,6 @@
 use Rattle.std.specs.Io.KnownBytes.{IsAtEnd}
 use Rattle.std.specs.Option.{IsSome}
-use Rattle.std.proofs.Common.{◌⊎◌, inl, inr, ◌≡◌, ◌≤◌, false, ℕ, List, map, string_bytes, Some, None, refl, sym, ◌∙◌, ap, subst}
+use Rattle.std.proofs.Common.{◌⊎◌, inl, inr, ◌≡◌, ◌≤◌, false, ℕ, List, map, string_bytes, Some, None, refl, sym, ◌∙◌, subst}
 use Rattle.tm_config.specs.Configuration.{Configuration, configuration_of}
 use Rattle.tm_driver.specs.Courses.{sink_state, source_state}
 use Rattle.tm_driver.specs.Meaning.{Ends, taken_by}
@@ -9,7 +9,7 @@ use Rattle.tm_words.specs.declared.job.Job.{Job}
 use Rattle.tm_cli.specs.Commands.{Command, command_of, meaning_of, reads}
 use Rattle.tm_cli.specs.Commands.Command.{Decode, Check}
 use Rattle.tm_cli.specs.Refusal.{AreParsedAs}
-use Rattle.tm_cli.specs.Run.{Answers, Call, HasNoFault, StopsEncoding, call_of}
+use Rattle.tm_cli.specs.Run.{Answers, Call, HasNoFault, call_of}
 use Rattle.tm_cli.specs.declared.refusal.Refusal.{Refusal}
 use Rattle.tm_cli.proofs.Answering.{of-check, of-encode, left-reads, source-reads, status-small, not-told, without-fault, sink-rose, whole-input_told}
 use Rattle.tm_cli.proofs.top.run.Goals as goal
@@ -60,10 +60,7 @@ returns-in-Ok-clause-answered g c = λ job asked _.
       ends = h.1.ends;
       source = h.1.course;
       sinks = h.1.sinks;
-      stops = λ asks failed. elim (c.in-Ok.ensures.stops (of-encode c.in-Command.job asks) failed) as (λ _. StopsEncoding call) [
-        | inl p ↦ inl (p.0, p.1, ap (λ (n : g.row.N.Denot). sink_state (g.N.Sink.taken n) (g.N.Sink.faults n)) p.2)
-        | inr p ↦ inr p
-      ];
+      stops = λ asks failed. c.in-Ok.ensures.stops (of-encode c.in-Command.job asks) failed;
       by_window = λ asks bad. c.in-Ok.ensures.not_bad (of-check c.in-Command.job asks) bad;
       complete = λ none. subst (λ (s : ℕ). (s ≡ 0) ⊎ (s ≡ 1) ⊎ (s ≡ 6) ⊎ (s ≡ 7)) (sym is) (without-fault ending (no_source none) (no_sink none));
       whole_input = λ input told within whole none. subst (λ (s : ℕ). (s ≡ 0) ⊎ (s ≡ 1)) (sym is)
