@@ -20,6 +20,10 @@ abbrev pub answer_text : Answer → List ℕ
 answer_text (Fixed count) = codes " " ++ decimal count
 answer_text Beyond = codes " x"
 
+-- the most octets that it has: a space and a number
+abbrev pub answer_room : ℕ
+answer_room = 21
+
 -- what became of the columns, of which there are none with no outer code
 abbrev pub answers_text : List Answer → List ℕ
 answers_text [] = codes " uncoded"

@@ -2,8 +2,8 @@
 ghost use Rattle.std.specs.Prelude.{◌≡◌, ◌+◌, ◌*◌, ◌≤◌, ◌++◌, length, flat_map, OnOk, OnErr};
 ghost use Rattle.tm_base.specs.Outside.{HasCause};
 ghost use Rattle.tm_base.specs.Written.{Wrote, WrotePrefix};
-ghost use Rattle.tm_driver.specs.Lines.{slips_text};
-ghost use Rattle.tm_cli.specs.Lines.{marker_text, answer_text, answers_text, item_text, report_end_text};
+ghost use Rattle.tm_driver.specs.Lines.{line_room, slips_text};
+ghost use Rattle.tm_cli.specs.Lines.{marker_text, answer_room, answer_text, answers_text, item_text, report_end_text};
 
 use tm_base::{Failed, Sink};
 use tm_channel::{Answer, Item, Totals};
@@ -11,7 +11,7 @@ use tm_driver::{Line, add_slips};
 
 // Adds how a marker matched, and in which polarity.
 fn add_marker(line: &mut Line, bridged: bool, distance: u8, inverted: bool)
-    requires { length line.old ≤ 200 }
+    requires { length line.old + 38 ≤ line_room }
     ensures text { line.new ≡ line.old ++ marker_text bridged distance inverted }
     ensures length { length line.new ≤ length line.old + 38 }
 {
@@ -24,9 +24,9 @@ fn add_marker(line: &mut Line, bridged: bool, distance: u8, inverted: bool)
 
 // Adds what became of a column.
 fn add_answer(line: &mut Line, answer: Answer)
-    requires { length line.old ≤ 299 }
+    requires { length line.old + answer_room ≤ line_room }
     ensures text { line.new ≡ line.old ++ answer_text answer }
-    ensures length { length line.new ≤ length line.old + 21 }
+    ensures length { length line.new ≤ length line.old + answer_room }
 {
     match answer {
         Answer::Fixed(count) => {
@@ -39,9 +39,9 @@ fn add_answer(line: &mut Line, answer: Answer)
 
 // Adds what became of each column.
 fn add_each_answer(line: &mut Line, answers: &[Answer])
-    requires { length line.old + 21 * length answers.now ≤ 320 }
+    requires { length line.old + answer_room * length answers.now ≤ line_room }
     ensures text { line.new ≡ line.old ++ flat_map answer_text answers.now }
-    ensures length { length line.new ≤ length line.old + 21 * length answers.now }
+    ensures length { length line.new ≤ length line.old + answer_room * length answers.now }
 {
     for answer in answers {
         add_answer(line, *answer);
@@ -50,9 +50,9 @@ fn add_each_answer(line: &mut Line, answers: &[Answer])
 
 // Adds what became of the columns.
 fn add_answers(line: &mut Line, answers: &[Answer])
-    requires { length line.old + 21 * length answers.now ≤ 310 }
+    requires { length line.old + 8 + answer_room * length answers.now ≤ line_room }
     ensures text { line.new ≡ line.old ++ answers_text answers.now }
-    ensures length { length line.new ≤ length line.old + 8 + 21 * length answers.now }
+    ensures length { length line.new ≤ length line.old + 8 + answer_room * length answers.now }
 {
     if answers.is_empty() {
         line.text(b" uncoded");
@@ -102,7 +102,7 @@ pub fn frames_line<O: Sink>(
 
 // Adds the last line of a report.
 fn add_frames(line: &mut Line, good: u64, bad: u64, fixed: u64, bits: u64)
-    requires { length line.old ≤ 300 }
+    requires { length line.old + 106 ≤ line_room }
     ensures { line.new ≡ line.old ++ report_end_text good bad fixed bits }
 {
     line.text(b"frames ");

@@ -11,6 +11,10 @@ line_end = 10 ∷ []
 abbrev pub line_room : ℕ
 line_room = 560
 
+-- the most decimal digits of a number below 2^64
+abbrev pub most_digits : ℕ
+most_digits = 20
+
 -- how many octets follow the last whole frame or record; no line where there are none
 abbrev pub left_over_text : ℕ → List ℕ
 left_over_text rest = if rest == 0 then [] else codes "left over " ++ decimal rest ++ line_end

@@ -1,6 +1,6 @@
 // A line of text, made without memory and written at once.
 ghost use Rattle.std.specs.Prelude.{◌≡◌, ◌+◌, ◌≤◌, ◌++◌, [], length, decimal, OnOk, OnErr};
-ghost use Rattle.tm_driver.specs.Lines.{line_room};
+ghost use Rattle.tm_driver.specs.Lines.{line_room, most_digits};
 ghost use Rattle.tm_base.specs.Outside.{HasCause};
 ghost use Rattle.tm_base.specs.Written.{Wrote, WrotePrefix};
 
@@ -49,9 +49,9 @@ impl Line {
 
     /// Adds a number in decimal, without leading zeros.
     pub fn number(&mut self, number: u64)
-        requires { length self.old + 20 ≤ line_room }
+        requires { length self.old + most_digits ≤ line_room }
         ensures text { self.new ≡ self.old ++ decimal number }
-        ensures length { length self.new ≤ length self.old + 20 }
+        ensures length { length self.new ≤ length self.old + most_digits }
     {
         let mut buffer = Buffer::new();
         self.text(buffer.format(number).as_bytes());

@@ -2,7 +2,7 @@
 ghost use Rattle.std.specs.Prelude.{◌≡◌, ◌+◌, ◌≤◌, ◌++◌, length, IfOk, OnOk, OnErr};
 ghost use Rattle.tm_base.specs.Outside.{HasCause};
 ghost use Rattle.tm_base.specs.Written.{Wrote, WrotePrefix};
-ghost use Rattle.tm_driver.specs.Lines.{left_over_text, outcome_by, phase_text, slips_text};
+ghost use Rattle.tm_driver.specs.Lines.{left_over_text, line_room, outcome_by, phase_text, slips_text};
 
 use crate::ending::Outcome;
 use crate::line::Line;
@@ -57,7 +57,7 @@ pub fn phase_line<O: Sink>(out: &mut O, skip: u8, cost: u64) -> Result<(), Faile
 /// Adds before how many windows octets were dropped, a line of its own: `slips N`; nothing where the symbol phase is
 /// not followed.
 pub fn add_slips(line: &mut Line, slips: Option<u64>)
-    requires { length line.old ≤ 500 }
+    requires { length line.old + 27 ≤ line_room }
     ensures text { line.new ≡ line.old ++ slips_text slips }
     ensures length { length line.new ≤ length line.old + 27 }
 {

@@ -2,6 +2,7 @@
 ghost use Rattle.std.specs.Prelude.{◌≡◌, ◌+◌, ◌≤◌, ◌++◌, length, OnOk, OnErr};
 ghost use Rattle.tm_base.specs.Outside.{HasCause};
 ghost use Rattle.tm_base.specs.Written.{Wrote, WrotePrefix};
+ghost use Rattle.tm_driver.specs.Lines.{line_room};
 ghost use Rattle.tm_path_commands.specs.Lines.{window_text, slip_text, block_text, trace_end_text, bits_end_text, reason_text, bad_text, cut_text};
 
 use crate::tally::Tally;
@@ -31,7 +32,7 @@ pub fn window_line<O: Sink>(
 
 // Adds a window.
 fn add_window(line: &mut Line, number: u64, steps: u32, kept: u32, metric: u64)
-    requires { length line.old ≤ 300 }
+    requires { length line.old + 108 ≤ line_room }
     ensures { line.new ≡ line.old ++ window_text number steps kept metric }
 {
     line.text(b"block ");
@@ -47,7 +48,7 @@ fn add_window(line: &mut Line, number: u64, steps: u32, kept: u32, metric: u64)
 
 // Adds that octets were dropped after so many bits, where some were, a line of its own.
 fn add_slip(line: &mut Line, dropped: u8, bits: u64)
-    requires { length line.old ≤ 100 }
+    requires { length line.old + 60 ≤ line_room }
     ensures text { line.new ≡ line.old ++ slip_text dropped bits }
     ensures length { length line.new ≤ length line.old + 60 }
 {
@@ -87,7 +88,7 @@ pub fn blocks_line<O: Sink>(out: &mut O, blocks: u64, bits: u64, leftover: u8) -
 
 // Adds the end of a trace.
 fn add_end(line: &mut Line, blocks: u64, bits: u64, leftover: u8)
-    requires { length line.old ≤ 300 }
+    requires { length line.old + 84 ≤ line_room }
     ensures { line.new ≡ line.old ++ trace_end_text blocks bits leftover }
 {
     line.text(b"blocks ");
@@ -122,7 +123,7 @@ pub fn bits_end_line<N: Sink>(
 
 // Adds why a window of a certificate fails.
 fn add_reason(line: &mut Line, reason: Reason)
-    requires { length line.old ≤ 300 }
+    requires { length line.old + 46 ≤ line_room }
     ensures text { line.new ≡ line.old ++ reason_text reason }
     ensures length { length line.new ≤ length line.old + 46 }
 {
