@@ -175,3 +175,7 @@ bits_between from to octets = take (to - from) (drop from (bits_of octets))
 -- the most octets that go through both stages at a time
 abbrev pub piece_size : ℕ
 piece_size = 4096
+
+-- the most octets that bits are packed to at a time
+abbrev pub run_size : ℕ
+run_size = 256

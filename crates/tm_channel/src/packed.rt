@@ -3,6 +3,7 @@ ghost use Rattle.std.specs.Prelude.{◌≡◌, ◌<◌, ◌≤◌, ◌⊎◌, �
 ghost use Rattle.tm_base.specs.Outside.{HasCause};
 ghost use Rattle.tm_channel.specs.Calls.{TakesBits};
 ghost use Rattle.tm_channel.specs.OctetReceiving.{Received, ReceivedPart};
+ghost use Rattle.tm_channel.specs.Receiving.{run_size};
 
 use crate::bit_stream::BitStream;
 use crate::item::ItemTaker;
@@ -49,7 +50,7 @@ fn take_run<P: Workers, T: ItemTaker>(
 ) -> Result<(), Failed>
     requires workers { P.is_ready by.now }
     requires whole { (length bits.now < 8) ⊎ (length bits.now % 8 ≡ 0) }
-    requires most { length bits.now ≤ 8 * 256 }
+    requires most { length bits.now ≤ 8 * run_size }
     ensures { TakesBits T.took T.broke T.faults T.is_last stream.old stream.new taker.old taker.new
         (map (λ bit. bit == 1) bits.now) result }
 {
