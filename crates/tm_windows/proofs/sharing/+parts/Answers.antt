@@ -7,6 +7,10 @@ use Rattle.tm_windows.specs.declared.candidate.Candidate.{Candidate}
 use Rattle.tm_windows.proofs.Runs.{parts_of, joined, All-first_part, All-other_part}
 use Rattle.tm_windows.proofs.sharing.+parts.Goals as goal
 
+-- how many octets the first part goes on by, from the number of its windows that was taken to that of its candidates
+size-first : (s : WindowShape) (t middle count size : ℕ) → size ≡ steps_size s.rate t (middle * s.keep) → count ≡ middle → size ≡ steps_size s.rate t (count * s.keep)
+size-first s t middle count size is same = is ∙ ap (λ (m : ℕ). steps_size s.rate t (m * s.keep)) (sym same)
+
 pub decode_evenly-overflow_add-place : goal.decode_evenly-overflow_add-place
 decode_evenly-overflow_add-place g t c =
     let n = length c.args.candidates.now in
@@ -23,7 +27,7 @@ decode_evenly-decode_both-requires-clause-first_part g t c κs within =
     let other_part = cut.result.1.now in
     let all = c.args.candidates.now in
     let sum : length first_part + length other_part ≡ length all = omega (arith, ap length cut.ensures.value, length-append first_part other_part) in
-    let size = c.steps_len.ensures ∙ ap (λ (m : ℕ). steps_size s.rate c.args.t (m * s.keep)) (sym cut.ensures.front_len) in
+    let size = size-first s c.args.t (length all / c.min-parts.result) (length first_part) c.steps_len.result c.steps_len.ensures cut.ensures.front_len in
     let parts = parts_of s c.args.t c.args.at (length first_part) (length other_part) (length all) c.steps_len.result (length c.args.octets.now) sum size c.requires.room c.requires.few in (
       All-first_part (λ (x : Candidate). vec_len x.bits ≡ s.keep + s.ahead) all first_part other_part
           cut.ensures.value c.requires.bits,
@@ -41,7 +45,7 @@ decode_evenly-decode_both-requires-clause-other_part g t c κs within =
     let other_part = cut.result.1.now in
     let all = c.args.candidates.now in
     let sum : length first_part + length other_part ≡ length all = omega (arith, ap length cut.ensures.value, length-append first_part other_part) in
-    let size = c.steps_len.ensures ∙ ap (λ (m : ℕ). steps_size s.rate c.args.t (m * s.keep)) (sym cut.ensures.front_len) in
+    let size = size-first s c.args.t (length all / c.min-parts.result) (length first_part) c.steps_len.result c.steps_len.ensures cut.ensures.front_len in
     let parts = parts_of s c.args.t c.args.at (length first_part) (length other_part) (length all) c.steps_len.result (length c.args.octets.now) sum size c.requires.room c.requires.few in
     let steps = ap (λ (m : ℕ). m * s.keep) cut.ensures.front_len in
     let later = ap (λ (m : ℕ). steps_size s.rate (c.args.t + m) (length other_part * s.keep + s.ahead + 1)) steps in (
@@ -61,7 +65,7 @@ decode_evenly-returns-clause-candidates g t c =
     let first_part = cut.result.0.now in
     let other_part = cut.result.1.now in
     let sum : length first_part + length other_part ≡ length c.args.candidates.now = omega (arith, ap length cut.ensures.value, length-append first_part other_part) in
-    let size = c.steps_len.ensures ∙ ap (λ (m : ℕ). steps_size s.rate c.args.t (m * s.keep)) (sym cut.ensures.front_len) in
+    let size = size-first s c.args.t (length c.args.candidates.now / c.min-parts.result) (length first_part) c.steps_len.result c.steps_len.ensures cut.ensures.front_len in
     joined s c.args.t c.args.at (length first_part) (length other_part) (length c.args.candidates.now) _ _ c.args.octets.now c.decode_both.new.first_part c.decode_both.new.other_part c.decode_both.auto.first_part sum
     (ap (λ (m : ℕ). c.args.t + m * s.keep) (sym cut.ensures.front_len)) (ap (λ (m : ℕ). c.args.at + m) size) both.first_part.0 both.other_part.0
 
