@@ -110,14 +110,14 @@ status-small SinkFault = omega arith
 status-small PastLimit = omega arith
 
 -- want of memory and refused words are no endings
-pub not-told : (e : Ending) → (status_of e ≡ 2) ⊎ (status_of e ≡ 5) → ⊥
-not-told Done is = omega (arith, is)
-not-told Bad is = omega (arith, is)
-not-told BadWindow is = omega (arith, is)
-not-told LeftOver is = omega (arith, is)
-not-told SourceFault is = omega (arith, is)
-not-told SinkFault is = omega (arith, is)
-not-told PastLimit is = omega (arith, is)
+pub never-two_or_five : (e : Ending) → (status_of e ≡ 2) ⊎ (status_of e ≡ 5) → ⊥
+never-two_or_five Done is = omega (arith, is)
+never-two_or_five Bad is = omega (arith, is)
+never-two_or_five BadWindow is = omega (arith, is)
+never-two_or_five LeftOver is = omega (arith, is)
+never-two_or_five SourceFault is = omega (arith, is)
+never-two_or_five SinkFault is = omega (arith, is)
+never-two_or_five PastLimit is = omega (arith, is)
 
 -- without a fault
 pub without-fault : (e : Ending) → (e ≡ SourceFault → ⊥) → (e ≡ SinkFault → ⊥)
@@ -152,12 +152,12 @@ whole-input SinkFault meaning limit octets input rest taken ends is at_end withi
 whole-input PastLimit meaning limit octets input rest taken ends is at_end within whole source sink =
     let long : length input ≡ length (octets ++ rest) = ap length is in absurd (omega (arith, long, within, ends.1, length-append octets rest))
 
--- where the source tells its octets
-pub whole-input_told : (e : Ending) (meaning : Meaning) (limit : ℕ) (octets input : List ℕ) (left : Option (List ℕ)) (taken : Taken)
+-- where the source says which its octets are
+pub whole-input_known : (e : Ending) (meaning : Meaning) (limit : ℕ) (octets input : List ℕ) (left : Option (List ℕ)) (taken : Taken)
     → Ends e meaning limit octets taken → Some input ≡ prepend_known octets left → (e ≡ LeftOver → IsAtEnd left) → length input ≤ limit → (meaning.is_partial input → ⊥)
     → (e ≡ SourceFault → ⊥) → (e ≡ SinkFault → ⊥) → (status_of e ≡ 0) ⊎ (status_of e ≡ 1)
-whole-input_told e meaning limit octets input None taken ends is at_end within whole source sink = cc is
-whole-input_told e meaning limit octets input (Some rest) taken ends is at_end within whole source sink =
+whole-input_known e meaning limit octets input None taken ends is at_end within whole source sink = cc is
+whole-input_known e meaning limit octets input (Some rest) taken ends is at_end within whole source sink =
     let same : input ≡ octets ++ rest = cc is in
     whole-input e meaning limit octets input rest taken ends same at_end within whole source sink
 

@@ -195,7 +195,7 @@ begin c octets first frames report stand d =
       report_is = d.is_report ∙ ap (λ l. l ++ end) (ap (items_text 0) split.1 ∙ items_text-split first split.0) ∙ append_assoc (items_text 0 first) lines end;
     }
 
--- whether there is a bad one is told by any list
+-- any list says whether there is a bad one
 pub is_bad : (c : Configuration) (totals : Totals) (octets : List ℕ) (handed : List (Handed ItemValue)) → AreReceived c octets handed totals → (bad (items_of handed) ≡ 0 → ⊥) → HasBad c octets
 is_bad c totals octets handed all some = (handed, (totals, all), some)
 
@@ -203,9 +203,9 @@ pub not_bad : OneList → (c : Configuration) (totals : Totals) (octets : List �
 not_bad one c totals octets handed accepted all none has =
     has.2 (ap (λ l. bad (items_of l)) (one c octets has.0 handed has.1.0 totals accepted has.1.1 all) ∙ none)
 
-told-prefix : (before now : SinkState) (last : Type 0) (handed : List (Handed ItemValue)) (totals : Totals)
+notes-prefix : (before now : SinkState) (last : Type 0) (handed : List (Handed ItemValue)) (totals : Totals)
     → BrokeText before now last (items_text 0 handed) (items_end_text (items_of handed) totals) → WrotePrefix before.taken now.taken (report_text handed totals)
-told-prefix before now last handed totals broke =
+notes-prefix before now last handed totals broke =
     let end = items_end_text (items_of handed) totals in
     subst (λ l. WrotePrefix before.taken now.taken (items_text 0 handed ++ l)) (append-nil end) (broke-prefix before now last (items_text 0 handed) end [] broke)
 
@@ -287,7 +287,7 @@ decode-broke c totals octets handed out out_now notes notes_now last all within 
     let up_to : octets ≡ take c.limit octets = sym (take_all c.limit octets within) in (
       output,
       subst (λ (l : List ℕ). IsDecoded c l (handed_frames handed) text) up_to (decoded c totals octets handed all),
-      record { out = wrote-prefix out.taken out_now.taken (handed_frames handed) frames.written; notes = told-prefix notes notes_now last handed totals told },
+      record { out = wrote-prefix out.taken out_now.taken (handed_frames handed) frames.written; notes = notes-prefix notes notes_now last handed totals told },
       (
         handed,
         totals,

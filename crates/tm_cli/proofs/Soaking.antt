@@ -122,19 +122,19 @@ units-long c frame hits g at unit stand is small few =
 
 -- ---- counts
 
--- a sink that tells nothing
-abbrev untold : Counts → SinkState
-untold _ = record { taken = None; faults = 0 }
+-- a sink that says nothing
+abbrev silent : Counts → SinkState
+silent _ = record { taken = None; faults = 0 }
 
-reported : (a : Counts) (h : Handed ItemValue) (b : Counts) → CountedHanded a h b → ReportedHanded (untold a) (untold b) a b h
+reported : (a : Counts) (h : Handed ItemValue) (b : Counts) → CountedHanded a h b → ReportedHanded (silent a) (silent b) a b h
 reported a (Phase skip cost) b same = (same, record { written = refl; same = refl })
 reported a (Item item) b one = record { line = record { written = refl; same = refl }; counted = one.counted; few = one.few }
 
 counted-all : (handed : List (Handed ItemValue)) (counts : Counts) → length (items_of handed) < 2 ^ 53 → HandedOver CountedHanded no_counts handed counts → counts ≡ counts_of (items_of handed)
 counted-all handed counts few over =
     let items = items_of handed in
-    let all = report-wrote untold (λ (k : Counts). k) handed no_counts counts refl few
-    (handed-along CountedHanded (λ a h b. ReportedHanded (untold a) (untold b) a b h) reported handed no_counts counts over) in
+    let all = report-wrote silent (λ (k : Counts). k) handed no_counts counts refl few
+    (handed-along CountedHanded (λ a h b. ReportedHanded (silent a) (silent b) a b h) reported handed no_counts counts over) in
     let goods : counts.good ≡ good items = all.good ∙ omega arith in
     let bads : counts.bad ≡ bad items = all.bad ∙ omega arith in
     let fixeds : counts.fixed ≡ fixed items = all.fixed ∙ omega arith in

@@ -177,9 +177,9 @@ read-whole one rules octets windows others seen read whole =
     let h = one rules octets windows others seen More read whole.0 in
     (h.0, h.1, (λ i. is_cut (h.2 i).next (h.3 i)) ∙ whole.1)
 
-told-whole : OneRead → (rules : Rules) (octets out notes : List ℕ) (windows : List Window) → IsChecked rules octets out notes → IsWhole rules octets windows
+notes-whole : OneRead → (rules : Rules) (octets out notes : List ℕ) (windows : List Window) → IsChecked rules octets out notes → IsWhole rules octets windows
     → notes ≡ windows_text 0 windows ++ trace_end_text (length windows) (bits_kept windows) 0
-told-whole one rules octets out notes windows checked whole =
+notes-whole one rules octets out notes windows checked whole =
     let h = read-whole one rules octets checked.windows windows checked.seen checked.read whole in
     checked.are_notes ∙ (λ i. windows_text 0 (h.0 i) ++ end_text (h.1 i) (h.2 i) (h.0 i))
 
@@ -207,7 +207,7 @@ passes-certified one passing Done status c octets taken taken_now noted noted_no
     let o = ends.0.0 in
     let r = by-rate (λ rules. IsChecked rules octets o.out o.notes) c.inner c ends.0.1 in
     let k = certifies passing c (unfollowed d) given octets r.0 r.1 accepted (same-unfollowed c d same) refl small all in
-    let text = told-whole one (rules_of c r.0) octets o.out o.notes k.windows r.2 k.whole ∙ same-trace c (unfollowed d) given octets all.are_handed.items r.0 k in
+    let text = notes-whole one (rules_of c r.0) octets o.out o.notes k.windows r.2 k.whole ∙ same-trace c (unfollowed d) given octets all.are_handed.items r.0 k in
     (told, subst (Wrote noted noted_now) text ends.0.2.notes)
 passes-certified one passing Bad status c octets taken taken_now noted noted_now accepted told ends = λ d given same small all within source sink.
     absurd (not-broken one passing c (unfollowed d) given octets accepted (same-unfollowed c d same) refl small all ends.2)

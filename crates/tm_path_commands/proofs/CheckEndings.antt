@@ -203,10 +203,10 @@ module _ (c : Configuration) (k : Rate) (is : c.inner ≡ Some k) where
       )
 
   -- all of a certificate that is whole was written
-  told-done : ReadOnce → (r : Reading) (p : Progress) (octets : List ℕ) (taken taken_now noted noted_then noted_now : Option (List ℕ)) → IsOpen r
+  ends-done : ReadOnce → (r : Reading) (p : Progress) (octets : List ℕ) (taken taken_now noted noted_then noted_now : Option (List ℕ)) → IsOpen r
       → Passes (rules_of c k) r p taken taken_now noted noted_then octets → length octets ≤ c.limit → is_cut r.before.next r.octets ≡ false
       → Wrote noted_then noted_now (trace_end_text p.count p.bits 0) → Ends Done (check_meaning c) c.limit octets (taken_by taken taken_now noted noted_now)
-  told-done once r p octets taken taken_now noted noted_then noted_now is_open h within whole wrote =
+  ends-done once r p octets taken taken_now noted noted_then noted_now is_open h within whole wrote =
       let read = read-so_far (rules_of c k) r p taken taken_now noted noted_then octets More h is_open (λ no. cc no) in
       let text : trace_end_text p.count p.bits 0 ≡ end_text More (is_cut r.before.next r.octets) h.windows =
       (λ i. trace_end_text (h.count i) (h.bits i) 0) ∙ ap (λ b. end_text More b h.windows) (sym whole) in (
@@ -220,10 +220,10 @@ module _ (c : Configuration) (k : Rate) (is : c.inner ≡ Some k) where
       )
 
   -- of one that is cut
-  told-cut : (r : Reading) (p : Progress) (octets : List ℕ) (taken taken_now noted noted_then noted_now : Option (List ℕ)) → IsOpen r
+  ends-cut : (r : Reading) (p : Progress) (octets : List ℕ) (taken taken_now noted noted_then noted_now : Option (List ℕ)) → IsOpen r
       → Passes (rules_of c k) r p taken taken_now noted noted_then octets → length octets ≤ c.limit → is_cut r.before.next r.octets ≡ true
       → Wrote noted_then noted_now (cut_text p.count) → Ends LeftOver (check_meaning c) c.limit octets (taken_by taken taken_now noted noted_now)
-  told-cut r p octets taken taken_now noted noted_then noted_now is_open h within cut wrote =
+  ends-cut r p octets taken taken_now noted noted_then noted_now is_open h within cut wrote =
       let read = read-so_far (rules_of c k) r p taken taken_now noted noted_then octets More h is_open (λ no. cc no) in
       let text : cut_text p.count ≡ end_text More (is_cut r.before.next r.octets) h.windows = ap cut_text h.count ∙ ap (λ b. end_text More b h.windows) (sym cut) in (
         wrote-end r p octets taken taken_now noted noted_then noted_now is_open h (subst (Wrote noted_then noted_now) text wrote),
@@ -232,10 +232,10 @@ module _ (c : Configuration) (k : Rate) (is : c.inner ≡ Some k) where
       )
 
   -- the notes failed at the end
-  told-part : (r : Reading) (p : Progress) (octets : List ℕ) (taken taken_now noted noted_then noted_now : Option (List ℕ)) → IsOpen r
+  ends-part : (r : Reading) (p : Progress) (octets : List ℕ) (taken taken_now noted noted_then noted_now : Option (List ℕ)) → IsOpen r
       → (h : Passes (rules_of c k) r p taken taken_now noted noted_then octets) → length octets ≤ c.limit
       → WrotePrefix noted_then noted_now (end_text More (is_cut r.before.next r.octets) h.windows) → Ends SinkFault (check_meaning c) c.limit octets (taken_by taken taken_now noted noted_now)
-  told-part r p octets taken taken_now noted noted_then noted_now is_open h within wrote =
+  ends-part r p octets taken taken_now noted noted_then noted_now is_open h within wrote =
       let read = read-so_far (rules_of c k) r p taken taken_now noted noted_then octets More h is_open (λ no. cc no) in
       subst (λ (o : List ℕ). (output : Output) × (check_meaning c).is_output o output × WrotePrefixes output (taken_by taken taken_now noted noted_now)
       × (check_meaning c).is_in_order o output (taken_by taken taken_now noted noted_now))
@@ -244,10 +244,10 @@ module _ (c : Configuration) (k : Rate) (is : c.inner ≡ Some k) where
       (wrote.0, wrote-then noted noted_then noted_now (windows_text 0 h.windows) (take wrote.0 (end_text More (is_cut r.before.next r.octets) h.windows)) h.wrote.notes wrote.1))
 
   -- a window fails, and the notes say so
-  told-bad : (octets : List ℕ) (taken taken_now noted noted_now : Option (List ℕ))
+  ends-bad : (octets : List ℕ) (taken taken_now noted noted_now : Option (List ℕ))
       → Fails TookAfter (rules_of c k) taken taken_now noted noted_now (take c.limit octets)
       → Ends BadWindow (check_meaning c) c.limit octets (taken_by taken taken_now noted noted_now)
-  told-bad octets taken taken_now noted noted_now f = (
+  ends-bad octets taken taken_now noted noted_now f = (
     tt,
     (
       output-of (rules_of c k) (take c.limit octets) f.windows (Failed f.reason) f.broken,
@@ -263,13 +263,13 @@ module _ (c : Configuration) (k : Rate) (is : c.inner ≡ Some k) where
   )
 
   -- a sink failed, or the notes in that line
-  told-part_way : ReadOnce → (octets : List ℕ) (taken taken_now noted noted_now : Option (List ℕ))
+  ends-part_way : ReadOnce → (octets : List ℕ) (taken taken_now noted noted_now : Option (List ℕ))
       → Breaks (rules_of c k) taken taken_now noted noted_now (take c.limit octets)
       ⊎ Fails TookPartAfter (rules_of c k) taken taken_now noted noted_now (take c.limit octets)
       → Ends SinkFault (check_meaning c) c.limit octets (taken_by taken taken_now noted noted_now)
-  told-part_way once octets taken taken_now noted noted_now (inl b) = broke-off once
+  ends-part_way once octets taken taken_now noted noted_now (inl b) = broke-off once
       (take c.limit octets) taken taken_now noted noted_now b
-  told-part_way once octets taken taken_now noted noted_now (inr f) =
+  ends-part_way once octets taken taken_now noted noted_now (inr f) =
       all-but_end (take c.limit octets) f.windows
       (Failed f.reason) f.broken taken taken_now noted noted_now f.out f.notes
 
@@ -289,20 +289,20 @@ module _ (c : Configuration) (r : Reading) (p : Progress) (octets : List ℕ) (t
 
   pub done-checked : ReadOnce → (noted_now : Option (List ℕ)) → length octets ≤ c.limit → is_cut r.before.next r.octets ≡ false
       → Wrote noted_then noted_now (trace_end_text p.count p.bits 0) → Ends Done (check_meaning c) c.limit octets (taken_by taken taken_now noted noted_now)
-  done-checked once noted_now = told-done c k.0 k.1 once r p octets taken taken_now noted noted_then noted_now is_open k.2
+  done-checked once noted_now = ends-done c k.0 k.1 once r p octets taken taken_now noted noted_then noted_now is_open k.2
 
   pub cut-checked : (noted_now : Option (List ℕ)) → length octets ≤ c.limit → is_cut r.before.next r.octets ≡ true
       → Wrote noted_then noted_now (cut_text p.count) → Ends LeftOver (check_meaning c) c.limit octets (taken_by taken taken_now noted noted_now)
-  cut-checked noted_now = told-cut c k.0 k.1 r p octets taken taken_now noted noted_then noted_now is_open k.2
+  cut-checked noted_now = ends-cut c k.0 k.1 r p octets taken taken_now noted noted_then noted_now is_open k.2
 
   pub part-checked : (noted_now : Option (List ℕ)) → length octets ≤ c.limit
       → (is_cut r.before.next r.octets ≡ true) × WrotePrefix noted_then noted_now (cut_text p.count)
       ⊎ (is_cut r.before.next r.octets ≡ false) × WrotePrefix noted_then noted_now (trace_end_text p.count p.bits 0) → Ends SinkFault (check_meaning c) c.limit octets (taken_by taken taken_now noted noted_now)
   part-checked noted_now within (inl part) =
-      told-part c k.0 k.1 r p octets taken taken_now noted noted_then noted_now is_open k.2 within
+      ends-part c k.0 k.1 r p octets taken taken_now noted noted_then noted_now is_open k.2 within
       (subst (WrotePrefix noted_then noted_now) (ap cut_text k.2.count ∙ ap (λ b. end_text More b k.2.windows) (sym part.0)) part.1)
   part-checked noted_now within (inr part) =
-      told-part c k.0 k.1 r p octets taken taken_now noted noted_then noted_now is_open k.2 within
+      ends-part c k.0 k.1 r p octets taken taken_now noted noted_then noted_now is_open k.2 within
       (subst (WrotePrefix noted_then noted_now) ((λ i. trace_end_text (k.2.count i) (k.2.bits i) 0) ∙ ap (λ b. end_text More b k.2.windows) (sym part.0)) part.1)
 
 -- ---- how what was driven ends
@@ -372,14 +372,14 @@ module _ {F : Type 0} (reader : F → Reading) (progress : F → Progress) (out 
         let at = take c.limit octets in
         let b = with-rate (λ k. Fails TookAfter k (out before) (out now) (notes before) (notes now) at)
         c.inner c (of-stopped stop.BadWindow at (up-to octets) p) in
-        told-bad c b.0 b.1 octets (out before) (out now) (notes before) (notes now) b.2
+        ends-bad c b.0 b.1 octets (out before) (out now) (notes before) (notes now) b.2
     ended-by SourceFault octets ended unended p = (early-by octets p.1 p.0, p.1)
     ended-by SinkFault octets ended unended (inl p) =
         let at = take c.limit octets in
         let b = with-rate (λ k. StopsBy stop.SinkFault k (out before) (out now) (notes before) (notes now) at)
         c.inner c
         (of-stopped stop.SinkFault at (up-to octets) p.0) in
-        told-part_way c b.0 b.1 once octets (out before) (out now) (notes before) (notes now) b.2
+        ends-part_way c b.0 b.1 once octets (out before) (out now) (notes before) (notes now) b.2
     ended-by SinkFault octets ended unended (inr p) =
         let w = p.0 in
         w.at_end c (out before) (notes before) octets (of-fed w.middle octets w.within w.were_fed) w.within

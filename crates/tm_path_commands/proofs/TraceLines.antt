@@ -25,7 +25,7 @@ TookOne name lines count x next y = (name y ≡ name x) × TracedHanded (lines x
 abbrev pub BrokeOne : {T K : Type 0} → (T → K) → (T → SinkState) → (T → Type 0) → (T → Tally) → T → Handed WindowBlock → T → Type 0
 BrokeOne name lines last count x next y = (name y ≡ name x) × BrokeText (lines x) (lines y) (last y) [] (handed_block_text (count x) next)
 
--- the same, told of each apart
+-- the same, said of each apart
 abbrev pub TookPhase : {T K : Type 0} → (T → K) → (T → SinkState) → (T → Tally) → T → ℕ → ℕ → T → Type 0
 TookPhase name lines count x skip cost y = (name y ≡ name x) × (count y ≡ count x) × TookText (lines x) (lines y) (phase_text skip cost)
 
@@ -107,7 +107,7 @@ tally_all-append was [] ys = refl
 tally_all-append was (Phase skip cost ∷ xs) ys = tally_all-append was xs ys
 tally_all-append was (Item x ∷ xs) ys = tally_all-append (tally_after was x) xs ys
 
--- both counts are less than a number that is not told
+-- both counts are less than a number that is not said
 abbrev pub IsSmall : Tally → Type 0
 IsSmall tally = (tally.blocks < 2 ^ 64 - 1) × (tally.bits < 2 ^ 64 - 1)
 
@@ -215,8 +215,8 @@ line-broke : {T E : Type 0} (before now : SinkState) (last : Type 0) (text : Lis
 line-broke before now last text (Ok value) wrote cause = tt
 line-broke before now last text (Err error) wrote cause = record { written = wrote; later = cause.later; rose = cause.failed }
 
-told : (start now : SinkState) (tally : Tally) (handed : List (Handed WindowBlock)) → TracedAll start now no_blocks tally handed → tally.blocks ≡ length (items_of handed)
-told start now tally handed traced = omega (arith, ap (λ (t : Tally). t.blocks) traced.counted, (tally-is no_blocks handed).0)
+blocks-counted : (start now : SinkState) (tally : Tally) (handed : List (Handed WindowBlock)) → TracedAll start now no_blocks tally handed → tally.blocks ≡ length (items_of handed)
+blocks-counted start now tally handed traced = omega (arith, ap (λ (t : Tally). t.blocks) traced.counted, (tally-is no_blocks handed).0)
 
 -- after all lines the end was taken, or the sink failed in it
 pub end-took : {T E : Type 0} (now end : SinkState) (last : Type 0) (tally : Tally) (bits left : ℕ) (result : Result T E)
@@ -224,7 +224,7 @@ pub end-took : {T E : Type 0} (now end : SinkState) (last : Type 0) (tally : Tal
     → OnOk result ((start : SinkState) (handed : List (Handed WindowBlock)) → TracedAll start now no_blocks tally handed → TookText start end (trace_text handed bits left))
 end-took now end last tally bits left result wrote cause =
     on_ok_weaker result (λ took. λ start handed traced.
-    subst (λ (n : ℕ). TookText start end (blocks_text no_blocks handed ++ trace_end_text n bits left)) (told start now tally handed traced)
+    subst (λ (n : ℕ). TookText start end (blocks_text no_blocks handed ++ trace_end_text n bits left)) (blocks-counted start now tally handed traced)
     (took-more start now end (blocks_text no_blocks handed) (trace_end_text tally.blocks bits left) traced.lines took))
     (line-took now end last (trace_end_text tally.blocks bits left) result wrote cause)
 
@@ -234,7 +234,7 @@ pub end-broke : {T E : Type 0} (now end : SinkState) (last : Type 0) (tally : Ta
     → BrokeText start end last (blocks_text no_blocks handed) (trace_end_text (length (items_of handed)) bits left))
 end-broke now end last tally bits left result wrote cause =
     on_err_weaker result (λ broke. λ start handed traced.
-    subst (λ (n : ℕ). BrokeText start end last (blocks_text no_blocks handed) (trace_end_text n bits left)) (told start now tally handed traced)
+    subst (λ (n : ℕ). BrokeText start end last (blocks_text no_blocks handed) (trace_end_text n bits left)) (blocks-counted start now tally handed traced)
     (broke-after start now end last (blocks_text no_blocks handed) (trace_end_text tally.blocks bits left) traced.lines broke))
     (line-broke now end last (trace_end_text tally.blocks bits left) result wrote cause)
 

@@ -11,7 +11,7 @@ use Rattle.tm_cli.specs.Commands.Command.{Decode, Check}
 use Rattle.tm_cli.specs.Refusal.{AreParsedAs}
 use Rattle.tm_cli.specs.Run.{Answers, Call, HasNoFault, call_of}
 use Rattle.tm_cli.specs.declared.refusal.Refusal.{Refusal}
-use Rattle.tm_cli.proofs.Answering.{of-check, of-encode, left-reads, source-reads, status-small, not-told, without-fault, sink-rose, whole-input_told}
+use Rattle.tm_cli.proofs.Answering.{of-check, of-encode, left-reads, source-reads, status-small, never-two_or_five, without-fault, sink-rose, whole-input_known}
 use Rattle.tm_cli.proofs.top.run.Goals as goal
 
 -- words ask for one job
@@ -64,7 +64,7 @@ returns-in-Ok-clause-answered g c = λ job asked _.
       by_window = λ asks bad. c.in-Ok.ensures.not_bad (of-check c.in-Command.job asks) bad;
       complete = λ none. subst (λ (s : ℕ). (s ≡ 0) ⊎ (s ≡ 1) ⊎ (s ≡ 6) ⊎ (s ≡ 7)) (sym is) (without-fault ending (no_source none) (no_sink none));
       whole_input = λ input told within whole none. subst (λ (s : ℕ). (s ≡ 0) ⊎ (s ≡ 1)) (sym is)
-          (whole-input_told ending (meaning_of command config) config.limit h.0 input (g.S.Source.left c.dispatch.new.source) all h.1.ends (sym told ∙ h.1.gave.consumed) at_end within whole
+          (whole-input_known ending (meaning_of command config) config.limit h.0 input (g.S.Source.left c.dispatch.new.source) all h.1.ends (sym told ∙ h.1.gave.consumed) at_end within whole
           (no_source none) (no_sink none));
       clean = λ asks. c.link_law.ensures.clean ending c.status.result config h.0 taken now noted noted_now read.2 is (decodes asks);
       disturbed = λ asks. c.link_law.ensures.disturbed ending c.status.result config h.0 taken now noted noted_now read.2 is (decodes asks);
@@ -83,13 +83,13 @@ returns-in-Ok-clause-refused g c = λ some.
     cc none
 
 pub returns-in-Ok-clause-refusal : goal.returns-in-Ok-clause-refusal
-returns-in-Ok-clause-refusal g c = λ two. absurd (not-told c.in-Ok.ending (inl (sym c.status.ensures ∙ two)))
+returns-in-Ok-clause-refusal g c = λ two. absurd (never-two_or_five c.in-Ok.ending (inl (sym c.status.ensures ∙ two)))
 
 pub returns-in-Ok-clause-unread : goal.returns-in-Ok-clause-unread
-returns-in-Ok-clause-unread g c = λ which. absurd (not-told c.in-Ok.ending (elim which [ inl two ↦ inl (sym c.status.ensures ∙ two) | inr five ↦ inr (sym c.status.ensures ∙ five) ]))
+returns-in-Ok-clause-unread g c = λ which. absurd (never-two_or_five c.in-Ok.ending (elim which [ inl two ↦ inl (sym c.status.ensures ∙ two) | inr five ↦ inr (sym c.status.ensures ∙ five) ]))
 
 pub returns-in-Ok-clause-memory : goal.returns-in-Ok-clause-memory
-returns-in-Ok-clause-memory g c = λ five. absurd (not-told c.in-Ok.ending (inr (sym c.status.ensures ∙ five)))
+returns-in-Ok-clause-memory g c = λ five. absurd (never-two_or_five c.in-Ok.ending (inr (sym c.status.ensures ∙ five)))
 
 pub returns-in-Ok-clause-statuses : goal.returns-in-Ok-clause-statuses
 returns-in-Ok-clause-statuses g c = subst (λ (s : ℕ). s ≤ 7) (sym c.status.ensures) (status-small c.in-Ok.ending)

@@ -36,9 +36,9 @@ is_cut g count m size some room is size_is =
     }
 
 -- closed windows of the first of the octets that are held, as the call that closes them tells it
-told : (s s' : WindowShape) (starts : Option ℕ) (t : ℕ) (slice prefix : List ℕ) (blocks : List WindowBlock) (to : WindowShape → List ℕ → Place)
+closed-same : (s s' : WindowShape) (starts : Option ℕ) (t : ℕ) (slice prefix : List ℕ) (blocks : List WindowBlock) (to : WindowShape → List ℕ → Place)
     → s' ≡ s → slice ≡ prefix → ClosedWith s' (place_of starts t slice) blocks (to s' slice) → ClosedWith s (place_of starts t prefix) blocks (to s prefix)
-told s s' starts t slice prefix blocks to es eo h =
+closed-same s s' starts t slice prefix blocks to es eo h =
     subst (λ (o : List ℕ). ClosedWith s (place_of starts t o) blocks (to s o)) eo
     (subst (λ (v : WindowShape). ClosedWith v (place_of starts t slice) blocks (to v slice)) es h)
 
@@ -72,7 +72,7 @@ returns-in-Ok g c =
     let left = c.drop_first.new.self.octets in
     let cut = is_cut s count m size run.some run.room c.steps_len-size.ensures c.steps_len.ensures in
     let prefix = take m s.held.octets in
-    let prefixes = told s.shape s.workers.shape s.starts s.t (take m c.as_slice.result.now) prefix ok.0
+    let prefixes = closed-same s.shape s.workers.shape s.starts s.t (take m c.as_slice.result.now) prefix ok.0
     (λ v o. after_windows v s.t o count next) s.workers_shape (ap (take m) c.as_slice.ensures.octets) ok.2 in
     let rest_is : length left + size ≡ length s.held.octets = omega (
       arith,
@@ -116,7 +116,7 @@ returns-in-Err g c =
     let run = c.count_run-count.ensures in
     let m = c.steps_len-size.result in
     let err = c.in-Err.ensures.closed.err in
-    let prefixes = told s.shape s.workers.shape s.starts s.t (take m c.as_slice.result.now) (take m s.held.octets) err.0
+    let prefixes = closed-same s.shape s.workers.shape s.starts s.t (take m c.as_slice.result.now) (take m s.held.octets) err.0
     (λ v o. err.2) s.workers_shape (ap (take m) c.as_slice.ensures.octets) err.3 in
     let none = ap length c.clear.ensures.octets in
     let least = steps_size-least s.shape.rate s.t (s.shape.keep + s.shape.ahead + 1) in
