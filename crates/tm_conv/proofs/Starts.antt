@@ -37,30 +37,30 @@ all_of-at (suc count) test k e below = go (λ e less. all_of-at count test k e l
     go more parts (inr (inl less)) = more parts.1 less
     go more parts (inr (inr past)) = absurd (omega arith)
 
-tells : ℕ → ℕ → ℕ → ℕ → ℕ → ℕ → ℕ → Bool
-tells r a b c d e f = register_of (raw r (a ∷ b ∷ c ∷ d ∷ e ∷ f ∷ [])) == r
+recovers : ℕ → ℕ → ℕ → ℕ → ℕ → ℕ → ℕ → Bool
+recovers r a b c d e f = register_of (raw r (a ∷ b ∷ c ∷ d ∷ e ∷ f ∷ [])) == r
 
-all_tell : all_of 64 (λ r. all_of 2 (λ a. all_of 2 (λ b. all_of 2 (λ c. all_of 2 (λ d. all_of 2 (λ e. all_of 2 (λ f. tells r a b c d e f))))))) ≡ true
-unfolding all_of tells register_of raw
-all_tell = refl
+all_recover : all_of 64 (λ r. all_of 2 (λ a. all_of 2 (λ b. all_of 2 (λ c. all_of 2 (λ d. all_of 2 (λ e. all_of 2 (λ f. recovers r a b c d e f))))))) ≡ true
+unfolding all_of recovers register_of raw
+all_recover = refl
 
-tells-at : (r a b c d e f : ℕ) → r < 64 → a < 2 → b < 2 → c < 2 → d < 2 → e < 2 → f < 2 → tells r a b c d e f ≡ true
-tells-at r a b c d e f p0 p1 p2 p3 p4 p5 p6 =
-    all_of-at 2 (λ f. tells r a b c d e f) f
-    (all_of-at 2 (λ e. all_of 2 (λ f. tells r a b c d e f)) e
-    (all_of-at 2 (λ d. all_of 2 (λ e. all_of 2 (λ f. tells r a b c d e f))) d
-    (all_of-at 2 (λ c. all_of 2 (λ d. all_of 2 (λ e. all_of 2 (λ f. tells r a b c d e f)))) c
-    (all_of-at 2 (λ b. all_of 2 (λ c. all_of 2 (λ d. all_of 2 (λ e. all_of 2 (λ f. tells r a b c d e f))))) b
-    (all_of-at 2 (λ a. all_of 2 (λ b. all_of 2 (λ c. all_of 2 (λ d. all_of 2 (λ e. all_of 2 (λ f. tells r a b c d e f)))))) a
-    (all_of-at 64 (λ r. all_of 2 (λ a. all_of 2 (λ b. all_of 2 (λ c. all_of 2 (λ d. all_of 2 (λ e. all_of 2 (λ f. tells r a b c d e f))))))) r all_tell p0) p1) p2) p3) p4) p5) p6
+recovers-at : (r a b c d e f : ℕ) → r < 64 → a < 2 → b < 2 → c < 2 → d < 2 → e < 2 → f < 2 → recovers r a b c d e f ≡ true
+recovers-at r a b c d e f p0 p1 p2 p3 p4 p5 p6 =
+    all_of-at 2 (λ f. recovers r a b c d e f) f
+    (all_of-at 2 (λ e. all_of 2 (λ f. recovers r a b c d e f)) e
+    (all_of-at 2 (λ d. all_of 2 (λ e. all_of 2 (λ f. recovers r a b c d e f))) d
+    (all_of-at 2 (λ c. all_of 2 (λ d. all_of 2 (λ e. all_of 2 (λ f. recovers r a b c d e f)))) c
+    (all_of-at 2 (λ b. all_of 2 (λ c. all_of 2 (λ d. all_of 2 (λ e. all_of 2 (λ f. recovers r a b c d e f))))) b
+    (all_of-at 2 (λ a. all_of 2 (λ b. all_of 2 (λ c. all_of 2 (λ d. all_of 2 (λ e. all_of 2 (λ f. recovers r a b c d e f)))))) a
+    (all_of-at 64 (λ r. all_of 2 (λ a. all_of 2 (λ b. all_of 2 (λ c. all_of 2 (λ d. all_of 2 (λ e. all_of 2 (λ f. recovers r a b c d e f))))))) r all_recover p0) p1) p2) p3) p4) p5) p6
 
 same-number : (m n : ℕ) → (m == n) ≡ true → m ≡ n
 same-number m n e = grind (arith, nat_tests)
 
 register-raw : (r : ℕ) (bits : List ℕ) → r < 64 → AreDigits bits → 6 ≤ length bits → register_of (raw r bits) ≡ r
-unfolding register_of raw tells
+unfolding register_of raw recovers
 register-raw r (a ∷ b ∷ c ∷ d ∷ e ∷ f ∷ rest) small are six =
-    let test : (register_of (raw r (a ∷ b ∷ c ∷ d ∷ e ∷ f ∷ [])) == r) ≡ true = tells-at r a b c d e f small are.0 are.1.0 are.1.1.0 are.1.1.1.0 are.1.1.1.1.0 are.1.1.1.1.1.0 in
+    let test : (register_of (raw r (a ∷ b ∷ c ∷ d ∷ e ∷ f ∷ [])) == r) ≡ true = recovers-at r a b c d e f small are.0 are.1.0 are.1.1.0 are.1.1.1.0 are.1.1.1.1.0 are.1.1.1.1.1.0 in
     same-number (register_of (raw r (a ∷ b ∷ c ∷ d ∷ e ∷ f ∷ []))) r test
 register-raw r bits small are six = absurd (omega arith)
 

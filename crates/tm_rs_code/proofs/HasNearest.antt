@@ -6,7 +6,7 @@ use Rattle.tm_rs_code.specs.Nearest.{IsNearest, Nearest}
 use Rattle.tm_rs_code.specs.Nearest.Nearest.{Fixed, Beyond}
 use Rattle.tm_rs_code.specs.Erasures.{IsNearestErased, NearestErased, count_erased, outside, inside}
 use Rattle.tm_rs_code.specs.Erasures.NearestErased.{Fixed as FixedErased, Beyond as BeyondErased}
-use Rattle.tm_rs_code.proofs.Systematic.{PassesOrNone, search_words, is_codeword_tells, is_codeword_holds}
+use Rattle.tm_rs_code.proofs.Systematic.{PassesOrNone, search_words, codeword_by_test, is_codeword_holds}
 
 -- whether a word is a codeword within the bound
 abbrev is_near : ℕ → ℕ → List ℕ → List ℕ → Bool
@@ -15,7 +15,7 @@ is_near e bound w c = is_codeword e c && leb (distance c w) bound
 nearest_of : (e bound : ℕ) (w : List ℕ) → PassesOrNone (length w) (is_near e bound w) → (a : Nearest) × IsNearest e bound w a
 nearest_of e bound w (inl (c, long, elements, passes)) =
     let both = and_parts (is_codeword e c) (leb (distance c w) bound) passes in
-    (Fixed c (distance c w), (record { size = long; elements = elements; codeword = is_codeword_tells e c both.0 }, refl, leb-true (distance c w) bound both.1))
+    (Fixed c (distance c w), (record { size = long; elements = elements; codeword = codeword_by_test e c both.0 }, refl, leb-true (distance c w) bound both.1))
 nearest_of e bound w (inr none) = (
   Beyond,
   λ c code. elim (cases_lt bound (distance c w)) [
@@ -43,7 +43,7 @@ nearest_erased_of e bound erased w (inl (c, long, elements, passes)) =
     let few = and_parts (leb (differing erased w c) bound) (leb (2 * differing erased w c + count_erased erased) (2 * e)) code.1 in (
       FixedErased c (differing erased w c) (distance (inside erased c) (inside erased w)),
       (
-        record { size = long; elements = elements; codeword = is_codeword_tells e c code.0 },
+        record { size = long; elements = elements; codeword = codeword_by_test e c code.0 },
         record { bounded = leb-true (differing erased w c) bound few.0; few = leb-true (2 * differing erased w c + count_erased erased) (2 * e) few.1 },
         refl,
         refl,

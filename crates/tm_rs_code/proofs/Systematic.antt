@@ -51,9 +51,9 @@ all_of p a (suc n) h =
     all_of p (a + 1) n (λ k lt. let moved : (a + 1) + k ≡ a + suc k = omega arith in ap p moved ∙ h (suc k) (omega arith)) in
     ap (λ (b : Bool). b && list_all p (range_with_len (a + 1) n)) here ∙ rest
 
-pub is_codeword_tells : (e : ℕ) (w : List ℕ) → is_codeword e w ≡ true → IsCodeword e w
+pub codeword_by_test : (e : ℕ) (w : List ℕ) → is_codeword e w ≡ true → IsCodeword e w
 unfolding is_codeword
-is_codeword_tells e w h k lt =
+codeword_by_test e w h k lt =
     let at : eqb (value_at w (root e (0 + k))) 0 ≡ true = all_at (λ j. eqb (value_at w (root e j)) 0) 0 (2 * e) h k lt in
     let same : k ≡ 0 + k = omega arith in
     ap (λ (j : ℕ). value_at w (root e j)) same ∙ eqb-true (value_at w (root e (0 + k))) 0 at
@@ -208,7 +208,7 @@ systematic_exists e info h =
     let found = find_passes (AreWords (2 * e)) test (all_words (2 * e)) (Each-all_words (2 * e)) searched in
     record {
       elements = AreElements-append info (unwrap_or (find test (all_words (2 * e))) []) h found.0.1;
-      codeword = is_codeword_tells e (info ++ unwrap_or (find test (all_words (2 * e))) []) found.1;
+      codeword = codeword_by_test e (info ++ unwrap_or (find test (all_words (2 * e))) []) found.1;
       size = length-append info (unwrap_or (find test (all_words (2 * e))) []) ∙ ap (λ (n : ℕ). length info + n) found.0.0;
       begins = take-append_seam info (unwrap_or (find test (all_words (2 * e))) []);
     }

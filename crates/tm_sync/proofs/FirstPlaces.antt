@@ -8,7 +8,7 @@ use Rattle.tm_sync.specs.declared.found.Before.{Before}
 use Rattle.tm_sync.specs.Places.{Rules, match_of, place_polarity, verify_bits, before_next, found_at, place_by, place_at, places_from}
 use Rattle.tm_sync.specs.Searching.{first_place, deciding_bits}
 use Rattle.tm_sync.specs.Marked.{ready}
-use Rattle.tm_sync.proofs.Steps.{places_from-nil, places_from-short, places_from-miss, places_from-hit, places_from-unsettled, settled-tells, place_polarity-append, place_at-room, place_at-short, ready-none}
+use Rattle.tm_sync.proofs.Steps.{places_from-nil, places_from-short, places_from-miss, places_from-hit, places_from-unsettled, settled-verified, place_polarity-append, place_at-room, place_at-short, ready-none}
 use Rattle.tm_sync.proofs.Longer.{Seen, none, some, seen, place_by-append, place_by-place, places_from-room}
 
 -- the place that the first 32 bits are
@@ -173,7 +173,7 @@ places_from-none rules at before (b ∷ bits) e =
     go (λ e. places_from-none rules (at + 1) None bits e) (cases_lt (length (b ∷ bits)) (deciding_bits rules before))
   where
     few : (before : Option Before) → length (b ∷ bits) < deciding_bits rules before → places_from rules at 0 before (b ∷ bits) ≡ []
-    few None short = let tells = settled-tells rules in places_from-unsettled rules at (b ∷ bits) (omega arith)
+    few None short = let least = settled-verified rules in places_from-unsettled rules at (b ∷ bits) (omega arith)
     few (Some before) short = places_from-short rules at (Some before) (b ∷ bits) (omega arith)
 
     go : (first_place rules (at + 1) None bits ≡ None → places_from rules (at + 1) 0 None bits ≡ []) → (length (b ∷ bits) < deciding_bits rules before) ⊎ (deciding_bits rules before ≤ length (b ∷ bits))

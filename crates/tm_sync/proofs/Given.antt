@@ -842,7 +842,7 @@ reported-of s room bits found h m was pending =
             rest-run s.rules m.found.inverted count (m.found.place + 32 + s.rules.block_bits) m.next (drop (m.found.place + 32 + s.rules.block_bits) bits) size match held
 
 -- the search reports the place that waits
-pub record Tells (s s' : Searching) (m : Awaited) : Type 0 where
+pub record HasReported (s s' : Searching) (m : Awaited) : Type 0 where
   pub awaited_was : s.awaited ≡ Some m
   pub rules : s'.rules ≡ s.rules
   pub word : s'.word ≡ s.word
@@ -883,7 +883,7 @@ Gives s s' room bits found f = SearchStandsFor s' room bits (found ++ f ∷ [])
     × (f.place + 32 + unwrap_or (inside_of s) 0 ≡ length bits)
 
 -- where the search follows the codeblock that is reported, and awaits the place ahead
-gives : (s s' : Searching) (room : List ℕ) (m : Awaited) (bits : List Bool) (found : List Found) (h : Parts s room bits found) (reported : Reported s bits found m) → Tells s s' m
+gives : (s s' : Searching) (room : List ℕ) (m : Awaited) (bits : List Bool) (found : List Found) (h : Parts s room bits found) (reported : Reported s bits found m) → HasReported s s' m
     → s'.awaited ≡ option_map (awaited_at s'.before) (first_place s'.rules (m.found.place + 32 + s.rules.block_bits) s'.before (drop (m.found.place + 32 + s.rules.block_bits) bits))
     → Ends s' s'.awaited → Fresh s' s'.awaited → IsRun s' bits s'.awaited → IsRecent room bits (from_of s' s'.awaited) → length reported.rest ≡ waiting_of s'
     → Gives s s' room bits found m.found
@@ -919,7 +919,7 @@ gives s s' room m bits found h reported t awaited ends fresh run recent many =
     )
 
 -- no codeblock follows it
-pub reported_last : (s s' : Searching) (room : List ℕ) (m : Awaited) → is_pending s ≡ true → Tells s s' m → s.after - s.rules.block_bits < 32 → s'.awaited ≡ None → s'.after ≡ 0
+pub reported_last : (s s' : Searching) (room : List ℕ) (m : Awaited) → is_pending s ≡ true → HasReported s s' m → s.after - s.rules.block_bits < 32 → s'.awaited ≡ None → s'.after ≡ 0
     → (bits : List Bool) (found : List Found) → SearchStandsFor s room bits found → Gives s s' room bits found m.found
 reported_last s s' room m pending t short free fresh bits found stood =
     let h = parts_of s room bits found stood in
@@ -984,7 +984,7 @@ most-after zero size after more most full left = absurd (omega arith)
 most-after (suc count) size after more most full left = omega arith
 
 -- codeblocks follow it that were verified with it
-pub reported_next : (s s' : Searching) (room : List ℕ) (m a : Awaited) (word : ℕ) → is_pending s ≡ true → Tells s s' m → s.after ≤ inside_by s.rules.verify s.rules.block_bits
+pub reported_next : (s s' : Searching) (room : List ℕ) (m a : Awaited) (word : ℕ) → is_pending s ≡ true → HasReported s s' m → s.after ≤ inside_by s.rules.verify s.rules.block_bits
     → 32 ≤ s.after - s.rules.block_bits → s'.awaited ≡ Some a → s'.after ≡ s.after - s.rules.block_bits - 32 → (bits : List Bool) (found : List Found)
     → ((from : ℕ) → Recalls s room bits from → (s'.after ≡ 0) ⊎ ((32 ≤ s'.after) × (s'.after ≤ verify_bits s.rules)) → from + 32 + s'.after ≤ length bits
     → word ≡ number_of (take 32 (drop (length bits - (32 + s'.after)) bits)))

@@ -5,7 +5,7 @@ use Rattle.std.proofs.lemmas.Bool.{cases_lt}
 use Rattle.tm_sync.specs.declared.found.Found.{Found}
 use Rattle.tm_sync.specs.declared.found.Before.{Before}
 use Rattle.tm_sync.specs.Places.{Rules, place_polarity, settled_by, before_next, found_at, place_by, place_at, places_from, places}
-use Rattle.tm_sync.proofs.Steps.{places_from-nil, places_from-short, places_from-one, places_from-miss, places_from-inside, places_from-unsettled, settled-room, settled-tells, settled-few, place_polarity-append, wrong_bits-append, place_at-room, place_at-short}
+use Rattle.tm_sync.proofs.Steps.{places_from-nil, places_from-short, places_from-one, places_from-miss, places_from-inside, places_from-unsettled, settled-room, settled-verified, settled-few, place_polarity-append, wrong_bits-append, place_at-room, place_at-short}
 
 -- what stands at a place with room for its codeblock stays, whatever comes after
 pub place_by-append : (rules : Rules) (at : ℕ) (before : Option Before) (bits more : List Bool) (polarity : Option Bool) → 32 ≤ length bits
@@ -24,7 +24,7 @@ place_at-append : (rules : Rules) (at : ℕ) (before : Option Before) (bits more
     → place_at rules at before (bits ++ more) ≡ place_at rules at before bits
 place_at-append rules at None bits more room =
     let whole = settled-room rules in
-    let tells = settled-tells rules in
+    let least = settled-verified rules in
     place_at-room rules at None (bits ++ more) (omega (arith, length-append bits more))
     ∙ ap (place_by rules at None (bits ++ more)) (place_polarity-append rules None bits more (omega arith))
     ∙ place_by-append rules at None bits more (place_polarity rules None bits) (omega arith)

@@ -228,8 +228,8 @@ settled-room rules = go rules.verify
     go zero = omega arith
     go (suc count) = omega arith
 
-pub settled-tells : (rules : Rules) → 32 + verify_bits rules ≤ settled_by rules.verify rules.block_bits
-settled-tells rules = go rules.verify
+pub settled-verified : (rules : Rules) → 32 + verify_bits rules ≤ settled_by rules.verify rules.block_bits
+settled-verified rules = go rules.verify
   where
     go : (count : ℕ) → 32 + count * (32 + rules.block_bits) ≤ settled_by count rules.block_bits
     go zero = omega arith
