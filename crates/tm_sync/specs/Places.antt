@@ -1,6 +1,6 @@
 -- Where markers with a whole codeblock after them stand in a list of bits (CCSDS 131.0-B, Frame
 -- Synchronization).
-use Rattle.std.specs.Prelude.{ℕ, zero, suc, ◌+◌, ◌*◌, Bool, true, false, if◌then◌else◌, ◌&&◌, nat_le, nat_lt, List, [], ◌∷◌, length, take, drop, Option, Some, None}
+use Rattle.std.specs.Prelude.{ℕ, zero, suc, ◌+◌, ◌*◌, ◌-◌, Bool, true, false, if◌then◌else◌, ◌&&◌, nat_le, nat_lt, List, [], ◌∷◌, length, take, drop, Option, Some, None}
 use Rattle.std.specs.Option.{option_map_or}
 use Rattle.tm_base.specs.Marker.{marker_size}
 use Rattle.tm_sync.specs.declared.found.Found.{Found}
@@ -106,7 +106,7 @@ unfoldable pub places_from : Rules → ℕ → ℕ → Option Before → List Bo
 places_from rules at skip before [] = []
 places_from rules at (suc skip) before (b ∷ bits) = places_from rules (at + 1) skip before bits
 places_from rules at zero before (b ∷ bits) =
-    option_map_or (λ f. f ∷ places_from rules (at + 1) (31 + rules.block_bits)
+    option_map_or (λ f. f ∷ places_from rules (at + 1) (marker_size - 1 + rules.block_bits)
     (Some (before_next before f)) bits) (place_at rules at before (b ∷ bits))
     (places_from rules (at + 1) 0 None bits)
 

@@ -34,7 +34,8 @@ is_pending s = option_map_or (λ count. nat_le s.rules.block_bits count) (inside
 -- how many of the bits given may be part of the marker or the codeblock of the next place: those
 -- from that marker on, or else fewer than decide whether a place stands at their start
 abbrev pub begun_of : Searching → ℕ
-begun_of s = option_map_or (λ count. marker_size + count) (inside_of s) (31 + verify_bits s.rules)
+begun_of s = option_map_or (λ count. marker_size + count) (inside_of s)
+    (marker_size - 1 + verify_bits s.rules)
 
 -- the most bits after the marker of a place that was not given yet
 abbrev pub inside_by : ℕ → ℕ → ℕ
@@ -174,4 +175,5 @@ is_right_after since (Some before) = since == marker_size
 -- how many numbers, from one more than the tolerance on, show that 32 bits match in no way, where
 -- so many of them differ from the marker
 abbrev pub far_count : ℕ → Bool → ℕ
-far_count tolerance either = if either then 31 - 2 * tolerance else marker_size - tolerance
+far_count tolerance either =
+    if either then marker_size - 1 - 2 * tolerance else marker_size - tolerance
