@@ -82,7 +82,7 @@ fn lesser(
     ensures bits { (i : ℕ) → i < 16 → (65535 - result.1) / 2 ^ i % 2
         ≡ (if nat_lt (slice_index second i + slice_index second_metrics i)
         (slice_index first i + slice_index first_metrics i) then 1 else 0) }
-    ensures small { result.1 < 65536 }
+    ensures small { result.1 < 2 ^ 16 }
 {
     let one = first.strict_add(first_metrics);
     let other = second.strict_add(second_metrics);

@@ -54,7 +54,7 @@ pub(crate) fn less_least(sums: &[u32; 64], least: u32) -> [u16; 64]
 
 // The path metrics again.
 pub(crate) fn with_least(low: Simd<u16, 32>, high: Simd<u16, 32>, least: u32) -> [u32; 64]
-    requires { least + 65536 < 2 ^ 32 }
+    requires { least + 2 ^ 16 < 2 ^ 32 }
     ensures long { length result ≡ 64 }
     ensures each { (s : ℕ) → s < 64 → slice_index result s ≡ least + slice_index (low ++ high) s }
 {

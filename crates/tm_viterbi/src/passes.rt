@@ -50,7 +50,7 @@ fn narrow_block(
     requires size { steps_size rate t (length survivors.old) ≤ length soft.now }
     requires few { length survivors.old ≤ most_narrow }
     requires first { t + length survivors.old < narrow_bound }
-    requires room { least + 65536 < 2 ^ 32 }
+    requires room { least + 2 ^ 16 < 2 ^ 32 }
     requires least { (s : ℕ) → s < 64 → least ≤ slice_index sums.old s }
     requires close { (s : ℕ) → s < 64 → slice_index sums.old s ≤ least + most_spread }
     ensures taken { result ≡ steps_size rate t (length survivors.new) }
@@ -101,7 +101,7 @@ pub(crate) fn run(
 )
     requires size { length soft.now ≡ steps_size rate t (length survivors.old) }
     requires first { t < farthest_step }
-    requires room { most + most_branch_metric * length survivors.old + 65536 < 2 ^ 32 }
+    requires room { most + most_branch_metric * length survivors.old + 2 ^ 16 < 2 ^ 32 }
     requires bounded { AreAtMost most sums.old }
     ensures bounded { AreAtMost (most + most_branch_metric * length survivors.new) sums.new }
     ensures carries { Carries rate invert t soft.now sums.old sums.new survivors.new }
