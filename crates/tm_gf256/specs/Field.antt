@@ -27,3 +27,7 @@ times a b = remainder 7 (bit_product 8 (a % 256) (b % 256))
 unfoldable pub power : ℕ → ℕ → ℕ
 power a zero = 1
 power a (suc k) = times (power a k) a
+
+-- how many elements other than 0 there are, and powers of alpha that differ
+abbrev pub group_order : ℕ
+group_order = 255

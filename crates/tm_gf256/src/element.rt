@@ -1,7 +1,7 @@
 //! The elements of the field and their arithmetic.
 
 ghost use Rattle.std.specs.Prelude.{◌≡◌, ◌≢◌, ◌<◌, ℕ};
-ghost use Rattle.tm_gf256.specs.Field.{plus, times, power};
+ghost use Rattle.tm_gf256.specs.Field.{group_order, plus, times, power};
 
 use crate::tables::{logarithm, power_or_zero};
 
@@ -68,9 +68,9 @@ impl Gf {
     /// the element.
     pub fn log(self) -> u32
         requires { self.0 ≢ 0 }
-        ensures small { result < 255 }
+        ensures small { result < group_order }
         ensures undoes { power 2 result ≡ self.0 }
-        ensures only { (i : ℕ) → i < 255 → power 2 i ≡ self.0 → i ≡ result }
+        ensures only { (i : ℕ) → i < group_order → power 2 i ≡ self.0 → i ≡ result }
     {
         logarithm(self.0) as u32
     }
@@ -93,7 +93,7 @@ pub fn field_laws()
     ensures one_is_neutral { (a : ℕ) → a < 256 → times a 1 ≡ a }
     ensures has_inverse { (a : ℕ) → a < 256 → a ≢ 0 → (b : ℕ) × (b < 256) × (times a b ≡ 1) }
 
-    ensures powers_are_all { (a : ℕ) → a < 256 → a ≢ 0 → (i : ℕ) × (i < 255) × (power 2 i ≡ a) }
-    ensures powers_differ { (i j : ℕ) → i < 255 → j < 255 → power 2 i ≡ power 2 j → i ≡ j }
-    ensures powers_repeat { power 2 255 ≡ 1 }
+    ensures powers_are_all { (a : ℕ) → a < 256 → a ≢ 0 → (i : ℕ) × (i < group_order) × (power 2 i ≡ a) }
+    ensures powers_differ { (i j : ℕ) → i < group_order → j < group_order → power 2 i ≡ power 2 j → i ≡ j }
+    ensures powers_repeat { power 2 group_order ≡ 1 }
 {}
