@@ -45,6 +45,10 @@ c2_pattern R78 = 1 ∷ 1 ∷ 1 ∷ 1 ∷ 0 ∷ 1 ∷ 0 ∷ []
 abbrev pub period : Rate → ℕ
 period rate = length (c1_pattern rate)
 
+-- the most steps of a pattern
+abbrev pub most_period : ℕ
+most_period = 7
+
 -- whether a pattern has step t sent
 abbrev pub is_kept : List ℕ → ℕ → Bool
 is_kept pattern t = slice_index pattern (t % length pattern) == 1

@@ -1,6 +1,6 @@
 // The rates, and which symbols their steps keep.
 ghost use Rattle.std.specs.Prelude.{◌≡◌, ◌+◌, ◌/◌, ◌<◌, ◌≤◌, length};
-ghost use Rattle.tm_conv.specs.Path.{c1_pattern, c2_pattern, keeps_c1, keeps_c2, period, step_size, steps_size, farthest_step};
+ghost use Rattle.tm_conv.specs.Path.{c1_pattern, c2_pattern, keeps_c1, keeps_c2, most_period, period, step_size, steps_size, farthest_step};
 
 /// The rate of the code: that of the code itself, or of one of its puncture patterns (CCSDS 131.0-B, Convolutional
 /// Coding).
@@ -70,7 +70,7 @@ pub fn step_len(rate: Rate, t: u64) -> usize
 pub fn period(rate: Rate) -> u8
     ensures period { result ≡ period rate }
     ensures some { 0 < result }
-    ensures small { result ≤ 7 }
+    ensures small { result ≤ most_period }
 {
     match rate {
         Rate::R12 => 1,

@@ -1,6 +1,6 @@
 // The choice of the symbol phase.
 ghost use Rattle.std.specs.Prelude.{◌≡◌, ℕ, ◌+◌, ◌-◌, ◌*◌, ◌^◌, ◌<◌, ◌≤◌, length};
-ghost use Rattle.tm_conv.specs.Path.{steps_size};
+ghost use Rattle.tm_conv.specs.Path.{most_period, steps_size};
 ghost use Rattle.tm_viterbi.specs.WindowSizes.{most_window, stream_bound};
 ghost use Rattle.tm_windows.specs.Phase.{period_size, octets_needed, AreCompared, IsCostAt, IsFirstLeast, IsPhase};
 
@@ -36,10 +36,11 @@ pub fn choose(rate: Rate, invert: bool, window: u32, soft: &[u8]) -> Chosen
     first_least(rate, invert, 0, size, soft, first)
 }
 
-/// With how many soft octets, or more, all `window` steps are compared; at most twice as many, and 7.
+/// With how many soft octets, or more, all `window` steps are compared; at most twice as many, and the steps of the
+/// longest period.
 pub fn octets_needed(rate: Rate, window: u32) -> usize
     ensures value { result ≡ octets_needed rate window }
-    ensures at_most { result ≤ 2 * window + 7 }
+    ensures at_most { result ≤ 2 * window + most_period }
 {
     symbols_of(rate, u64::from(window)) as usize + usize::from(period_size(rate)) - 1
 }

@@ -1,7 +1,7 @@
 // Symbols that were lost or doubled before a window.
 ghost use Rattle.std.specs.Prelude.{◌≡◌, ℕ, ◌+◌, ◌*◌, ◌^◌, ◌<◌, ◌≤◌, length};
 ghost use Rattle.tm_conv.specs.declared.rates.Rate.{Rate};
-ghost use Rattle.tm_conv.specs.Path.{steps_size};
+ghost use Rattle.tm_conv.specs.Path.{most_period, steps_size};
 ghost use Rattle.tm_viterbi.specs.WindowSizes.{most_window, stream_bound};
 ghost use Rattle.tm_windows.specs.Phase.{period_size, octets_at};
 ghost use Rattle.tm_windows.specs.Slip.{steps_seen, octets_seen, least_distances, excess, decided, IsSlip, most_seen};
@@ -37,7 +37,7 @@ pub fn octets_seen(rate: Rate, t: u64, steps: usize) -> usize
     requires steps { steps ≤ most_seen }
     requires few { t < stream_bound }
     ensures value { result ≡ octets_seen rate t steps }
-    ensures at_most { result ≤ 2 * steps + 7 }
+    ensures at_most { result ≤ 2 * steps + most_period }
 {
     steps_len(rate, t, steps) + usize::from(period_size(rate)) - 1
 }
