@@ -1,9 +1,9 @@
 // A source and a sink in memory, which fail where they are told to.
-ghost use Rattle.std.specs.Prelude.{◌≡◌, ◌==◌, ◌||◌, ◌<◌, ◌≤◌, ◌-◌, ◌++◌, ℕ, Bool, List, [], Some, take, drop, length, IfOk, IsTrue, true, false, min, slice_get, if◌then◌else◌, ◌+◌, vec_len, vec_capacity};
+ghost use Rattle.std.specs.Prelude.{◌≡◌, ◌==◌, ◌||◌, ◌<◌, ◌≤◌, ◌-◌, ◌++◌, [], Some, take, drop, length, IfOk, IsTrue, false, min, slice_get, if◌then◌else◌, ◌+◌, vec_len, vec_capacity};
 ghost use Rattle.std.specs.Io.{ReadsAtMost, WritesAtMost};
 ghost use Rattle.std.specs.Io.KnownBytes.{append_known, prepend_known, IsAtEnd};
 ghost use Rattle.tm_base.specs.Outside.{HasCause, HasWriteCause, moved, is_nothing};
-ghost use Rattle.tm_base.specs.Count.{raised_by, is_failing, last_count};
+ghost use Rattle.tm_base.specs.Count.{raised_by, last_count};
 ghost use Rattle.tm_base.specs.SourceInMemory.{source_of, most_of, given_by, after_read};
 ghost use Rattle.tm_base.specs.SinkInMemory.{sink_of, taken_by, after_write};
 

@@ -1,5 +1,5 @@
 // A source and a sink that never fail.
-ghost use Rattle.std.specs.Prelude.{◌≡◌, ◌+◌, ◌++◌, ◌||◌, ◌==◌, ◌&&◌, ℕ, Some, None, Ok, List, [], take, drop, length, min, false, nat_lt, IsTrue};
+ghost use Rattle.std.specs.Prelude.{◌≡◌, ◌+◌, ◌||◌, ◌==◌, ℕ, Some, None, Ok, [], take, drop, length, min, false, IsTrue};
 ghost use Rattle.std.specs.Io.{ReadsAtMost, WritesAtMost};
 ghost use Rattle.std.specs.Io.KnownBytes.{append_known, prepend_known, IsAtEnd};
 ghost use Rattle.tm_base.specs.Outside.{HasCause, HasWriteCause, moved, is_nothing};

@@ -4,7 +4,7 @@ use Rattle.std.specs.Option.{is_some}
 use Rattle.tm_conv.specs.Octets.{most_octet_symbols}
 use Rattle.tm_codeblock.specs.Cadu.{unit_size}
 use Rattle.tm_base.specs.Bits.{AreOctets}
-use Rattle.tm_config.specs.Configuration.{Configuration, codeblock_length}
+use Rattle.tm_config.specs.Configuration.{Configuration}
 use Rattle.tm_channel.specs.Sending.{Sending, SenderStandsFor}
 use Rattle.tm_buffers.specs.Buffer.{most_taken}
 

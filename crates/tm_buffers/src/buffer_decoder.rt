@@ -1,14 +1,11 @@
 // Soft octets in, bits out into a buffer.
-ghost use Rattle.std.specs.Prelude.{◌≡◌, ℕ, ◌+◌, ◌^◌, ◌<◌, ◌≤◌, List, [], ◌++◌, length, None, Some, true, false, IfOk, IfSome};
-ghost use Rattle.std.specs.Option.{is_some};
-ghost use Rattle.tm_base.specs.Handed.{Handed, items_of};
+ghost use Rattle.std.specs.Prelude.{◌≡◌, ℕ, ◌+◌, ◌^◌, ◌<◌, ◌≤◌, List, [], length, None, Some, true, false, IfOk, IfSome};
+ghost use Rattle.tm_base.specs.Handed.{Handed};
 ghost use Rattle.tm_config.specs.Accepted.{IsAccepted};
-ghost use Rattle.tm_inner.specs.Handing.{AreHanded};
-ghost use Rattle.tm_inner.specs.Phase.{IsChosen, IsChosenSoFar};
-ghost use Rattle.tm_viterbi.specs.Clean.{kept_bits};
+ghost use Rattle.tm_inner.specs.Phase.{IsChosenSoFar};
 ghost use Rattle.tm_viterbi.specs.WindowBlock.{WindowBlock};
 ghost use Rattle.tm_viterbi.specs.WindowSizes.{stream_bound};
-ghost use Rattle.tm_buffers.specs.Buffer.{Fills, has_room};
+ghost use Rattle.tm_buffers.specs.Buffer.{has_room};
 ghost use Rattle.tm_buffers.specs.Decoding.{IsDecoding, Decodes, DecodesLast, bits_room};
 
 use crate::buffer_bits::BufferBits;

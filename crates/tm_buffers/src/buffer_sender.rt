@@ -3,7 +3,6 @@ ghost use Rattle.std.specs.Prelude.{◌≡◌, ℕ, ◌^◌, ◌+◌, ◌<◌, �
 ghost use Rattle.tm_conv.specs.Octets.{most_octet_symbols};
 ghost use Rattle.tm_base.specs.Pieces.{further};
 ghost use Rattle.tm_config.specs.Accepted.{IsAccepted};
-ghost use Rattle.tm_config.specs.Configuration.{codeblock_length};
 ghost use Rattle.tm_codeblock.specs.Frames.{after_frames};
 ghost use Rattle.tm_codeblock.specs.Cadu.{longest_cadu, unit_size};
 ghost use Rattle.tm_channel.specs.Sent.{sent};

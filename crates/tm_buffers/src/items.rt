@@ -1,7 +1,6 @@
 // Items, in arrays.
 ghost use Rattle.std.specs.Prelude.{◌≡◌, ◌≤◌, length, map, take};
 ghost use Rattle.tm_config.specs.Configuration.{deepest};
-ghost use Rattle.tm_channel.specs.Items.{ItemValue};
 ghost use Rattle.tm_buffers.specs.Reports.{IsReport, repaired_of};
 
 use tm_base::Failed;

@@ -1,5 +1,5 @@
 // Bits or octets in, the places of sync markers out, one at a time.
-ghost use Rattle.std.specs.Prelude.{◌≡◌, ◌==◌, ◌<◌, ◌≤◌, ◌+◌, ◌*◌, ℕ, Bool, List, ◌++◌, length, take, drop, map, not, false, IfNone, IsSome, unwrap_or};
+ghost use Rattle.std.specs.Prelude.{◌≡◌, ◌==◌, ◌<◌, ◌≤◌, ◌+◌, ◌*◌, Bool, List, ◌++◌, length, false, IfNone, IsSome, unwrap_or};
 ghost use Rattle.tm_base.specs.Bits.{bits_of};
 ghost use Rattle.tm_sync.specs.declared.found.Found.{Found};
 ghost use Rattle.tm_sync.specs.Searching.{SearchStandsFor, is_pending};

@@ -1,5 +1,5 @@
 // A sink over the start of a buffer.
-ghost use Rattle.std.specs.Prelude.{◌≡◌, ◌≤◌, [], length, true, false};
+ghost use Rattle.std.specs.Prelude.{◌≡◌, ◌≤◌, length, true};
 
 use tm_base::{Failed, Sink};
 

@@ -1,5 +1,5 @@
 // The tests of a window's octets.
-ghost use Rattle.std.specs.Prelude.{◌≡◌, ◌+◌, ◌*◌, ◌<◌, ◌≤◌, ℕ, IsTrue, length};
+ghost use Rattle.std.specs.Prelude.{◌≡◌, ◌+◌, ◌*◌, ◌<◌, ◌≤◌, IsTrue, length};
 ghost use Rattle.tm_conv.specs.Path.{AreBits, steps_size, register_after};
 ghost use Rattle.tm_conv.specs.Columns.{last_certified};
 ghost use Rattle.tm_viterbi.specs.WindowSizes.{most_keep, most_ahead, most_window};

@@ -1,6 +1,6 @@
 -- What a receiver keeps, and for which octets, given so far, and which items, handed over so far,
 -- it stands.
-use Rattle.std.specs.Prelude.{◌≡◌, false, ◌==◌, ◌+◌, ◌-◌, ◌*◌, ◌<◌, ◌≤◌, ℕ, Bool, List, ◌++◌, length, take, drop, map, Option, Some, None}
+use Rattle.std.specs.Prelude.{◌≡◌, false, ◌==◌, ◌+◌, ◌-◌, ◌<◌, ◌≤◌, ℕ, Bool, List, ◌++◌, length, take, drop, map, Option, Some, None}
 use Rattle.tm_base.specs.Handed.{Handed, Item, items_of}
 use Rattle.tm_base.specs.Takers.{HandedOver, HandedPart}
 use Rattle.tm_config.specs.Configuration.{Configuration}

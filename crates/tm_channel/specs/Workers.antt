@@ -1,5 +1,5 @@
 -- What a function does that decodes the words of a batch.
-use Rattle.std.specs.Prelude.{ℕ, ◌<◌, ◌≤◌, ◌^◌, List, length}
+use Rattle.std.specs.Prelude.{ℕ, ◌<◌, ◌≤◌, List, length}
 use Rattle.std.specs.Global.{Global}
 use Rattle.tm_base.specs.Limits.{most_workers}
 use denote.Param.Members.{Shared}

@@ -1,6 +1,6 @@
 // The columns of a codeblock, as words to be decoded in place, and the frame that they come to.
 ghost use Rattle.std.specs.Prelude.{◌≡◌, ◌≢◌, ◌<◌, ◌≤◌, ◌*◌, ℕ, List, length, map, take};
-ghost use Rattle.tm_config.specs.Configuration.{codeblock_length, data_length, word_length};
+ghost use Rattle.tm_config.specs.Configuration.{codeblock_length, word_length};
 ghost use Rattle.tm_dual.specs.Octet.{element_of, sent_octet};
 ghost use Rattle.tm_gf256.specs.Poly.{numbers};
 ghost use Rattle.tm_rs_code.specs.Code.{longest_word};

@@ -1,12 +1,12 @@
 // The receiver: octets in, items out.
-ghost use Rattle.std.specs.Prelude.{◌≡◌, ◌≢◌, ◌↔◌, ◌⊎◌, ◌++◌, ℕ, ◌+◌, ◌<◌, ◌≤◌, true, false, List, [], length, None, IfOk, OnOk, IsErrOf, Err, IsTrue};
+ghost use Rattle.std.specs.Prelude.{◌≡◌, ◌≢◌, ◌↔◌, ◌⊎◌, ℕ, ◌+◌, ◌<◌, ◌≤◌, true, false, List, [], length, None, IfOk, OnOk, IsErrOf, Err, IsTrue};
 ghost use Rattle.std.specs.Thread.{IsSync};
 ghost use Rattle.tm_base.specs.Handed.{Handed, on_handed};
 ghost use Rattle.tm_base.specs.Outside.{Rose};
 ghost use Rattle.tm_base.specs.Takers.{HandedOver, HandedPart};
 ghost use Rattle.tm_base.specs.Limits.{most_workers};
 ghost use Rattle.tm_inner.specs.InnerDecoding.{HasWorkers};
-ghost use Rattle.tm_inner.specs.Phase.{IsChosen, IsChosenSoFar};
+ghost use Rattle.tm_inner.specs.Phase.{IsChosenSoFar};
 ghost use Rattle.tm_sync.specs.Places.{verify_bits};
 ghost use Rattle.tm_sync.specs.Searching.{SearchStandsFor, inside_of};
 ghost use Rattle.tm_codeblock.specs.ReceivedCodeblock.{rules_of};
@@ -14,7 +14,7 @@ ghost use Rattle.tm_workers.specs.Batch.{EachBecomes, IsBatch};
 ghost use Rattle.tm_workers.specs.Words.{Decodes};
 ghost use Rattle.tm_viterbi.specs.WindowSizes.{stream_bound};
 ghost use Rattle.tm_channel.specs.Items.{ItemValue};
-ghost use Rattle.tm_channel.specs.Handing.{AreReceived, AreReceivedDue, AreReceivedFirst, AreReceivedPrefix};
+ghost use Rattle.tm_channel.specs.Handing.{AreReceived, AreReceivedFirst, AreReceivedPrefix};
 ghost use Rattle.tm_channel.specs.Calls.{Calls, Feeds, Finishes};
 ghost use Rattle.tm_channel.specs.OctetReceiving.{AreSlipsSoFar, FeedBreaks, FeedChooses, FeedHands, FinishBreaks, FinishChooses, FinishHands, ReceiverStandsFor};
 

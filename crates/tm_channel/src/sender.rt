@@ -1,7 +1,6 @@
 // The sender: whole frames to symbols, from octets that are given in pieces.
-ghost use Rattle.std.specs.Prelude.{◌≡◌, ◌≢◌, ◌↔◌, ℕ, ◌+◌, ◌*◌, ◌/◌, ◌<◌, ◌≤◌, List, [], ◌++◌, length, flat_map, IsTrue, OnOk, OnErr, IsErrOf, false};
+ghost use Rattle.std.specs.Prelude.{◌≡◌, ◌≢◌, ◌↔◌, ℕ, ◌+◌, ◌/◌, ◌<◌, ◌≤◌, List, [], length, IsTrue, OnOk, OnErr, IsErrOf, false};
 ghost use Rattle.tm_base.specs.Outside.{Rose, HasCause};
-ghost use Rattle.tm_config.specs.Configuration.{codeblock_length};
 ghost use Rattle.tm_inner.specs.Sending.{InnerSends, InnerSendsPrefix};
 ghost use Rattle.tm_codeblock.specs.Frames.{after_frames};
 ghost use Rattle.tm_codeblock.specs.Cadu.{cadu};

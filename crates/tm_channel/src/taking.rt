@@ -1,11 +1,10 @@
 // Octets through both stages of a receiver: the inner code, and the search for codeblocks in its bits.
-ghost use Rattle.std.specs.Prelude.{◌≡◌, ◌+◌, ◌*◌, ◌≤◌, ◌==◌, ℕ, List, [], true, false, drop, length, map, IsTrue, OnOk, OnErr};
+ghost use Rattle.std.specs.Prelude.{◌≡◌, ◌+◌, ◌*◌, ◌≤◌, ◌==◌, ℕ, List, true, false, drop, length, map, IsTrue, OnOk, OnErr};
 ghost use Rattle.std.specs.Option.{is_some};
 ghost use Rattle.tm_base.specs.Handed.{Handed, on_handed};
 ghost use Rattle.tm_base.specs.Outside.{HasCause};
-ghost use Rattle.tm_base.specs.Takers.{HandedOver, HandedPart};
 ghost use Rattle.tm_inner.specs.Inner.{nearest_bit, plain_bits};
-ghost use Rattle.tm_inner.specs.Phase.{IsChosen, with_phase};
+ghost use Rattle.tm_inner.specs.Phase.{IsChosen};
 ghost use Rattle.tm_inner.specs.Receiving.{HandsPrefix, InnerReceiverStandsFor};
 ghost use Rattle.tm_viterbi.specs.WindowBlock.{WindowBlock};
 ghost use Rattle.tm_channel.specs.Calls.{TakesBits, TakesOctets};

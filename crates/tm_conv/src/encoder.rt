@@ -1,7 +1,7 @@
 // The encoder, bit by bit.
 ghost use Rattle.std.specs.Prelude.{◌≡◌, ◌<◌, ◌≤◌, ◌*◌, Bool, List, [], ◌∷◌, ◌++◌, length, take};
 ghost use Rattle.tm_base.specs.Bits.{bit_number, bits_of};
-ghost use Rattle.tm_conv.specs.Path.{c1, c2, sent, step_symbols, next_register};
+ghost use Rattle.tm_conv.specs.Path.{c1, c2, sent};
 ghost use Rattle.tm_conv.specs.Encoding.{EncoderStandsFor, sent_for, symbol_list, levels};
 ghost use Rattle.tm_conv.specs.Octets.{most_octet_symbols};
 

@@ -1,5 +1,5 @@
 // The rates, and which symbols their steps keep.
-ghost use Rattle.std.specs.Prelude.{◌≡◌, ◌+◌, ◌/◌, ◌<◌, ◌≤◌, length};
+ghost use Rattle.std.specs.Prelude.{◌≡◌, ◌+◌, ◌/◌, ◌<◌, ◌≤◌};
 ghost use Rattle.tm_conv.specs.Path.{c1_pattern, c2_pattern, keeps_c1, keeps_c2, most_period, period, step_size, steps_size, farthest_step};
 
 /// The rate of the code: that of the code itself, or of one of its puncture patterns (CCSDS 131.0-B, Convolutional

@@ -1,5 +1,5 @@
 // What takes a stream of octets in pieces, and its end.
-ghost use Rattle.std.specs.Prelude.{◌≡◌, ℕ, ◌≤◌, Bool, false, List, [], ◌++◌, length, OnOk, OnErr, IfOk, IfErr};
+ghost use Rattle.std.specs.Prelude.{ℕ, ◌≤◌, Bool, false, List, [], ◌++◌, length, OnOk, OnErr, IfOk, IfErr};
 ghost use Rattle.tm_driver.specs.Statuses.{failed_in_piece, failed_at_end};
 ghost use Rattle.tm_driver.specs.Driven.{turn_size};
 ghost use Rattle.tm_driver.specs.declared.ending.Outcome.{Outcome};

@@ -1,5 +1,5 @@
 // The sender's last stage.
-ghost use Rattle.std.specs.Prelude.{◌≡◌, ◌≢◌, ◌↔◌, ◌≤◌, List, [], ℕ, IsTrue, OnOk, OnErr, IsErrOf, false};
+ghost use Rattle.std.specs.Prelude.{◌≡◌, ◌≢◌, ◌↔◌, ◌≤◌, [], IsTrue, OnOk, OnErr, IsErrOf, false};
 ghost use Rattle.tm_base.specs.Outside.{HasCause, Rose};
 ghost use Rattle.tm_base.specs.Pieces.{Fed, FedPrefix};
 ghost use Rattle.tm_base.specs.Written.{Wrote, WrotePrefix};

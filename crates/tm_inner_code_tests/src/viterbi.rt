@@ -1,5 +1,5 @@
 // Worked values, and the decoder beside plain programs that know nothing of columns or windows that are filled.
-ghost use Rattle.std.specs.Prelude.{◌↔◌, ◌+◌, ◌<◌, ◌^◌, ℕ, All, IsTrue, IfSome, slice_index};
+ghost use Rattle.std.specs.Prelude.{◌↔◌, ◌+◌, ◌<◌, ◌^◌, All, IsTrue, IfSome};
 
 mod plain;
 mod takers;

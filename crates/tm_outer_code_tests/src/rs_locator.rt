@@ -1,5 +1,5 @@
 // The locators against values from outside.
-ghost use Rattle.std.specs.Prelude.{◌≡◌, ◌<◌, ◌≤◌, ◌+◌, ◌*◌, length};
+ghost use Rattle.std.specs.Prelude.{◌≡◌, ◌<◌, ◌≤◌, ◌+◌, length};
 
 use crate::digits::{flags_of, number_at, number_of};
 use locators::LOCATORS;

@@ -1,5 +1,5 @@
 // The check itself, fed column by column.
-ghost use Rattle.std.specs.Prelude.{◌≡◌, ◌↔◌, ℕ, ◌+◌, ◌-◌, ◌*◌, ◌/◌, ◌%◌, ◌^◌, ◌<◌, ◌≤◌, List, [], ◌∷◌, ◌++◌, All, IsTrue, OnSome, IfSome, IfNone, length, slice_index};
+ghost use Rattle.std.specs.Prelude.{◌≡◌, ℕ, ◌+◌, ◌-◌, ◌*◌, ◌/◌, ◌^◌, ◌<◌, ◌≤◌, List, [], ◌∷◌, ◌++◌, IsTrue, length};
 ghost use Rattle.tm_conv.specs.Path.{AreBits, steps_size};
 ghost use Rattle.tm_conv.specs.Best.{IsCandidate};
 ghost use Rattle.tm_conv.specs.Columns.{last_certified};

@@ -1,5 +1,5 @@
 // What the steps of a path cost.
-ghost use Rattle.std.specs.Prelude.{◌≡◌, ℕ, ◌+◌, ◌*◌, ◌≤◌, ◌<◌, ◌^◌, length, slice_index};
+ghost use Rattle.std.specs.Prelude.{◌≡◌, ℕ, ◌+◌, ◌*◌, ◌≤◌, ◌<◌, length, slice_index};
 ghost use Rattle.tm_path_cert.specs.Claim.{most_soft};
 ghost use Rattle.tm_conv.specs.Path.{c1, c2, sent, step_size, step_symbols, steps_size, AreBits, path};
 ghost use Rattle.tm_conv.specs.Cost as metric;

@@ -1,5 +1,5 @@
 // The command `bits`: the bits that are received, eight an octet, and what is said of them.
-ghost use Rattle.std.specs.Prelude.{◌≡◌, ℕ, ◌≤◌, ◌==◌, Bool, false, true, List, [], length, map, take, drop, Option, None, OnOk, OnErr, IfOk};
+ghost use Rattle.std.specs.Prelude.{◌≡◌, ◌≤◌, ◌==◌, false, true, [], length, map, take, drop, Option, None, OnOk, OnErr, IfOk};
 ghost use Rattle.tm_base.specs.Bits.{AreOctets, bits_of, low_bits, octets_of};
 ghost use Rattle.tm_base.specs.Outside.{HasCause};
 ghost use Rattle.tm_base.specs.Written.{Wrote, WrotePrefix};

@@ -3,7 +3,7 @@
 //! It stands on the bits of octets of tm_base.
 #![tactic(auto)]
 
-ghost use Rattle.std.specs.Prelude.{◌≡◌, ◌≤◌, ◌<◌, length};
+ghost use Rattle.std.specs.Prelude.{◌≡◌, ◌≤◌, length};
 ghost use Rattle.tm_random.specs.Masked.{masked};
 
 // The first 255 octets of the sequence. It repeats after 255 bits, and so its octets repeat after 255 octets.

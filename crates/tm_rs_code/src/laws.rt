@@ -1,5 +1,5 @@
 // The laws of the code.
-ghost use Rattle.std.specs.Prelude.{◌≡◌, ◌≢◌, ◌<◌, ◌≤◌, ◌+◌, ◌*◌, ℕ, Bool, List, length};
+ghost use Rattle.std.specs.Prelude.{◌≡◌, ◌≢◌, ◌≤◌, ◌+◌, ◌*◌, ℕ, Bool, List, length};
 ghost use Rattle.tm_rs_code.specs.Code.{AreElements, IsCodeword, IsSystematic, distance, encode_word, longest_word};
 ghost use Rattle.tm_rs_code.specs.Erasures.{IsErasedPattern, IsNearestErased, NearestErased};
 ghost use Rattle.tm_rs_code.specs.Nearest.{IsNearest, Nearest};

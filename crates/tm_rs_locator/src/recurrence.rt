@@ -1,5 +1,5 @@
 // The shortest recurrence that holds for a sequence of elements, one term after another.
-ghost use Rattle.std.specs.Prelude.{◌≡◌, ◌≢◌, ◌<◌, ◌≤◌, ◌+◌, ◌-◌, ◌*◌, ℕ, suc, length, IfNone, IfSome};
+ghost use Rattle.std.specs.Prelude.{◌≡◌, ◌<◌, ◌≤◌, ◌+◌, ◌-◌, ◌*◌, ℕ, suc, length, IfNone, IfSome};
 ghost use Rattle.std.specs.Bool.{OnTrue, OnFalse};
 ghost use Rattle.tm_gf256.specs.Poly.{entry};
 ghost use Rattle.tm_rs_code.specs.Recurrence.{discrepancy, patched};

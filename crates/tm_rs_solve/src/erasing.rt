@@ -1,5 +1,5 @@
 // The nearest codeword of a word with erased places.
-ghost use Rattle.std.specs.Prelude.{◌≡◌, ◌<◌, ◌≤◌, ◌+◌, ◌*◌, ◌==◌, ◌&&◌, ℕ, suc, not, List, length, if◌then◌else◌, slice_index_or, false};
+ghost use Rattle.std.specs.Prelude.{◌≡◌, ◌<◌, ◌≤◌, ◌+◌, ◌*◌, ◌==◌, ◌&&◌, ℕ, suc, not, List, length, if◌then◌else◌};
 ghost use Rattle.tm_gf256.specs.Poly.{entry, numbers, value_at};
 ghost use Rattle.tm_rs_code.specs.Code.{root, weight, longest_word, most_checks, most_coefficients, most_correctable};
 ghost use Rattle.tm_rs_code.specs.Erasures.{IsNearestErased, count_erased as count_of_erased, inside, marks, places_named};

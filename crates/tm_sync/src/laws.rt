@@ -1,5 +1,5 @@
 // Laws of the places in a list of bits.
-ghost use Rattle.std.specs.Prelude.{◌≡◌, ◌≢◌, ◌≤◌, ◌<◌, ◌+◌, ◌*◌, ◌⊎◌, ℕ, Bool, true, false, List, [], ◌++◌, length, drop, map, Option, Some, None};
+ghost use Rattle.std.specs.Prelude.{◌≡◌, ◌≤◌, ◌<◌, ◌+◌, ◌*◌, ◌⊎◌, ℕ, Bool, true, false, List, [], ◌++◌, length, drop, map, Option, None};
 ghost use Rattle.std.specs.List.{AllByRecursion};
 ghost use Rattle.tm_base.specs.Marker.{most_tolerance, marker_size};
 ghost use Rattle.tm_sync.specs.declared.found.Before.{Before};

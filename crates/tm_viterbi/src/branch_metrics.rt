@@ -1,6 +1,6 @@
 // The branch metrics of a step: what each of its four pairs of c1 and c2 costs.
-ghost use Rattle.std.specs.Prelude.{◌≡◌, ◌++◌, min, IsTrue, Bool, ℕ, ◌+◌, ◌-◌, ◌*◌, ◌/◌, ◌%◌, ◌^◌, ◌<◌, ◌≤◌, List, take, drop, reverse, length, slice_index, nat_lt, if◌then◌else◌};
-ghost use Rattle.tm_conv.specs.Path.{keeps_c1, keeps_c2, sent_c2, step_size};
+ghost use Rattle.std.specs.Prelude.{◌≡◌, IsTrue, Bool, ℕ, ◌+◌, ◌-◌, ◌*◌, ◌/◌, ◌^◌, ◌<◌, ◌≤◌, take, drop, length, slice_index, if◌then◌else◌};
+ghost use Rattle.tm_conv.specs.Path.{sent_c2, step_size};
 ghost use Rattle.tm_conv.specs.Cost.{distance, most_branch_metric};
 ghost use Rattle.tm_viterbi.specs.Totals.{AreBranchMetrics};
 ghost use Rattle.tm_viterbi.specs.Masks.{two_step_masks};

@@ -3,7 +3,6 @@ ghost use Rattle.std.specs.Prelude.{◌≡◌, ◌↔◌, ◌++◌, ◌∷◌, �
 ghost use Rattle.tm_base.specs.Takers.{HandedOver, HandedPart};
 ghost use Rattle.tm_base.specs.Calls.{taker_call};
 ghost use Rattle.tm_viterbi.specs.WindowBlock.{WindowBlock};
-ghost use Rattle.tm_viterbi.specs.Settings.{Settings};
 ghost use Rattle.tm_viterbi.specs.Blocks.{AreBlocksOf};
 ghost use Rattle.tm_viterbi.specs.Due.{AreDue, AreFirst};
 ghost use Rattle.tm_viterbi.specs.Decoding.{Calls, DecoderStandsFor};

@@ -1,5 +1,5 @@
 // A window that is filled by the steps of pieces.
-ghost use Rattle.std.specs.Prelude.{◌≡◌, IfOk, IsTrue, ℕ, ◌+◌, ◌-◌, ◌*◌, ◌^◌, ◌<◌, ◌≤◌, ◌++◌, List, Option, [], length, vec_len};
+ghost use Rattle.std.specs.Prelude.{◌≡◌, IfOk, IsTrue, ℕ, ◌+◌, ◌-◌, ◌*◌, ◌<◌, ◌≤◌, ◌++◌, List, Option, [], length, vec_len};
 ghost use Rattle.tm_conv.specs.Path.{steps_size};
 ghost use Rattle.tm_conv.specs.Cost.{most_branch_metric};
 ghost use Rattle.tm_conv.specs.Columns.{barred_cost};

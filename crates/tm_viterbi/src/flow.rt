@@ -24,7 +24,7 @@ impl Flow {
     ghost use Rattle.tm_viterbi.specs.Flowing.{Keeps};
     ghost use Rattle.tm_viterbi.specs.WindowBlock.{undropped_block};
     ghost use Rattle.tm_viterbi.specs.Blocks.{IsBlock};
-    ghost use Rattle.tm_viterbi.specs.Due.{Place, Closes};
+    ghost use Rattle.tm_viterbi.specs.Due.{Closes};
 
     /// The first window, from step 0. It takes its memory here.
     pub(crate) fn new(

@@ -1,7 +1,7 @@
 // The path metrics after a step from those before it, by lanes of thirty-two bits.
-ghost use Rattle.std.specs.Prelude.{◌≡◌, ◌++◌, min, IsTrue, ℕ, ◌+◌, ◌-◌, ◌*◌, ◌/◌, ◌%◌, ◌^◌, ◌<◌, ◌≤◌, List, take, drop, reverse, length, slice_index, nat_lt, if◌then◌else◌};
+ghost use Rattle.std.specs.Prelude.{◌≡◌, ◌++◌, min, ℕ, ◌+◌, ◌-◌, ◌*◌, ◌/◌, ◌%◌, ◌^◌, ◌<◌, length, slice_index, nat_lt, if◌then◌else◌};
 ghost use Rattle.tm_conv.specs.Path.{c1, c2};
-ghost use Rattle.tm_viterbi.specs.AddCompareSelect.{IsEach, sum_via, IsNextSums, AreSurvivors};
+ghost use Rattle.tm_viterbi.specs.AddCompareSelect.{IsEach, IsNextSums, AreSurvivors};
 
 use std::simd::prelude::*;
 

@@ -1,5 +1,5 @@
 // The steps of the forward pass.
-ghost use Rattle.std.specs.Prelude.{◌≡◌, ◌++◌, min, IsTrue, ℕ, ◌+◌, ◌-◌, ◌*◌, ◌/◌, ◌%◌, ◌^◌, ◌<◌, ◌≤◌, List, take, drop, reverse, length, slice_index, nat_lt, if◌then◌else◌};
+ghost use Rattle.std.specs.Prelude.{◌≡◌, min, ℕ, ◌+◌, ◌-◌, ◌*◌, ◌/◌, ◌^◌, ◌<◌, ◌≤◌, take, length, slice_index, if◌then◌else◌};
 ghost use Rattle.tm_conv.specs.Path.{step_size, steps_size, farthest_step};
 ghost use Rattle.tm_conv.specs.Cost.{most_branch_metric};
 ghost use Rattle.tm_viterbi.specs.Totals.{StepsTo, AreAtMost, most_spread, most_narrow, narrow_bound};

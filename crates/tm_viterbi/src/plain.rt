@@ -1,7 +1,7 @@
 // The path metrics after a step from those before it, register by register.
-ghost use Rattle.std.specs.Prelude.{◌≡◌, ◌++◌, min, IsTrue, ℕ, ◌+◌, ◌-◌, ◌*◌, ◌/◌, ◌%◌, ◌^◌, ◌<◌, ◌≤◌, List, take, drop, reverse, length, slice_index, nat_lt, if◌then◌else◌};
+ghost use Rattle.std.specs.Prelude.{◌≡◌, min, ℕ, ◌+◌, ◌-◌, ◌*◌, ◌/◌, ◌%◌, ◌^◌, ◌<◌, slice_index};
 ghost use Rattle.tm_conv.specs.Path.{c1, c2};
-ghost use Rattle.tm_viterbi.specs.AddCompareSelect.{IsEach, sum_via, IsNextSums, AreSurvivors};
+ghost use Rattle.tm_viterbi.specs.AddCompareSelect.{sum_via, IsNextSums, AreSurvivors};
 
 // The two sums c1 and c2 of a step from register r by bit b, as 2 * c1 + c2: the index of its branch metric.
 fn branch_index(r: usize, b: usize) -> usize

@@ -1,10 +1,10 @@
 // The windows of a stream of soft octets.
-ghost use Rattle.std.specs.Prelude.{◌≡◌, ◌++◌, ◌∷◌, ℕ, ◌+◌, ◌*◌, ◌^◌, ◌<◌, ◌≤◌, IsTrue, List, [], Bool, false, IfOk, OnOk, OnErr, drop, length, take, vec_len, Option};
+ghost use Rattle.std.specs.Prelude.{◌≡◌, ◌++◌, ◌∷◌, ℕ, ◌+◌, ◌^◌, ◌<◌, ◌≤◌, List, [], IfOk, OnOk, OnErr, drop, length, take, vec_len, Option};
 ghost use Rattle.std.specs.Option.{ForSome};
 ghost use Rattle.tm_base.specs.Takers.{HandedOver, HandedPart};
 ghost use Rattle.tm_base.specs.Outside.{HasCause};
 ghost use Rattle.tm_conv.specs.Path.{period, step_size, steps_size, farthest_step};
-ghost use Rattle.tm_viterbi.specs.Starts.{starts_from, first_start};
+ghost use Rattle.tm_viterbi.specs.Starts.{first_start};
 ghost use Rattle.tm_viterbi.specs.NextSteps.{AreNextSteps};
 ghost use Rattle.tm_viterbi.specs.WindowBlock.{WindowBlock, undropped_block};
 ghost use Rattle.tm_viterbi.specs.WindowSizes.{least_keep, most_window, stream_bound};
@@ -105,7 +105,6 @@ fn hand_over<B: BlockTaker>(
 impl Stream {
     ghost use Rattle.tm_viterbi.specs.Blocks.{AreBlocksOf};
     ghost use Rattle.tm_viterbi.specs.Due.{Place, Closed, AreFirst};
-    ghost use Rattle.tm_viterbi.specs.Settings.{Settings};
     ghost use Rattle.tm_viterbi.specs.Streaming.{Reaches, IsOpenStep, reached, settings_of, waiting_octets};
 
     /// A stream of which no octet was given yet. It takes its memory here.

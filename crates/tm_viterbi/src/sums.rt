@@ -2,9 +2,8 @@
 ghost use Rattle.std.specs.Prelude.{◌≡◌, ◌++◌, ℕ, ◌+◌, ◌*◌, ◌<◌, ◌≤◌, List, [], IfSome, length};
 ghost use Rattle.tm_conv.specs.Path.{path, step_size, steps_size};
 ghost use Rattle.tm_conv.specs.Cost.{cost};
-ghost use Rattle.tm_conv.specs.Best.{IsBest};
 ghost use Rattle.tm_conv.specs.Columns.{IsColumn, last_certified};
-ghost use Rattle.tm_viterbi.specs.Starts.{starts_from, first_start};
+ghost use Rattle.tm_viterbi.specs.Starts.{starts_from};
 ghost use Rattle.tm_viterbi.specs.Summing.{SumsFor};
 ghost use Rattle.tm_viterbi.specs.WindowSizes.{most_window};
 

@@ -7,7 +7,6 @@ ghost use Rattle.tm_conv.specs.Cost.{cost};
 ghost use Rattle.tm_conv.specs.Best.{IsBest};
 ghost use Rattle.tm_viterbi.specs.Starts.{starts_from, first_start};
 ghost use Rattle.tm_viterbi.specs.WindowBlock.{WindowBlock};
-ghost use Rattle.tm_viterbi.specs.Settings.{Settings};
 ghost use Rattle.tm_viterbi.specs.Blocks.{AreBlocksOf};
 ghost use Rattle.tm_viterbi.specs.Due.{AreFirst};
 ghost use Rattle.tm_viterbi.specs.WindowSizes.{least_keep, most_keep, most_ahead, most_window, stream_bound};

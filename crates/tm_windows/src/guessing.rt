@@ -1,5 +1,5 @@
 // A guess of the register that a window starts from.
-ghost use Rattle.std.specs.Prelude.{◌≡◌, ◌+◌, ◌<◌, ◌≤◌, vec_len};
+ghost use Rattle.std.specs.Prelude.{◌≡◌, ◌+◌, ◌<◌, vec_len};
 ghost use Rattle.std.specs.Option.{ForSome};
 ghost use Rattle.tm_viterbi.specs.WindowSizes.{window_bound};
 

@@ -1,5 +1,5 @@
 // The words in nearly equal parts, one for each worker.
-ghost use Rattle.std.specs.Prelude.{◌≡◌, ◌+◌, ◌<◌, ◌≤◌, length};
+ghost use Rattle.std.specs.Prelude.{◌+◌, ◌<◌, ◌≤◌, length};
 ghost use Rattle.std.specs.Thread.{IsSend, IsSync};
 ghost use Rattle.tm_workers.specs.Batch.{EachBecomes, IsPart, words_bound};
 

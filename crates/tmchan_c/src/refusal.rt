@@ -1,7 +1,7 @@
 // Why calls are refused, and the answers that say so.
 ghost use Rattle.std.specs.Prelude.{◌≡◌, ◌*◌, ◌+◌, ◌^◌, ◌<◌, ◌<ℤ◌, ◌≤◌, IfSome, None, pos};
 ghost use Rattle.tm_rs_code.specs.Code.{IsLength, IsStrength};
-ghost use Rattle.tmchan_c.specs.Refusal.{checks_refusal, column_refusal, flags_refusal, number_answer, refused, value_answer, word_refusal};
+ghost use Rattle.tmchan_c.specs.Refusal.{checks_refusal, flags_refusal, number_answer, refused, value_answer, word_refusal};
 
 use tm_config::ConfigError;
 
