@@ -3,9 +3,6 @@ use Rattle.std.proofs.Common.{List, [], ◌∷◌, ◌++◌, refl, ap, sym, subs
 use Rattle.std.proofs.lemmas.Fn.{FoldsTo-push}
 use Rattle.tm_base.specs.Takers.{HandedOver, HandedPart}
 
-pub HandedOver-none : {T I : Type 0} (took : T → I → T → Type 0) (taker : T) → HandedOver took taker [] taker
-HandedOver-none took taker = refl
-
 pub HandedOver-one : {T I : Type 0} (took : T → I → T → Type 0) (before now : T) (item : I) → took before item now → HandedOver took before (item ∷ []) now
 HandedOver-one took before now item taken = (now, taken, refl)
 
@@ -31,17 +28,5 @@ HandedPart-after took broke before middle now xs ys first part = record {
   middle = part.middle;
   split = ap (λ l. xs ++ l) part.split ∙ sym (append_assoc xs part.prefix (part.next ∷ part.rest));
   handed = HandedOver-append took before middle part.middle xs part.prefix first part.handed;
-  failed = part.failed;
-}
-
--- a part of some items is a part of these and further ones
-pub HandedPart-more : {T I : Type 0} (took broke : T → I → T → Type 0) (before now : T) (xs ys : List I) → HandedPart took broke before xs now → HandedPart took broke before (xs ++ ys) now
-HandedPart-more took broke before now xs ys part = record {
-  prefix = part.prefix;
-  next = part.next;
-  rest = part.rest ++ ys;
-  middle = part.middle;
-  split = ap (λ l. l ++ ys) part.split ∙ append_assoc part.prefix (part.next ∷ part.rest) ys;
-  handed = part.handed;
   failed = part.failed;
 }

@@ -16,11 +16,6 @@ numbers_in-push (suc count) octets =
     ap (λ v. from_be_bytes w32 octets ∷ v) (numbers_in-push count (drop 4 octets))
     ∙ ap (λ v. from_be_bytes w32 octets ∷ (numbers_in count (drop 4 octets) ++ from_be_bytes w32 v ∷ [])) (drop-drop (4 * count) 4 octets ∙ ap (λ k. drop k octets) place)
 
-pub length-numbers_in : (count : ℕ) (octets : List ℕ) → length (numbers_in count octets) ≡ count
-unfolding numbers_in
-length-numbers_in zero octets = refl
-length-numbers_in (suc count) octets = ap suc (length-numbers_in count (drop 4 octets))
-
 pub columns_in-none : (octets : List ℕ) → columns_in 0 octets ≡ []
 unfolding columns_in
 columns_in-none octets = refl

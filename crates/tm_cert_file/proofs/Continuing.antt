@@ -1,31 +1,21 @@
 -- Closed windows and the blocks after them, whatever octets come.
-use Rattle.std.proofs.Common.{◌≡◌, ℕ, suc, ◌+◌, ◌-◌, ◌*◌, ◌<◌, ◌≤◌, ◌∙◌, refl, sym, ap, subst, arith, List, [], ◌∷◌, ◌++◌, Bool, take, drop, length, length-append, length-drop, map, get_or}
-use Rattle.std.proofs.lemmas.List.{take-append-le, drop-append-le, take_all}
-use Rattle.tm_base.specs.Handed.{Handed, Item, on_handed}
-use Rattle.tm_base.specs.Takers.{HandedOver, HandedPart}
+use Rattle.std.proofs.Common.{◌≡◌, ℕ, suc, ◌+◌, ◌-◌, ◌*◌, ◌<◌, ◌≤◌, ◌∙◌, refl, sym, ap, subst, arith, List, [], ◌∷◌, ◌++◌, Bool, take, drop, length, length-append, map, get_or}
+use Rattle.std.proofs.lemmas.List.{take-append-le, drop-append-le}
+use Rattle.tm_base.specs.Handed.{Handed, Item}
 use Rattle.tm_conv.specs.declared.rates.Rate.{Rate}
 use Rattle.tm_conv.specs.Path.{steps_size, path}
 use Rattle.tm_conv.specs.Cost.{cost}
 use Rattle.tm_conv.specs.Best.{IsBest}
-use Rattle.tm_conv.proofs.Sizes.{steps_size_ge, steps_size-most}
+use Rattle.tm_conv.proofs.Sizes.{steps_size-most}
 use Rattle.tm_viterbi.specs.Starts.{starts_from}
-use Rattle.tm_viterbi.specs.Settings.{Settings}
 use Rattle.tm_viterbi.specs.WindowBlock.{WindowBlock}
-use Rattle.tm_viterbi.specs.Blocks.{AreBlocks, AreBlocksOf}
-use Rattle.tm_viterbi.specs.Due.{Place, Closed, after_block, first_place}
-use Rattle.tm_cert_file.specs.Certifying.{Certifying, with_octets}
+use Rattle.tm_viterbi.specs.Blocks.{AreBlocks}
+use Rattle.tm_viterbi.specs.Due.{Place, Closed, after_block}
 use Rattle.tm_cert_file.proofs.ManyWindows.{there-block, whole-after, kept-inside}
 
 -- the same place with further octets
 abbrev pub longer : Place → List ℕ → Place
 longer at more = record { starts = at.starts; t = at.t; octets = at.octets ++ more }
-
--- windows that are closed end at one place
-pub closed-only : (rate : Rate) (invert : Bool) (keep ahead : ℕ) (from to till : Place) (blocks : List WindowBlock)
-    → Closed rate invert keep ahead from blocks to → Closed rate invert keep ahead from blocks till → to ≡ till
-closed-only rate invert keep ahead from to till [] closed again = sym closed ∙ again
-closed-only rate invert keep ahead from to till (block ∷ blocks) closed again =
-    closed-only rate invert keep ahead (after_block rate from block) to till blocks closed.1 again.1
 
 -- after the first of them are the others
 pub closed-rest : (rate : Rate) (invert : Bool) (keep ahead : ℕ) (from at to : Place) (first rest : List WindowBlock)
@@ -64,39 +54,11 @@ blocks-rest rate invert keep ahead n from at [] rest closed whole are =
 blocks-rest rate invert keep ahead n from at (block ∷ first) rest closed whole are =
     blocks-rest rate invert keep ahead (n - block.kept) (after_block rate from block) at first rest closed.1 (whole-after rate invert keep ahead n from block whole are.1) are.2
 
-pub all-rest : (s : Settings) (octets : List ℕ) (at : Place) (first rest : List WindowBlock) (left : ℕ) → Closed s.rate s.invert s.keep s.ahead (first_place s octets) first at
-    → AreBlocksOf s octets (first ++ rest) left
-    → (steps : ℕ) × (steps_size s.rate at.t steps ≤ length at.octets) × AreBlocks s.rate s.invert s.keep s.ahead at.starts at.t steps at.octets rest
-all-rest s octets at first rest left closed are =
-    blocks-rest s.rate s.invert s.keep s.ahead are.count (first_place s octets) at first rest closed are.steps.whole are.are
-
--- a place goes on by no more steps than octets
-pub place-few : (rate : Rate) (invert : Bool) (keep ahead : ℕ) (from to : Place) (blocks : List WindowBlock) → Closed rate invert keep ahead from blocks to
-    → to.t + length to.octets ≤ from.t + length from.octets
-place-few rate invert keep ahead from to [] closed = omega (arith, ap (λ (p : Place). p.t + length p.octets) closed)
-place-few rate invert keep ahead from to (block ∷ blocks) closed =
-    let there = there-block rate invert keep ahead (keep + ahead + 1) from block closed.0.room closed.0.is_block in
-    let cut : ℕ = steps_size rate from.t block.kept in
-    let one : from.t + block.kept + length (drop cut from.octets) ≤ from.t + length from.octets =
-    omega (arith, length-drop cut from.octets, steps_size_ge rate from.t block.kept, kept-inside rate from block there) in
-    let h : to.t + length to.octets ≤ from.t + block.kept + length (drop cut from.octets) = place-few rate invert keep ahead (after_block rate from block) to blocks closed.1 in
-    omega (arith, one, h)
-
 -- an open window has few octets
 pub open-few : (rate : Rate) (t keep ahead size : ℕ) → size < steps_size rate t (keep + ahead + 1) → size ≤ 2 * (keep + ahead) + 1
 open-few rate t keep ahead size less = omega (arith, less, steps_size-most rate t (keep + ahead + 1))
 
--- what there is room for is given as a whole
-pub given-whole : (c : Certifying) (octets : List ℕ) → length c.place.octets + length octets ≤ c.room
-    → with_octets c (c.place.octets ++ take (c.room - length c.place.octets) octets) ≡ with_octets c (c.place.octets ++ octets)
-given-whole c octets room = ap (λ (v : List ℕ). with_octets c (c.place.octets ++ v)) (take_all (c.room - length c.place.octets) octets (omega (arith, room)))
-
 -- ---- blocks handed over with no phase among them
-
-pub items-handed : {T I : Type 0} (on_phase : T → ℕ → ℕ → T → Type 0) (took : T → I → T → Type 0) (before now : T) (items : List I)
-    → HandedOver (on_handed on_phase took) before (map Item items) now → HandedOver took before items now
-items-handed on_phase took before now [] handed = handed
-items-handed on_phase took before now (item ∷ items) handed = (handed.0, handed.1, items-handed on_phase took handed.0 now items handed.2)
 
 record Parted {I : Type 0} (items : List I) (prefix : List (Handed I)) (next : Handed I) : Type 0 where
   first : List I
@@ -120,18 +82,4 @@ parted (item ∷ items) (x ∷ prefix) rest next is =
       split = ap (λ l. item ∷ l) h.split;
       prefix_is = ap (λ v. v ∷ prefix) head ∙ ap (λ l. Item item ∷ l) h.prefix_is;
       next_is = h.next_is;
-    }
-
-pub items-part : {T I : Type 0} (on_phase phase_broke : T → ℕ → ℕ → T → Type 0) (took broke : T → I → T → Type 0) (before now : T) (items : List I)
-    → HandedPart (on_handed on_phase took) (on_handed phase_broke broke) before (map Item items) now → HandedPart took broke before items now
-items-part on_phase phase_broke took broke before now items part =
-    let h = parted items part.prefix part.rest part.next part.split in
-    record {
-      prefix = h.first;
-      next = h.item;
-      rest = h.rest;
-      middle = part.middle;
-      split = h.split;
-      handed = items-handed on_phase took before part.middle h.first (subst (λ l. HandedOver (on_handed on_phase took) before l part.middle) h.prefix_is part.handed);
-      failed = subst (λ v. on_handed phase_broke broke part.middle v now) h.next_is part.failed;
     }

@@ -1,5 +1,5 @@
 -- How encoding ends.
-use Rattle.std.proofs.Common.{◌≡◌, ◌⊎◌, inl, inr, ℕ, Bool, true, false, ◌<◌, cond, ◌==◌, List, [], ◌++◌, take, length, Option, ◌*◌, ◌/◌, ◌%◌, refl, sym, ◌∙◌, ap, subst, arith, length-drop}
+use Rattle.std.proofs.Common.{◌≡◌, inl, inr, ℕ, Bool, true, false, ◌<◌, cond, ◌==◌, List, [], ◌++◌, take, length, Option, ◌*◌, ◌/◌, ◌%◌, refl, sym, ◌∙◌, ap, subst, arith, length-drop}
 use Rattle.std.proofs.lemmas.Bool.Decides.{nat_tests}
 use Rattle.std.proofs.lemmas.List.{take_all, take_at}
 use Rattle.std.proofs.lemmas.Nat.{div-add-mod'}
@@ -190,15 +190,3 @@ encode-driven sender out state out_last notes noted notes_last c limit a b ended
     encode-ends sender out state out_last notes noted notes_last c a b ended unended e octets accepted same new
     (subst (λ (n : ℕ). DrivenTo (Fed sender out state notes) (Stopped sender out state out_last notes) (Finishes sender out notes noted) (Fails sender out notes noted notes_last) n
     a b ended unended e octets) is p)
-
--- where a sink failed: the output, and then neither were the notes written nor the end of the input reported; or the notes, after both
-pub encode-stops : {F R S : Type 0} (sender : F → Sending) (out : F → R) (state : R → SinkState) (out_last : R → Type 0) (notes : F → S) (noted : S → SinkState) (notes_last : S → Type 0)
-    (limit : ℕ) (a b : F) (ended unended : Type 0) (octets : List ℕ)
-    → DrivenTo (Fed sender out state notes) (Stopped sender out state out_last notes) (Finishes sender out notes noted) (Fails sender out notes noted notes_last) limit a b ended unended SinkFault octets
-    → (SinkCourse true (state (out a)) (state (out b)) (out_last (out b)) × unended × (noted (notes b) ≡ noted (notes a)))
-    ⊎ (SinkCourse true (noted (notes a)) (noted (notes b)) (notes_last (notes b)) × ended × ((state (out b)).faults ≡ (state (out a)).faults))
-encode-stops sender out state out_last notes noted notes_last limit a b ended unended octets (inl p) = inl (p.0.3, p.1, ap noted p.0.2)
-encode-stops sender out state out_last notes noted notes_last limit a b ended unended octets (inr p) =
-    let end = p.0.at_end in
-    let fed = p.0.were_fed in
-    inr (subst (λ n. SinkCourse true (noted n) (noted (notes b)) (notes_last (notes b))) fed.1 end.3, p.1, ap (λ o. (state o).faults) end.2 ∙ fed.2)

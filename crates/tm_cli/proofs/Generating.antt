@@ -1,5 +1,5 @@
 -- The draws of a generator one after another, and what they change.
-use Rattle.std.proofs.Common.{◌≡◌, ℕ, zero, suc, ◌+◌, ◌-◌, ◌*◌, ◌%◌, ◌<◌, ◌≤◌, List, [], ◌∷◌, ◌++◌, length, map, take, drop, set, get_or, refl, sym, ap, ◌∙◌, arith, take_all, length-drop, zero-add, add-one, suc-add, bit_xor}
+use Rattle.std.proofs.Common.{◌≡◌, ℕ, zero, suc, ◌+◌, ◌-◌, ◌*◌, ◌%◌, ◌<◌, ◌≤◌, List, [], ◌∷◌, ◌++◌, length, map, take, drop, set, get_or, refl, sym, ap, ◌∙◌, arith, length-drop, zero-add, add-one, suc-add, bit_xor}
 use borrow.Rule.Slice.PartMut.{put_mid}
 use Rattle.std.specs.List.{range_with_len}
 use Rattle.std.proofs.Math.Nat.{mul-le-mul_left}
@@ -60,11 +60,6 @@ octets-more g octets i octet below is done =
     ∙ ap (λ (l : List ℕ). l ++ octet ∷ []) done
     ∙ ap (λ (n : ℕ). map (λ index. draw g index % 256) (range_with_len 0 i) ++ n ∷ []) is
     ∙ sym (map-range_with_len_more (λ index. draw g index % 256) 0 i i (zero-add i))
-
-pub octets-all : (g : Lcg) (octets : List ℕ) (i n : ℕ) → length octets ≡ n → n ≤ i → i ≤ n → take i octets ≡ drawn_octets i g → octets ≡ drawn_octets n g
-octets-all g octets i n long most least done =
-    let same : i ≡ n = omega arith in
-    sym (take_all i octets (omega arith)) ∙ done ∙ ap (λ (k : ℕ). drawn_octets k g) same
 
 -- ---- columns
 

@@ -15,7 +15,7 @@ use Rattle.tm_driver.proofs.SinkTexts.{took-none, took-more, broke-after, broke-
 use Rattle.tm_cli.specs.Lines.{item_text, report_end_text}
 use Rattle.tm_cli.specs.Receiving.{DecodedAll}
 use Rattle.tm_cli.specs.Report.{fixed_of, good, bad, fixed, handed_item_text, items_text, items_end_text}
-use Rattle.tm_cli.specs.Taken.{no_counts, number_of, ReportedHanded, ReportedAll, ReportBroke, handed_frames, DecodingBrokeAt, DecodingBroke}
+use Rattle.tm_cli.specs.Taken.{no_counts, number_of, ReportedHanded, ReportedAll, handed_frames, DecodingBrokeAt, DecodingBroke}
 use Rattle.tm_cli.specs.declared.counts.Counts.{Counts}
 
 -- before what a taker failed at there are no more items than in all
@@ -134,23 +134,6 @@ next-number before now counts handed all few =
     let bad_now = all.bad in
     raised counts.good counts.bad (omega arith) ∙ omega arith
 
-pub report-broke : {T : Type 0} (lines : T → SinkState) (last : T → Type 0) (counts : T → Counts) (handed : List (Handed ItemValue)) (a b : T)
-    → counts a ≡ no_counts → length (items_of handed) < 2 ^ 53
-    → HandedPart (λ x h y. ReportedHanded (lines x) (lines y) (counts x) (counts y) h)
-    (λ x h y. BrokeText (lines x) (lines y) (last y) [] (handed_item_text (number_of (counts x)) h)) a handed b
-    → ReportBroke (lines a) (lines b) (last b) handed
-report-broke lines last counts handed a b new few part =
-    let fewer = prefix-few handed part.prefix part.rest part.next part.split in
-    let first = report-wrote lines counts part.prefix a part.middle new (omega arith) part.handed in
-    let number = next-number (lines a) (lines part.middle) (counts part.middle) part.prefix first (omega arith) in record {
-      prefix = part.prefix;
-      next = part.next;
-      rest = part.rest;
-      split = part.split;
-      lines = broke-after (lines a) (lines part.middle) (lines b) (last b) (items_text 0 part.prefix) (handed_item_text (length (items_of part.prefix)) part.next) first.lines
-          (subst (λ (n : ℕ). BrokeText (lines part.middle) (lines b) (last b) [] (handed_item_text n part.next)) number part.failed);
-    }
-
 -- the end of a report that a sink failed in, after the lines
 pub end-broke : (start now end : SinkState) (last : Type 0) (counts : Counts) (handed : List (Handed ItemValue)) (totals : Totals) → ReportedAll start now no_counts counts handed
     → BrokeText now end last [] (slips_text totals.slips ++ report_end_text counts.good counts.bad counts.fixed totals.bits)
@@ -212,10 +195,6 @@ lines-prefix before now last prefix rest next broke =
     let text = text-after n next rest in
     subst (WrotePrefix before.taken now.taken) (sym (items_text-split prefix (next ∷ rest) ∙ ap (λ l. items_text 0 prefix ++ l) text.1))
     (broke-prefix before now last (items_text 0 prefix) (handed_item_text n next) text.0 broke)
-
-pub report-prefix : (before now : SinkState) (last : Type 0) (handed : List (Handed ItemValue)) → ReportBroke before now last handed → WrotePrefix before.taken now.taken (items_text 0 handed)
-report-prefix before now last handed broke =
-    subst (WrotePrefix before.taken now.taken) (sym (ap (items_text 0) broke.split)) (lines-prefix before now last broke.prefix broke.rest broke.next broke.lines)
 
 pub decoding-prefixes : (out out_now : SinkState) (out_last : Type 0) (notes notes_now : SinkState) (notes_last : Type 0) (handed : List (Handed ItemValue))
     → DecodingBroke out out_now out_last notes notes_now notes_last handed

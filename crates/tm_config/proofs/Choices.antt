@@ -31,8 +31,3 @@ pub uncoded_false : (code : OuterCode) → code ≢ Uncoded → is_uncoded code 
 uncoded_false Rs16 some = refl
 uncoded_false Rs8 some = refl
 uncoded_false Uncoded some = absurd (some refl)
-
-pub uncoded_true : (code : OuterCode) → is_uncoded code ≡ true → code ≡ Uncoded
-uncoded_true Rs16 is = cc
-uncoded_true Rs8 is = cc
-uncoded_true Uncoded is = refl

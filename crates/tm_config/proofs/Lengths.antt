@@ -43,7 +43,3 @@ codeblock_length-le c accepted =
 -- a frame has an octet at least
 pub some_frame : (c : Configuration) → IsAccepted c → 1 ≤ c.frame_length
 some_frame c accepted = let product = mul-le-mul accepted.some_depth accepted.some_data in omega (arith, accepted.whole)
-
--- a frame has at most as many octets as its codeblock
-pub frame_length-le : (c : Configuration) → IsAccepted c → c.frame_length ≤ codeblock_length c
-frame_length-le c accepted = omega (arith, codeblock_length-is c accepted)

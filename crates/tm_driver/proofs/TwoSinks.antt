@@ -7,9 +7,6 @@ pub sink-after : (has_failed : Bool) (a b c : SinkState) (b_last c_last : Type 0
 sink-after true a b c b_last c_last same failed = subst (λ (n : ℕ). Rose n c.faults c_last × (n ≤ c.faults)) same failed
 sink-after false a b c b_last c_last same next = next ∙ same
 
-pub no-fault : (a : SinkState) (a_last : Type 0) (n : SinkState) (n_last : Type 0) → SinksCourse false a a a_last n n n_last
-no-fault a a_last n n_last = (refl, refl)
-
 pub fault-after : (has_failed : Bool) (a b c : SinkState) (b_last c_last : Type 0) (l m n : SinkState) (m_last n_last : Type 0)
     → SinksCourse false a b b_last l m m_last → SinksCourse has_failed b c c_last m n n_last → SinksCourse has_failed a c c_last l n n_last
 fault-after true a b c b_last c_last l m n m_last n_last same failed = elim failed as (λ _. SinksCourse true a c c_last l n n_last) [

@@ -134,15 +134,6 @@ power-add a (suc i) j =
     ∙ times-assoc (power a i) (power a j) a ∙ ap (times (power a i)) (times-comm (power a j) a)
     ∙ sym (times-assoc (power a i) a (power a j))
 
-pub times-power : (a b k : ℕ) → power (times a b) k ≡ times (power a k) (power b k)
-unfolding power
-times-power a b zero = sym (one-times 1 (omega arith))
-times-power a b (suc k) =
-    ap (λ (y : ℕ). times y (times a b)) (times-power a b k)
-    ∙ times-assoc (power a k) (power b k) (times a b)
-    ∙ ap (times (power a k)) (sym (times-assoc (power b k) a b) ∙ ap (λ (y : ℕ). times y b) (times-comm (power b k) a) ∙ times-assoc a (power b k) b)
-    ∙ sym (times-assoc (power a k) a (times (power b k) b))
-
 pub power-one : (k : ℕ) → power 1 k ≡ 1
 unfolding power
 power-one zero = refl
@@ -229,9 +220,6 @@ power-nonzero a zero h ne e = omega arith
 power-nonzero a (suc k) h ne e = times-nonzero (power a k) a (power-lt a k) h (power-nonzero a k h ne) ne e
 
 -- ---- sums
-
-pub plus-self : (a : ℕ) → bit_xor a a ≡ 0
-plus-self = xor_self
 
 -- equal where the sum is 0
 pub plus_apart : (a b : ℕ) → bit_xor a b ≡ 0 → a ≡ b

@@ -202,12 +202,6 @@ decodes-after c None phase given blocks of is = is
 decodes-after c (Some d) phase given blocks of is =
     subst (λ (l : List ℕ). StandsIn d l blocks) (soft-after c phase (skipped_at c.inner c) given (ap (λ (r : Option Rate). skipped_at r c) of.1)) is
 
-pub finds-after : (c : Configuration) (decoder : Option InnerDecoder) (phase : ℕ) (given : List ℕ) (blocks : List WindowBlock) → IsDecoderOf c decoder
-    → FindsFirst decoder (drop phase (phase_octets c given)) blocks → FindsFirst decoder (soft_octets c phase given) blocks
-finds-after c None phase given blocks of is = is
-finds-after c (Some d) phase given blocks of is =
-    subst (λ (l : List ℕ). AreFirstIn (windows_in d) l blocks) (soft-after c phase (skipped_at c.inner c) given (ap (λ (r : Option Rate). skipped_at r c) of.1)) is
-
 -- ---- octets that are held
 
 pub same-held : (held : HeldOctets) (octets : List ℕ) (room : ℕ) → held.octets ≡ octets → held.room ≡ room → held ≡ record { octets = octets; room = room }

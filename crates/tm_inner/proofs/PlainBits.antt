@@ -84,12 +84,6 @@ plain-packed c octets is = ap (λ (pack : Bool). plain_bits_by pack c octets) is
 pub plain-nearest : (c : Configuration) (octets : List ℕ) → c.pack ≡ false → plain_bits c octets ≡ map (nearest_bit c) octets
 plain-nearest c octets is = ap (λ (pack : Bool). plain_bits_by pack c octets) is
 
-pub count-packed : (c : Configuration) (n : ℕ) → c.pack ≡ true → plain_count c n ≡ 8 * n
-count-packed c n is = ap (λ (pack : Bool). if pack then 8 * n else n) is
-
-pub count-nearest : (c : Configuration) (n : ℕ) → c.pack ≡ false → plain_count c n ≡ n
-count-nearest c n is = ap (λ (pack : Bool). if pack then 8 * n else n) is
-
 -- ---- bits that are nearest to octets, after the first ones
 
 pub nearest-after : (c : Configuration) (skip from : ℕ) (octets bits : List ℕ) → from ≡ min skip (length octets)

@@ -1,5 +1,5 @@
 -- Where the phase is not followed, windows stand one after another, and nothing is dropped before any.
-use Rattle.std.proofs.Common.{◌≡◌, inl, inr, ℕ, Bool, true, false, List, length, drop, map, Option, Some, None, if◌then◌else◌, refl, sym, ap, ◌∙◌, subst, arith}
+use Rattle.std.proofs.Common.{◌≡◌, inl, inr, ℕ, Bool, true, false, List, length, drop, map, Option, Some, None, if◌then◌else◌, refl, sym, ap, subst, arith}
 use Rattle.tm_config.specs.Configuration.{Configuration, unfollowed}
 use Rattle.tm_conv.specs.declared.rates.Rate.{Rate}
 use Rattle.tm_viterbi.specs.Settings.{Settings}
@@ -10,12 +10,8 @@ use Rattle.tm_windows.specs.declared.choosing.Chosen.{Chosen}
 use Rattle.tm_windows.specs.Slip.{steps_seen}
 use Rattle.tm_windows.specs.Followed.{Windows}
 use Rattle.tm_windows.specs.Windows.{AreBlocksIn, AreDueIn, AreFirstIn}
-use Rattle.tm_viterbi.specs.Decoding.{Decoding}
-use Rattle.tm_windows.specs.ParallelDecoding.{ParallelDecoding}
-use Rattle.tm_inner.specs.declared.inner_decoder.InnerDecoder.TheVariants.{One, Many}
 use Rattle.tm_inner.specs.Inner.{settings_of, soft_value, windows_of}
 use Rattle.tm_inner.specs.Phase.{IsChosen, IsSettled, PhaseAt, needed_at, phase_octets, skipped_at}
-use Rattle.tm_inner.specs.Receiving.{IsDecoderOf}
 
 -- windows before which no slip is looked for
 abbrev pub unseen : Settings → Windows
@@ -50,14 +46,6 @@ pub first-windows : (c : Configuration) (rate : Rate) (soft : List ℕ) (blocks 
 first-windows c rate soft blocks is h = subst (λ (w : Windows). AreFirstIn w soft blocks) (sym (unfollowed-windows c rate is)) h
 
 -- ---- the decoder of a configuration
-
-pub one-decodes : (c : Configuration) (rate : Rate) (decoder : Decoding) → c.inner ≡ Some rate → c.follow ≡ false
-    → decoder.settings ≡ settings_of c rate → IsDecoderOf c (Some (One decoder))
-one-decodes c rate decoder is plain same = (rate, is, ap unseen same ∙ sym (unfollowed-windows c rate plain))
-
-pub many-decodes : (c : Configuration) (rate : Rate) (decoder : ParallelDecoding) → c.inner ≡ Some rate
-    → decoder.windows ≡ windows_of c rate → IsDecoderOf c (Some (Many decoder))
-many-decodes c rate decoder is same = (rate, is, same)
 
 -- ---- the phase that is chosen is the same, whether it is followed or not
 

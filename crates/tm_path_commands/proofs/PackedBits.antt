@@ -145,11 +145,6 @@ split-open bits =
 pub few-open : (bits : List Bool) → length (open_bits bits) < 8
 few-open bits = omega (arith, length-drop (8 * (length bits / 8)) bits)
 
--- whole octets before bits stand first
-pub octets-after : (written bits : List Bool) → length written % 8 ≡ 0
-    → octets_of (written ++ bits) ≡ octets_of written ++ octets_of bits
-octets-after written bits whole = octets_of-append written bits whole
-
 -- octets of some bits, and the same of more
 pub octets-more : (bits more : List Bool) → (rest : List ℕ) × (octets_of (bits ++ more) ≡ octets_of bits ++ rest)
 octets-more bits more =

@@ -1,5 +1,5 @@
 -- Words in hexadecimal, and the lines of their nearest codewords.
-use Rattle.std.proofs.Common.{◌≡◌, ◌≢◌, ℕ, ◌*◌, ◌/◌, ◌%◌, ◌≤◌, ◌<◌, Bool, true, false, cond, List, [], length, map, if◌then◌else◌, Option, Some, None, Result, Ok, Err, refl, sym, ap, ◌∙◌, subst, arith}
+use Rattle.std.proofs.Common.{◌≡◌, ◌≢◌, ℕ, ◌*◌, ◌/◌, ◌%◌, ◌≤◌, ◌<◌, Bool, true, false, List, [], length, map, if◌then◌else◌, Option, Some, None, Result, Ok, Err, refl, sym, ap, ◌∙◌, subst, arith}
 use Rattle.std.specs.Prelude.{MatchResult, IsOk}
 use Rattle.std.specs.List.{list_all}
 use Rattle.std.specs.Result.{result_unwrap_or}
@@ -12,7 +12,6 @@ use Rattle.tm_base.specs.Written.{Wrote}
 use Rattle.tm_config.specs.Configuration.{Configuration, correctable, is_uncoded}
 use Rattle.tm_config.specs.declared.values.OuterCode.{OuterCode}
 use Rattle.tm_config.specs.declared.values.OuterCode.TheVariants.{Rs16, Rs8, Uncoded}
-use Rattle.tm_config.proofs.Choices.{uncoded_false}
 use Rattle.tm_driver.specs.Meaning.{WroteOutput, taken_by}
 use Rattle.tm_driver.proofs.SinkTexts.{wrote-nothing}
 use Rattle.tm_dual.specs.Octet.{sent_octet, element_of}
@@ -22,7 +21,7 @@ use Rattle.tm_rs_solve.specs.declared.answers.Answer.{Answer}
 use Rattle.tm_rs_solve.specs.declared.answers.Answer.TheVariants.{Fixed, Beyond}
 use Rattle.tm_records.specs.Word.{octets_of_hex, word_meaning, word_refusal, word_of, word_text, IsWordLine, IsBeyond}
 use Rattle.tm_records.specs.declared.word_command.WordRefusal.{WordRefusal}
-use Rattle.tm_records.specs.declared.word_command.WordRefusal.TheVariants.{Code, Hex}
+use Rattle.tm_records.specs.declared.word_command.WordRefusal.TheVariants.{Code}
 
 -- what writing the octets of a text answers
 abbrev pub Written : List ℕ → ℕ → Result Unit FromHexError → List ℕ → Type 0
@@ -30,14 +29,6 @@ Written text count answer octets = MatchResult (decode_sized text count) (λ byt
     (λ e. answer ≡ Err e)
 
 -- ---- the text that is refused
-
--- a text of the length of a word is refused where a byte is no digit
-pub refused-by_digits : (c : Configuration) (text : List ℕ) (all : Bool) → c.code ≢ Uncoded → length text % 2 ≡ 0
-    → 2 * correctable c.code < length text / 2 → length text / 2 ≤ 255
-    → list_all is_hex_digit text ≡ all → word_refusal c text ≡ cond all None (Some Hex)
-refused-by_digits c text all code even some most is =
-    let coded = uncoded_false c.code code in
-    rw (← is) (rw coded (grind (arith, nat_tests)))
 
 pub all-digits : (text : List ℕ) (count : ℕ) (octets : List ℕ) (answer : Result Unit FromHexError)
     → Written text count answer octets → IsOk answer → list_all is_hex_digit text ≡ true

@@ -14,10 +14,6 @@ pub AreElements-carry : (r a : ℕ) (qs : List ℕ) → AreElements qs → AreEl
 AreElements-carry r a [] h = (times-lt r a, tt)
 AreElements-carry r a (q ∷ qs) h = (plus-lt q (times r a) h.0 (times-lt r a), AreElements-carry r q qs h.1)
 
-pub AreElements-product_of : (rs : List ℕ) → AreElements (product_of rs)
-AreElements-product_of [] = tt
-AreElements-product_of (r ∷ rs) = AreElements-carry r 1 (product_of rs) (AreElements-product_of rs)
-
 -- the first n roots of the code
 abbrev pub roots : ℕ → ℕ → List ℕ
 roots e zero = []
@@ -52,10 +48,6 @@ generator_of e = product_of (roots e (2 * e))
 pub length-generator_of : (e : ℕ) → length (generator_of e) ≡ 2 * e
 unfolding generator_of
 length-generator_of e = length-product_of (roots e (2 * e)) ∙ length-roots e (2 * e)
-
-pub AreElements-generator_of : (e : ℕ) → AreElements (generator_of e)
-unfolding generator_of
-AreElements-generator_of e = AreElements-product_of (roots e (2 * e))
 
 pub generator_vanishes : (e k : ℕ) → k < 2 * e → value_at (1 ∷ generator_of e) (root e k) ≡ 0
 unfolding generator_of

@@ -1,5 +1,5 @@
 -- The shortest recurrence, one term of the sequence after another. Coefficients are functions from indexes.
-use Rattle.std.proofs.Common.{◌≡◌, ◌<◌, ◌≤◌, ℕ, zero, suc, ◌+◌, ◌-◌, length, refl, ap, sym, ◌∙◌, arith, inl, inr, subst, add-zero, add-suc}
+use Rattle.std.proofs.Common.{◌≡◌, ◌<◌, ◌≤◌, ℕ, zero, suc, ◌+◌, ◌-◌, length, refl, ap, sym, ◌∙◌, arith, inl, inr, add-zero, add-suc}
 use Rattle.std.specs.Prelude.{bit_xor}
 use Rattle.std.specs.Int.Bits.{xor_zero_r, xor_assoc, xor_self}
 use Rattle.std.proofs.lemmas.Bool.{cases_eq, lt-ltb, le-ltb}
@@ -149,10 +149,6 @@ patched_high c b q m i h = ap (λ (y : ℕ). bit_xor (c i) (times q y)) (shifted
 
 pub patched-lt : (c b : ℕ → ℕ) (q m i : ℕ) → c i < 256 → patched c q m b i < 256
 patched-lt c b q m i h = plus-lt (c i) (times q (shifted m b i)) h (times-lt q (shifted m b i))
-
--- the same coefficients
-pub Generates-same : (c c' : ℕ → ℕ) (l : ℕ) (s : ℕ → ℕ) (n : ℕ) → ((i : ℕ) → c i ≡ c' i) → Generates c l s n → Generates c' l s n
-Generates-same c c' l s n h g = subst (λ (f : ℕ → ℕ). Generates f l s n) (λ j i. h i j) g
 
 pub discrepancy-lt : (c s : ℕ → ℕ) (k j : ℕ) → discrepancy c s k j < 256
 discrepancy-lt c s k zero = omega arith

@@ -70,9 +70,6 @@ scaled_zero g (f ∷ fs) (w ∷ ws) l v =
 
 -- ---- none
 
-abbrev known_of : ℕ → List Bool → ℕ
-known_of e fs = 2 * e - count_erased fs
-
 pub none_unexplained : (e : ℕ) (fs : List Bool) (s t : ℕ → ℕ) → length fs ≤ 255 → AreModified e fs s t → Unexplained (2 * e - count_erased fs) t
     → (w : List ℕ) → IsErasedPattern e fs s w → ⊥
 none_unexplained e fs s t short comb none w p =

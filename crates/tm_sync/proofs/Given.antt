@@ -50,10 +50,6 @@ drop-prefix : (prefix rest : List Bool) → drop (length prefix) (prefix ++ rest
 drop-prefix [] rest = refl
 drop-prefix (b ∷ prefix) rest = drop-prefix prefix rest
 
-take-prefix : (prefix rest : List Bool) → take (length prefix) (prefix ++ rest) ≡ prefix
-take-prefix [] rest = refl
-take-prefix (b ∷ prefix) rest = ap (λ l. b ∷ l) (take-prefix prefix rest)
-
 pub parts_of : (s : Searching) (room : List ℕ) (bits : List Bool) (found : List Found) → SearchStandsFor s room bits found → Parts s room bits found
 parts_of s room bits found h =
     let end = end_of s.rules found in
@@ -1097,14 +1093,6 @@ whole-once s m was pending most alone =
     let few : s.after ≤ s.rules.block_bits =
     subst (λ (n : ℕ). s.after ≤ inside_by n s.rules.block_bits) alone most in
     omega arith
-
-pub block-most : (verify size : ℕ) → size ≤ inside_by verify size
-block-most zero size = omega arith
-block-most (suc verify) size = omega arith
-
-pub verify-most : (verify size : ℕ) → verify * (32 + size) ≤ inside_by verify size
-verify-most zero size = omega arith
-verify-most (suc verify) size = omega arith
 
 -- ---- octets
 -- a place is awaited where bits follow its marker

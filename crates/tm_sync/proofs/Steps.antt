@@ -170,11 +170,6 @@ are_verified-far rules inverted (suc count) bits far =
         ∙ ap (λ c. matches_in (match_of rules (drop (32 + rules.block_bits) bits)) inverted && c) next
         ∙ and-false (matches_in (match_of rules (drop (32 + rules.block_bits) bits)) inverted)
 
--- a match in one polarity is in no other
-pub matches_in-same : (inverted : Bool) → matches_in (Some inverted) inverted ≡ true
-matches_in-same true = refl
-matches_in-same false = refl
-
 pub matches_in-is : (polarity : Option Bool) (inverted : Bool) → matches_in polarity inverted ≡ true
     → polarity ≡ Some inverted
 matches_in-is None inverted e = absurd (cc)

@@ -12,7 +12,7 @@ use Rattle.tm_conv.specs.Path.{c1, c2, step_size, steps_size}
 use Rattle.tm_viterbi.specs.Walk.{AreBest}
 use Rattle.tm_viterbi.specs.AddCompareSelect.{IsNextSums, first_metric, second_metric}
 use Rattle.tm_viterbi.specs.Totals.{total_of, StepsTo, AreBranchMetrics, AreAtMost}
-use Rattle.tm_viterbi.proofs.Walk.{AreBest-more, AreBest-none}
+use Rattle.tm_viterbi.proofs.Walk.{AreBest-more}
 use Rattle.tm_viterbi.proofs.Totals.{Grows-total_of}
 use Rattle.tm_conv.proofs.Paths.{steps_size-more, steps_size-zero}
 use Rattle.tm_viterbi.specs.Carries.{Carries, lifted}
@@ -245,19 +245,6 @@ blocks_on rate invert t at r done n m soft sums middle next survivors piece plac
 pub length-mid : (a k : ℕ) (xs ys : List ℕ) → a + k ≤ length xs → length ys ≡ k → length (put_mid a k xs ys) ≡ length xs
 length-mid a k xs ys le e =
     same_len_mid a k xs ys (e ∙ sym (length-take-le k (drop a xs) (omega (arith, length-drop a xs))))
-
--- from the first column
-pub carried-none : (rate : Rate) (invert : Bool) (t : ℕ) (firsts octets next survivors : List ℕ)
-    → Carries rate invert t octets firsts next survivors
-    → AreBest (total_of rate invert t firsts octets) (length survivors) next (reverse survivors)
-carried-none rate invert t firsts octets next survivors h =
-    let e : t ≡ t + 0 = omega arith in
-    let count : 0 + length survivors ≡ length survivors = omega arith in
-    let so = h.carries t 0 firsts [] [] e (sym (steps_size-zero rate t))
-    (AreBest-none (total_of rate invert t firsts []) firsts (λ register below. omega arith)) in
-    subst (λ (w : List ℕ). AreBest (total_of rate invert t firsts octets) (length survivors) next w)
-    (append-nil (reverse survivors))
-    (subst (λ (n : ℕ). AreBest (total_of rate invert t firsts octets) n next (reverse survivors ++ [])) count so)
 
 -- ---- rate 1/2
 

@@ -198,14 +198,6 @@ eight P (a ∷ b ∷ c ∷ d ∷ e ∷ f ∷ g ∷ h ∷ []) l k = k a b c d e f
 eight P (a ∷ b ∷ c ∷ d ∷ e ∷ f ∷ g ∷ h ∷ x ∷ xs) l k =
     absurd (let z : suc (suc (suc (suc (suc (suc (suc (suc (suc (length xs))))))))) ≡ 8 = l in omega arith)
 
-pub eight_reversed : (survivors : List ℕ) → length survivors ≡ 8
-    → reverse survivors ≡ get_or survivors 7 0 ∷ get_or survivors 6 0 ∷ get_or survivors 5 0 ∷ get_or survivors 4 0 ∷ get_or
-    survivors 3 0 ∷ get_or survivors 2 0 ∷ get_or survivors 1 0 ∷ get_or survivors 0 0 ∷ []
-eight_reversed survivors l =
-    eight (λ v. reverse v
-    ≡ get_or v 7 0 ∷ get_or v 6 0 ∷ get_or v 5 0 ∷ get_or v 4 0 ∷ get_or v 3 0 ∷ get_or v 2 0 ∷ get_or v 1 0 ∷ get_or v
-    0 0 ∷ []) survivors l (λ a b c d e f g h. refl)
-
 of_register : (survivors : List ℕ) (register : ℕ) → length survivors ≡ 8
     → past_of (reverse survivors) (register % 64) ≡ reverse (eight_bits (history (reverse survivors) register / 64 % 256))
 of_register survivors register l =

@@ -42,15 +42,6 @@ pub tail_fits : (rate : Rate) (t n keep ahead count len size room : ℕ) → kee
 tail_fits rate t n keep ahead count len size room le few enough is more =
     omega (arith, is, more, steps_size-most rate (t + keep) (n - keep), steps_size-most rate (t + n) count)
 
--- the tail of the next window, which begins with the whole tail
-pub tail_complemented : (rate rate' : Rate) (t t' n keep keep' ahead cut : ℕ) (given tail tail' : List ℕ)
-    → rate' ≡ rate → keep' ≡ keep → n ≡ keep + ahead → tail ≡ drop (steps_size rate t (min n keep)) given
-    → cut ≡ steps_size rate' t' (min ahead keep') → tail' ≡ drop cut tail
-    → tail' ≡ drop (steps_size rate' t' (min ahead keep')) (drop (steps_size rate t keep) given)
-tail_complemented rate rate' t t' n keep keep' ahead cut given tail tail' er ek full is cut_is is' =
-    let old : min n keep ≡ keep = omega arith in
-    is' ∙ ap (λ v. drop v tail) cut_is ∙ ap (drop (steps_size rate' t' (min ahead keep'))) (is ∙ ap (λ v. drop (steps_size rate t v) given) old)
-
 -- its length
 pub tail_size_complemented : (rate : Rate) (t keep ahead cut len len' : ℕ) → len ≡ steps_size rate t ahead → cut ≡ steps_size rate t (min ahead keep)
     → len' ≡ len - cut → len' ≡ steps_size rate (t + keep) (ahead - keep)

@@ -214,10 +214,6 @@ AreBest-none total sums same s lt = record {
 before_lt : (c s : ℕ) → s < 64 → before c s < 64
 before_lt c s lt = omega arith
 
-pub start_of_lt : (survivors : List ℕ) (s : ℕ) → s < 64 → start_of survivors s < 64
-start_of_lt [] s lt = lt
-start_of_lt (c ∷ survivors) s lt = start_of_lt survivors (before c s) (before_lt c s lt)
-
 pub past_of_small : (survivors : List ℕ) (s : ℕ) → s < 64 → All (λ b. b < 2) (past_of survivors s)
 past_of_small [] s lt = All-nil (λ b. b < 2)
 past_of_small (c ∷ survivors) s lt =
