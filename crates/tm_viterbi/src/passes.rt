@@ -36,8 +36,8 @@ pub(crate) fn step(
     survivor
 }
 
-// At most 120 steps in sixteen bits: metrics that are at most 4,096 above the least, and grow by at most 510 a step, are
-// then at most 65,296. Answers how many octets the steps took.
+// At most 120 steps in sixteen bits: metrics that are at most 4,096 above the least, and grow by at most 510 a step,
+// are then at most 65,296. Answers how many octets the steps took.
 fn narrow_block(
     rate: Rate,
     invert: bool,
