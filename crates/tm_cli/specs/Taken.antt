@@ -49,16 +49,6 @@ pub record ReportedAll (before now : SinkState) (was counts : Counts) (handed : 
   pub bad : counts.bad ≡ was.bad + bad (items_of handed)
   pub fixed : counts.fixed ≡ was.fixed + fixed (items_of handed)
 
--- the sink failed in the line of the phase or of one of the items
-pub record ReportBroke (before now : SinkState) (is_last : Type 0) (handed : List
-    (Handed ItemValue)) : Type 0 where
-  pub prefix : List (Handed ItemValue)
-  pub next : Handed ItemValue
-  pub rest : List (Handed ItemValue)
-  pub split : handed ≡ prefix ++ next ∷ rest
-  pub lines : BrokeText before now is_last (items_text 0 prefix) (handed_item_text
-      (length (items_of prefix)) next)
-
 -- the frames of the items of what was handed over
 abbrev pub handed_frames : List (Handed ItemValue) → List ℕ
 handed_frames handed = frames_of (items_of handed)
