@@ -20,8 +20,8 @@ use tm_path_commands::certificate_law;
 /// and when the input is partial.
 ///
 /// A command that reads does so in turns of at most 4,096 octets, never more than one octet past the limit, and nothing
-/// after the end of the input or a fault. Words are repaired by so many workers as are asked for. Answers the exit
-/// status, of 3, 4 and 7 the one that occurs first:
+/// after the end of the input or a fault. Windows are decoded and words repaired by so many workers as are asked for.
+/// Answers the exit status, of 3, 4 and 7 the one that occurs first:
 ///
 /// - 0: the source was read to its end by a command that reads, and the whole output is written.
 /// - 1: the same, and something is bad. Or the command reads nothing more after what is bad, and all that is to be
