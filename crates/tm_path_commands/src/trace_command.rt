@@ -62,7 +62,8 @@ impl<'a, 'b, O: Sink> Feed for Tracing<'a, 'b, O> {
         (sink_state (O.taken a.trace.lines.now) (O.faults a.trace.lines.now))
         (sink_state (O.taken b.trace.lines.now) (O.faults b.trace.lines.now)) };
 
-    ghost sinks = { λ a b failed. SinkWent failed (sink_call O.taken O.faults O.is_last a.trace.lines.now b.trace.lines.now) };
+    ghost sinks = { λ a b failed. SinkWent failed (sink_call O.taken O.faults O.is_last
+        a.trace.lines.now b.trace.lines.now) };
 
     ghost same = { λ a b. (b.receiver.ghost_name ≡ a.receiver.ghost_name)
         × (b.trace.lines.ghost_name ≡ a.trace.lines.ghost_name) };
