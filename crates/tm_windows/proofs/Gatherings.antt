@@ -46,27 +46,19 @@ are_closed keep ahead steps n some is =
       most = omega (arith, is, whole, mod_below n keep some, more_times count keep);
     }
 
--- the octets after the steps that are whole close no window more
+-- fewer windows than were asked for are all that the octets close
 pub no_more : (s : WindowShape) (t len most steps count : ℕ) → AreClosed s.keep s.ahead steps count
-    → (steps < most * s.keep + s.ahead + 1 → len < steps_size s.rate t (steps + 1))
-    → len ≤ steps_size s.rate t (most * s.keep + s.ahead + 1)
+    → (steps < most * s.keep + s.ahead + 1 → len < steps_size s.rate t (steps + 1)) → count < most
     → len < steps_size s.rate t ((count + 1) * s.keep + s.ahead + 1)
-no_more s t len most steps count are less le = elim (cases_lt steps limit) as (λ _. len < steps_size s.rate t next) [
-  | inl lt ↦ omega (arith, less lt, steps_size-le s.rate t (steps + 1) next (omega (arith, are.most)))
-  | inr there ↦ omega (
-    arith,
-    le,
-    steps_size-more s.rate t limit,
-    step_size_pos s.rate (t + limit),
-    steps_size-le s.rate t (limit + 1) next (omega (arith, are.most, there)),
-  )
-]
-  where
-    limit : ℕ
-    limit = most * s.keep + s.ahead + 1
-
-    next : ℕ
-    next = (count + 1) * s.keep + s.ahead + 1
+no_more s t len most steps count are less few =
+    let next = (count + 1) * s.keep + s.ahead + 1 in
+    let wide : (count + 1) * s.keep ≤ most * s.keep = mul-le-mul_right s.keep
+    (let le : count + 1 ≤ most = omega (arith, few) in le) in
+    omega (
+      arith,
+      less (omega (arith, are.most, wide)),
+      steps_size-le s.rate t (steps + 1) next (omega (arith, are.most)),
+    )
 
 -- octets that close a window close one at least
 pub some_closed : (s : WindowShape) (t len most steps count : ℕ) → AreClosed s.keep s.ahead steps count
@@ -137,6 +129,35 @@ fewer_held g n count le room =
       steps_size-le s.rate g.t (n * s.keep + s.ahead + 1) (count * s.keep + s.ahead + 1)
           (omega (arith, (let wide : n * s.keep ≤ count * s.keep = mul-le-mul_right s.keep le in wide))),
     )
+
+-- the octets that are held close no more windows than so many
+abbrev pub IsMost : Gathering → ℕ → Type 0
+IsMost g count = length g.held.octets
+    < steps_size g.shape.rate g.t ((count + 1) * g.shape.keep + g.shape.ahead + 1)
+
+-- octets for which there is room close no more windows than a batch has
+pub no_more_held : (g : Gathering) (count : ℕ) → HasRoom g → (count < g.most → IsMost g count)
+    → IsMost g count
+no_more_held g count room less = elim (cases_lt count g.most) as (λ _. IsMost g count) [
+  | inl few ↦ less few
+  | inr there ↦ (let wide : g.most * s.keep ≤ count * s.keep = mul-le-mul_right s.keep there in
+      omega (
+        arith,
+        room,
+        steps_size-more s.rate g.t limit,
+        step_size_pos s.rate (g.t + limit),
+        steps_size-le s.rate g.t (limit + 1) next (omega (arith, wide, more_times count s.keep, g.sizes)),
+      ))
+]
+  where
+    s : WindowShape
+    s = g.shape
+
+    limit : ℕ
+    limit = g.most * s.keep + s.ahead + 1
+
+    next : ℕ
+    next = (count + 1) * s.keep + s.ahead + 1
 
 -- there is room for an octet more, as long as no window is closed
 pub open_room : (g : Gathering) → IsOpen g → length g.held.octets < room_of g

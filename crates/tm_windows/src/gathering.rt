@@ -77,8 +77,7 @@ fn closed_windows(shape: WindowShape, t: u64, len: usize, most: usize) -> usize
     ensures most { result ≤ most }
     ensures room { 0 < result → steps_size shape.rate t (result * shape.keep + shape.ahead + 1) ≤ len }
     ensures some { 0 < most → steps_size shape.rate t (shape.keep + shape.ahead + 1) ≤ len → 0 < result }
-    ensures all { len ≤ steps_size shape.rate t (most * shape.keep + shape.ahead + 1)
-        → len < steps_size shape.rate t ((result + 1) * shape.keep + shape.ahead + 1) }
+    ensures all { result < most → len < steps_size shape.rate t ((result + 1) * shape.keep + shape.ahead + 1) }
 {
     let limit = most * shape.keep + shape.ahead + 1;
     let steps = whole_steps(shape.rate, t, len, limit);
@@ -313,6 +312,8 @@ impl Gathering {
         ensures most { result ≤ self.now.most }
         ensures room { HoldsRun self.now result }
         ensures undropped { AreUndropped (windows_of self.now) self.now.t self.now.held.octets result }
+        ensures longest { result < self.now.most → HoldsRun self.now (result + 1)
+            → AreUndropped (windows_of self.now) self.now.t self.now.held.octets (result + 1) → ⊥ }
     {
         let most = closed_windows(self.shape, self.t, self.held.as_slice().len(), self.most);
         let Some(steps) = self.seen else {
@@ -333,7 +334,7 @@ impl Gathering {
         requires number { number < self.now.most }
         requires room { HoldsRun self.now (number + 1) }
         requires few { reached self.now < stream_bound }
-        ensures { IsTrue result → IsUndropped (windows_of self.now) (self.now.t + number * self.now.shape.keep)
+        ensures { IsTrue result ↔ IsUndropped (windows_of self.now) (self.now.t + number * self.now.shape.keep)
             (drop (steps_size self.now.shape.rate self.now.t (number * self.now.shape.keep)) self.now.held.octets) }
     {
         let kept = number * self.shape.keep;

@@ -1,5 +1,5 @@
 // The blocks of windows that were decoded from registers which were only taken to be their starts, settled in order.
-ghost use Rattle.std.specs.Prelude.{◌≡◌, ◌+◌, ◌*◌, ◌<◌, ◌≤◌, IsTrue, IfOk, OnErr, OnOk, List, length, vec_len};
+ghost use Rattle.std.specs.Prelude.{◌≡◌, ◌↔◌, ◌+◌, ◌*◌, ◌<◌, ◌≤◌, IsTrue, IfOk, OnErr, OnOk, List, length, vec_len};
 ghost use Rattle.std.specs.Option.{ForSome};
 ghost use Rattle.tm_conv.specs.Path.{steps_size};
 ghost use Rattle.tm_base.specs.Takers.{HandedOver, HandedPart};
@@ -18,7 +18,7 @@ use tm_viterbi::{Block, BlockTaker, WindowDecoder, WindowShape};
 
 // Whether a window was decoded from this start set.
 fn is_from(candidate: &Candidate, starts: Option<u8>) -> bool
-    ensures { IsTrue result → candidate.now.starts ≡ starts }
+    ensures { IsTrue result ↔ (candidate.now.starts ≡ starts) }
 {
     match (candidate.starts, starts) {
         (None, None) => true,

@@ -17,12 +17,12 @@ returns-clause-room c = λ some.
     )
 
 pub returns-clause-all : goal.returns-clause-all
-returns-clause-all c = λ le.
+returns-clause-all c = λ few.
     let s = c.args.shape in
     let steps = c.whole_steps-steps.result in
     let n = c.saturating_sub.result in
     let are = are_closed s.keep s.ahead steps n (omega (arith, c.requires.sizes)) c.saturating_sub.ensures in
-    no_more s c.args.t c.args.len c.args.most steps (n / s.keep) are c.whole_steps-steps.ensures.all le
+    no_more s c.args.t c.args.len c.args.most steps (n / s.keep) are c.whole_steps-steps.ensures.all few
 
 pub returns-clause-some : goal.returns-clause-some
 returns-clause-some c = λ some room.

@@ -1,5 +1,5 @@
 use Rattle.std.proofs.Common.{◌≡◌, ap, arith, length}
-use Rattle.tm_windows.proofs.Gatherings.{due_after, undropped_most}
+use Rattle.tm_windows.proofs.Gatherings.{due_after, no_more_held, undropped_most}
 use Rattle.tm_windows.proofs.gathering.Gathering.count_closed.Goals as goal
 
 pub returns-clause-due : goal.returns-clause-due
@@ -9,7 +9,7 @@ returns-clause-due c = λ all done r.
     let count = c.closed_windows.result in
     due_after c.best_path_law.ensures.exists s all done count s.register (λ steps is. ((s.looks steps is).0, (s.looks steps is).2))
     (λ some. omega (arith, same, c.closed_windows.ensures.room some))
-    (omega (arith, same, c.closed_windows.ensures.all (omega (arith, same, c.requires.room)))) r
+    (no_more_held s count c.requires.room (λ few. omega (arith, same, c.closed_windows.ensures.all few))) r
 
 pub returns-clause-undropped : goal.returns-clause-undropped
 returns-clause-undropped c = λ all done plain r due.

@@ -1,4 +1,4 @@
-use Rattle.std.proofs.Common.{◌≡◌, ◌+◌, ◌*◌, inl, inr, ℕ, List, ap, subst, arith, length, drop}
+use Rattle.std.proofs.Common.{◌≡◌, ◌+◌, ◌*◌, ◌∙◌, inl, inr, ℕ, List, IsTrue, false, ap, sym, subst, arith, length, drop}
 use Rattle.std.proofs.lemmas.Bool.{cases_lt}
 use Rattle.tm_conv.specs.Path.{steps_size}
 use Rattle.tm_windows.specs.Followed.{Windows, IsUndropped, AreUndropped}
@@ -23,6 +23,23 @@ returns-in_default-clause-undropped c =
     let s = c.args.self.now in
     unfollowed-all (windows_of s) c.in_default.is s.t c.closed_windows-most.result s.held.octets
 
+-- the octets that are held close no more windows
+pub returns-in_default-clause-longest : goal.returns-in_default-clause-longest
+returns-in_default-clause-longest c = λ few room are.
+    absurd (omega (arith, ap length c.as_slice.ensures.octets, room, c.closed_windows-most.ensures.all few))
+
+pub returns-clause-longest : goal.returns-clause-longest
+returns-clause-longest c = λ few room are.
+    absurd (omega (arith, ap length c.as_slice.ensures.octets, room, c.closed_windows-most.ensures.all few))
+
+-- octets are dropped before the next one
+pub returns-then-not-is_undropped-clause-longest : goal.returns-then-not-is_undropped-clause-longest
+returns-then-not-is_undropped-clause-longest c = λ few room are.
+    let l = c.loop-number in
+    let still = c.is_undropped.ensures.1 (are l.number (omega (arith, l.auto.number)) (omega arith)) in
+    let both : IsTrue false = sym c.if-not-is_undropped.true ∙ still in
+    absurd cc
+
 pub loop-number-init : goal.loop-number-init
 loop-number-init c = record { undropped = λ k some less. absurd (omega (arith, some, less)) }
 
@@ -30,7 +47,7 @@ pub loop-number-preserved : goal.loop-number-preserved
 loop-number-preserved c =
     let s = c.args.self.now in
     let l = c.loop-number in
-    record { undropped = push (windows_of s) s.t l.number s.held.octets l.invariant.undropped (c.is_undropped.ensures c.if-not-is_undropped.false) }
+    record { undropped = push (windows_of s) s.t l.number s.held.octets l.invariant.undropped (c.is_undropped.ensures.0 c.if-not-is_undropped.false) }
 
 pub is_undropped-requires-clause-room : goal.is_undropped-requires-clause-room
 is_undropped-requires-clause-room c =
