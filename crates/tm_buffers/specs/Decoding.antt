@@ -3,11 +3,10 @@ use Rattle.std.specs.Prelude.{◌≡◌, ℕ, ◌+◌, ◌≤◌, nat_le, false,
 use Rattle.tm_base.specs.Handed.{Handed, items_of}
 use Rattle.tm_config.specs.Configuration.{Configuration}
 use Rattle.tm_inner.specs.Handing.{AreHanded, AreHandedDue}
-use Rattle.tm_inner.specs.Phase.{IsChosen}
+use Rattle.tm_inner.specs.Phase.{IsChosen, held_bits}
 use Rattle.tm_inner.specs.Receiving.{InnerReceiving, InnerReceiverStandsFor}
 use Rattle.tm_viterbi.specs.Clean.{kept_bits}
 use Rattle.tm_viterbi.specs.WindowBlock.{WindowBlock}
-use Rattle.tm_channel.specs.Receiving.{held_bits}
 use Rattle.tm_buffers.specs.Buffer.{Fills, most_taken}
 
 -- For how many bits there has to be room where so many more octets are given, or with none at the

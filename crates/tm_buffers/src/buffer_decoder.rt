@@ -14,7 +14,7 @@ use std::alloc::Global;
 use std::marker::Model;
 use tm_base::NoMemory;
 use tm_config::Config;
-use tm_inner::InnerReceiver;
+use tm_inner::{InnerReceiver, held_bits};
 use tm_windows::Chosen;
 
 /// A decoder of the inner code whose bits go to a buffer.
@@ -115,9 +115,9 @@ pub fn bits_room(config: &Config, count: usize) -> Option<usize>
     ensures most { IfSome result (λ room. room ≤ 2 ^ 56) }
     ensures accepted { IsAccepted config.now }
 {
-    let window = (config.keep() + config.ahead()) as usize;
+    let held = held_bits(config) as usize;
     if count > MOST {
         return None;
     }
-    Some(3 * window + 7 + count)
+    Some(held + count)
 }

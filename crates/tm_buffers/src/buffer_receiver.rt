@@ -22,6 +22,7 @@ use tm_base::NoMemory;
 use tm_channel::{Receiver, Totals};
 use tm_codeblock::codeblock_size;
 use tm_config::Config;
+use tm_inner::held_bits;
 use tm_windows::Chosen;
 
 /// A receiver whose items go to buffers. It starts no thread.
@@ -161,7 +162,7 @@ fn most_bits(config: &Config, count: u64) -> u64
     ensures most { result ≤ 2 ^ 44 }
 {
     if config.values().inner.is_some() {
-        waiting_bits(config) + (3 * (config.keep() + config.ahead()) + 7) + count
+        waiting_bits(config) + held_bits(config) + count
     } else if config.values().pack {
         8 * count
     } else {

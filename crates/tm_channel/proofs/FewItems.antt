@@ -15,7 +15,7 @@ use Rattle.tm_viterbi.specs.WindowBlock.{WindowBlock}
 use Rattle.tm_viterbi.specs.Clean.{kept_bits}
 use Rattle.tm_windows.specs.declared.choosing.Chosen.{Chosen}
 use Rattle.tm_inner.specs.Inner.{plain_bits, plain_count, bits_at, inner_bits}
-use Rattle.tm_inner.specs.Phase.{with_phase}
+use Rattle.tm_inner.specs.Phase.{held_bits, with_phase}
 use Rattle.tm_inner.specs.Handing.{AreHandedDue}
 use Rattle.tm_inner.proofs.DueBits.{kept-append}
 use Rattle.tm_inner.proofs.HandedBits.{needed-few, waiting-last-few, waiting-more-few}
@@ -30,7 +30,7 @@ use Rattle.tm_channel.specs.Items.{ItemValue, IsItem, AreItemsOf, are_fixed, fra
 use Rattle.tm_channel.specs.Due.{due}
 use Rattle.tm_channel.specs.Handing.{phase_of}
 use Rattle.tm_channel.specs.Most.{AreFew, most_bits, most_bits_at, most_items}
-use Rattle.tm_channel.specs.Receiving.{held_bits, waiting_bits}
+use Rattle.tm_channel.specs.Receiving.{waiting_bits}
 use Rattle.tm_channel.specs.OctetReceiving.{BitReceiving, Ends, Received, ReceivedLast, Stages, StagesFor, StagesOn, bits_found}
 use Rattle.tm_channel.proofs.Batches.{batches-le, length-due}
 use Rattle.tm_channel.proofs.GivenOctets.{IsOf, IsRoomy, ended, further-at, items-ended, turn-items}

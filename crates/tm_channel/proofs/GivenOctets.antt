@@ -15,7 +15,7 @@ use Rattle.tm_windows.specs.Windows.{AreFirstIn}
 use Rattle.tm_viterbi.specs.Clean.{kept_bits}
 use Rattle.tm_windows.specs.declared.choosing.Chosen.{Chosen}
 use Rattle.tm_inner.specs.Inner.{BlocksAt, plain_bits, plain_count, bits_at, windows_of, soft_value, soft_octets, AreInnerBlocks, AreInnerDue, Inner, inner_bits}
-use Rattle.tm_inner.specs.Phase.{IsChosenBy, IsChosen, IsSettled, needed_at, skipped_at, phase_octets, skip_of, with_phase, IsChosenSoFar}
+use Rattle.tm_inner.specs.Phase.{IsChosenBy, IsChosen, IsSettled, held_bits, needed_at, skipped_at, phase_octets, skip_of, with_phase, IsChosenSoFar}
 use Rattle.tm_inner.specs.Handing.{AreHanded, AreHandedDue}
 use Rattle.tm_inner.specs.Receiving.{IsCount, InnerReceiving, FirstAt, AreInnerFirst, InnerReceiverStandsFor, Hands, HandsPrefix}
 use Rattle.tm_inner.proofs.DueBits.{drop-split, soft-more}
@@ -34,7 +34,7 @@ use Rattle.tm_channel.specs.Items.{ItemValue, AreItemsOf, AreFirstItemsOf, AreIt
 use Rattle.tm_channel.specs.Due.{due}
 use Rattle.tm_channel.specs.declared.totals.Totals.{Totals}
 use Rattle.tm_channel.specs.Handing.{totals_of, phase_from, phase_of, AreReceived, AreReceivedDue, AreReceivedFirst, AreReceivedPrefix}
-use Rattle.tm_channel.specs.Receiving.{beyond, held_bits, waiting_bits, AreFurther, AreFirstFurther, AreFirstDue}
+use Rattle.tm_channel.specs.Receiving.{beyond, waiting_bits, AreFurther, AreFirstFurther, AreFirstDue}
 use Rattle.tm_channel.specs.OctetReceiving.{BitReceiving, OctetReceiving, ReceiverStandsFor, FirstWith, BitReceiverStandsFor, Stages, StagesFor, StagesHand, StagesOn, Keeping, Keeps, KeepsPhase, AreSpare, AreWaiting, Gathers, Grows, Ends, Received, ReceivedPart, ReceivedLast, ReceivedLastPart, bits_found, received_bits}
 use Rattle.tm_channel.proofs.Streaming.{first-longer, first-more, first-then, items-then}
 use Rattle.tm_channel.proofs.AllBits.{beyond-nil, all-items, some-items, few-items, due-nil}

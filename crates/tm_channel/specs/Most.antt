@@ -4,9 +4,10 @@ use Rattle.tm_base.specs.Marker.{marker_size}
 use Rattle.tm_config.specs.Configuration.{Configuration}
 use Rattle.tm_conv.specs.declared.rates.Rate.{Rate}
 use Rattle.tm_inner.specs.Inner.{plain_count}
+use Rattle.tm_inner.specs.Phase.{held_bits}
 use Rattle.tm_codeblock.specs.ReceivedCodeblock.{rules_of}
 use Rattle.tm_channel.specs.Items.{ItemValue, frames_of}
-use Rattle.tm_channel.specs.Receiving.{held_bits, waiting_bits}
+use Rattle.tm_channel.specs.Receiving.{waiting_bits}
 
 -- how many bits come of so many octets, or of none at the end: those of the blocks that wait, of
 -- the octets that wait for the phase, of a window and of these octets; with no inner code those

@@ -13,7 +13,7 @@ use Rattle.tm_windows.specs.Followed.{slips_of}
 use Rattle.tm_conv.specs.declared.rates.Rate.{Rate}
 use Rattle.tm_windows.specs.declared.choosing.Chosen.{Chosen}
 use Rattle.tm_inner.specs.Inner.{inner_bits, plain_bits, plain_count}
-use Rattle.tm_inner.specs.Phase.{IsChosen, IsChosenSoFar, with_phase}
+use Rattle.tm_inner.specs.Phase.{IsChosen, IsChosenSoFar, held_bits, with_phase}
 use Rattle.tm_inner.specs.Handing.{AreHanded, AreHandedDue}
 use Rattle.tm_inner.specs.Receiving.{InnerReceiving, InnerReceiverStandsFor}
 use Rattle.tm_channel.specs.Items.{ItemValue, AreItemsOf}
@@ -21,7 +21,7 @@ use Rattle.tm_channel.specs.Due.{due, due_count}
 use Rattle.tm_channel.specs.declared.totals.Totals.{Totals}
 use Rattle.tm_channel.specs.Handing.{phase_of, totals_of, AreReceived, AreReceivedDue, AreReceivedFirst, AreReceivedPrefix}
 use Rattle.tm_channel.specs.Most.{AreFew}
-use Rattle.tm_channel.specs.Receiving.{Batching, Stands, HoldsMore, waiting_bits, GoesOn, AreDue, AreFirstDue, AreFurther, AreFirstFurther, AreLast, AreFirstLast, held_bits}
+use Rattle.tm_channel.specs.Receiving.{Batching, Stands, HoldsMore, waiting_bits, GoesOn, AreDue, AreFirstDue, AreFurther, AreFirstFurther, AreLast, AreFirstLast}
 
 -- what contracts see of a receiver of bits
 pub record BitReceiving : Type 0 where

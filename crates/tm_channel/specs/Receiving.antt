@@ -162,10 +162,6 @@ abbrev pub waiting_bits : Configuration → ℕ → ℕ
 waiting_bits c count =
     if nat_lt 1 c.workers then count * (marker_size + (rules_of c).block_bits) else 0
 
--- how many bits come at most of the octets that wait for the phase and of a window
-abbrev pub held_bits : Configuration → ℕ
-held_bits c = 3 * (c.keep + c.ahead) + 7
-
 -- ---- bits that are taken
 
 -- the bits of octets after the first `from` ones, up to bit `to`

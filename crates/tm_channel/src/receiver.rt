@@ -33,7 +33,7 @@ use thiserror::Error;
 use tm_base::{Failed, NoMemory};
 use tm_codeblock::{codeblock_size, finds_polarity};
 use tm_config::Config;
-use tm_inner::InnerReceiver;
+use tm_inner::{InnerReceiver, held_bits};
 use tm_rs_code::Params;
 use tm_sync::Search;
 use tm_viterbi::AllError;
@@ -69,7 +69,8 @@ pub struct Receiver {
 impl Model for Receiver {
     ghost use Rattle.std.specs.Prelude.{◌≡◌, ◌≤◌, ◌+◌, ◌*◌, false};
     ghost use Rattle.tm_config.specs.Accepted.{IsAccepted};
-    ghost use Rattle.tm_channel.specs.Receiving.{held_bits, waiting_bits, piece_size};
+    ghost use Rattle.tm_inner.specs.Phase.{held_bits};
+    ghost use Rattle.tm_channel.specs.Receiving.{waiting_bits, piece_size};
     ghost use Rattle.tm_channel.specs.OctetReceiving.{OctetReceiving};
 
     ghost Value = { OctetReceiving };
@@ -111,8 +112,7 @@ impl Receiver {
         let Ok(batch) = Codeblocks::open(alloc, config) else {
             return Err(NoMemory);
         };
-        let window = (config.keep() + config.ahead()) as usize;
-        let room = batch.bits_lacking() as usize + 3 * window + 7 + PIECE;
+        let room = (batch.bits_lacking() + held_bits(&config)) as usize + PIECE;
         let Ok(kept) = KeptBits::open(alloc, room) else {
             return Err(NoMemory);
         };

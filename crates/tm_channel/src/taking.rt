@@ -4,11 +4,11 @@ ghost use Rattle.std.specs.Option.{is_some};
 ghost use Rattle.tm_base.specs.Handed.{Handed, on_handed};
 ghost use Rattle.tm_base.specs.Outside.{HasCause};
 ghost use Rattle.tm_inner.specs.Inner.{nearest_bit, plain_bits};
-ghost use Rattle.tm_inner.specs.Phase.{IsChosen};
+ghost use Rattle.tm_inner.specs.Phase.{IsChosen, held_bits};
 ghost use Rattle.tm_inner.specs.Receiving.{HandsPrefix, InnerReceiverStandsFor};
 ghost use Rattle.tm_viterbi.specs.WindowBlock.{WindowBlock};
 ghost use Rattle.tm_channel.specs.Calls.{TakesBits, TakesOctets};
-ghost use Rattle.tm_channel.specs.Receiving.{held_bits, waiting_bits, piece_size};
+ghost use Rattle.tm_channel.specs.Receiving.{waiting_bits, piece_size};
 ghost use Rattle.tm_channel.specs.OctetReceiving.{Ends, FirstWith, Gathers, Grows, Received, ReceivedPart, StagesFor, StagesHand, received_bits};
 
 use crate::bit_stream::BitStream;

@@ -1,5 +1,5 @@
 -- The symbol phase of received octets (CCSDS 131.0-B, Convolutional Coding).
-use Rattle.std.specs.Prelude.{◌≡◌, ◌⊎◌, ℕ, ◌+◌, ◌≤◌, List, [], ◌∷◌, length, map, drop, Option, Some, None}
+use Rattle.std.specs.Prelude.{◌≡◌, ◌⊎◌, ℕ, ◌+◌, ◌*◌, ◌≤◌, List, [], ◌∷◌, length, map, drop, Option, Some, None}
 use Rattle.tm_base.specs.Handed.{Handed, Phase, Item}
 use Rattle.tm_config.specs.Configuration.{Configuration}
 use Rattle.tm_config.specs.declared.values.Sought.TheVariants.{Given, Find}
@@ -34,6 +34,10 @@ IsChosenBy c soft (Some chosen) = (c.phase ≡ Find) × PhaseAt c.inner c soft c
 abbrev pub needed_at : Option Rate → Configuration → ℕ
 needed_at None c = 1
 needed_at (Some rate) c = octets_needed rate (c.keep + c.ahead)
+
+-- how many bits come at most of the octets that wait for the phase and of a window
+abbrev pub held_bits : Configuration → ℕ
+held_bits c = 3 * (c.keep + c.ahead) + 7
 
 -- it is chosen, or given
 abbrev pub IsSettledBy : Configuration → List ℕ → Type 0

@@ -1,7 +1,8 @@
 // The inner code of a configuration.
-ghost use Rattle.std.specs.Prelude.{◌≡◌, []};
+ghost use Rattle.std.specs.Prelude.{◌≡◌, ◌≤◌, ◌^◌, []};
 ghost use Rattle.tm_config.specs.Accepted.{IsAccepted};
 ghost use Rattle.tm_config.specs.Configuration.{is_signed};
+ghost use Rattle.tm_inner.specs.Phase.{held_bits};
 ghost use Rattle.tm_inner.specs.Symbols.{is_inverted, low_level};
 ghost use Rattle.tm_inner.specs.Sending.{IsEncoderOf, KeepsFor};
 
@@ -41,6 +42,15 @@ pub fn shape_of(rate: Rate, config: &Config) -> WindowShape
         keep: config.keep() as usize,
         ahead: config.ahead() as usize,
     }
+}
+
+/// How many bits come at most of the soft octets that wait for the symbol phase and of a window, whatever the rate.
+pub fn held_bits(config: &Config) -> u64
+    ensures value { result ≡ held_bits config.now }
+    ensures most { result ≤ 2 ^ 18 }
+    ensures accepted { IsAccepted config.now }
+{
+    3 * (config.keep() + config.ahead()) + 7
 }
 
 // The encoder of the inner code, which was given nothing yet, or None where there is none.

@@ -17,7 +17,7 @@ mod received_whole;
 mod spreading;
 mod workers;
 
-pub use code::{is_inverted, rate_of, shape_of};
+pub use code::{held_bits, is_inverted, rate_of, shape_of};
 pub use inner_receiver::{InnerEnd, InnerReceiver};
 pub use inner_sender::{InnerSender, SendError};
 pub use laws::{clean_inner_law, due_bits_law, inner_law, metric_law};
