@@ -1,4 +1,4 @@
-// Workers that are held. A gate waits for nothing: it flips an atomic word for a stated number of turns.
+// Workers that are held. A gate waits for nothing: it looks at an atomic word a stated number of times.
 use std::sync::atomic::{AtomicU64, Ordering};
 use std::test::Fail;
 use tm_base::Failed;
@@ -9,7 +9,7 @@ use tm_rs_code::Params;
 use tm_rs_solve::{Answer, ErasedAnswer};
 use tm_workers::{ErasedWord, Gate, Word, decode_batch, decode_erased_batch};
 
-pub const TURNS: u64 = 1_000_000_000;
+pub const SPINS: u64 = 1_000_000_000;
 
 pub const ZEROS: Word = Word {
     symbols: [Gf(0); 255],
@@ -37,7 +37,7 @@ impl Gate for Holding {
             self.entered.fetch_add(1, Ordering::SeqCst);
             return;
         }
-        for _ in 0..TURNS {
+        for _ in 0..SPINS {
             if self.entered.load(Ordering::SeqCst) >= self.others {
                 self.freed.store(1, Ordering::SeqCst);
                 return;

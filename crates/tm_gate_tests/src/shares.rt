@@ -1,6 +1,6 @@
-// How many workers there are, and how words are shared out among them. A word waits for nothing: it flips atomic words
-// for a stated number of turns.
-use crate::gates::{TURNS, ZEROS, gate_that_holds};
+// How many workers there are, and how words are shared out among them. A word waits for nothing: it looks at
+// atomic words a stated number of times.
+use crate::gates::{SPINS, ZEROS, gate_that_holds};
 use std::sync::atomic::{AtomicU64, Ordering};
 use std::test::Fail;
 use tm_dual::Basis;
@@ -32,7 +32,7 @@ impl<'a> InPlace for Busy<'a> {
         let here = self.under_way;
         let now = here.now.fetch_add(1, Ordering::SeqCst).saturating_add(1);
         here.most.fetch_max(now, Ordering::SeqCst);
-        for _ in 0..TURNS {
+        for _ in 0..SPINS {
             if here.most.load(Ordering::SeqCst) >= here.workers {
                 break;
             }

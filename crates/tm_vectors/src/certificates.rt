@@ -106,8 +106,8 @@ fn mixed(sum: u64, octets: &[u8]) -> u64 {
     sum
 }
 
-// Turns the lowest bit of an octet over.
-fn turn_bit(octets: &mut [u8], place: usize) {
+// Complements the lowest bit of an octet.
+fn complement_bit(octets: &mut [u8], place: usize) {
     if let Some(octet) = octets.get_mut(place) {
         *octet ^= 1;
     }
@@ -138,9 +138,9 @@ fn changes_are_reported(rt: HostRuntime) -> Result<(), Fail> {
     ] {
         for place in first..end {
             if place < columns || (place - columns) % 97 == 0 {
-                turn_bit(&mut octets, place);
+                complement_bit(&mut octets, place);
                 let outcome = run_over(&rt, alloc, &given(line, &octets, 4096))?;
-                turn_bit(&mut octets, place);
+                complement_bit(&mut octets, place);
                 changes = changes.wrapping_add(1);
                 passed = passed.wrapping_add(u64::from(outcome.status == 0));
                 mix = mixed(mix, outcome.notes.octets());

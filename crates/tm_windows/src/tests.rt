@@ -192,7 +192,7 @@ fn windows_from_wrong_registers_are_decoded_again(rt: HostRuntime) -> Result<(),
     check_rate(&rt, rt.alloc(), Rate::R78, &drawn)
 }
 
-const TURNS: u64 = 1_000_000_000;
+const SPINS: u64 = 1_000_000_000;
 
 // Holds the workers that come to two windows until both have come, and counts how many of them met the other.
 #[derive(Drop)]
@@ -208,7 +208,7 @@ impl Gate for Meeting {
             return;
         }
         self.come.fetch_add(1, Ordering::SeqCst);
-        for _ in 0..TURNS {
+        for _ in 0..SPINS {
             if self.come.load(Ordering::SeqCst) == 2 {
                 self.met.fetch_add(1, Ordering::SeqCst);
                 return;
