@@ -186,7 +186,7 @@ AreOctets-octets_of (a ∷ b ∷ c ∷ d ∷ e ∷ []) = λ k i within. absurd (
 AreOctets-octets_of (a ∷ b ∷ c ∷ d ∷ e ∷ f ∷ []) = λ k i within. absurd (omega arith)
 AreOctets-octets_of (a ∷ b ∷ c ∷ d ∷ e ∷ f ∷ g ∷ []) = λ k i within. absurd (omega arith)
 
--- whole octets in front are packed by themselves
+-- whole octets before other bits are packed by themselves
 pub octets_of-append : (prefix bits : List Bool) → length prefix % 8 ≡ 0 → octets_of (prefix ++ bits) ≡ octets_of prefix ++ octets_of bits
 octets_of-append prefix bits whole =
     ap (λ l. octets_of (l ++ bits)) (sym (bits_of-octets_of prefix whole))

@@ -3,8 +3,8 @@ use Rattle.std.specs.Prelude.{ℕ, ◌==◌, ◌&&◌, ◌||◌, Bool, false, if
 use Rattle.tm_base.specs.declared.outside.Failed.{Failed}
 use Rattle.tm_base.specs.Count.{raised_by, is_failing}
 
--- what a source in memory has given and has left, how it is told to cut and to fail, and what it
--- has counted
+-- what a source in memory has given and has left, how it is to cut and to fail, and what it has
+-- counted
 pub record SourceState : Type 0 where
   pub given : List ℕ
   pub left : List ℕ

@@ -131,7 +131,7 @@ items-more c m n more =
     let whole = le-div (most_bits c m / unit) (most_bits c n) unit (omega arith) (omega (arith, below, bits-more c.inner c m n more)) in
     omega (arith, whole)
 
--- with the room that is told all items were written
+-- with the room that `items_room` gives all items were written
 pub enough : (c : Configuration) (octets : ℕ) (count : Option ℕ) (frames : List ℕ) (reports : List Report) (items : List ItemValue) → AreFew c octets items → HasWritten count frames reports items
     → IsEnough c octets count frames reports
 enough c octets (Some count) frames reports items few written most more room = refl

@@ -73,7 +73,7 @@ due_after rules before starts remaining octets block columns due kept end_state 
 
 -- ---- all windows
 
--- the octets are read as windows that tell of these blocks, and no window is missing after them
+-- the octets are read as windows of these blocks, and no window is missing after them
 pub record AreRead (rules : Rules) (before : Before) (remaining : ℕ) (octets : List ℕ) (blocks : List WindowBlock) (text : List ℕ) : Type 0 where
   pub windows : List Window
   pub to : Before

@@ -24,7 +24,7 @@ is_beyond : Nearest → Bool
 is_beyond (FixedWord c d) = false
 is_beyond BeyondWord = true
 
--- what is nearest tells the answer, and where that is not Beyond also the word
+-- what is nearest shows the answer, and where that is not Beyond also the word
 found-same : (a b : Answer) (v w : List ℕ) → found a v ≡ found b w → (a ≡ b) × (are_fixed (a ∷ []) ≡ true → v ≡ w)
 unfolding is_beyond
 found-same (Fixed d) b v w same = let it = found-fixed b w v d (sym same) in (sym it.0, λ _. sym it.1)

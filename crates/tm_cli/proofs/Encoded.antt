@@ -30,7 +30,7 @@ use Rattle.tm_cli.specs.Encode.{encode_meaning, left_over}
 length-after : (size : ℕ) (octets : List ℕ) → length (after_frames size octets) ≡ length octets % size
 length-after size octets = omega (arith, length-drop (length octets / size * size) octets, div-add-mod' (length octets) size)
 
--- what is sent of octets, and what is told of those that are left over; and before the end of the input is known
+-- what is sent of octets, and what is reported of those that are left over; and before the end of the input is known
 abbrev whole-output : Configuration → List ℕ → Output
 whole-output c octets = record { out = sent c octets; notes = left_over_text (left_over c octets) }
 
@@ -57,7 +57,7 @@ early c accepted octets taken taken_now noted noted_now same all = (
   ),
 )
 
--- what came of the input tells whether octets are left over
+-- what came of the input shows whether octets are left over
 abbrev IsBeyond : Outcome → Type 0
 IsBeyond Beyond = ⊤
 IsBeyond outcome = ⊥
@@ -119,7 +119,7 @@ rest-is : (c : Configuration) (a b : Sending) (taken now : Option (List ℕ)) (o
 rest-is c a b taken now octets rest same new p finish = finish octets (p.fed.stands [] new)
     ∙ ap (λ (x : Configuration). length (after_frames x.frame_length octets)) (p.config ∙ same) ∙ length-after c.frame_length octets
 
--- the whole output, where the input was read to its end and its rest was told
+-- the whole output, where the input was read to its end and its rest was reported
 record AllSent (c : Configuration) (octets : List ℕ) (taken taken_now noted noted_now : Option (List ℕ)) (rest : ℕ) (Told : List ℕ → Type 0) : Type 0 where
   wrote : Wrote taken taken_now (sent c octets)
   is_rest : rest ≡ left_over c octets

@@ -199,7 +199,7 @@ all-received took c receiver start taker end octets accepted within due last =
     let all = all-handed took c receiver start taker last.middle octets last.last last.totals (few c octets accepted within) due last.handed last.received in
     record { handed = all.0; totals = last.totals; middle = last.middle; are_received = all.1; over = all.2; is_end = last.is_end; within = within }
 
--- an outcome tells whether something is uncorrectable
+-- an outcome shows whether something is uncorrectable
 good-of : (is_good : Bool) → Whole ≡ cond is_good Whole Beyond → is_good ≡ true
 good-of true is = refl
 good-of false is = cc is

@@ -35,7 +35,7 @@ use Rattle.tm_cli.proofs.Reporting.{report-wrote}
 
 -- ---- one unit
 
--- what a sink that tells its octets has taken of what is due for a unit is less than its room
+-- what a sink whose octets are known has taken of what is due for a unit is less than its room
 pub symbols-fit : (c : Configuration) (given unit octets : List ℕ) → length unit ≤ 2044 → WrotePrefix (Some []) (Some octets) (further (symbols_of_octets c) given unit)
     → length octets ≡ 32768 → ⊥
 symbols-fit c given unit octets small wrote full =

@@ -34,7 +34,7 @@ basis-has : (number : ℕ) → is_number number_of_basis all_bases number ≡ tr
 basis-has zero fits = refl
 basis-has (suc n) fits = grind (arith, nat_tests)
 
--- what the two say of a mode tells which it is
+-- what the two say of a mode shows which it is
 same-mode : (asked : PhaseMode) → mode_by (phase_of asked) (is_followed asked) ≡ asked
 same-mode mode.Given = refl
 same-mode mode.Find = refl

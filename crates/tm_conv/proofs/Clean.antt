@@ -42,7 +42,7 @@ head-same true l c c' d d' us vs some e = inl (cc)
 head-same false true c c' d d' us vs some e = inr (cc)
 head-same false false c c' d d' us vs some e = absurd (omega arith)
 
--- both symbols tell the bit
+-- each of the two symbols shows the bit
 bit-c1 : (x y a b c d : ℕ) → x < 2 → y < 2 → (x + a + b + c + d) % 2 ≡ (y + a + b + c + d) % 2 → x ≡ y
 bit-c1 x y a b c d p q e = omega arith
 
@@ -65,7 +65,7 @@ nonempty : (rate : Rate) (invert : Bool) (t r b : ℕ) (bits : List ℕ) → pat
 unfolding steps_size
 nonempty rate invert t r b bits e = let n = length-path rate invert t r (b ∷ bits) in let some = step_size_pos rate t in let none = ap length e in omega arith
 
--- from one register, the symbols tell the bits
+-- from one register, the symbols show the bits
 pub same-path : (rate : Rate) (invert : Bool) (t r : ℕ) (xs ys : List ℕ) → AreDigits xs → AreDigits ys → path rate invert t r xs ≡ path rate invert t r ys → xs ≡ ys
 same-path rate invert t r [] [] p q e = refl
 same-path rate invert t r [] (y ∷ ys) p q e = absurd (nonempty rate invert t r y ys (sym e))

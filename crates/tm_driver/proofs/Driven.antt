@@ -31,7 +31,7 @@ StopShows meaning octets taken stop.BadWindow =
     meaning.stops_at_bad × WroteOutput meaning octets taken × meaning.is_bad octets
     × (meaning.is_bad (but_last_turn octets) → ⊥)
 
--- From what octets within the limit show that were fed, with which it stopped, whose end was told, or at whose end a sink failed.
+-- From what octets within the limit show that were fed, with which it stopped, whose end was reported, or at whose end a sink failed.
 module _ {F : Type 0} (fed : F → F → List ℕ → Type 0) (stopped : F → F → List ℕ → Stop → Type 0) (finished : F → F → Outcome → Type 0)
     (failed : F → F → Type 0) (before now : F) (meaning : Meaning) (limit : ℕ) (taken : Taken)
     (early : (o : List ℕ) → length o ≤ limit → fed before now o → WroteEarly meaning o taken)

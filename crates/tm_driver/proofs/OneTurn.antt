@@ -43,7 +43,7 @@ turn-is limit room count kept octets buf rest total some within prefix cases =
     same : take kept (take count buf) ≡ take kept (buf ++ rest)
     same = sym (take-append-le kept (take count buf) (drop count buf ++ rest) (omega (arith, long, below))) ∙ ap (take kept) (sym (append_assoc (take count buf) (drop count buf) rest) ∙ ap (λ l. l ++ rest) (take-append-drop count buf))
 
--- a read that gives octets does not tell the end
+-- a read that gives octets does not report the end
 pub going-on : (old new : Bool) (count room : ℕ) → 0 < count → new ≡ (old || ((count == 0) && nat_lt 0 room)) → new ≡ old
 going-on old new count room some is = is ∙ ap (λ (b : Bool). old || (b && nat_lt 0 room)) (not-zero count some) ∙ or-false old
   where

@@ -89,7 +89,7 @@ convolution-by_none a m zero = refl
 convolution-by_none a m (suc k) =
     ap (λ (y : ℕ). bit_xor y (times (get_or a k 0) 0)) (convolution-by_none a m k) ∙ times-zero (get_or a k 0)
 
--- one coefficient more in front
+-- one coefficient more before the others
 convolution-cons : (c : ℕ) (cs b : List ℕ) (m k : ℕ)
     → convolution (c ∷ cs) b (suc m) (suc k) ≡ bit_xor (times c (get_or b (suc m) 0)) (convolution cs b m k)
 unfolding convolution

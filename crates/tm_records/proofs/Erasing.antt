@@ -382,7 +382,7 @@ all-nearest c batch beyond start now octets h more space are = nearest-held c ba
     (some-size c batch h.coding space)
     (subst (λ (x : Coding). AreNearest x batch.octets more) h.coding are)
 
--- all was told
+-- all was reported
 pub wrote-last : (batch after : Batch) (beyond last : Bool) (more : List NearestErased) (rest : ℕ)
     (now later noted noted_now : Option (List ℕ))
     → HasSpace batch → after.coding ≡ batch.coding → after.octets ≡ batch.octets

@@ -315,7 +315,7 @@ reported s s' room room' b bits found h g kept was (Some f) ahead awaited (ends,
     run-at (inl few) = inl few
     run-at (inr (count, is)) = inr (s'.rules.verify, count, is)
 
--- ---- what the last 32 bits tell
+-- ---- what the last 32 bits show
 -- Right after a codeblock they are a place.
 right-is : (s : Searching) (room : List ℕ) (bits : List Bool) (found : List Found) (h : Parts s room bits found) (b : Bool) → is_right_after (length h.rest + 1) s.before ≡ true
     → (length (h.rest ++ b ∷ []) ≡ 32) × (first_place s.rules (length h.prefix) s.before (h.rest ++ b ∷ []) ≡ place_by s.rules (length h.prefix) s.before (h.rest ++ b ∷ []) (match_of s.rules (h.rest ++ b ∷ [])))

@@ -1,4 +1,4 @@
--- What looks back at markers tell.
+-- What looks back at markers show.
 use Rattle.std.proofs.Common.{◌≡◌, ℕ, zero, suc, ◌+◌, ◌-◌, ◌*◌, ◌%◌, ◌^◌, ◌<◌, ◌≤◌, ◌==◌, Bool, true, false, cond, ◌&&◌, List, [], ◌∷◌, ◌++◌, length, take, drop, get_or, refl, sym, ap, ◌∙◌, subst, arith, bit_or, Option, Some, None, length-drop, ◌⊎◌, inl, inr}
 use mir.Val.{bool_byte}
 use mathlib.Core.Bool.{beq}

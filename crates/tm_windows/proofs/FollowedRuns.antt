@@ -43,7 +43,7 @@ closes-dropped s b block closes = (
   refl,
 )
 
--- the same, as the call that closes it tells it: whatever octets come after those that are held
+-- the same, as the call that closes it says: whatever octets come after those that are held
 pub closes-now : (s s' : WindowShape) (starts : Option ℕ) (t : ℕ) (held slice rest : List ℕ) (block : WindowBlock) → s' ≡ s → slice ≡ held
     → ClosesWith s' (place_of starts t slice) block → ClosesWith s (place_of starts t (held ++ rest)) block
 unfolding more_octets

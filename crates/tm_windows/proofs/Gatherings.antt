@@ -460,7 +460,7 @@ pub few_left : (s : WindowShape) (t len n size : ℕ) → size ≡ steps_size s.
     → len < steps_size s.rate t (n + 1) → len - size ≤ 1
 few_left s t len n size is most = omega (arith, is, most, steps_size-add s.rate t n 1, steps_size-most s.rate (t + n) 1)
 
--- the last block, as the call that hands it over tells it
+-- the last block, as the call that hands it over says
 pub last_block : (w : Windows) (s' : WindowShape) (b : Beginning) (n : ℕ) (slice : List ℕ) (last : WindowBlock)
     → s' ≡ record { rate = w.settings.rate; invert = w.settings.invert; keep = w.settings.keep; ahead = w.settings.ahead }
     → slice ≡ b.place.octets → 0 < n → IsBlock s'.rate s'.invert s'.keep s'.ahead b.place.starts b.place.t n slice last

@@ -7,7 +7,7 @@ use Rattle.tm_base.specs.SourceInMemory.{SourceState, share_of, after_read}
 use Rattle.tm_base.proofs.InMemory.{gave, leaves, state-read}
 use Rattle.tm_base.proofs.memory.MemSourceSource.read.Goals as goal
 
--- whether the end is told, in the words of the code and of the state
+-- whether the end is reported, in the words of the code and of the state
 ends : (ended empty : Bool) (count share long room : ℕ) → count ≡ share → long ≡ room → empty ≡ (long == 0) → (ended || ((count == 0) && not empty)) ≡ (ended || ((share == 0) && nat_lt 0 room))
 ends ended empty count share long room same size is = (λ i. ended || ((same i == 0) && some i))
   where

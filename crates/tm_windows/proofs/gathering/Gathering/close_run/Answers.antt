@@ -35,7 +35,7 @@ is_cut g count m size some room is size_is =
       long = omega (arith, size_is, least);
     }
 
--- closed windows of the first of the octets that are held, as the call that closes them tells it
+-- closed windows of the first of the octets that are held, as the call that closes them says
 closed-same : (s s' : WindowShape) (starts : Option ℕ) (t : ℕ) (slice prefix : List ℕ) (blocks : List WindowBlock) (to : WindowShape → List ℕ → Place)
     → s' ≡ s → slice ≡ prefix → ClosedWith s' (place_of starts t slice) blocks (to s' slice) → ClosedWith s (place_of starts t prefix) blocks (to s prefix)
 closed-same s s' starts t slice prefix blocks to es eo h =
