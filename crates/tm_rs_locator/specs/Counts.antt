@@ -1,9 +1,13 @@
--- How many products are counted where erased places are taken out.
+-- How many products are counted for a locator, and where erased places are taken out.
 use Rattle.std.specs.Prelude.{ℕ, ◌+◌, ◌-◌, ◌*◌, ◌≤◌}
 
--- at most so many for any word
+-- at most so many for the locator of any word
+abbrev pub most_locator_products : ℕ → ℕ
+most_locator_products e = 2 * e * (4 * e + 3)
+
+-- at most so many for any word with erased places
 abbrev pub most_products : ℕ → ℕ
-most_products e = 2 * e * (4 * e + 3) + 8 * e * e
+most_products e = most_locator_products e + 8 * e * e
 
 -- where `count` places are erased, at most so many between two counts of steps
 abbrev pub TakesAtMost : ℕ → ℕ → ℕ → ℕ → Type 0

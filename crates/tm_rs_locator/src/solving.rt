@@ -1,7 +1,8 @@
 // The locator of the error pattern that has given syndromes.
-ghost use Rattle.std.specs.Prelude.{◌≡◌, ◌≤◌, ◌+◌, ◌*◌, length, take, IfNone, IfSome};
+ghost use Rattle.std.specs.Prelude.{◌≡◌, ◌≤◌, ◌+◌, length, take, IfNone, IfSome};
 ghost use Rattle.tm_gf256.specs.Poly.{entry, numbers};
 ghost use Rattle.tm_rs_code.specs.PlaceValues.{AreValues};
+ghost use Rattle.tm_rs_locator.specs.Counts.{most_locator_products};
 ghost use Rattle.tm_rs_locator.specs.Locator.{Locates, NoPattern};
 
 use crate::counter::Steps;
@@ -34,7 +35,7 @@ pub fn locate<L: Ledger>(
     ensures room { length values.new ≡ 256 }
     ensures values { IfSome result (λ l.
         AreValues (numbers (take (l.degree + 1) l.coefs)) params.now.n values.new) }
-    ensures cost { steps.new ≤ steps.old + 2 * params.now.e * (4 * params.now.e + 3) }
+    ensures cost { steps.new ≤ steps.old + most_locator_products params.now.e }
 {
     see_range(syndromes);
     let count = 2 * params.e() as usize;
@@ -61,7 +62,7 @@ pub fn solve<L: Ledger>(
 ) -> Option<Locator>
     ensures none { IfNone result (NoPattern params.now.e params.now.n (entry syndromes.now)) }
     ensures some { IfSome result (λ l. Locates params.now.e params.now.n (entry syndromes.now) l.coefs l.degree) }
-    ensures cost { steps.new ≤ steps.old + 2 * params.now.e * (4 * params.now.e + 3) }
+    ensures cost { steps.new ≤ steps.old + most_locator_products params.now.e }
 {
     let mut values = [0; 256];
     locate(params, syndromes, &mut values, steps)

@@ -3,6 +3,7 @@ ghost use Rattle.std.specs.Prelude.{◌≡◌, ◌<◌, ◌≤◌, ◌+◌, ◌*
 ghost use Rattle.tm_gf256.specs.Poly.{entry, numbers, value_at};
 ghost use Rattle.tm_rs_code.specs.Code.{root};
 ghost use Rattle.tm_rs_code.specs.Nearest.{IsNearest};
+ghost use Rattle.tm_rs_locator.specs.Counts.{most_locator_products};
 ghost use Rattle.tm_rs_solve.specs.Answers.{found};
 
 use crate::answers::Answer;
@@ -28,7 +29,7 @@ pub fn decode_word<L: Ledger>(
     ensures nearest { IsNearest params.now.e repair (numbers word.old) (found result (numbers word.new)) }
     ensures unchanged { result ≡ Answer.Beyond → word.new ≡ word.old }
     ensures same_size { length word.new ≡ length word.old }
-    ensures cost { steps.new ≤ steps.old + 2 * params.now.e * (4 * params.now.e + 3) }
+    ensures cost { steps.new ≤ steps.old + most_locator_products params.now.e }
 {
     see_range(word);
     let mut room = [Gf(0); 32];
@@ -53,7 +54,7 @@ pub fn plain_decode_word<L: Ledger>(
     ensures nearest { IsNearest params.now.e repair (numbers word.old) (found result (numbers word.new)) }
     ensures unchanged { result ≡ Answer.Beyond → word.new ≡ word.old }
     ensures same_size { length word.new ≡ length word.old }
-    ensures cost { steps.new ≤ steps.old + 2 * params.now.e * (4 * params.now.e + 3) }
+    ensures cost { steps.new ≤ steps.old + most_locator_products params.now.e }
 {
     let values = syndromes(params, word);
     repaired(params, repair, word, &values, steps)
@@ -73,7 +74,7 @@ fn repaired<L: Ledger>(
         → entry values.now k ≡ value_at (numbers word.old) (root params.now.e k) }
     ensures nearest { IsNearest params.now.e repair (numbers word.old) (found result (numbers word.new)) }
     ensures unchanged { result ≡ Answer.Beyond → word.new ≡ word.old }
-    ensures cost { steps.new ≤ steps.old + 2 * params.now.e * (4 * params.now.e + 3) }
+    ensures cost { steps.new ≤ steps.old + most_locator_products params.now.e }
 {
     see_range(word);
     let e = params.e() as usize;
