@@ -527,8 +527,8 @@ fn remember(room: &mut [u8], pushed: u64, oldest: bool)
 
 // The last 32 bits, where they were `word` before these octets.
 fn last_bits(word: u32, octets: &[u8]) -> u32
-    ensures { (bits : List Bool) → word ≡ number_of bits % 2 ^ 32
-        → result ≡ number_of (bits ++ bits_of octets.now) % 2 ^ 32 }
+    ensures { (bits : List Bool) → word ≡ number_of bits % 2 ^ marker_size
+        → result ≡ number_of (bits ++ bits_of octets.now) % 2 ^ marker_size }
 {
     let mut last = word;
     for octet in octets {
@@ -540,7 +540,7 @@ fn last_bits(word: u32, octets: &[u8]) -> u32
 // Of these bits the last 32 but the last ones, so many.
 fn window(bits: u64, left: u32) -> u32
     requires { left < 64 }
-    ensures { result ≡ bits / 2 ^ left % 2 ^ 32 }
+    ensures { result ≡ bits / 2 ^ left % 2 ^ marker_size }
 {
     (bits >> left & 0xFFFF_FFFF) as u32
 }
