@@ -6,7 +6,7 @@ use Rattle.tm_conv.specs.declared.rates.Rate.TheVariants.{R12, R23, R34, R56, R7
 use Rattle.tm_dual.specs.Octet.{basis_of}
 use Rattle.tm_dual.specs.declared.basis.Basis.{Basis}
 use Rattle.tm_dual.specs.declared.basis.Basis.TheVariants.{Dual, Poly}
-use Rattle.tm_rs_code.specs.Code.{longest_word}
+use Rattle.tm_rs_code.specs.Code.{longest_word, most_correctable, least_correctable}
 use Rattle.tm_viterbi.specs.declared.block.Start.{Start}
 use Rattle.tm_viterbi.specs.declared.block.Start.TheVariants.{Zero, Any}
 use Rattle.tm_config.specs.declared.values.Raw.{Raw}
@@ -89,8 +89,8 @@ numbered number_of (value ∷ values) other number =
 -- E, the symbol errors that a codeword's code corrects, which is its number too; 0 for no code
 -- (CCSDS 131.0-B, Reed-Solomon Coding)
 abbrev pub correctable : OuterCode → ℕ
-correctable Rs16 = 16
-correctable Rs8 = 8
+correctable Rs16 = most_correctable
+correctable Rs8 = least_correctable
 correctable Uncoded = 0
 
 abbrev pub is_uncoded : OuterCode → Bool

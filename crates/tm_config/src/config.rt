@@ -1,6 +1,6 @@
 // A configuration whose values are all within their lists and ranges.
-ghost use Rattle.std.specs.Prelude.{◌≡◌, ◌≢◌, ◌⊎◌, ◌*◌, ◌<◌, ◌≤◌, None, Some, OnOk, IfOk, IfErr, option_map};
-ghost use Rattle.tm_rs_code.specs.Code.{longest_word};
+ghost use Rattle.std.specs.Prelude.{◌≡◌, ◌≢◌, ◌*◌, ◌<◌, ◌≤◌, None, Some, OnOk, IfOk, IfErr, option_map};
+ghost use Rattle.tm_rs_code.specs.Code.{IsStrength, longest_word};
 ghost use Rattle.tm_config.specs.Configuration.{HaveNumbers, configuration_of, word_length, correctable, number_of_rate, number_of_switch, number_of_basis, number_of_form, number_of_start, number_of_mode, mode_by, number_of_sought, unfollowed};
 ghost use Rattle.tm_config.specs.Accepted.{IsAccepted, refusal_of_raw};
 
@@ -80,7 +80,7 @@ impl Config {
     /// How many wrong symbols of a codeword the Reed-Solomon code corrects, E: 16 or 8, or 0 where there is no code.
     pub fn code(&self) -> u64
         ensures value { result ≡ correctable self.now.code }
-        ensures some { self.now.code ≢ OuterCode.Uncoded → (result ≡ 16) ⊎ (result ≡ 8) }
+        ensures some { self.now.code ≢ OuterCode.Uncoded → IsStrength result }
         ensures accepted { IsAccepted self.now }
     {
         self.values.code.correctable()

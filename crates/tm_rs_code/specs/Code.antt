@@ -10,13 +10,20 @@ use Rattle.tm_gf256.specs.Poly.{value_at}
 abbrev pub most_correctable : ℕ
 most_correctable = 16
 
+-- and the fewest, those of the other code
+abbrev pub least_correctable : ℕ
+least_correctable = 8
+
 -- the numbers of symbols that the two codes correct in a word
 abbrev pub IsStrength : ℕ → Type 0
-IsStrength e = (e ≡ most_correctable) ⊎ (e ≡ 8)
+IsStrength e = (e ≡ most_correctable) ⊎ (e ≡ least_correctable)
 
--- the most check symbols of a word, two for each of these
+-- the most check symbols of a word, two for each of these, and the fewest
 abbrev pub most_checks : ℕ
 most_checks = 32
+
+abbrev pub least_checks : ℕ
+least_checks = 16
 
 -- the most coefficients of a polynomial whose values at the places of a word are found: those of
 -- the locator of as many places

@@ -1,7 +1,7 @@
 // The register of the (255,223) code.
 ghost use Rattle.std.specs.Prelude.{◌≡◌, ◌++◌, length};
 ghost use Rattle.tm_gf256.specs.Poly.{numbers};
-ghost use Rattle.tm_rs_code.specs.Code.{IsSystematic};
+ghost use Rattle.tm_rs_code.specs.Code.{IsSystematic, most_checks, most_correctable};
 ghost use Rattle.tm_rs_code.specs.Register.{multiple, shift};
 
 mod rows;
@@ -31,7 +31,7 @@ fn row_of(factor: u8) -> Simd<u8, 32>
 
 // Takes one symbol into the register.
 fn shift_in(register: Simd<u8, 32>, symbol: u8) -> Simd<u8, 32>
-    requires { length register ≡ 32 }
+    requires { length register ≡ most_checks }
     ensures { result ≡ shift GENERATOR symbol register }
 {
     let factor = symbol ^ register.to_array()[0];
@@ -40,8 +40,8 @@ fn shift_in(register: Simd<u8, 32>, symbol: u8) -> Simd<u8, 32>
 
 // The check symbols of information symbols.
 pub fn remainder(info: &[Gf]) -> Simd<u8, 32>
-    ensures size { length result ≡ 32 }
-    ensures systematic { IsSystematic 16 (numbers info.now) (numbers info.now ++ result) }
+    ensures size { length result ≡ most_checks }
+    ensures systematic { IsSystematic most_correctable (numbers info.now) (numbers info.now ++ result) }
 {
     let mut register = Simd::splat(0);
     for symbol in info {

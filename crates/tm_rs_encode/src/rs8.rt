@@ -1,7 +1,7 @@
 // The register of the (255,239) code.
 ghost use Rattle.std.specs.Prelude.{◌≡◌, ◌++◌, length};
 ghost use Rattle.tm_gf256.specs.Poly.{numbers};
-ghost use Rattle.tm_rs_code.specs.Code.{IsSystematic};
+ghost use Rattle.tm_rs_code.specs.Code.{IsSystematic, least_checks, least_correctable};
 ghost use Rattle.tm_rs_code.specs.Register.{multiple, shift};
 
 mod rows;
@@ -27,7 +27,7 @@ fn row_of(factor: u8) -> Simd<u8, 16>
 
 // Takes one symbol into the register.
 fn shift_in(register: Simd<u8, 16>, symbol: u8) -> Simd<u8, 16>
-    requires { length register ≡ 16 }
+    requires { length register ≡ least_checks }
     ensures { result ≡ shift GENERATOR symbol register }
 {
     let factor = symbol ^ register.to_array()[0];
@@ -36,8 +36,8 @@ fn shift_in(register: Simd<u8, 16>, symbol: u8) -> Simd<u8, 16>
 
 // The check symbols of information symbols.
 pub fn remainder(info: &[Gf]) -> Simd<u8, 16>
-    ensures size { length result ≡ 16 }
-    ensures systematic { IsSystematic 8 (numbers info.now) (numbers info.now ++ result) }
+    ensures size { length result ≡ least_checks }
+    ensures systematic { IsSystematic least_correctable (numbers info.now) (numbers info.now ++ result) }
 {
     let mut register = Simd::splat(0);
     for symbol in info {
