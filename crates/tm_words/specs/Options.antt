@@ -22,9 +22,15 @@ use Rattle.tm_config.specs.Configuration.{number_of_start, number_of_switch}
 abbrev pub no_number : ℕ
 no_number = 2 ^ 64 - 1
 
--- 1 to 20 decimal digits
+-- the most digits of a numeral: those of `no_number`
+abbrev pub longest_numeral : ℕ
+longest_numeral = 20
+
+-- decimal digits, at least one
 abbrev pub is_numeral : Text → Bool
-is_numeral text = nat_le 1 (length text) && nat_le (length text) 20 && list_all is_ascii_digit text
+is_numeral text =
+    nat_le 1 (length text) && nat_le (length text) longest_numeral
+    && list_all is_ascii_digit text
 
 -- the value of a numeral, if it is less than `no_number`
 abbrev pub number_of : Text → ℕ
