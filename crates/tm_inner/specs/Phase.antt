@@ -4,6 +4,7 @@ use Rattle.tm_base.specs.Handed.{Handed, Phase, Item}
 use Rattle.tm_config.specs.Configuration.{Configuration}
 use Rattle.tm_config.specs.declared.values.Sought.TheVariants.{Given, Find}
 use Rattle.tm_conv.specs.declared.rates.Rate.{Rate}
+use Rattle.tm_conv.specs.Path.{most_period}
 use Rattle.tm_windows.specs.declared.choosing.Chosen.{Chosen}
 use Rattle.tm_windows.specs.Phase.{IsPhase, octets_needed}
 use Rattle.tm_inner.specs.Symbols.{is_inverted}
@@ -37,7 +38,7 @@ needed_at (Some rate) c = octets_needed rate (c.keep + c.ahead)
 
 -- how many bits come at most of the octets that wait for the phase and of a window
 abbrev pub held_bits : Configuration → ℕ
-held_bits c = 3 * (c.keep + c.ahead) + 7
+held_bits c = 3 * (c.keep + c.ahead) + most_period
 
 -- it is chosen, or given
 abbrev pub IsSettledBy : Configuration → List ℕ → Type 0
