@@ -2,7 +2,7 @@
 use Rattle.std.specs.Prelude.{◌≡◌, ℕ, ◌+◌, ◌*◌, ◌<◌, ◌≤◌, Bool, List, [], ◌∷◌, ◌++◌, Option, length, take}
 use Rattle.tm_base.specs.Written.{Wrote, WrotePrefix}
 use Rattle.tm_conv.specs.declared.rates.Rate.{Rate}
-use Rattle.tm_conv.specs.Path.{steps_size}
+use Rattle.tm_conv.specs.Path.{steps_size, registers}
 use Rattle.tm_conv.specs.Columns.{last_certified}
 use Rattle.tm_viterbi.specs.WindowBlock.{WindowBlock}
 use Rattle.tm_viterbi.specs.Due.{Place, after_block}
@@ -46,8 +46,8 @@ pub record Fits (c : Certifying) (block : WindowBlock) : Type 0 where
   pub few : c.place.t + block.steps ≤ last_certified
   pub bits : length block.bits ≡ block.steps
   pub octets : steps_size c.rate c.place.t block.steps ≤ length c.place.octets
-  pub start : block.start < 64
-  pub end_state : block.end_state < 64
+  pub start : block.start < registers
+  pub end_state : block.end_state < registers
 
 -- the window that certifies the block
 abbrev pub IsNext : Certifying → WindowBlock → List ℕ → Type 0

@@ -1,6 +1,7 @@
 -- What is seen of a window by those of its octets that are there.
 use Rattle.std.specs.Prelude.{◌≡◌, ℕ, ◌+◌, ◌<◌, ◌≤◌, ◌==◌, ◌&&◌, ◌||◌, Bool, true, false, not, if◌then◌else◌, List, [], ◌∷◌, Option, Some, None, length, nat_eq, nat_lt, nat_le}
 use Rattle.std.specs.List.{list_all, starts_with}
+use Rattle.tm_conv.specs.Path.{registers}
 use Rattle.tm_path_cert.specs.declared.verdicts.Verdict.{Verdict}
 use Rattle.tm_path_cert.specs.declared.verdicts.Verdict.TheVariants.{Yes, No, Sum as SumOf}
 use Rattle.tm_path_cert.specs.Claim.{Claim, is_start}
@@ -30,7 +31,7 @@ abbrev pub has_shape : Rules → Next → (steps kept start : ℕ) → Bool
 has_shape rules next steps kept start =
     nat_lt 0 steps && nat_le steps (rules.keep + rules.ahead)
     && ((kept == steps) || ((kept == rules.keep) && (steps == rules.keep + rules.ahead)))
-    && nat_lt start 64 && (not (is_due next) || nat_lt rules.ahead steps)
+    && nat_lt start registers && (not (is_due next) || nat_lt rules.ahead steps)
 
 abbrev pub are_bits : List ℕ → Bool
 are_bits bits = list_all (λ bit. nat_lt bit 2) bits

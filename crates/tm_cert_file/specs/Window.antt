@@ -2,7 +2,7 @@
 use Rattle.std.specs.Prelude.{ℕ, zero, suc, ◌+◌, ◌*◌, List, [], ◌∷◌, ◌++◌, take, drop, flat_map, slice_index}
 use Rattle.std.specs.Int.{w32, w64, to_be_bytes, from_be_bytes}
 use Rattle.tm_conv.specs.declared.rates.Rate.{Rate}
-use Rattle.tm_conv.specs.Path.{steps_size}
+use Rattle.tm_conv.specs.Path.{steps_size, registers}
 
 -- its steps and how many of them are kept, the register its path starts from, what the path costs
 -- and its bits, the soft octets of the window, and a column of 64 numbers before its first step and
@@ -80,7 +80,8 @@ numbers_in (suc count) octets = from_be_bytes w32 octets ∷ numbers_in count (d
 -- the first columns of octets
 unfoldable pub columns_in : ℕ → List ℕ → List (List ℕ)
 columns_in zero octets = []
-columns_in (suc count) octets = numbers_in 64 octets ∷ columns_in count (drop column_size octets)
+columns_in (suc count) octets =
+    numbers_in registers octets ∷ columns_in count (drop column_size octets)
 
 abbrev pub window_in : Rate → ℕ → List ℕ → Window
 window_in rate t octets = record {

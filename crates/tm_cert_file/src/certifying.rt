@@ -45,6 +45,7 @@ pub struct Certifying {
 impl Model for Certifying {
     ghost use Rattle.std.specs.Prelude.{◌≤◌, ◌<◌};
     ghost use Rattle.std.specs.Option.{ForSome};
+    ghost use Rattle.tm_conv.specs.Path.{registers};
     ghost use Rattle.tm_conv.specs.Columns.{last_certified};
     ghost use Rattle.tm_cert_file.specs.Certifying as cert;
 
@@ -57,7 +58,7 @@ impl Model for Certifying {
       room = c.octets.room;
     } };
 
-    ghost invariant = { λ c. (c.t ≤ last_certified) × ForSome c.start (λ register. register < 64) };
+    ghost invariant = { λ c. (c.t ≤ last_certified) × ForSome c.start (λ register. register < registers) };
 }
 
 impl Certifying {

@@ -1,6 +1,6 @@
 // The tests of a window's octets.
 ghost use Rattle.std.specs.Prelude.{◌≡◌, ◌+◌, ◌*◌, ◌<◌, ◌≤◌, IsTrue, length};
-ghost use Rattle.tm_conv.specs.Path.{AreBits, steps_size, register_after};
+ghost use Rattle.tm_conv.specs.Path.{AreBits, steps_size, register_after, registers};
 ghost use Rattle.tm_conv.specs.Columns.{last_certified};
 ghost use Rattle.tm_viterbi.specs.WindowSizes.{most_keep, most_ahead, most_window};
 ghost use Rattle.tm_path_cert.specs.Checking.{IsVerdict};
@@ -69,10 +69,10 @@ pub(crate) fn next_after(keep: u32, ahead: u32, steps: u32, kept: u32) -> Next
 
 /// The register after these bits.
 pub(crate) fn register_after(start: u8, bits: &[u8]) -> u8
-    requires register { start < 64 }
+    requires register { start < registers }
     requires bits { AreBits bits.now }
     ensures value { result ≡ register_after start bits.now }
-    ensures small { result < 64 }
+    ensures small { result < registers }
 {
     let mut register = start;
     for bit in bits {
@@ -99,7 +99,7 @@ pub(crate) fn verdict_on(
     requires starts { AreRegisters starts }
     requires soft { length soft.now ≡ steps_size rate first (length bits.now) }
     requires columns { length columns.now ≡ column_size * (length bits.now + 1) }
-    requires register { start < 64 }
+    requires register { start < registers }
     requires start { IsTrue (is_start starts start) }
     ensures { IsVerdict (record { rate = rate; invert = invert; first = first; starts = starts; soft = soft.now })
         (columns_in (length bits.now + 1) columns.now) start bits.now metric result }

@@ -1,6 +1,7 @@
 // Numbers as octets, the most significant octet first.
 ghost use Rattle.std.specs.Prelude.{◌≡◌, ◌≤◌, length};
 ghost use Rattle.std.specs.Int.{w32, w64, from_be_bytes};
+ghost use Rattle.tm_conv.specs.Path.{registers};
 ghost use Rattle.tm_cert_file.specs.Window.{column_octets, header_octets, numbers_in, column_size};
 
 /// How many octets stand before the bits of a window.
@@ -54,7 +55,7 @@ pub(crate) fn read_u64(octets: &[u8]) -> u64
 /// The column of the first 256 octets.
 pub(crate) fn read_column(octets: &[u8]) -> [u32; 64]
     requires { column_size ≤ length octets.now }
-    ensures { result ≡ numbers_in 64 octets.now }
+    ensures { result ≡ numbers_in registers octets.now }
 {
     let mut column = [0; 64];
     for s in 0..64usize {

@@ -2,7 +2,7 @@
 ghost use Rattle.std.specs.Prelude.{◌≡◌, ◌+◌, ◌<◌, ◌≤◌, ℕ, List, Option, IfSome, OnOk, OnErr, flat_map, length};
 ghost use Rattle.tm_base.specs.Outside.{HasCause};
 ghost use Rattle.tm_base.specs.Written.{Wrote, WrotePrefix};
-ghost use Rattle.tm_conv.specs.Path.{steps_size};
+ghost use Rattle.tm_conv.specs.Path.{steps_size, registers};
 ghost use Rattle.tm_conv.specs.Columns.{last_certified};
 ghost use Rattle.tm_viterbi.specs.WindowSizes.{most_window};
 ghost use Rattle.tm_cert_file.specs.Window.{column_octets};
@@ -23,7 +23,7 @@ fn write_columns<O: Sink>(
     octets: &[u8],
 ) -> Result<(), Failed>
     requires first { first ≤ last_certified }
-    requires start { IfSome start (λ register. register < 64) }
+    requires start { IfSome start (λ register. register < registers) }
     requires steps { (steps : ℕ) × (steps ≤ most_window) × (length octets.now ≡ steps_size rate first steps) }
     ensures ok { OnOk result ((steps : ℕ) → length octets.now ≡ steps_size rate first steps
         → (columns : List (List ℕ)) × AreColumns rate invert start first steps octets.now columns
@@ -62,7 +62,7 @@ pub fn write_window<O: Sink>(
     block: &Block<'_>,
 ) -> Result<(), Failed>
     requires first { first ≤ last_certified }
-    requires start { IfSome start (λ register. register < 64) }
+    requires start { IfSome start (λ register. register < registers) }
     requires few { block.now.steps ≤ most_window }
     requires bits { length block.now.bits ≡ block.now.steps }
     requires steps { length octets.now ≡ steps_size rate first block.now.steps }

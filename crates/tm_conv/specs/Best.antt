@@ -1,7 +1,7 @@
 -- The candidate paths for a list of soft octets, and the best of them.
 use Rattle.std.specs.Prelude.{◌≡◌, ℕ, ◌/◌, ◌%◌, ◌<◌, ◌≤◌, ◌⊎◌, Bool, List, [], ◌∷◌, ◌++◌, length, reverse, IsTrue}
 use Rattle.tm_conv.specs.declared.rates.Rate.{Rate}
-use Rattle.tm_conv.specs.Path.{AreBits, path}
+use Rattle.tm_conv.specs.Path.{AreBits, path, registers}
 use Rattle.tm_conv.specs.Cost.{cost}
 
 -- the bits of a register, from u[-1] to u[-6]
@@ -25,7 +25,7 @@ IsLexLe (x ∷ xs) (y ∷ ys) = (x < y) ⊎ ((x ≡ y) × IsLexLe xs ys)
 pub record IsCandidate (starts : ℕ → Bool) (rate : Rate) (invert : Bool) (t : ℕ) (octets : List ℕ)
     (initial : ℕ) (bits : List ℕ) : Type 0 where
   pub start : IsTrue (starts initial)
-  pub register : initial < 64
+  pub register : initial < registers
   pub each : AreBits bits
   pub covers : length (path rate invert t initial bits) ≡ length octets
 

@@ -1,7 +1,7 @@
 -- Columns of least costs: what the cheapest path to each register costs.
 use Rattle.std.specs.Prelude.{◌≡◌, ℕ, ◌+◌, ◌^◌, ◌<◌, ◌≤◌, Bool, if◌then◌else◌, List, length, slice_index}
 use Rattle.tm_conv.specs.declared.rates.Rate.{Rate}
-use Rattle.tm_conv.specs.Path.{AreBits, path, register_after}
+use Rattle.tm_conv.specs.Path.{AreBits, path, register_after, registers}
 use Rattle.tm_conv.specs.Cost.{cost}
 
 -- more than a window's path costs
@@ -16,7 +16,7 @@ first_cost starts register = if starts register then 0 else barred_cost
 -- and ends in register `last`
 pub record EndsIn (rate : Rate) (invert : Bool) (t : ℕ) (octets : List ℕ) (last initial : ℕ)
     (bits : List ℕ) : Type 0 where
-  pub register : initial < 64
+  pub register : initial < registers
   pub each : AreBits bits
   pub covers : length (path rate invert t initial bits) ≡ length octets
   pub ends : register_after initial bits ≡ last
@@ -39,8 +39,8 @@ pub record IsLeastTo (starts : ℕ → Bool) (rate : Rate) (invert : Bool) (t : 
 -- the column after the octets: the least total of a path to each of the 64 registers
 pub record IsColumn (starts : ℕ → Bool) (rate : Rate) (invert : Bool) (t : ℕ)
     (octets column : List ℕ) : Type 0 where
-  pub long : length column ≡ 64
-  pub each : (last : ℕ) → last < 64 → IsLeastTo starts rate invert t octets last
+  pub long : length column ≡ registers
+  pub each : (last : ℕ) → last < registers → IsLeastTo starts rate invert t octets last
       (slice_index column last)
 
 -- the last step that certificates have, and from which columns are computed; a stream of fewer

@@ -5,6 +5,10 @@ use Rattle.std.specs.Prelude.{ℕ, zero, suc, ◌+◌, ◌*◌, ◌/◌, ◌%◌
 use Rattle.tm_conv.specs.declared.rates.Rate.{Rate}
 use Rattle.tm_conv.specs.declared.rates.Rate.TheVariants.{R12, R23, R34, R56, R78}
 
+-- how many registers there are
+abbrev pub registers : ℕ
+registers = 64
+
 -- each number is a bit
 abbrev pub AreBits : List ℕ → Type 0
 AreBits bits = All (λ bit. bit < 2) bits

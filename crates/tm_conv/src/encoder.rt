@@ -1,7 +1,7 @@
 // The encoder, bit by bit.
 ghost use Rattle.std.specs.Prelude.{◌≡◌, ◌<◌, ◌≤◌, ◌*◌, Bool, List, [], ◌∷◌, ◌++◌, length, take};
 ghost use Rattle.tm_base.specs.Bits.{bit_number, bits_of};
-ghost use Rattle.tm_conv.specs.Path.{c1, c2, sent};
+ghost use Rattle.tm_conv.specs.Path.{c1, c2, sent, registers};
 ghost use Rattle.tm_conv.specs.Encoding.{EncoderStandsFor, sent_for, symbol_list, levels};
 ghost use Rattle.tm_conv.specs.Octets.{most_octet_symbols};
 
@@ -28,14 +28,14 @@ pub struct Encoder {
 
 impl Model for Encoder {
     ghost use Rattle.std.specs.Prelude.{◌<◌};
-    ghost use Rattle.tm_conv.specs.Path.{period};
+    ghost use Rattle.tm_conv.specs.Path.{period, registers};
     ghost use Rattle.tm_conv.specs.Encoding.{Encoding};
 
     ghost Value = { Encoding };
 
     ghost view = { λ e. record { rate = e.rate; invert = e.invert; register = e.register; position = e.position } };
 
-    ghost invariant = { λ e. (e.register < 64) × (e.position < period e.rate) };
+    ghost invariant = { λ e. (e.register < registers) × (e.position < period e.rate) };
 }
 
 impl Encoder {
@@ -104,7 +104,7 @@ impl Encoder {
 
 // The two sums of a step.
 fn sums(register: u8, bit: bool) -> (bool, bool)
-    requires { register < 64 }
+    requires { register < registers }
     ensures first { bit_number result.0 ≡ c1 register (bit_number bit) }
     ensures second { bit_number result.1 ≡ c2 register (bit_number bit) }
 {

@@ -2,7 +2,7 @@
 ghost use Rattle.std.specs.Prelude.{◌≡◌, ℕ, ◌+◌, ◌-◌, ◌*◌, ◌^◌, ◌<◌, ◌≤◌, Bool, IsTrue, List, [], ◌++◌, length, slice_index, All};
 ghost use Rattle.tm_conv.specs.declared.rates.Rate.{Rate};
 ghost use Rattle.tm_conv.specs.declared.rates.Rate.TheVariants.{R12};
-ghost use Rattle.tm_conv.specs.Path.{AreBits, complement, next_register, step_symbols, step_size, steps_size, path};
+ghost use Rattle.tm_conv.specs.Path.{AreBits, complement, next_register, step_symbols, step_size, steps_size, path, registers};
 ghost use Rattle.tm_conv.specs.Cost.{cost};
 ghost use Rattle.tm_conv.specs.Best.{IsBest};
 ghost use Rattle.tm_conv.specs.Columns.{IsColumn, first_cost, barred_cost};
@@ -16,13 +16,13 @@ pub fn clean_symbols_law()
 /// Complementing the bits and the register complements every symbol, at every rate and either inversion. It does
 /// nothing.
 pub fn complement_law()
-    ensures { (rate : Rate) (invert : Bool) (t register : ℕ) (bits : List ℕ) → register < 64 → AreBits bits
+    ensures { (rate : Rate) (invert : Bool) (t register : ℕ) (bits : List ℕ) → register < registers → AreBits bits
         → path rate invert t (63 - register) (complement bits) ≡ complement (path rate invert t register bits) }
 {}
 
 /// At rate 1/2 the undisturbed pairs of six steps, or more, fix the register before them and the bits. It does nothing.
 pub fn six_pairs_law()
-    ensures { (invert : Bool) (t register other : ℕ) (bits others : List ℕ) → register < 64 → other < 64
+    ensures { (invert : Bool) (t register other : ℕ) (bits others : List ℕ) → register < registers → other < registers
         → AreBits bits → AreBits others
         → 6 ≤ length bits → path R12 invert t register bits ≡ path R12 invert t other others → (register ≡ other)
         × (bits ≡ others) }
@@ -31,7 +31,7 @@ pub fn six_pairs_law()
 /// Octets of whole steps have one best path, where a path may start from some register. It does nothing.
 pub fn best_path_law()
     ensures exists { (starts : ℕ → Bool) (rate : Rate) (invert : Bool) (t steps start : ℕ) (octets : List ℕ)
-        → IsTrue (starts start) → start < 64 → length octets ≡ steps_size rate t steps
+        → IsTrue (starts start) → start < registers → length octets ≡ steps_size rate t steps
         → (register : ℕ) × (bits : List ℕ) × IsBest starts rate invert t octets register bits }
     ensures one { (starts : ℕ → Bool) (rate : Rate) (invert : Bool) (t : ℕ) (octets : List ℕ) (register other : ℕ)
         (bits others : List ℕ)
@@ -49,20 +49,21 @@ pub fn columns_law()
     ensures one { (starts : ℕ → Bool) (rate : Rate) (invert : Bool) (t : ℕ) (octets column other : List ℕ)
         → IsColumn starts rate invert t octets column → IsColumn starts rate invert t octets other → column ≡ other }
     ensures first { (starts : ℕ → Bool) (rate : Rate) (invert : Bool) (t register : ℕ) (column : List ℕ)
-        → IsColumn starts rate invert t [] column → register < 64
+        → IsColumn starts rate invert t [] column → register < registers
         → slice_index column register ≡ first_cost starts register }
     ensures edge { (starts : ℕ → Bool) (rate : Rate) (invert : Bool) (t steps from bit : ℕ)
         (octets here before after : List ℕ)
         → IsColumn starts rate invert t octets before → IsColumn starts rate invert t (octets ++ here) after
-        → length octets ≡ steps_size rate t steps → length here ≡ step_size rate (t + steps) → from < 64 → bit < 2
+        → length octets ≡ steps_size rate t steps → length here ≡ step_size rate (t + steps)
+        → from < registers → bit < 2
         → slice_index after (next_register from bit) ≤ slice_index before from + cost
         (step_symbols rate invert (t + steps) from bit) here }
     ensures least { (starts : ℕ → Bool) (rate : Rate) (invert : Bool) (t initial register : ℕ)
         (octets column bits : List ℕ)
         → IsColumn starts rate invert t octets column → IsBest starts rate invert t octets initial bits
-        → cost (path rate invert t initial bits) octets ≤ barred_cost → register < 64
+        → cost (path rate invert t initial bits) octets ≤ barred_cost → register < registers
         → cost (path rate invert t initial bits) octets ≤ slice_index column register }
     ensures most { (starts : ℕ → Bool) (rate : Rate) (invert : Bool) (t register : ℕ) (octets column : List ℕ)
-        → All (λ octet. octet < 256) octets → IsColumn starts rate invert t octets column → register < 64
+        → All (λ octet. octet < 256) octets → IsColumn starts rate invert t octets column → register < registers
         → slice_index column register ≤ barred_cost + 255 * length octets }
 {}

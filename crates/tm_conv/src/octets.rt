@@ -3,7 +3,7 @@ ghost use Rattle.std.specs.Prelude.{◌≡◌, ◌+◌, ◌*◌, ◌%◌, ◌<�
 ghost use Rattle.std.proofs.Common.{get_or};
 ghost use Rattle.tm_base.specs.Bits.{bits_of, bits_of_octet};
 ghost use Rattle.tm_conv.specs.declared.rates.Rate.TheVariants.{R12};
-ghost use Rattle.tm_conv.specs.Path.{path, period, register_after};
+ghost use Rattle.tm_conv.specs.Path.{path, period, register_after, registers};
 ghost use Rattle.tm_conv.specs.Encoding.{bit_numbers, levels};
 ghost use Rattle.tm_conv.specs.Octets.{AreKept, most_octet_symbols};
 
@@ -65,7 +65,7 @@ fn first_row(rate: Rate) -> usize
 // The symbols of an octet at rate 1/2, a 0 as the octet `low` and a 1 as its complement.
 #[inline(always)]
 fn symbols_at_half(invert: bool, low: u8, register: u8, octet: u8) -> u8x16
-    requires { register < 64 }
+    requires { register < registers }
     ensures { result ≡ levels low (path R12 invert 0 register (bit_numbers (bits_of_octet octet))) }
 {
     let second = if invert { !low } else { low };
@@ -90,7 +90,7 @@ fn octet_symbols(
     octet: u8,
 ) -> (u8x16, u8)
     requires position { position < period rate }
-    requires register { register < 64 }
+    requires register { register < registers }
     ensures long { length result.0 ≡ 16 }
     ensures at_most { result.1 ≤ most_octet_symbols }
     ensures kept { take result.1 result.0 ≡ levels low
@@ -107,9 +107,9 @@ fn octet_symbols(
 // The register after an octet, whatever it was before.
 #[inline(always)]
 fn register_of(octet: u8) -> u8
-    ensures after { (register : ℕ) → register < 64 → result
+    ensures after { (register : ℕ) → register < registers → result
         ≡ register_after register (bit_numbers (bits_of_octet octet)) }
-    ensures small { result < 64 }
+    ensures small { result < registers }
 {
     REGISTER_AFTER[usize::from(octet)]
 }
@@ -136,12 +136,13 @@ fn encode_from(
     out: &mut [u8],
 ) -> (usize, u8, u8)
     requires position { first_position < period rate }
-    requires register { first_register < 64 }
+    requires register { first_register < registers }
     requires room { most_octet_symbols * length octets.now ≤ length out.old }
     ensures sent { take result.0 out.new
         ≡ levels low (path rate invert first_position first_register (bit_numbers (bits_of octets.now))) }
     ensures at_most { result.0 ≤ most_octet_symbols * length octets.now }
-    ensures register { (result.1 ≡ register_after first_register (bit_numbers (bits_of octets.now))) × (result.1 < 64) }
+    ensures register { (result.1 ≡ register_after first_register (bit_numbers (bits_of octets.now)))
+        × (result.1 < registers) }
     ensures position { (result.2 ≡ (first_position + 8 * length octets.now) % period rate) × (result.2 < period rate) }
     ensures length { length out.new ≡ length out.old }
 {
@@ -170,12 +171,13 @@ pub fn encode_octets(
     out: &mut [u8],
 ) -> (usize, u8, u8)
     requires position { position < period rate }
-    requires register { register < 64 }
+    requires register { register < registers }
     requires room { most_octet_symbols * length octets.now ≤ length out.old }
     ensures sent { take result.0 out.new
         ≡ levels low (path rate invert position register (bit_numbers (bits_of octets.now))) }
     ensures at_most { result.0 ≤ most_octet_symbols * length octets.now }
-    ensures register { (result.1 ≡ register_after register (bit_numbers (bits_of octets.now))) × (result.1 < 64) }
+    ensures register { (result.1 ≡ register_after register (bit_numbers (bits_of octets.now)))
+        × (result.1 < registers) }
     ensures position { (result.2 ≡ (position + 8 * length octets.now) % period rate) × (result.2 < period rate) }
     ensures length { length out.new ≡ length out.old }
 {

@@ -2,7 +2,7 @@
 -- path may start from.
 use Rattle.std.specs.Prelude.{ℕ, ◌+◌, ◌*◌, ◌^◌, ◌<◌, ◌==◌, Bool, true, List, take, drop}
 use Rattle.tm_conv.specs.declared.rates.Rate.{Rate}
-use Rattle.tm_conv.specs.Path.{step_size, steps_size, step_symbols, path}
+use Rattle.tm_conv.specs.Path.{step_size, steps_size, step_symbols, path, registers}
 use Rattle.tm_conv.specs.Cost.{cost}
 use Rattle.tm_path_cert.specs.declared.verdicts.Starts.{Starts}
 use Rattle.tm_path_cert.specs.declared.verdicts.Starts.TheVariants.{Any, One}
@@ -29,7 +29,7 @@ is_start (One start) register = register == start
 -- a start is one of the 64 registers
 abbrev pub AreRegisters : Starts → Type 0
 AreRegisters Any = Unit {0}
-AreRegisters (One start) = start < 64
+AreRegisters (One start) = start < registers
 
 -- the soft octets of step k, counted from the first
 abbrev pub step_octets : Claim → ℕ → List ℕ

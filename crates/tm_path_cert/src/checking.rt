@@ -1,6 +1,6 @@
 // The check itself, fed column by column.
 ghost use Rattle.std.specs.Prelude.{◌≡◌, ℕ, ◌+◌, ◌-◌, ◌*◌, ◌/◌, ◌^◌, ◌<◌, ◌≤◌, List, [], ◌∷◌, ◌++◌, IsTrue, length};
-ghost use Rattle.tm_conv.specs.Path.{AreBits, steps_size};
+ghost use Rattle.tm_conv.specs.Path.{AreBits, steps_size, registers};
 ghost use Rattle.tm_conv.specs.Best.{IsCandidate};
 ghost use Rattle.tm_conv.specs.Columns.{last_certified};
 ghost use Rattle.tm_path_cert.specs.Claim.{AreRegisters, is_start, path_cost, most_steps};
@@ -133,7 +133,7 @@ impl<'a> Check<'a> {
         requires steps { length self.claim.soft ≡ steps_size self.claim.rate self.claim.first (length bits.now) }
         requires bits { AreBits bits.now }
         requires columns { self.count ≡ length bits.now + 1 }
-        requires register { register < 64 }
+        requires register { register < registers }
         requires start { IsTrue (is_start self.claim.starts register) }
         ensures verdict { (given : List (List ℕ)) → CheckStandsFor self.entry given
             → IsVerdict self.entry.claim given register bits.now metric result }

@@ -1,6 +1,6 @@
 // The tests of one column.
 ghost use Rattle.std.specs.Prelude.{◌≡◌, ◌↔◌, ℕ, ◌+◌, ◌*◌, ◌^◌, ◌≤◌, ◌<◌, IsTrue, slice_index};
-ghost use Rattle.tm_conv.specs.Path.{c1, c2, step_symbols};
+ghost use Rattle.tm_conv.specs.Path.{c1, c2, step_symbols, registers};
 ghost use Rattle.tm_conv.specs.Cost.{cost};
 ghost use Rattle.tm_path_cert.specs.Claim as claim;
 ghost use Rattle.tm_path_cert.specs.Tests.{IsFirstFailing, IsLowEnough, StartsAt};
@@ -32,7 +32,7 @@ pub(crate) fn first_start_wrong(starts: Starts, sums: &[u32; 64]) -> Option<u8>
 
 // Whether no edge of a step undercuts the sum of a register.
 fn is_low_enough(step: &Step<'_>, before: &[u32; 64], sums: &[u32; 64], register: u8) -> bool
-    requires { register < 64 }
+    requires { register < registers }
     ensures { IsTrue result
         ↔ IsLowEnough (λ from bit. cost (step_symbols step.now.rate step.now.invert step.now.t from bit)
         step.now.octets.now) before.now sums.now register }
@@ -73,7 +73,7 @@ fn margins(near: u32, far: u32, before: &[u32; 64], sums: &[u32; 64], j: usize) 
 
 // True only where no edge undercuts any sum. What an edge costs is at the pair of its two sums.
 fn are_low_enough(costs: &[u32; 4], before: &[u32; 64], sums: &[u32; 64]) -> bool
-    ensures { IsTrue result → (register : ℕ) → register < 64
+    ensures { IsTrue result → (register : ℕ) → register < registers
         → IsLowEnough (λ from bit. slice_index costs.now (2 * c1 from bit + c2 from bit)) before.now sums.now register }
 {
     let mut all = 0;

@@ -1,7 +1,7 @@
 // What the steps of a path cost.
 ghost use Rattle.std.specs.Prelude.{◌≡◌, ℕ, ◌+◌, ◌*◌, ◌≤◌, ◌<◌, length, slice_index};
 ghost use Rattle.tm_path_cert.specs.Claim.{most_soft};
-ghost use Rattle.tm_conv.specs.Path.{c1, c2, sent, step_size, step_symbols, steps_size, AreBits, path};
+ghost use Rattle.tm_conv.specs.Path.{c1, c2, sent, step_size, step_symbols, steps_size, AreBits, path, registers};
 ghost use Rattle.tm_conv.specs.Cost as metric;
 ghost use Rattle.tm_conv.specs.Columns.{last_certified};
 ghost use Rattle.tm_conv.specs.Cost.{most_branch_metric};
@@ -17,7 +17,7 @@ fn distance(symbol: u8, octet: u8) -> u32
 
 // The first sum of a step.
 fn first_sum(register: u8, bit: u8) -> u8
-    requires register { register < 64 }
+    requires register { register < registers }
     requires bit { bit < 2 }
     ensures { result ≡ c1 register bit }
 {
@@ -26,7 +26,7 @@ fn first_sum(register: u8, bit: u8) -> u8
 
 // The second sum of a step.
 fn second_sum(register: u8, bit: u8) -> u8
-    requires register { register < 64 }
+    requires register { register < registers }
     requires bit { bit < 2 }
     ensures { result ≡ c2 register bit }
 {
@@ -63,7 +63,7 @@ impl<'a> Step<'a> {
 
     // What the step costs from a register by a bit.
     pub(crate) fn cost(&self, register: u8, bit: u8) -> u32
-        requires register { register < 64 }
+        requires register { register < registers }
         requires bit { bit < 2 }
         ensures cost { result ≡ metric.cost (step_symbols self.now.rate self.now.invert self.now.t register bit)
             self.now.octets.now }
@@ -74,7 +74,7 @@ impl<'a> Step<'a> {
 
     // What it costs with each pair of sums, at 2 * first + second.
     pub(crate) fn costs(&self) -> [u32; 4]
-        ensures { (register bit : ℕ) → register < 64 → bit < 2
+        ensures { (register bit : ℕ) → register < registers → bit < 2
             → slice_index result (2 * c1 register bit + c2 register bit)
             ≡ metric.cost (step_symbols self.now.rate self.now.invert self.now.t register bit) self.now.octets.now }
     {
@@ -96,7 +96,7 @@ pub(crate) fn path_sum(
     register: u8,
     bits: &[u8],
 ) -> u64
-    requires register { register < 64 }
+    requires register { register < registers }
     requires bits { AreBits bits.now }
     requires first { first ≤ last_certified }
     requires few { length soft.now ≤ most_soft }

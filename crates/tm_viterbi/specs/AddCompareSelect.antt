@@ -1,6 +1,6 @@
 -- The path metrics after a step from those before it.
 use Rattle.std.specs.Prelude.{ℕ, ◌≡◌, ◌+◌, ◌*◌, ◌/◌, ◌%◌, ◌^◌, ◌<◌, List, min, length, slice_index, nat_lt, if◌then◌else◌}
-use Rattle.tm_conv.specs.Path.{c1, c2}
+use Rattle.tm_conv.specs.Path.{c1, c2, registers}
 
 -- the path metric of a path that comes to register p and goes on by bit b
 abbrev pub sum_via : List ℕ → List ℕ → ℕ → ℕ → ℕ
@@ -15,13 +15,13 @@ second_metric sums metrics s = sum_via sums metrics (2 * (s % 32) + 1) (s / 32)
 
 -- the lesser of the two at each register
 abbrev pub IsNextSums : List ℕ → List ℕ → List ℕ → Type 0
-IsNextSums sums metrics next = (s : ℕ) → s < 64
+IsNextSums sums metrics next = (s : ℕ) → s < registers
     → slice_index next s ≡ min (first_metric sums metrics s) (second_metric sums metrics s)
 
 -- bit s is 1 exactly where the second is strictly less
 abbrev pub AreSurvivors : List ℕ → List ℕ → ℕ → Type 0
 AreSurvivors sums metrics bits =
-    (s : ℕ) → s < 64
+    (s : ℕ) → s < registers
     → bits / 2 ^ s % 2
     ≡ (if nat_lt (second_metric sums metrics s) (first_metric sums metrics s) then 1 else 0)
 

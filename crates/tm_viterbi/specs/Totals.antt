@@ -1,7 +1,7 @@
 -- The totals that the decoder's path metrics are.
 use Rattle.std.specs.Prelude.{ℕ, ◌≡◌, ◌+◌, ◌*◌, ◌^◌, ◌<◌, ◌≤◌, List, Bool, reverse, slice_index}
 use Rattle.tm_conv.specs.declared.rates.Rate.{Rate}
-use Rattle.tm_conv.specs.Path.{path, sent}
+use Rattle.tm_conv.specs.Path.{path, sent, registers}
 use Rattle.tm_conv.specs.Cost.{cost}
 use Rattle.tm_conv.specs.Columns.{first_cost}
 use Rattle.tm_viterbi.specs.AddCompareSelect.{IsNextSums, AreSurvivors}
@@ -19,13 +19,13 @@ AreBranchMetrics rate invert t octets metrics = (c d : ℕ) → c < 2 → d < 2
 
 -- the path metrics before any step
 abbrev pub AreFirsts : (ℕ → Bool) → List ℕ → Type 0
-AreFirsts starts firsts = (register : ℕ) → register < 64
+AreFirsts starts firsts = (register : ℕ) → register < registers
     → slice_index firsts register ≡ first_cost starts register
 
 -- the least register of least path metric
 pub record IsFirstLeast (sums : List ℕ) (s : ℕ) : Type 0 where
-  pub register : s < 64
-  pub least : (k : ℕ) → k < 64 → slice_index sums s ≤ slice_index sums k
+  pub register : s < registers
+  pub least : (k : ℕ) → k < registers → slice_index sums s ≤ slice_index sums k
   pub first : (k : ℕ) → k < s → slice_index sums s < slice_index sums k
 
 -- one step from path metrics to the next ones, which leaves these survivors
@@ -37,7 +37,7 @@ pub record StepsTo (rate : Rate) (invert : Bool) (t : ℕ) (octets sums next : L
   pub are_survivors : AreSurvivors sums metrics survivor
 
 abbrev pub AreAtMost : ℕ → List ℕ → Type 0
-AreAtMost most sums = (s : ℕ) → s < 64 → slice_index sums s ≤ most
+AreAtMost most sums = (s : ℕ) → s < registers → slice_index sums s ≤ most
 
 -- by how much path metrics differ at most that go in sixteen bits
 abbrev pub most_spread : ℕ

@@ -1,7 +1,7 @@
 -- Paths with the newest bit first, as the decoder walks them.
 use Rattle.std.specs.Prelude.{ℕ, ◌≡◌, ◌+◌, ◌*◌, ◌/◌, ◌%◌, ◌^◌, ◌<◌, ◌≤◌, List, [], ◌∷◌, length, reverse, slice_index}
 use Rattle.std.specs.List.{All}
-use Rattle.tm_conv.specs.Path.{next_register}
+use Rattle.tm_conv.specs.Path.{next_register, registers}
 
 -- the register after these bits, the newest first
 abbrev pub register_back : ℕ → List ℕ → ℕ
@@ -15,7 +15,7 @@ rank r (b ∷ past) = b * 2 ^ (length past + 6) + rank r past
 
 -- a path of n bits to register s
 pub record IsPathTo (n s r : ℕ) (past : List ℕ) : Type 0 where
-  pub start : r < 64
+  pub start : r < registers
   pub each : All (λ b. b < 2) past
   pub long : length past ≡ n
   pub ends : register_back r past ≡ s
@@ -49,21 +49,21 @@ start_of (c ∷ survivors) s = start_of survivors (before c s)
 -- first: each puts the survivor bit after it
 abbrev pub history : List ℕ → ℕ → ℕ
 history [] h = h
-history (c ∷ survivors) h = history survivors (2 * h + c / 2 ^ (h % 64) % 2)
+history (c ∷ survivors) h = history survivors (2 * h + c / 2 ^ (h % registers) % 2)
 
 -- there is a bit for the survivors of each step, and the path ends at this register
 pub record CanTrace (survivors bits : List ℕ) (last : ℕ) : Type 0 where
   pub size : length bits ≡ length survivors
-  pub register : last < 64
+  pub register : last < registers
 
 -- the bits, the oldest first, and the first register of the path that the survivors keep for the
 -- last
 pub record IsTraced (survivors : List ℕ) (last : ℕ) (traced : List ℕ) (first : ℕ) : Type 0 where
   pub bits : traced ≡ reverse (past_of (reverse survivors) last)
   pub start : first ≡ start_of (reverse survivors) last
-  pub small : first < 64
+  pub small : first < registers
 
 -- the path metrics and the survivors have the best path to each register
 abbrev pub AreBest : (ℕ → List ℕ → ℕ) → ℕ → List ℕ → List ℕ → Type 0
-AreBest total n sums survivors = (s : ℕ) → s < 64
+AreBest total n sums survivors = (s : ℕ) → s < registers
     → IsBestTo total n s (slice_index sums s) (start_of survivors s) (past_of survivors s)

@@ -2,6 +2,7 @@
 ghost use Rattle.std.specs.Prelude.{◌≡◌, ◌<◌, ℕ, OnErr, OnOk};
 ghost use Rattle.std.specs.Option.{ForSome};
 ghost use Rattle.tm_base.specs.Outside.{HasCause};
+ghost use Rattle.tm_conv.specs.Path.{registers};
 ghost use Rattle.tm_viterbi.specs.Starts.{first_start};
 ghost use Rattle.tm_viterbi.specs.WindowBlock.{WindowBlock};
 
@@ -20,7 +21,7 @@ pub enum Start {
 /// The register that the first window's path may start from, where it is one alone.
 pub fn first_start(start: Start) -> Option<u8>
     ensures value { result ≡ first_start start }
-    ensures small { ForSome result (λ register. register < 64) }
+    ensures small { ForSome result (λ register. register < registers) }
 {
     match start {
         Start::Zero => Some(0),

@@ -1,6 +1,6 @@
 // A window that is filled by the steps of pieces.
 ghost use Rattle.std.specs.Prelude.{◌≡◌, IfOk, IsTrue, ℕ, ◌+◌, ◌-◌, ◌*◌, ◌<◌, ◌≤◌, ◌++◌, List, Option, [], length, vec_len};
-ghost use Rattle.tm_conv.specs.Path.{steps_size};
+ghost use Rattle.tm_conv.specs.Path.{steps_size, registers};
 ghost use Rattle.tm_conv.specs.Cost.{most_branch_metric};
 ghost use Rattle.tm_conv.specs.Columns.{barred_cost};
 ghost use Rattle.tm_viterbi.specs.Starts.{starts_from};
@@ -24,7 +24,7 @@ pub struct BestPath {
     pub metric: u64,
     /// The register after the kept steps, from which the next window starts.
     pub end_state: u8,
-    ghost small: { end_state < 64 },
+    ghost small: { end_state < registers },
 }
 
 /// A window from step `t` on, of which some steps are filled.
@@ -129,14 +129,14 @@ impl Window {
     pub(crate) fn find(&self, kept: usize, bits: &mut [u8]) -> BestPath
         requires bits { length bits.old ≡ self.now.filled }
         requires kept { kept ≤ self.now.filled }
-        requires start { (register : ℕ) × (register < 64) × IsTrue (starts_from self.now.starts register) }
+        requires start { (register : ℕ) × (register < registers) × IsTrue (starts_from self.now.starts register) }
         ensures block { (given after : List ℕ) (remaining : ℕ) → Holds self.now given
             → self.now.filled ≡ window_steps self.now.keep self.now.ahead remaining
             → kept ≡ kept_steps self.now.keep self.now.ahead remaining
             → IsBlock self.now.rate self.now.invert self.now.keep self.now.ahead self.now.starts self.now.t remaining
             (given ++ after)
             (undropped_block result.start self.now.filled kept result.metric bits.new result.end_state) }
-        ensures register { result.end_state < 64 }
+        ensures register { result.end_state < registers }
     {
         let last = least_register(&self.sums);
         let start = trace_back(&self.survivors[..self.filled], last, bits);

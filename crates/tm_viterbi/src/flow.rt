@@ -1,6 +1,6 @@
 // One window after another.
 ghost use Rattle.std.specs.Prelude.{◌≡◌, IfOk, IsTrue, ℕ, ◌+◌, ◌-◌, ◌*◌, ◌<◌, ◌≤◌, ◌++◌, List, Option, [], length, drop, take};
-ghost use Rattle.tm_conv.specs.Path.{steps_size};
+ghost use Rattle.tm_conv.specs.Path.{steps_size, registers};
 ghost use Rattle.tm_viterbi.specs.Starts.{starts_from};
 ghost use Rattle.tm_viterbi.specs.WindowSizes.{most_window, stream_bound, window_bound};
 
@@ -91,7 +91,8 @@ impl Flow {
     pub(crate) fn close(&mut self, bits: &mut [u8]) -> BestPath
         requires full { self.old.window.filled ≡ self.old.window.keep + self.old.window.ahead }
         requires bits { length bits.old ≡ self.old.window.keep + self.old.window.ahead }
-        requires start { (register : ℕ) × (register < 64) × IsTrue (starts_from self.old.window.starts register) }
+        requires start { (register : ℕ) × (register < registers)
+            × IsTrue (starts_from self.old.window.starts register) }
         requires few { self.old.window.t < stream_bound }
         ensures closes { (given after : List ℕ) → Keeps self.old given
             → steps_size self.old.window.rate self.old.window.t (self.old.window.keep + self.old.window.ahead + 1)
@@ -108,7 +109,7 @@ impl Flow {
         ensures same { (self.new.window.rate ≡ self.old.window.rate)
             × (self.new.window.invert ≡ self.old.window.invert) × (self.new.window.keep ≡ self.old.window.keep)
             × (self.new.window.ahead ≡ self.old.window.ahead) }
-        ensures register { result.end_state < 64 }
+        ensures register { result.end_state < registers }
     {
         let found = self.window.find(self.window.keep, bits);
         self.next_window(found.end_state);
@@ -118,7 +119,8 @@ impl Flow {
     /// The block of the last window, all of whose steps are kept; its bits are written to the start of `bits`.
     pub(crate) fn find_last(&self, bits: &mut [u8]) -> BestPath
         requires bits { self.now.window.filled ≤ length bits.old }
-        requires start { (register : ℕ) × (register < 64) × IsTrue (starts_from self.now.window.starts register) }
+        requires start { (register : ℕ) × (register < registers)
+            × IsTrue (starts_from self.now.window.starts register) }
         ensures block { (given after : List ℕ) → Keeps self.now given
             → IsBlock self.now.window.rate self.now.window.invert self.now.window.keep self.now.window.ahead
             self.now.window.starts self.now.window.t self.now.window.filled (given ++ after)

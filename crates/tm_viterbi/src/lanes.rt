@@ -1,6 +1,6 @@
 // The path metrics after a step from those before it, by lanes of thirty-two bits.
 ghost use Rattle.std.specs.Prelude.{◌≡◌, ◌++◌, min, ℕ, ◌+◌, ◌-◌, ◌*◌, ◌/◌, ◌%◌, ◌^◌, ◌<◌, length, slice_index, nat_lt, if◌then◌else◌};
-ghost use Rattle.tm_conv.specs.Path.{c1, c2};
+ghost use Rattle.tm_conv.specs.Path.{c1, c2, registers};
 ghost use Rattle.tm_viterbi.specs.AddCompareSelect.{IsEach, IsNextSums, AreSurvivors};
 
 use std::simd::prelude::*;
@@ -73,7 +73,7 @@ fn store_halves(low: Simd<u32, 32>, high: Simd<u32, 32>, next: &mut [u32; 64])
 
 /// The same as `plain_column`, by lanes of 32 registers.
 pub fn lane_column(sums: &[u32; 64], metrics: &[u32; 4], next: &mut [u32; 64]) -> u64
-    requires { (s k : ℕ) → s < 64 → k < 4 → slice_index sums.now s + slice_index metrics.now k < 2 ^ 32 }
+    requires { (s k : ℕ) → s < registers → k < 4 → slice_index sums.now s + slice_index metrics.now k < 2 ^ 32 }
     ensures sums { IsNextSums sums.now metrics.now next.new }
     ensures survivors { AreSurvivors sums.now metrics.now result }
 {

@@ -1,7 +1,7 @@
 // Add-compare-select by lanes of sixteen bits, sixteen of the code's registers at a time: as many as the processor's
 // own registers hold.
 ghost use Rattle.std.specs.Prelude.{◌≡◌, ◌++◌, min, ℕ, ◌+◌, ◌-◌, ◌*◌, ◌/◌, ◌%◌, ◌^◌, ◌<◌, length, slice_index, nat_lt, if◌then◌else◌};
-ghost use Rattle.tm_conv.specs.Path.{c1, c2};
+ghost use Rattle.tm_conv.specs.Path.{c1, c2, registers};
 ghost use Rattle.tm_viterbi.specs.AddCompareSelect.{IsHalf, AreSortedPlaces, IsNextSums, AreSurvivors};
 
 use std::simd::prelude::*;
@@ -106,7 +106,7 @@ pub(crate) fn narrow_metrics(
     metrics: Simd<u16, 4>,
     places: Simd<u16, 32>,
 ) -> (Simd<u16, 32>, Simd<u16, 32>, u64)
-    requires fits { (s k : ℕ) → s < 64 → k < 4 → slice_index (low ++ high) s + slice_index metrics k < 2 ^ 16 }
+    requires fits { (s k : ℕ) → s < registers → k < 4 → slice_index (low ++ high) s + slice_index metrics k < 2 ^ 16 }
     requires places { AreSortedPlaces places }
     ensures sums { IsNextSums (low ++ high) metrics (result.0 ++ result.1) }
     ensures survivors { AreSurvivors (low ++ high) metrics result.2 }

@@ -1,6 +1,6 @@
 // The steps of the forward pass.
 ghost use Rattle.std.specs.Prelude.{◌≡◌, min, ℕ, ◌+◌, ◌-◌, ◌*◌, ◌/◌, ◌^◌, ◌<◌, ◌≤◌, take, length, slice_index, if◌then◌else◌};
-ghost use Rattle.tm_conv.specs.Path.{step_size, steps_size, farthest_step};
+ghost use Rattle.tm_conv.specs.Path.{step_size, steps_size, farthest_step, registers};
 ghost use Rattle.tm_conv.specs.Cost.{most_branch_metric};
 ghost use Rattle.tm_viterbi.specs.Totals.{StepsTo, AreAtMost, most_spread, most_narrow, narrow_bound};
 ghost use Rattle.tm_viterbi.specs.Carries.{Carries};
@@ -51,8 +51,8 @@ fn narrow_block(
     requires few { length survivors.old ≤ most_narrow }
     requires first { t + length survivors.old < narrow_bound }
     requires room { least + 2 ^ 16 < 2 ^ 32 }
-    requires least { (s : ℕ) → s < 64 → least ≤ slice_index sums.old s }
-    requires close { (s : ℕ) → s < 64 → slice_index sums.old s ≤ least + most_spread }
+    requires least { (s : ℕ) → s < registers → least ≤ slice_index sums.old s }
+    requires close { (s : ℕ) → s < registers → slice_index sums.old s ≤ least + most_spread }
     ensures taken { result ≡ steps_size rate t (length survivors.new) }
     ensures carries { Carries rate invert t (take result soft.now) sums.old sums.new survivors.new }
     ensures bounded { (m : ℕ) → AreAtMost m sums.old

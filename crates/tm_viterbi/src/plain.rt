@@ -1,11 +1,11 @@
 // The path metrics after a step from those before it, register by register.
 ghost use Rattle.std.specs.Prelude.{◌≡◌, min, ℕ, ◌+◌, ◌-◌, ◌*◌, ◌/◌, ◌%◌, ◌^◌, ◌<◌, slice_index};
-ghost use Rattle.tm_conv.specs.Path.{c1, c2};
+ghost use Rattle.tm_conv.specs.Path.{c1, c2, registers};
 ghost use Rattle.tm_viterbi.specs.AddCompareSelect.{sum_via, IsNextSums, AreSurvivors};
 
 // The two sums c1 and c2 of a step from register r by bit b, as 2 * c1 + c2: the index of its branch metric.
 fn branch_index(r: usize, b: usize) -> usize
-    requires register { r < 64 }
+    requires register { r < registers }
     requires bit { b < 2 }
     ensures value { result ≡ 2 * c1 r b + c2 r b }
     ensures small { result < 4 }
@@ -17,8 +17,8 @@ fn branch_index(r: usize, b: usize) -> usize
 
 // The path metric of the path to a register through register p before it, by bit b: that of p, and the branch metric.
 fn path_metric(sums: &[u32; 64], metrics: &[u32; 4], p: usize, b: usize) -> u32
-    requires fit { (s k : ℕ) → s < 64 → k < 4 → slice_index sums.now s + slice_index metrics.now k < 2 ^ 32 }
-    requires register { p < 64 }
+    requires fit { (s k : ℕ) → s < registers → k < 4 → slice_index sums.now s + slice_index metrics.now k < 2 ^ 32 }
+    requires register { p < registers }
     requires bit { b < 2 }
     ensures { result ≡ sum_via sums.now metrics.now p b }
 {
@@ -28,7 +28,7 @@ fn path_metric(sums: &[u32; 64], metrics: &[u32; 4], p: usize, b: usize) -> u32
 /// The path metrics after `sums`, by the four branch metrics of a step, at index 2 * first + second.
 /// Answers the survivors: bit s says whether register s is reached at less cost from the odd one of its two registers.
 pub fn plain_column(sums: &[u32; 64], metrics: &[u32; 4], next: &mut [u32; 64]) -> u64
-    requires { (s k : ℕ) → s < 64 → k < 4 → slice_index sums.now s + slice_index metrics.now k < 2 ^ 32 }
+    requires { (s k : ℕ) → s < registers → k < 4 → slice_index sums.now s + slice_index metrics.now k < 2 ^ 32 }
     ensures sums { IsNextSums sums.now metrics.now next.new }
     ensures survivors { AreSurvivors sums.now metrics.now result }
 {

@@ -3,7 +3,7 @@ ghost use Rattle.std.specs.Prelude.{◌≡◌, ◌++◌, ◌∷◌, ℕ, ◌+◌
 ghost use Rattle.std.specs.Option.{ForSome};
 ghost use Rattle.tm_base.specs.Takers.{HandedOver, HandedPart};
 ghost use Rattle.tm_base.specs.Outside.{HasCause};
-ghost use Rattle.tm_conv.specs.Path.{period, step_size, steps_size, farthest_step};
+ghost use Rattle.tm_conv.specs.Path.{period, step_size, steps_size, farthest_step, registers};
 ghost use Rattle.tm_viterbi.specs.Starts.{first_start};
 ghost use Rattle.tm_viterbi.specs.NextSteps.{AreNextSteps};
 ghost use Rattle.tm_viterbi.specs.WindowBlock.{WindowBlock, undropped_block};
@@ -25,7 +25,7 @@ pub(crate) struct Stream {
     bits: Vec<u8>,
     waiting: Option<u8>,
     ghost room: { vec_len bits ≡ flow.window.keep + flow.window.ahead },
-    ghost some: { ForSome flow.window.starts (λ register. register < 64) },
+    ghost some: { ForSome flow.window.starts (λ register. register < registers) },
     ghost sizes: { (least_keep ≤ flow.window.keep) × (flow.window.keep + flow.window.ahead ≤ most_window) },
 }
 

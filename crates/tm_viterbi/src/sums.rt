@@ -1,6 +1,6 @@
 // The path metrics of the Viterbi algorithm without its survivors.
 ghost use Rattle.std.specs.Prelude.{◌≡◌, ◌++◌, ℕ, ◌+◌, ◌*◌, ◌<◌, ◌≤◌, List, [], IfSome, length};
-ghost use Rattle.tm_conv.specs.Path.{path, step_size, steps_size};
+ghost use Rattle.tm_conv.specs.Path.{path, step_size, steps_size, registers};
 ghost use Rattle.tm_conv.specs.Cost.{cost};
 ghost use Rattle.tm_conv.specs.Columns.{IsColumn, last_certified};
 ghost use Rattle.tm_viterbi.specs.Starts.{starts_from};
@@ -53,7 +53,7 @@ impl Sums {
     #[tactic(auto, unfolding(tm_conv::specs::Path::steps_size))]
     pub fn new(rate: Rate, invert: bool, first: u64, start: Option<u8>) -> Sums
         requires first { first ≤ last_certified }
-        requires start { IfSome start (λ register. register < 64) }
+        requires start { IfSome start (λ register. register < registers) }
         ensures began { (result.rate ≡ rate) × (result.invert ≡ invert) × (result.first ≡ first)
             × (result.start ≡ start) × (result.steps ≡ 0) }
         ensures stands { SumsFor result [] }

@@ -1,6 +1,6 @@
 // The path that the survivors keep, from its last register back.
 ghost use Rattle.std.specs.Prelude.{◌≡◌, ℕ, ◌+◌, ◌*◌, ◌/◌, ◌%◌, ◌^◌, ◌<◌, reverse, length, slice_index};
-ghost use Rattle.tm_conv.specs.Path.{register_after};
+ghost use Rattle.tm_conv.specs.Path.{register_after, registers};
 ghost use Rattle.tm_viterbi.specs.Walk.{CanTrace, IsTraced, past_of, start_of, history};
 
 mod eight_bits;
@@ -11,7 +11,7 @@ use eight_bits::EIGHT_BITS;
 // survivor bit is put after them, and so the low six bits are the register before.
 fn step_back(history: u64, survivor: u64) -> u64
     requires { history < 2 ^ 32 }
-    ensures { result ≡ 2 * history + survivor / 2 ^ (history % 64) % 2 }
+    ensures { result ≡ 2 * history + survivor / 2 ^ (history % registers) % 2 }
 {
     2 * history + (survivor >> (history % 64)) % 2
 }
@@ -20,7 +20,7 @@ fn step_back(history: u64, survivor: u64) -> u64
 // top.
 fn eight_steps_back(survivors: &[u64], register: usize) -> u64
     requires size { length survivors.now ≡ 8 }
-    requires register { register < 64 }
+    requires register { register < registers }
     ensures value { result ≡ history (reverse survivors.now) register }
     ensures small { result < 2 ^ 14 }
 {
@@ -38,10 +38,10 @@ fn eight_steps_back(survivors: &[u64], register: usize) -> u64
 fn trace_eight(survivors: &[u64], register: usize, bits: &mut [u8]) -> usize
     requires size { length survivors.now ≡ 8 }
     requires room { length bits.old ≡ 8 }
-    requires register { register < 64 }
+    requires register { register < registers }
     ensures bits { bits.new ≡ reverse (past_of (reverse survivors.now) register) }
     ensures start { result ≡ start_of (reverse survivors.now) register }
-    ensures small { result < 64 }
+    ensures small { result < registers }
 {
     let walked = eight_steps_back(survivors, register);
     let row = EIGHT_BITS[(walked / 64 % 256) as usize];
@@ -81,10 +81,10 @@ pub(crate) fn trace_back(survivors: &[u64], register: usize, bits: &mut [u8]) ->
 
 // The register after these bits. The last six of them determine it.
 pub(crate) fn end_register(first: u8, bits: &[u8]) -> u8
-    requires register { first < 64 }
+    requires register { first < registers }
     requires bits { (k : ℕ) → k < length bits.now → slice_index bits.now k < 2 }
     ensures value { result ≡ register_after first bits.now }
-    ensures register { result < 64 }
+    ensures register { result < registers }
 {
     let mut register = first;
     let last_six = &bits[bits.len().saturating_sub(6)..];

@@ -1,7 +1,7 @@
 // One window, decoded by itself.
 ghost use Rattle.std.specs.Prelude.{◌≡◌, ℕ, ◌+◌, ◌<◌, ◌≤◌, IfOk, length};
 ghost use Rattle.std.specs.Option.{ForSome};
-ghost use Rattle.tm_conv.specs.Path.{steps_size};
+ghost use Rattle.tm_conv.specs.Path.{steps_size, registers};
 ghost use Rattle.tm_viterbi.specs.Blocks.{IsBlock, window_steps, kept_steps};
 ghost use Rattle.tm_viterbi.specs.WindowBlock.{undropped_block};
 ghost use Rattle.tm_viterbi.specs.WindowSizes.{most_window, window_bound};
@@ -72,7 +72,7 @@ impl WindowDecoder {
         requires steps { length bits.old ≤ self.old.keep + self.old.ahead }
         requires kept { kept ≤ length bits.old }
         requires octets { steps_size self.old.rate t (length bits.old) ≤ length octets.now }
-        requires start { ForSome starts (λ register. register < 64) }
+        requires start { ForSome starts (λ register. register < registers) }
         requires few { t < window_bound }
         ensures block { (remaining : ℕ) → length bits.old ≡ window_steps self.old.keep self.old.ahead remaining
             → kept ≡ kept_steps self.old.keep self.old.ahead remaining

@@ -3,7 +3,7 @@ use Rattle.std.specs.Prelude.{ℕ, ◌+◌, ◌*◌, ◌<◌, ◌≤◌, List, l
 use Rattle.std.specs.Option.{ForSome}
 use Rattle.tm_base.specs.Calls.{TakerCall}
 use Rattle.tm_base.specs.Outside.{HasCause}
-use Rattle.tm_conv.specs.Path.{steps_size}
+use Rattle.tm_conv.specs.Path.{steps_size, registers}
 use Rattle.tm_viterbi.specs.WindowBlock.{WindowBlock}
 use Rattle.tm_viterbi.specs.Due.{Place}
 use Rattle.tm_viterbi.specs.WindowSizes.{window_bound}
@@ -16,7 +16,7 @@ use Rattle.tm_windows.specs.Sharing.{Sharing}
 pub record CanClose (workers : Sharing) (starts : Option ℕ) (t : ℕ) (octets : List ℕ)
     (count : ℕ) : Type 0 where
   pub most : count ≤ workers.most
-  pub start : ForSome starts (λ register. register < 64)
+  pub start : ForSome starts (λ register. register < registers)
   pub room : steps_size workers.shape.rate t
       (count * workers.shape.keep + workers.shape.ahead + 1) ≤ length octets
   pub few : t + count * workers.shape.keep < window_bound
@@ -30,7 +30,7 @@ pub record ClosedRun {E : Type 0} (shape : WindowShape) (starts : Option ℕ) (t
   pub ok : IfOk result (λ next. (more : List WindowBlock) × taker.took more
       × ClosedWith shape (record { starts = starts; t = t; octets = octets }) more
       (after_windows shape t octets count next))
-  pub small : IfOk result (λ next. ForSome next (λ register. register < 64))
+  pub small : IfOk result (λ next. ForSome next (λ register. register < registers))
   pub err : OnErr result ((tried : List WindowBlock) × taker.broke tried × (to : Place)
       × ClosedWith shape (record { starts = starts; t = t; octets = octets }) tried to)
   pub cause : HasCause taker.before taker.now taker.is_last result

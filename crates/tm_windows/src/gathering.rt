@@ -5,7 +5,7 @@ ghost use Rattle.tm_base.specs.Calls.{taker_call};
 ghost use Rattle.tm_base.specs.Outside.{HasCause};
 ghost use Rattle.tm_base.specs.Takers.{HandedOver, HandedPart};
 ghost use Rattle.tm_base.specs.Limits.{most_workers};
-ghost use Rattle.tm_conv.specs.Path.{steps_size};
+ghost use Rattle.tm_conv.specs.Path.{steps_size, registers};
 ghost use Rattle.tm_viterbi.specs.Due.{AreDue};
 ghost use Rattle.tm_viterbi.specs.Starts.{first_start};
 ghost use Rattle.tm_viterbi.specs.WindowBlock.{WindowBlock};
@@ -42,7 +42,7 @@ pub(crate) struct Gathering {
     ghost workers_most: { workers.most ≡ most },
     ghost sizes: { (least_keep ≤ shape.keep) × (shape.keep ≤ most_keep) × (shape.ahead ≤ most_ahead) },
     ghost some: { (0 < most) × (most ≤ most_windows) },
-    ghost register: { ForSome starts (λ register. register < 64) },
+    ghost register: { ForSome starts (λ register. register < registers) },
     ghost looks: { ForSome seen (λ steps. (1 ≤ steps) × (steps ≤ most_seen) × (steps + 8 ≤ shape.keep + shape.ahead)) },
     ghost unfollowed: { seen ≡ None → dropped ≡ Option.Some 0 },
     ghost counted: { slips ≤ t },
@@ -86,9 +86,9 @@ fn closed_windows(shape: WindowShape, t: u64, len: usize, most: usize) -> usize
 
 // From which registers a window may start after so many dropped octets: from any, where octets are dropped.
 fn starts_after(starts: Option<u8>, dropped: u8) -> Option<u8>
-    requires { ForSome starts (λ register. register < 64) }
+    requires { ForSome starts (λ register. register < registers) }
     ensures value { result ≡ starts_after dropped starts }
-    ensures small { ForSome result (λ register. register < 64) }
+    ensures small { ForSome result (λ register. register < registers) }
 {
     if dropped == 0 { starts } else { None }
 }

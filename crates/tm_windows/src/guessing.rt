@@ -1,6 +1,7 @@
 // A guess of the register that a window starts from.
 ghost use Rattle.std.specs.Prelude.{◌≡◌, ◌+◌, ◌<◌, vec_len};
 ghost use Rattle.std.specs.Option.{ForSome};
+ghost use Rattle.tm_conv.specs.Path.{registers};
 ghost use Rattle.tm_viterbi.specs.WindowSizes.{window_bound};
 
 use crate::candidate::Candidate;
@@ -24,7 +25,7 @@ fn guess(
     requires shape { decoder.old ≡ shape }
     requires bits { vec_len candidate.old.bits ≡ shape.keep + shape.ahead }
     requires few { t < window_bound }
-    ensures register { result < 64 }
+    ensures register { result < registers }
     ensures bits { vec_len candidate.new.bits ≡ vec_len candidate.old.bits }
     ensures same { decoder.new ≡ shape }
 {
@@ -63,9 +64,9 @@ pub(crate) fn known_or_guessed(
 ) -> Option<u8>
     requires shape { decoder.old ≡ shape }
     requires bits { vec_len candidate.old.bits ≡ shape.keep + shape.ahead }
-    requires start { ForSome known (λ starts. ForSome starts (λ register. register < 64)) }
+    requires start { ForSome known (λ starts. ForSome starts (λ register. register < registers)) }
     requires few { t < window_bound }
-    ensures start { ForSome result (λ register. register < 64) }
+    ensures start { ForSome result (λ register. register < registers) }
     ensures bits { vec_len candidate.new.bits ≡ vec_len candidate.old.bits }
     ensures same { decoder.new ≡ shape }
 {

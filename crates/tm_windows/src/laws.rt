@@ -1,6 +1,6 @@
 // What holds of the blocks of soft octets in windows, whether the phase is followed or not, over the definitions alone.
 ghost use Rattle.std.specs.Prelude.{◌≡◌, ◌<◌, ◌⊎◌, ℕ, List, [], ◌∷◌, ◌++◌};
-ghost use Rattle.tm_conv.specs.Path.{AreBits};
+ghost use Rattle.tm_conv.specs.Path.{AreBits, registers};
 ghost use Rattle.tm_viterbi.specs.Clean.{sure_symbols, complemented_octets};
 ghost use Rattle.tm_viterbi.specs.WindowBlock.{WindowBlock};
 ghost use Rattle.tm_viterbi.specs.Blocks.{AreBlocksOf};
@@ -48,11 +48,11 @@ pub fn closed_prefix_law()
 /// their blocks are those of a phase that is not followed, at every rate, start and window size. It does nothing.
 pub fn undisturbed_law()
     ensures sent { (w : Windows) (register : ℕ) (bits : List ℕ) (blocks : List WindowBlock) (left : ℕ) → AreBits bits
-        → register < 64
+        → register < registers
         → AreBlocksIn w (sure_symbols w.settings register bits) blocks left
         → AreBlocksOf w.settings (sure_symbols w.settings register bits) blocks left }
     ensures complemented { (w : Windows) (register : ℕ) (bits : List ℕ) (blocks : List WindowBlock) (left : ℕ)
-        → AreBits bits → register < 64
+        → AreBits bits → register < registers
         → AreBlocksIn w (complemented_octets (sure_symbols w.settings register bits)) blocks left
         → AreBlocksOf w.settings (complemented_octets (sure_symbols w.settings register bits)) blocks left }
 {}

@@ -1,7 +1,7 @@
 // What holds of the symbol phase and of slips, over the definitions alone.
 ghost use Rattle.std.specs.Prelude.{◌≡◌, ◌↔◌, ◌++◌, ℕ, ◌<◌, ◌≤◌, Bool, List, length};
 ghost use Rattle.tm_conv.specs.declared.rates.Rate.{Rate};
-ghost use Rattle.tm_conv.specs.Path.{AreBits, path};
+ghost use Rattle.tm_conv.specs.Path.{AreBits, path, registers};
 ghost use Rattle.tm_conv.specs.Cost.{sure};
 ghost use Rattle.tm_windows.specs.declared.choosing.Chosen.{Chosen};
 ghost use Rattle.tm_windows.specs.Phase.{period_size, octets_needed, AreCompared, IsPhase};
@@ -45,7 +45,7 @@ pub fn slip_law()
         → octets_seen rate t steps ≤ length octets
         → IsSlip rate invert t steps octets slip → IsSlip rate invert t steps (octets ++ more) slip }
     ensures sure { (rate : Rate) (invert : Bool) (t steps register : ℕ) (bits : List ℕ) (slip : ℕ) → AreBits bits
-        → register < 64 → steps ≤ length bits
+        → register < registers → steps ≤ length bits
         → IsSlip rate invert t steps (sure (path rate invert t register bits)) slip → slip ≡ 0 }
 {
     best_path_law();

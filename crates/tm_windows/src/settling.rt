@@ -1,7 +1,7 @@
 // The blocks of windows that were decoded from registers which were only taken to be their starts, settled in order.
 ghost use Rattle.std.specs.Prelude.{◌≡◌, ◌↔◌, ◌+◌, ◌*◌, ◌<◌, ◌≤◌, IsTrue, IfOk, OnErr, OnOk, List, length, vec_len};
 ghost use Rattle.std.specs.Option.{ForSome};
-ghost use Rattle.tm_conv.specs.Path.{steps_size};
+ghost use Rattle.tm_conv.specs.Path.{steps_size, registers};
 ghost use Rattle.tm_base.specs.Takers.{HandedOver, HandedPart};
 ghost use Rattle.tm_base.specs.Outside.{HasCause};
 ghost use Rattle.tm_viterbi.specs.WindowBlock.{WindowBlock};
@@ -72,7 +72,7 @@ fn settle<B: BlockTaker>(
     ensures ok { IfOk result (λ next. (block : WindowBlock) × B.took blocks.old block blocks.new
         × (block.end_state ≡ next) × (block.kept ≡ from.now.shape.keep)
         × ClosesWith from.now.shape (stretch_place from.now) block) }
-    ensures small { IfOk result (λ next. next < 64) }
+    ensures small { IfOk result (λ next. next < registers) }
     ensures err { OnErr result ((block : WindowBlock) × B.broke blocks.old block blocks.new
         × ClosesWith from.now.shape (stretch_place from.now) block) }
     ensures cause { HasCause (B.faults blocks.old) (B.faults blocks.new) (B.is_last blocks.new) result }
@@ -103,7 +103,7 @@ pub(crate) fn hand_window<B: BlockTaker>(
     ensures ok { IfOk result (λ next. (block : WindowBlock) × B.took blocks.old (dropped_at dropped block) blocks.new
         × (block.end_state ≡ next) × (block.kept ≡ from.now.shape.keep)
         × ClosesWith from.now.shape (stretch_place from.now) block) }
-    ensures small { IfOk result (λ next. next < 64) }
+    ensures small { IfOk result (λ next. next < registers) }
     ensures err { OnErr result ((block : WindowBlock) × B.broke blocks.old (dropped_at dropped block) blocks.new
         × ClosesWith from.now.shape (stretch_place from.now) block) }
     ensures cause { HasCause (B.faults blocks.old) (B.faults blocks.new) (B.is_last blocks.new) result }
@@ -132,7 +132,7 @@ pub(crate) fn settle_run<B: BlockTaker>(
     ensures ok { IfOk result (λ next. (more : List WindowBlock) × HandedOver B.took blocks.old more blocks.new
         × ClosedWith from.now.shape (stretch_place from.now) more
         (after_windows from.now.shape from.now.t from.now.octets.now (length candidates.old) next)) }
-    ensures small { IfOk result (λ next. ForSome next (λ register. register < 64)) }
+    ensures small { IfOk result (λ next. ForSome next (λ register. register < registers)) }
     ensures err { OnErr result ((tried : List WindowBlock) × HandedPart B.took B.broke blocks.old tried blocks.new
         × (to : Place) × ClosedWith from.now.shape (stretch_place from.now) tried to) }
     ensures cause { HasCause (B.faults blocks.old) (B.faults blocks.new) (B.is_last blocks.new) result }

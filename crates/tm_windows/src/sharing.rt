@@ -4,7 +4,7 @@ ghost use Rattle.std.specs.List.{All};
 ghost use Rattle.std.specs.Option.{ForSome};
 ghost use Rattle.std.specs.Thread.{IsSync};
 ghost use Rattle.tm_base.specs.Limits.{most_workers};
-ghost use Rattle.tm_conv.specs.Path.{steps_size};
+ghost use Rattle.tm_conv.specs.Path.{steps_size, registers};
 ghost use Rattle.tm_viterbi.specs.WindowSizes.{window_bound};
 ghost use Rattle.tm_windows.specs.Candidates.{AreCandidates, HaveRoom};
 ghost use Rattle.tm_windows.specs.Sharing.{most_octets, most_candidates};
@@ -31,7 +31,7 @@ fn decode_part<G: Gate>(
 )
     requires shape { decoder.old ≡ shape }
     requires bits { HaveRoom (shape.keep + shape.ahead) candidates.old }
-    requires start { ForSome known (λ starts. ForSome starts (λ register. register < 64)) }
+    requires start { ForSome known (λ starts. ForSome starts (λ register. register < registers)) }
     requires room { at + steps_size shape.rate t
         (length candidates.old * shape.keep + shape.ahead + 1) ≤ length octets.now }
     requires few { t + length candidates.old * shape.keep < window_bound }
@@ -72,7 +72,7 @@ pub(crate) fn decode_evenly<R: Threads + Sync, G: Gate + Sync>(
     requires shape { All (λ d. d ≡ shape) decoders.old }
     requires bits { HaveRoom (shape.keep + shape.ahead) candidates.old }
     requires long { (length candidates.old ≤ most_candidates) × (length octets.now ≤ most_octets) }
-    requires start { ForSome known (λ starts. ForSome starts (λ register. register < 64)) }
+    requires start { ForSome known (λ starts. ForSome starts (λ register. register < registers)) }
     requires within { at ≤ length octets.now }
     requires room { at + steps_size shape.rate t
         (length candidates.old * shape.keep + shape.ahead + 1) ≤ length octets.now }
@@ -125,7 +125,7 @@ fn decode_both<R: Threads + Sync, G: Gate + Sync>(
     place: usize,
     other_part: &mut [Candidate],
 )
-    requires start { ForSome known (λ starts. ForSome starts (λ register. register < 64)) }
+    requires start { ForSome known (λ starts. ForSome starts (λ register. register < registers)) }
     requires long { length octets.now ≤ most_octets }
     requires first { ((0 < length first.old) × (length first.old ≤ most_workers)) × All (λ d. d ≡ shape) first.old }
     requires first_part { HaveRoom (shape.keep + shape.ahead) first_part.old × (length first_part.old ≤ most_candidates)
@@ -144,7 +144,8 @@ fn decode_both<R: Threads + Sync, G: Gate + Sync>(
         × HaveRoom (shape.keep + shape.ahead) other_part.new × All (λ d. d ≡ shape) others.new }
 {
     let mut decode_first = ||
-        requires { IsSync R.row × IsSync G.row × ForSome known (λ starts. ForSome starts (λ register. register < 64))
+        requires { IsSync R.row × IsSync G.row
+            × ForSome known (λ starts. ForSome starts (λ register. register < registers))
             × (length octets.now ≤ most_octets)
             × ((0 < length first.now) × (length first.now ≤ most_workers)) × All (λ d. d ≡ shape) first.now
             × HaveRoom (shape.keep + shape.ahead) first_part.now × (length first_part.now ≤ most_candidates)

@@ -1,7 +1,7 @@
 // Where windows are decoded from.
 ghost use Rattle.std.specs.Prelude.{◌≡◌, ◌+◌, ◌<◌, ◌≤◌, Some, drop, length};
 ghost use Rattle.std.specs.Option.{ForSome};
-ghost use Rattle.tm_conv.specs.Path.{steps_size};
+ghost use Rattle.tm_conv.specs.Path.{steps_size, registers};
 ghost use Rattle.tm_viterbi.specs.WindowSizes.{window_bound};
 
 use tm_conv::steps_len;
@@ -15,13 +15,13 @@ pub(crate) struct Stretch<'a> {
     pub(crate) starts: Option<u8>,
     pub(crate) t: u64,
     pub(crate) octets: &'a [u8],
-    ghost start: { ForSome starts (λ register. register < 64) },
+    ghost start: { ForSome starts (λ register. register < registers) },
 }
 
 impl<'a> Stretch<'a> {
     /// The windows after the first, of which the next starts from this register.
     pub(crate) fn next(&self, register: u8) -> Stretch<'a>
-        requires register { register < 64 }
+        requires register { register < registers }
         requires within { steps_size self.now.shape.rate self.now.t self.now.shape.keep ≤ length self.now.octets.now }
         requires few { self.now.t + self.now.shape.keep < window_bound }
         ensures shape { result.shape ≡ self.now.shape }

@@ -5,7 +5,7 @@ ghost use Rattle.std.specs.Option.{ForSome};
 ghost use Rattle.tm_base.specs.Calls.{taker_call};
 ghost use Rattle.tm_base.specs.Outside.{HasCause};
 ghost use Rattle.tm_base.specs.Limits.{most_workers};
-ghost use Rattle.tm_conv.specs.Path.{steps_size};
+ghost use Rattle.tm_conv.specs.Path.{steps_size, registers};
 ghost use Rattle.tm_viterbi.specs.WindowBlock.{WindowBlock};
 ghost use Rattle.tm_viterbi.specs.Blocks.{IsBlock};
 ghost use Rattle.tm_viterbi.specs.WindowSizes.{most_window, window_bound};
@@ -134,7 +134,7 @@ fn close_side_by_side<R: Threads + Sync, B: BlockTaker, G: Gate + Sync>(
     requires small { shape.keep + shape.ahead ≤ most_window }
     requires most { (count ≤ length candidates.old) × (length candidates.old ≤ most_candidates) }
     requires bits { HaveRoom (shape.keep + shape.ahead) candidates.old }
-    requires start { ForSome starts (λ register. register < 64) }
+    requires start { ForSome starts (λ register. register < registers) }
     requires room { steps_size shape.rate t (count * shape.keep + shape.ahead + 1) ≤ length octets.now }
     requires few { t + count * shape.keep < window_bound }
     ensures closed { ClosedRun shape starts t octets.now count
@@ -251,7 +251,7 @@ impl WindowWorkers {
         blocks: &mut B,
     ) -> Result<u8, Failed>
         requires some { 0 < self.old.most }
-        requires start { ForSome starts (λ register. register < 64) }
+        requires start { ForSome starts (λ register. register < registers) }
         requires room { steps_size self.old.shape.rate t (self.old.shape.keep + self.old.shape.ahead + 1)
             ≤ length octets.now }
         requires few { t < window_bound }
@@ -259,7 +259,7 @@ impl WindowWorkers {
             × B.took blocks.old (dropped_at dropped block) blocks.new
             × (block.end_state ≡ next) × (block.kept ≡ self.old.shape.keep)
             × ClosesWith self.old.shape (record { starts = starts; t = t; octets = octets.now }) block) }
-        ensures small { IfOk result (λ next. next < 64) }
+        ensures small { IfOk result (λ next. next < registers) }
         ensures err { OnErr result ((block : WindowBlock) × B.broke blocks.old (dropped_at dropped block) blocks.new
             × ClosesWith self.old.shape (record { starts = starts; t = t; octets = octets.now }) block) }
         ensures cause { HasCause (B.faults blocks.old) (B.faults blocks.new) (B.is_last blocks.new) result }
@@ -290,7 +290,7 @@ impl WindowWorkers {
         blocks: &mut B,
     ) -> Result<(), Failed>
         requires some { 0 < self.old.most }
-        requires start { ForSome starts (λ register. register < 64) }
+        requires start { ForSome starts (λ register. register < registers) }
         requires steps { steps ≤ self.old.shape.keep + self.old.shape.ahead }
         requires octets { steps_size self.old.shape.rate t steps ≤ length octets.now }
         requires few { t < window_bound }
