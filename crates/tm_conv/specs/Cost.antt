@@ -1,10 +1,13 @@
--- The path metric: how far symbols are from soft octets, of which 0 is the surest 0 and 255 the
--- surest 1.
+-- The path metric: how far symbols are from soft octets, of which 0 is the surest 0.
 use Rattle.std.specs.Prelude.{ℕ, ◌+◌, ◌-◌, ◌==◌, if◌then◌else◌, List, [], ◌∷◌}
+
+-- the greatest soft octet, which is the surest 1
+abbrev pub greatest_octet : ℕ
+greatest_octet = 255
 
 -- how far a soft octet is from a symbol
 abbrev pub distance : ℕ → ℕ → ℕ
-distance symbol octet = if symbol == 0 then octet else 255 - octet
+distance symbol octet = if symbol == 0 then octet else greatest_octet - octet
 
 -- the sum of the distances of symbols from as many soft octets
 abbrev pub cost : List ℕ → List ℕ → ℕ
@@ -15,7 +18,7 @@ cost (symbol ∷ symbols) (octet ∷ octets) = distance symbol octet + cost symb
 -- the surest soft octets of symbols
 abbrev pub sure : List ℕ → List ℕ
 sure [] = []
-sure (symbol ∷ symbols) = (if symbol == 0 then 0 else 255) ∷ sure symbols
+sure (symbol ∷ symbols) = (if symbol == 0 then 0 else greatest_octet) ∷ sure symbols
 
 -- the most that a branch metric is: a step sends two symbols at most
 abbrev pub most_branch_metric : ℕ

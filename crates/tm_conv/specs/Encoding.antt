@@ -5,6 +5,7 @@ use Rattle.tm_conv.specs.declared.rates.Rate.{Rate}
 use Rattle.tm_conv.specs.declared.encoder.Symbols.{Symbols}
 use Rattle.tm_conv.specs.declared.encoder.Symbols.TheVariants.{One, Two}
 use Rattle.tm_conv.specs.Path.{path, register_after, period}
+use Rattle.tm_conv.specs.Cost.{greatest_octet}
 
 -- truth values as the numbers that paths are of
 abbrev pub bit_numbers : List Bool → List ℕ
@@ -21,7 +22,7 @@ sent_for rate invert bits = path rate invert 0 0 (bit_numbers bits)
 
 -- the octet of a symbol: a 0 is sent as the octet `low`, and a 1 as its complement
 abbrev pub level : ℕ → ℕ → ℕ
-level low symbol = if symbol == 0 then low else 255 - low
+level low symbol = if symbol == 0 then low else greatest_octet - low
 
 -- the octets of symbols
 abbrev pub levels : ℕ → List ℕ → List ℕ

@@ -3,7 +3,7 @@ ghost use Rattle.std.specs.Prelude.{◌≡◌, ℕ, ◌+◌, ◌-◌, ◌*◌, �
 ghost use Rattle.tm_conv.specs.declared.rates.Rate.{Rate};
 ghost use Rattle.tm_conv.specs.declared.rates.Rate.TheVariants.{R12};
 ghost use Rattle.tm_conv.specs.Path.{AreBits, complement, next_register, step_symbols, step_size, steps_size, path, registers};
-ghost use Rattle.tm_conv.specs.Cost.{cost};
+ghost use Rattle.tm_conv.specs.Cost.{cost, greatest_octet};
 ghost use Rattle.tm_conv.specs.Best.{IsBest};
 ghost use Rattle.tm_conv.specs.Columns.{IsColumn, first_cost, barred_cost};
 
@@ -65,5 +65,5 @@ pub fn columns_law()
         → cost (path rate invert t initial bits) octets ≤ slice_index column register }
     ensures most { (starts : ℕ → Bool) (rate : Rate) (invert : Bool) (t register : ℕ) (octets column : List ℕ)
         → All (λ octet. octet < 256) octets → IsColumn starts rate invert t octets column → register < registers
-        → slice_index column register ≤ barred_cost + 255 * length octets }
+        → slice_index column register ≤ barred_cost + greatest_octet * length octets }
 {}

@@ -2,7 +2,7 @@
 use Rattle.std.specs.Prelude.{ℕ, ◌≡◌, ◌<◌, ◌≤◌, ◌-◌, ◌⊎◌, List, [], ◌∷◌, ◌++◌, length, take, map}
 use Rattle.tm_conv.specs.declared.rates.Rate.TheVariants.{R12}
 use Rattle.tm_conv.specs.Path.{path, registers}
-use Rattle.tm_conv.specs.Cost.{sure}
+use Rattle.tm_conv.specs.Cost.{greatest_octet, sure}
 use Rattle.tm_viterbi.specs.declared.block.Start.TheVariants.{Zero, Any}
 use Rattle.tm_viterbi.specs.Settings.{Settings}
 use Rattle.tm_viterbi.specs.WindowBlock.{WindowBlock}
@@ -38,4 +38,4 @@ pub record AreClean (bits : List ℕ) (blocks : List WindowBlock) (left : ℕ) :
 
 -- each soft octet for the other symbol, as sure as before
 abbrev pub complemented_octets : List ℕ → List ℕ
-complemented_octets octets = map (λ octet. 255 - octet) octets
+complemented_octets octets = map (λ octet. greatest_octet - octet) octets

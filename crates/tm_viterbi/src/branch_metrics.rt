@@ -1,7 +1,7 @@
 // The branch metrics of a step: what each of its four pairs of c1 and c2 costs.
 ghost use Rattle.std.specs.Prelude.{◌≡◌, IsTrue, Bool, ℕ, ◌+◌, ◌-◌, ◌*◌, ◌/◌, ◌^◌, ◌<◌, ◌≤◌, take, drop, length, slice_index, if◌then◌else◌};
 ghost use Rattle.tm_conv.specs.Path.{sent_c2, step_size};
-ghost use Rattle.tm_conv.specs.Cost.{distance, most_branch_metric};
+ghost use Rattle.tm_conv.specs.Cost.{distance, greatest_octet, most_branch_metric};
 ghost use Rattle.tm_viterbi.specs.Totals.{AreBranchMetrics};
 ghost use Rattle.tm_viterbi.specs.Masks.{two_step_masks};
 
@@ -13,7 +13,7 @@ fn c1_metrics(is_sent: bool, octets: &[u8]) -> (u16, u16)
     requires { IsTrue is_sent → 0 < length octets.now }
     ensures zero { result.0 ≡ (if is_sent then distance 0 (slice_index octets.now 0) else 0) }
     ensures one { result.1 ≡ (if is_sent then distance 1 (slice_index octets.now 0) else 0) }
-    ensures small { (result.0 ≤ 255) × (result.1 ≤ 255) }
+    ensures small { (result.0 ≤ greatest_octet) × (result.1 ≤ greatest_octet) }
 {
     if is_sent {
         (u16::from(octets[0]), u16::from(255 - octets[0]))
@@ -29,7 +29,7 @@ fn c2_metrics(is_sent: bool, invert: bool, octets: &[u8]) -> (u16, u16)
         (slice_index octets.now (length octets.now - 1)) else 0) }
     ensures one { result.1 ≡ (if is_sent then distance (sent_c2 invert 1)
         (slice_index octets.now (length octets.now - 1)) else 0) }
-    ensures small { (result.0 ≤ 255) × (result.1 ≤ 255) }
+    ensures small { (result.0 ≤ greatest_octet) × (result.1 ≤ greatest_octet) }
 {
     if is_sent {
         let octet = octets[octets.len() - 1];

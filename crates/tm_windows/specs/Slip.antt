@@ -2,6 +2,7 @@
 use Rattle.std.specs.Prelude.{◌≡◌, ℕ, ◌+◌, ◌-◌, ◌*◌, Bool, List, [], ◌∷◌, min, nat_lt, if◌then◌else◌}
 use Rattle.tm_conv.specs.declared.rates.Rate.{Rate}
 use Rattle.tm_conv.specs.Path.{steps_size}
+use Rattle.tm_conv.specs.Cost.{greatest_octet}
 use Rattle.tm_windows.specs.Phase.{period_size, octets_at, IsCostAt, IsFirstLeast}
 
 -- the most steps that are looked at
@@ -20,7 +21,7 @@ octets_seen rate t steps = steps_size rate t steps + (period_size rate - 1)
 -- what octets cost whatever the path: of each the lesser distance
 abbrev pub least_distances : List ℕ → ℕ
 least_distances [] = 0
-least_distances (octet ∷ octets) = min octet (255 - octet) + least_distances octets
+least_distances (octet ∷ octets) = min octet (greatest_octet - octet) + least_distances octets
 
 -- what a path over octets costs beyond that
 abbrev pub excess : ℕ → List ℕ → ℕ
