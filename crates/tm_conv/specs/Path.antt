@@ -5,6 +5,10 @@ use Rattle.std.specs.Prelude.{ℕ, zero, suc, ◌+◌, ◌*◌, ◌/◌, ◌%◌
 use Rattle.tm_conv.specs.declared.rates.Rate.{Rate}
 use Rattle.tm_conv.specs.declared.rates.Rate.TheVariants.{R12, R23, R34, R56, R78}
 
+-- how many bits a register has
+abbrev pub register_size : ℕ
+register_size = 6
+
 -- how many registers there are
 abbrev pub registers : ℕ
 registers = 64

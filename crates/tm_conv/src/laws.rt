@@ -2,7 +2,7 @@
 ghost use Rattle.std.specs.Prelude.{◌≡◌, ℕ, ◌+◌, ◌-◌, ◌*◌, ◌^◌, ◌<◌, ◌≤◌, Bool, IsTrue, List, [], ◌++◌, length, slice_index, All};
 ghost use Rattle.tm_conv.specs.declared.rates.Rate.{Rate};
 ghost use Rattle.tm_conv.specs.declared.rates.Rate.TheVariants.{R12};
-ghost use Rattle.tm_conv.specs.Path.{AreBits, complement, next_register, step_symbols, step_size, steps_size, path, registers};
+ghost use Rattle.tm_conv.specs.Path.{AreBits, complement, next_register, step_symbols, step_size, steps_size, path, register_size, registers};
 ghost use Rattle.tm_conv.specs.Cost.{cost, greatest_octet};
 ghost use Rattle.tm_conv.specs.Best.{IsBest};
 ghost use Rattle.tm_conv.specs.Columns.{IsColumn, first_cost, barred_cost};
@@ -24,8 +24,8 @@ pub fn complement_law()
 pub fn six_pairs_law()
     ensures { (invert : Bool) (t register other : ℕ) (bits others : List ℕ) → register < registers → other < registers
         → AreBits bits → AreBits others
-        → 6 ≤ length bits → path R12 invert t register bits ≡ path R12 invert t other others → (register ≡ other)
-        × (bits ≡ others) }
+        → register_size ≤ length bits → path R12 invert t register bits ≡ path R12 invert t other others
+        → (register ≡ other) × (bits ≡ others) }
 {}
 
 /// Octets of whole steps have one best path, where a path may start from some register. It does nothing.

@@ -1,7 +1,7 @@
 -- Soft octets of symbols that were sent and not disturbed, and what blocks keep of them.
 use Rattle.std.specs.Prelude.{ℕ, ◌≡◌, ◌<◌, ◌≤◌, ◌-◌, ◌⊎◌, List, [], ◌∷◌, ◌++◌, length, take, map}
 use Rattle.tm_conv.specs.declared.rates.Rate.TheVariants.{R12}
-use Rattle.tm_conv.specs.Path.{path, registers}
+use Rattle.tm_conv.specs.Path.{path, register_size, registers}
 use Rattle.tm_conv.specs.Cost.{greatest_octet, sure}
 use Rattle.tm_viterbi.specs.declared.block.Start.TheVariants.{Zero, Any}
 use Rattle.tm_viterbi.specs.Settings.{Settings}
@@ -28,7 +28,7 @@ abbrev pub IsFixed : Settings → ℕ → List ℕ → Type 0
 IsFixed s register bits =
     ((s.start ≡ Zero) × (register ≡ 0))
     ⊎ ((s.start ≡ Any) × (s.rate ≡ R12) × (register < registers)
-    × ((bits ≡ []) ⊎ (6 ≤ length bits)))
+    × ((bits ≡ []) ⊎ (register_size ≤ length bits)))
 
 -- the blocks keep exactly these bits, no path costs anything, and no octet is left over
 pub record AreClean (bits : List ℕ) (blocks : List WindowBlock) (left : ℕ) : Type 0 where

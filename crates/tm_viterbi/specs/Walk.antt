@@ -1,7 +1,7 @@
 -- Paths with the newest bit first, as the decoder walks them.
 use Rattle.std.specs.Prelude.{ℕ, ◌≡◌, ◌+◌, ◌*◌, ◌/◌, ◌%◌, ◌^◌, ◌<◌, ◌≤◌, List, [], ◌∷◌, length, reverse, slice_index}
 use Rattle.std.specs.List.{All}
-use Rattle.tm_conv.specs.Path.{next_register, registers}
+use Rattle.tm_conv.specs.Path.{next_register, register_size, registers}
 
 -- the register after these bits, the newest first
 abbrev pub register_back : ℕ → List ℕ → ℕ
@@ -11,7 +11,7 @@ register_back r (b ∷ past) = next_register (register_back r past) b
 -- the number whose binary digits are the bits, the newest first, and then those of the register
 abbrev pub rank : ℕ → List ℕ → ℕ
 rank r [] = r
-rank r (b ∷ past) = b * 2 ^ (length past + 6) + rank r past
+rank r (b ∷ past) = b * 2 ^ (length past + register_size) + rank r past
 
 -- a path of n bits to register s
 pub record IsPathTo (n s r : ℕ) (past : List ℕ) : Type 0 where

@@ -1,6 +1,6 @@
 // What holds of soft octets that were not disturbed, and of windows that are closed, over the definitions alone.
 ghost use Rattle.std.specs.Prelude.{◌≡◌, ◌<◌, ◌≤◌, ◌⊎◌, ◌++◌, ℕ, List, [], length};
-ghost use Rattle.tm_conv.specs.Path.{AreBits, complement, registers};
+ghost use Rattle.tm_conv.specs.Path.{AreBits, complement, register_size, registers};
 ghost use Rattle.tm_conv.specs.declared.rates.Rate.TheVariants.{R12};
 ghost use Rattle.tm_viterbi.specs.declared.block.Start.TheVariants.{Any};
 ghost use Rattle.tm_viterbi.specs.Settings.{Settings};
@@ -30,7 +30,7 @@ pub fn clean_blocks_law()
 pub fn complemented_blocks_law()
     ensures { (s : Settings) (register : ℕ) (bits : List ℕ) (blocks : List WindowBlock) (left : ℕ) → least_keep ≤ s.keep
         → AreBits bits
-        → s.start ≡ Any → s.rate ≡ R12 → register < registers → (bits ≡ []) ⊎ (6 ≤ length bits)
+        → s.start ≡ Any → s.rate ≡ R12 → register < registers → (bits ≡ []) ⊎ (register_size ≤ length bits)
         → AreBlocksOf s (complemented_octets (sure_symbols s register bits)) blocks left
         → AreClean (complement bits) blocks left }
 {
