@@ -13,6 +13,10 @@ use Rattle.tm_windows.specs.declared.choosing.Chosen.{Chosen}
 abbrev pub period_size : Rate → ℕ
 period_size rate = steps_size rate 0 (period rate)
 
+-- the most symbols that a period sends
+abbrev pub most_period_size : ℕ
+most_period_size = 8
+
 -- how many steps are compared: as many as are whole after every candidate, and at most `window`
 pub record AreCompared (rate : Rate) (window : ℕ) (octets : List ℕ) (steps : ℕ) : Type 0 where
   pub most : ℕ

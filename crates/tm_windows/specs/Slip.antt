@@ -3,7 +3,7 @@ use Rattle.std.specs.Prelude.{◌≡◌, ℕ, ◌+◌, ◌-◌, ◌*◌, Bool, L
 use Rattle.tm_conv.specs.declared.rates.Rate.{Rate}
 use Rattle.tm_conv.specs.Path.{steps_size}
 use Rattle.tm_conv.specs.Cost.{greatest_octet}
-use Rattle.tm_windows.specs.Phase.{period_size, octets_at, IsCostAt, IsFirstLeast}
+use Rattle.tm_windows.specs.Phase.{period_size, most_period_size, octets_at, IsCostAt, IsFirstLeast}
 
 -- the most steps that are looked at
 abbrev pub most_seen : ℕ
@@ -12,7 +12,7 @@ most_seen = 1024
 -- how many steps are looked at: no more than that, and so few that a window which is closed has
 -- been looked at
 abbrev pub steps_seen : ℕ → ℕ → ℕ
-steps_seen keep ahead = min (keep + ahead - 8) most_seen
+steps_seen keep ahead = min (keep + ahead - most_period_size) most_seen
 
 -- with so many octets from step t on they are looked at
 abbrev pub octets_seen : Rate → ℕ → ℕ → ℕ

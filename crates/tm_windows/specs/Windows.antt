@@ -4,6 +4,7 @@ use Rattle.std.specs.Option.{ForSome}
 use Rattle.tm_viterbi.specs.WindowBlock.{WindowBlock}
 use Rattle.tm_viterbi.specs.Blocks.{AreBlocksOf}
 use Rattle.tm_viterbi.specs.Due.{AreDue, AreFirst}
+use Rattle.tm_windows.specs.Phase.{most_period_size}
 use Rattle.tm_windows.specs.Followed.{Windows, AreFollowedOf, AreFollowedDue, AreFollowedFirst}
 
 abbrev pub AreBlocksBy : Option ℕ → Windows → List ℕ → List WindowBlock → ℕ → Type 0
@@ -32,4 +33,5 @@ AreFirstIn w octets blocks = AreFirstBy w.seen w octets blocks
 
 -- a window that is closed has been looked at, and a step is left after octets that are dropped
 abbrev pub IsSeen : Windows → Type 0
-IsSeen w = ForSome w.seen (λ steps. (1 ≤ steps) × (steps + 8 ≤ w.settings.keep + w.settings.ahead))
+IsSeen w = ForSome w.seen (λ steps. (1 ≤ steps)
+    × (steps + most_period_size ≤ w.settings.keep + w.settings.ahead))

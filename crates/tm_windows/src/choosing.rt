@@ -2,7 +2,7 @@
 ghost use Rattle.std.specs.Prelude.{◌≡◌, ℕ, ◌+◌, ◌-◌, ◌*◌, ◌^◌, ◌<◌, ◌≤◌, length};
 ghost use Rattle.tm_conv.specs.Path.{most_period, steps_size};
 ghost use Rattle.tm_viterbi.specs.WindowSizes.{most_window, stream_bound};
-ghost use Rattle.tm_windows.specs.Phase.{period_size, octets_needed, AreCompared, IsCostAt, IsFirstLeast, IsPhase};
+ghost use Rattle.tm_windows.specs.Phase.{period_size, most_period_size, octets_needed, AreCompared, IsCostAt, IsFirstLeast, IsPhase};
 
 use tm_conv::{Rate, symbols_of};
 use tm_viterbi::{Start, least_cost_from};
@@ -105,7 +105,7 @@ pub(crate) fn cost_at(rate: Rate, invert: bool, t: u64, size: usize, soft: &[u8]
 #[tactic(auto, unfolding(tm_conv::specs::Path::steps_size))]
 pub(crate) fn period_size(rate: Rate) -> u8
     ensures value { result ≡ period_size rate }
-    ensures small { (2 ≤ result) × (result ≤ 8) }
+    ensures small { (2 ≤ result) × (result ≤ most_period_size) }
 {
     match rate {
         Rate::R12 => 2,

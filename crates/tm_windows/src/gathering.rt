@@ -10,6 +10,7 @@ ghost use Rattle.tm_viterbi.specs.Due.{AreDue};
 ghost use Rattle.tm_viterbi.specs.Starts.{first_start};
 ghost use Rattle.tm_viterbi.specs.WindowBlock.{WindowBlock};
 ghost use Rattle.tm_viterbi.specs.WindowSizes.{least_keep, most_keep, most_ahead, stream_bound};
+ghost use Rattle.tm_windows.specs.Phase.{most_period_size};
 ghost use Rattle.tm_windows.specs.Slip.{octets_seen, most_seen};
 ghost use Rattle.tm_windows.specs.Followed.{slip_at, starts_after, undecided};
 ghost use Rattle.tm_windows.specs.Sharing.{most_windows, most_octets};
@@ -43,7 +44,8 @@ pub(crate) struct Gathering {
     ghost sizes: { (least_keep ≤ shape.keep) × (shape.keep ≤ most_keep) × (shape.ahead ≤ most_ahead) },
     ghost some: { (0 < most) × (most ≤ most_windows) },
     ghost register: { ForSome starts (λ register. register < registers) },
-    ghost looks: { ForSome seen (λ steps. (1 ≤ steps) × (steps ≤ most_seen) × (steps + 8 ≤ shape.keep + shape.ahead)) },
+    ghost looks: { ForSome seen (λ steps. (1 ≤ steps) × (steps ≤ most_seen)
+        × (steps + most_period_size ≤ shape.keep + shape.ahead)) },
     ghost unfollowed: { seen ≡ None → dropped ≡ Option.Some 0 },
     ghost counted: { slips ≤ t },
     ghost room: { (2 * (most * shape.keep + shape.ahead + 1) ≤ held.room) × (held.room ≤ 2 ^ 40) },
@@ -127,7 +129,7 @@ impl Gathering {
         most: usize,
     ) -> Result<Gathering, NoMemory>
         requires looks { ForSome seen (λ steps. (1 ≤ steps) × (steps ≤ most_seen)
-            × (steps + 8 ≤ shape.keep + shape.ahead)) }
+            × (steps + most_period_size ≤ shape.keep + shape.ahead)) }
         requires sizes { (least_keep ≤ shape.keep) × (shape.keep ≤ most_keep) × (shape.ahead ≤ most_ahead) }
         requires workers { (0 < workers) × (workers ≤ most_workers) }
         requires most { (0 < most) × (most ≤ most_windows) }

@@ -7,6 +7,7 @@ ghost use Rattle.tm_base.specs.Limits.{most_workers};
 ghost use Rattle.tm_viterbi.specs.Due.{AreDue};
 ghost use Rattle.tm_viterbi.specs.WindowBlock.{WindowBlock};
 ghost use Rattle.tm_viterbi.specs.WindowSizes.{least_keep, most_keep, most_ahead, stream_bound};
+ghost use Rattle.tm_windows.specs.Phase.{most_period_size};
 ghost use Rattle.tm_windows.specs.Slip.{steps_seen, most_seen};
 ghost use Rattle.tm_windows.specs.Followed.{slips_of, kept_of};
 ghost use Rattle.tm_windows.specs.Windows.{AreBlocksIn, AreDueIn, AreFirstIn};
@@ -91,7 +92,8 @@ fn seen_of(follow: bool, keep: usize, ahead: usize) -> Option<usize>
     requires keep { (least_keep ≤ keep) × (keep ≤ most_keep) }
     requires ahead { ahead ≤ most_ahead }
     ensures value { result ≡ (if follow then Some (steps_seen keep ahead) else None) }
-    ensures looks { ForSome result (λ steps. (1 ≤ steps) × (steps ≤ most_seen) × (steps + 8 ≤ keep + ahead)) }
+    ensures looks { ForSome result (λ steps. (1 ≤ steps) × (steps ≤ most_seen)
+        × (steps + most_period_size ≤ keep + ahead)) }
 {
     if follow {
         Some(steps_seen(keep, ahead))
