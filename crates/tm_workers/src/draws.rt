@@ -70,11 +70,11 @@ fn fill_all<R: Threads + Sync, X: Copy + Send, F: Fn(u32) -> X + Sync>(
         [] => unreachable!(),
         [room] => fill(f, tickets, seat, room),
         rooms => {
-            let middle = rooms.len() / 2;
-            let after = rooms.len() - middle;
+            // A new thread has one room alone, as it has one part in `split_evenly`.
+            let after = rooms.len() - 1;
             let mut other = tickets.split(seat, after as u32);
-            let (first_half, other_half) = rooms.split_at_mut(middle);
-            fill_both(rt, f, tickets, seat, first_half, &mut other, other_half);
+            let (first_part, other_part) = rooms.split_at_mut(1);
+            fill_both(rt, f, tickets, seat, first_part, &mut other, other_part);
             tickets.join(seat, other);
         }
     }
@@ -88,46 +88,46 @@ fn fill_both<R: Threads + Sync, X: Copy + Send, F: Fn(u32) -> X + Sync>(
     f: &F,
     tickets: &Tickets,
     seat: &mut Seat,
-    first_half: &mut [Vec<Drawn<X>>],
+    first_part: &mut [Vec<Drawn<X>>],
     other: &mut Seat,
-    other_half: &mut [Vec<Drawn<X>>],
+    other_part: &mut [Vec<Drawn<X>>],
 )
     requires calls { IsCallableBelow (F.pre f.now) (limit_of tickets.now) }
-    requires seat { IsOf tickets.now seat.old × (numbers seat.old ≡ []) × (length first_half.old ≤ shares_of seat.old) }
-    requires first_half { (0 < length first_half.old) × (length first_half.old ≤ most_workers)
-        × AreRooms (limit_of tickets.now) first_half.old }
+    requires seat { IsOf tickets.now seat.old × (numbers seat.old ≡ []) × (length first_part.old ≤ shares_of seat.old) }
+    requires first_part { (0 < length first_part.old) × (length first_part.old ≤ most_workers)
+        × AreRooms (limit_of tickets.now) first_part.old }
     requires other { IsOf tickets.now other.old × (numbers other.old ≡ [])
-        × (length other_half.old ≤ shares_of other.old) }
-    requires other_half { (0 < length other_half.old) × (length other_half.old ≤ most_workers)
-        × AreRooms (limit_of tickets.now) other_half.old }
+        × (length other_part.old ≤ shares_of other.old) }
+    requires other_part { (0 < length other_part.old) × (length other_part.old ≤ most_workers)
+        × AreRooms (limit_of tickets.now) other_part.old }
     ensures seat { IsOf tickets.now seat.new × (is_spent seat.new ≡ true) × (shares_of seat.new ≡ shares_of seat.old) }
-    ensures first_half { (numbers seat.new ≡ all_numbers first_half.new)
-        × AllResults (F.post f.now) (limit_of tickets.now) first_half.new }
+    ensures first_part { (numbers seat.new ≡ all_numbers first_part.new)
+        × AllResults (F.post f.now) (limit_of tickets.now) first_part.new }
     ensures other { IsOf tickets.now other.new × (is_spent other.new ≡ true)
         × (shares_of other.new ≡ shares_of other.old) }
-    ensures other_half { (numbers other.new ≡ all_numbers other_half.new)
-        × AllResults (F.post f.now) (limit_of tickets.now) other_half.new }
+    ensures other_part { (numbers other.new ≡ all_numbers other_part.new)
+        × AllResults (F.post f.now) (limit_of tickets.now) other_part.new }
 {
     let mut fill_first = ||
         requires { IsSync R.row × IsSync F.row × IsSend X.row × IsCallableBelow (F.pre f.now) (limit_of tickets.now)
-            × (IsOf tickets.now seat.now × (numbers seat.now ≡ []) × (length first_half.now ≤ shares_of seat.now))
-            × ((0 < length first_half.now) × (length first_half.now ≤ most_workers)
-            × AreRooms (limit_of tickets.now) first_half.now) }
+            × (IsOf tickets.now seat.now × (numbers seat.now ≡ []) × (length first_part.now ≤ shares_of seat.now))
+            × ((0 < length first_part.now) × (length first_part.now ≤ most_workers)
+            × AreRooms (limit_of tickets.now) first_part.now) }
         ensures { (IsOf tickets.entry.now seat.exit.now × (is_spent seat.exit.now ≡ true)
             × (shares_of seat.exit.now ≡ shares_of seat.entry.now))
-            × ((numbers seat.exit.now ≡ all_numbers first_half.exit.now)
-            × AllResults (F.post f.entry.now) (limit_of tickets.entry.now) first_half.exit.now) }
-    { fill_all(rt, f, tickets, seat, first_half) };
+            × ((numbers seat.exit.now ≡ all_numbers first_part.exit.now)
+            × AllResults (F.post f.entry.now) (limit_of tickets.entry.now) first_part.exit.now) }
+    { fill_all(rt, f, tickets, seat, first_part) };
     let mut fill_other = ||
         requires { IsSync R.row × IsSync F.row × IsSend X.row × IsCallableBelow (F.pre f.now) (limit_of tickets.now)
-            × (IsOf tickets.now other.now × (numbers other.now ≡ []) × (length other_half.now ≤ shares_of other.now))
-            × ((0 < length other_half.now) × (length other_half.now ≤ most_workers)
-            × AreRooms (limit_of tickets.now) other_half.now) }
+            × (IsOf tickets.now other.now × (numbers other.now ≡ []) × (length other_part.now ≤ shares_of other.now))
+            × ((0 < length other_part.now) × (length other_part.now ≤ most_workers)
+            × AreRooms (limit_of tickets.now) other_part.now) }
         ensures { (IsOf tickets.entry.now other.exit.now × (is_spent other.exit.now ≡ true)
             × (shares_of other.exit.now ≡ shares_of other.entry.now))
-            × ((numbers other.exit.now ≡ all_numbers other_half.exit.now)
-            × AllResults (F.post f.entry.now) (limit_of tickets.entry.now) other_half.exit.now) }
-    { fill_all(rt, f, tickets, other, other_half) };
+            × ((numbers other.exit.now ≡ all_numbers other_part.exit.now)
+            × AllResults (F.post f.entry.now) (limit_of tickets.entry.now) other_part.exit.now) }
+    { fill_all(rt, f, tickets, other, other_part) };
     join_mut(rt, &mut fill_first, &mut fill_other);
 }
 

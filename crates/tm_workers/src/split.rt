@@ -42,14 +42,16 @@ pub fn split_evenly<R: Threads + Sync, G: Gate + Sync, W: InPlace + Send>(
     requires { IsPart params.now.e repair first (length words.old) }
     ensures { EachBecomes (W.becomes params.now repair) words.old words.new }
 {
-    if workers < 2 || words.len() < 2 {
+    let parts = words.len().min(usize::from(workers));
+    if parts < 2 {
         decode_part(gate, params, repair, first, words);
         return;
     }
-    let middle = words.len() * usize::from(workers / 2) / usize::from(workers);
-    let (first_half, other_half) = words.split_at_mut(middle);
+    // A new thread begins late, so none makes another: it has one part alone, and the caller goes on with the others.
+    let middle = words.len() / parts;
+    let (first_part, other_part) = words.split_at_mut(middle);
     split_both(
-        rt, gate, params, repair, first, workers, first_half, other_half,
+        rt, gate, params, repair, first, workers, first_part, other_part,
     );
 }
 
@@ -62,27 +64,27 @@ fn split_both<R: Threads + Sync, G: Gate + Sync, W: InPlace + Send>(
     repair: u8,
     first: u32,
     workers: u8,
-    first_half: &mut [W],
-    other_half: &mut [W],
+    first_part: &mut [W],
+    other_part: &mut [W],
 )
     requires bound { repair ≤ params.now.e }
     requires workers { 2 ≤ workers }
-    requires count { first + length first_half.old + length other_half.old < words_bound }
-    ensures first_half { EachBecomes (W.becomes params.now repair) first_half.old first_half.new }
-    ensures other_half { EachBecomes (W.becomes params.now repair) other_half.old other_half.new }
+    requires count { first + length first_part.old + length other_part.old < words_bound }
+    ensures first_part { EachBecomes (W.becomes params.now repair) first_part.old first_part.new }
+    ensures other_part { EachBecomes (W.becomes params.now repair) other_part.old other_part.new }
 {
-    let some = workers / 2;
+    let some = 1;
     let others = workers - some;
-    let after = first + first_half.len() as u32;
+    let after = first + first_part.len() as u32;
     let mut decode_first = ||
         requires { IsSync R.row × IsSync G.row × IsSend W.row × (repair ≤ params.now.e)
-            × (first + length first_half.now < words_bound) }
-        ensures { EachBecomes (W.becomes params.entry.now repair) first_half.entry.now first_half.exit.now }
-    { split_evenly(rt, gate, params, repair, first, some, first_half) };
+            × (first + length first_part.now < words_bound) }
+        ensures { EachBecomes (W.becomes params.entry.now repair) first_part.entry.now first_part.exit.now }
+    { split_evenly(rt, gate, params, repair, first, some, first_part) };
     let mut decode_other = ||
         requires { IsSync R.row × IsSync G.row × IsSend W.row × (repair ≤ params.now.e)
-            × (after + length other_half.now < words_bound) }
-        ensures { EachBecomes (W.becomes params.entry.now repair) other_half.entry.now other_half.exit.now }
-    { split_evenly(rt, gate, params, repair, after, others, other_half) };
+            × (after + length other_part.now < words_bound) }
+        ensures { EachBecomes (W.becomes params.entry.now repair) other_part.entry.now other_part.exit.now }
+    { split_evenly(rt, gate, params, repair, after, others, other_part) };
     join_mut(rt, &mut decode_first, &mut decode_other);
 }
